@@ -1,21 +1,21 @@
 #!/usr/bin/env python3
-"""Checks recorded streams in several runs, of which each takes as its formula what the one before has saved.
+"""Cuts recorded streams into the rounds of a chain, for lrup-chain to check.
 
-    chain.py RUNS FOLDER FORMULA STREAM... -- LRUPD [OPTION]...
+    chain.py ROUNDS FORMULA FOLDER STREAM...
 
 The lines are put in an order in which each comes after those that derive what it cites, and before those that retire that; this
-order is cut into RUNS pieces, at least 1. In a checkpoint a clause has its place as its new identity, and a comment 'c id' tells the old one
-where that was another: so each piece is renumbered. FOLDER, a new one, gets the streams and checkpoints of all runs. The status
-is that of the last run, which is the first one of which a stream doesn't end well.
+order is cut into ROUNDS pieces, at least 1. A round saves the clauses that are live at its end, in the order of their identities,
+and the place of a clause there is its identity in the next round: so each piece is renumbered. FOLDER, a new one, gets the streams
+and the sizes of all rounds, and
 
-Nobody has to trust this script. Each clause that lrupd saves follows from the formula of its run. So where every run read just
-what the one before had saved, as the commands say that are printed, status 0 at the end says that FORMULA is unsatisfiable.
+    lrup-chain --tries 1000000 FORMULA FOLDER
+
+checks them. Nobody has to trust this script: what is wrong in a round is told there.
 """
-import subprocess
 import sys
 from collections import Counter
 from pathlib import Path
-from typing import Dict, List, NamedTuple, Tuple
+from typing import Dict, List, NamedTuple, Set
 
 NOWHERE = 10 ** 18 - 1  # the identity of no clause: cited for one that no stream derived, or that a checkpoint doesn't have
 
@@ -58,65 +58,64 @@ def in_order(streams: List[List[Line]]) -> List[Line]:
     return order
 
 
-def renumbered(line: Line, now: Dict[int, int]) -> str:
-    """What a checkpoint left out needs no deletion any more."""
-    cited = [str(now.get(identity, NOWHERE)) for identity in line.cited if line.kind != "d" or identity in now]
-    if line.kind == "a":
-        return " ".join([str(now[line.identity]), *line.literals, "0", *cited, "0\n"])
-    return " ".join(["1", "d", *cited, "0\n"] if line.kind == "d" else [*cited, "i", *line.literals, "0\n"])
+def renumbered(line: Line, now: Dict[int, int]) -> Line:
+    """What was left out of a checkpoint needs no deletion any more."""
+    cited = [now.get(identity, NOWHERE) for identity in line.cited if line.kind != "d" or identity in now]
+    return line._replace(identity=now.get(line.identity, 0), cited=cited)
 
 
-def pieces(lines: List[Line], now: Dict[int, int], count: int, streams: int) -> List[str]:
-    """The texts of the streams of a run whose formula has so many clauses. The new clauses get their identities in it."""
+def pieces(lines: List[Line], now: Dict[int, int], count: int, streams: int) -> List[List[Line]]:
+    """The streams of a round whose formula has so many clauses. The new clauses get their identities in it."""
     identities = [iter(range(count + number, NOWHERE, streams)) for number in range(1, streams + 1)]
-    texts: List[List[str]] = [[] for _ in range(streams)]
+    found: List[List[Line]] = [[] for _ in range(streams)]
     for line in lines:
         if line.kind == "a":
             now[line.identity] = next(identities[line.stream])
-        texts[line.stream].append(renumbered(line, now))
-    return ["".join(text) for text in texts]
+        found[line.stream].append(renumbered(line, now))
+    return found
 
 
-def carried_over(checkpoint: Path, now: Dict[int, int]) -> Tuple[Dict[int, int], int]:
-    """The identities of the clauses in the next run, and how many there are."""
-    places: Dict[int, int] = {}
-    old = 0
-    for text in checkpoint.read_text().splitlines()[1:]:
-        if text.startswith("c id "):
-            old = int(text.split()[2])
-        else:
-            places[old or len(places) + 1] = len(places) + 1
-            old = 0
-    return {identity: places[number] for identity, number in now.items() if number in places}, len(places)
+def text_of(line: Line) -> str:
+    cited = list(map(str, line.cited))
+    if line.kind == "a":
+        return " ".join([str(line.identity), *line.literals, "0", *cited, "0\n"])
+    return " ".join(["1", "d", *cited, "0\n"] if line.kind == "d" else [*cited, "i", *line.literals, "0\n"])
+
+
+def sizes_of(streams: List[List[Line]]) -> str:
+    """The identities that a stream needs, and the literals."""
+    derived = [[line for line in lines if line.kind == "a"] for lines in streams]
+    return f"{max(map(len, derived))} {max(sum(len(line.literals) for line in lines) for lines in derived)}\n"
+
+
+def live(streams: List[List[Line]], count: int) -> List[int]:
+    """The identities of what a round saves: all but what its owner deleted, and what each stream did."""
+    derived: List[Set[int]] = [{line.identity for line in lines if line.kind == "a"} for lines in streams]
+    deleted = [{identity for line in lines if line.kind == "d" for identity in line.cited} for lines in streams]
+    retired = [own & gone for own, gone in zip(derived, deleted)]
+    return sorted(set(range(1, count + 1)).union(*derived).difference(*retired) - set.intersection(*deleted))
 
 
 def main() -> int:
-    if "--" not in sys.argv[5:-1] or not sys.argv[1].isdigit() or int(sys.argv[1]) < 1:
+    if len(sys.argv) < 5 or not sys.argv[1].isdigit() or int(sys.argv[1]) < 1:
         sys.exit(__doc__)
-    at = sys.argv.index("--")
-    runs, folder, formula, names, lrupd = int(sys.argv[1]), Path(sys.argv[2]), sys.argv[3], sys.argv[4:at], sys.argv[at + 1:]
+    rounds, formula, folder, names = int(sys.argv[1]), Path(sys.argv[2]), Path(sys.argv[3]), sys.argv[4:]
     try:
+        count = int(next(text for text in formula.open() if text.startswith("p")).split()[3])
+        order = in_order([[read_line(number, text) for text in Path(name).open()] for number, name in enumerate(names)])
         folder.mkdir()
     except OSError as error:
-        sys.exit(f"chain.py: cannot make the folder: {error}")
-    order = in_order([[read_line(number, text) for text in Path(name).open()] for number, name in enumerate(names)])
-    count = int(next(text for text in Path(formula).open() if text.startswith("p")).split()[3])
+        sys.exit(f"chain.py: {error}")
     now = {identity: identity for identity in range(1, count + 1)}
-    for run in range(1, runs + 1):
-        lines = order[len(order) * (run - 1) // runs:len(order) * run // runs]
-        streams = [folder / f"{run}.{number}" for number in range(1, len(names) + 1)]
-        for stream, text in zip(streams, pieces(lines, now, count, len(names))):
-            stream.write_text(text)
-        checkpoint = folder / f"{run}.cnf"
-        words = [*lrupd, "--checkpoint", str(checkpoint), formula, *map(str, streams)]
-        print(" ".join(words), flush=True)
-        done = subprocess.run(words, stdout=subprocess.PIPE, universal_newlines=True)
-        print(done.stdout, end="", flush=True)
-        if done.returncode != 3 or done.stdout.count(", ended\n") < len(names):
-            break
-        now, count = carried_over(checkpoint, now)
-        formula = str(checkpoint)
-    return done.returncode
+    for number in range(1, rounds + 1):
+        streams = pieces(order[len(order) * (number - 1) // rounds:len(order) * number // rounds], now, count, len(names))
+        (folder / f"round-{number}.sizes").write_text(sizes_of(streams))
+        for stream, lines in enumerate(streams, 1):
+            (folder / f"round-{number}.stream-{stream}").write_text("".join(map(text_of, lines)))
+        places = {identity: place for place, identity in enumerate(live(streams, count), 1)}
+        now = {identity: places[last] for identity, last in now.items() if last in places}
+        count = len(places)
+    return 0
 
 
 if __name__ == "__main__":

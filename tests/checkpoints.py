@@ -1,4 +1,4 @@
-"""What a checkpoint has to be, by the rules and not by the program."""
+"""The checkpoint of a run, by the rules and not by the program."""
 import re
 from pathlib import Path
 from typing import Dict, Iterable, List, Sequence, Set, Tuple
@@ -23,7 +23,7 @@ def variables_of(formula: Path) -> int:
 
 
 def live(formula: Path, streams: Sequence[Path]) -> List[Entry]:
-    """What is live where all lines are right: not what its owner deleted, nor what all streams dropped."""
+    """The clauses that are live where all lines are right: none that its owner deleted, nor that all streams dropped."""
     clauses: Dict[int, Clause] = dict(enumerate(read_formula(formula), 1))
     count = len(clauses)
     retired: Set[int] = set()

@@ -24,7 +24,7 @@ OPTIONS = ["--tries", "1000000"]
 LARGE = OPTIONS + ["--lines", "1000000", "--room", "10000000"]
 UNSATISFIABLE, SATISFIABLE = 20, 10
 
-# What is generated, the answer, the streams, the LBD up to which clauses are shared. The seed is the row's number.
+# The generator's words, the answer, the streams, the LBD up to which clauses are shared. The seed is the row's number.
 ROWS = [
     ("random 100 1", UNSATISFIABLE, 1, 4),
     ("random 100 1", UNSATISFIABLE, 2, 4),

@@ -1,5 +1,5 @@
 #!/usr/bin/env python3
-"""Runs the filter on mutated proofs, built so that it tells what is undefined, and the program on what comes out.
+"""Runs the filter on mutated proofs, built so that it reports undefined behaviour, and the program on what comes out.
 
     filter_mutants.py PROGRAM [COUNT [FIRST]]
 
@@ -10,7 +10,7 @@ soon with status 0 and no word, or with status 1 and one line on standard error.
 their spelling here; and the program, which reads each stream that isn't empty, has to take it to its end, but for identities
 beyond --lines and clauses of streams that aren't there. A mutant that fails is kept in tools/exact/out/mutants. It shows what is
 off; the last line is 'N passed, M failed', and the status is 1 where a run failed. Where the compiler builds no such program the
-mutants are skipped, and that is told.
+mutants are skipped, and that is said.
 """
 import multiprocessing
 import os
@@ -40,7 +40,7 @@ Base = Tuple[str, bytes, List[bytes]]
 # The formula, the stream, and how many of its first lines are mutated.
 BASES = [("four-clause.cnf", "four-clause.lrup", 2), ("pigeonhole.cnf", "pigeonhole.lrup", 12),
          ("pigeonhole.cnf", "pigeonhole.lrup", 60), ("bmc.cnf", "bmc.lrup", 20)]
-LONG = 9000             # the clauses of a long proof, so many that the filter gives memory back
+LONG = 9000             # the clauses of a long proof, enough for the filter to give memory back
 LONG_ONES = 0.02        # of the mutants
 WORDS = ["lrat", "drat", "frat", "binary-lrat", "binary-drat"]
 HUGE = [1 << 31, (1 << 31) - 1, 1 << 32, (1 << 63) - 1, 1 << 63, 1 << 64, 10 ** 17, 10 ** 18 - 1, 10 ** 18, 10 ** 40,
@@ -50,12 +50,12 @@ LETTERS = [b"a", b"d", b"i", b"l", b"o", b"f", b"r", b"c", b"x", b"-", b"+1", b"
 NUMBER = rb"[1-9][0-9]{0,17}"
 LINE = re.compile(rb"(?:" + NUMBER + rb" (?:-?" + NUMBER + rb" )*0 (?:" + NUMBER + rb" )*0|"
                   + NUMBER + rb" d (?:" + NUMBER + rb" )*0|" + NUMBER + rb" i (?:-?" + NUMBER + rb" )*0)")
-# What the program may say of a stream that is well spelled, and whose lines are exact.
+# The report on a stream that is well spelled, and whose lines are exact.
 ENDS = re.compile(r"c stream \d+: \d+ added, \d+ deleted, (ended|bad line \d+ \((identity|no room|missing \d+)\))")
 
 
 def is_sanitizing() -> bool:
-    """Whether the compiler has what tells of undefined behaviour."""
+    """Whether the compiler has the sanitizers."""
     with tempfile.TemporaryDirectory() as work:
         source, one = written("int main(void) { return 0; }\n", Path(work), "one.c"), Path(work) / "one"
         return run([*compiler(*SANITIZE), "-o", one, source]).status == 0 and run([one]).status == 0
@@ -161,11 +161,11 @@ class Mutant:
         self.proof = proof
 
 
-# What has to hold of a run.
+# Properties of a run.
 
 
 def spelling(text: bytes) -> Optional[str]:
-    """What is off with the lines, or None."""
+    """The fault in the lines, or None."""
     if text and not text.endswith(b"\n"):
         return "the last line isn't whole"
     for line in text.splitlines():
@@ -179,7 +179,7 @@ def spelling(text: bytes) -> Optional[str]:
 
 
 def report_of(program: str, mutant: Mutant, text: bytes, work: Path) -> Optional[str]:
-    """What is off with the report on the stream, or None."""
+    """The fault in the report on the stream, or None."""
     path = written(text, work, "stream")
     streams = [path if number == mutant.stream else "/dev/null" for number in range(1, mutant.streams + 1)]
     done = run([program, "--tries", "0", "--lines", "20000", "--room", "100000", mutant.formula, *streams], limit=SECONDS)

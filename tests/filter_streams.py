@@ -34,7 +34,7 @@ FIRST = "5 2 0 1 2 0\n"
 
 
 def exact(words: Sequence[object], given: Text = b"") -> Ran:
-    """What comes out of the filter, what is said on standard error, and the status."""
+    """The filter's standard output, standard error and status."""
     return run([FILTER, *words], given, limit=300)
 
 
@@ -49,7 +49,7 @@ def check(program: str, formula: Path, streams: Sequence[Tuple[object, int]]) ->
 
 
 def at_place(stream: Tuple[object, int], place: int, count: int) -> List[Tuple[object, int]]:
-    """The stream in its place among so many, of which the others are empty."""
+    """The stream in its place among others that are empty."""
     return [stream if number == place else ("/dev/null", 0) for number in range(1, count + 1)]
 
 
@@ -203,7 +203,7 @@ def bad_other(line: str, work: Path) -> None:
 
 
 def another(program: str, work: Path) -> None:
-    """Clauses of another stream, so many that the filter gives their memory back."""
+    """Clauses of another stream, enough for the filter to give their memory back."""
     formula, count = written(FOUR, work), 9000
     theirs = "".join(f"{6 + 2 * number} 1 2 0 1 0\n" for number in range(count)) + f"{6 + 2 * count} 2 0 1 2 0\n"
     ours = "".join(f"{5 + 2 * number} 1 2 0 {6 + 2 * number} 0\n" for number in range(count))
@@ -309,12 +309,12 @@ def refusals_in_binary() -> List[Row]:
         ("binary LRAT, an identity twice", FOUR, five + five, "byte 8: the identity 5", FIRST, lrat),
         ("binary LRAT, an end before the hints", FOUR, five + b"a" + code(6) + b"\0", "byte 8: ", FIRST, lrat),
         ("binary, no step after a deletion", FOUR, b"d" + codes([1, 2]) + b"x\0", "--format", "", []),
-        ("binary, of which the first bytes tell nothing", FOUR, b"a" + varint(5) + codes([2]) + codes([1, 2]), "--format", "", []),
+        ("binary, of which the first bytes say nothing", FOUR, b"a" + varint(5) + codes([2]) + codes([1, 2]), "--format", "", []),
     ]
 
 
 def in_another_order() -> List[Row]:
-    """What comes out with hints in an order that isn't said."""
+    """Hints in an order that isn't named."""
     unit = "6 d 5 0\n"
     return [
         ("FRAT, hints that aren't there", FOUR, TOLD + "a 10 2 0 l 33 34 0\na 11 0 l 0\n", FIRST + "6 0 3 4 5 0\n", []),
@@ -374,7 +374,7 @@ def what_comes_out(program: str) -> List[Row]:
 
 
 def longest(program: str, count: int, work: Path) -> None:
-    """A clause of so many literals."""
+    """A clause of this length."""
     literals = range(1, count + 1)
     numbers = " ".join(map(str, literals))
     formula = written(f"p cnf {count + 1} 2\n{numbers} {count + 1} 0\n-{count + 1} 0\n", work)
@@ -399,7 +399,7 @@ def check_report(program: str, formula: Path, text: str, said: str, work: Path) 
 
 
 def longest_chain(program: str, count: int, work: Path) -> None:
-    """The empty clause from so many clauses."""
+    """The empty clause from this number of clauses."""
     last = count - 1
     clauses = ["1 0"] + [f"-{variable} {variable + 1} 0" for variable in range(1, last)] + [f"-{last} 0"]
     formula = written("\n".join([f"p cnf {last} {count}", *clauses, ""]), work)
@@ -455,7 +455,7 @@ LINES = ["5 2 0 1 2 0", "5 d 1 0", "6 0 3 4 5 0"]
 
 
 def parts_of(form: str) -> Tuple[List[bytes], bytes]:
-    """What is written of the three steps, each with what comes before it; and what follows."""
+    """The lines of the three steps, each with what comes before it; and what follows."""
     _, make = FORMS[form]
     parts = make(read_formula(example("four-clause.cnf")), STEPS)
     before = len([part for part in parts if part.startswith(b"o ")])
@@ -470,7 +470,7 @@ def is_whole(form: str, proof: bytes, length: int) -> bool:
 
 
 def cut(form: str, work: Path) -> None:
-    """At each byte. What is whole comes out, and where more follows that is told."""
+    """At each byte. Whole steps come out, and where more follows standard error says so."""
     word, _ = FORMS[form]
     parts, rest = parts_of(form)
     proof, formula = b"".join(parts) + rest, written(FOUR, work)
@@ -620,7 +620,7 @@ def make_formula(words: str, work: Path) -> Path:
 
 
 def in_bash(program: str, commands: str, work: Path) -> Ran:
-    """What the commands print, in a folder that has the repository's tools."""
+    """The outputs of the commands, in a folder that has the repository's tools."""
     os.symlink(ROOT / "tools", work / "tools")
     os.symlink(program, work / "lrupd")
     for pipe in ("proof", "proof1", "proof2"):

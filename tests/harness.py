@@ -1,4 +1,4 @@
-"""What the tests of programs share: runs, files and pipes, builds, and the count of what passed.
+"""Shared by the tests of programs: runs, files and pipes, builds, and the count of what passed.
 
 A test is a row: a name, a function and its arguments. The function gets a folder of its own as the last one.
 """
@@ -7,6 +7,7 @@ import os
 import random
 import re
 import shlex
+import signal
 import subprocess
 import sys
 import tempfile
@@ -19,9 +20,13 @@ TESTS = Path(__file__).resolve().parent
 ROOT = TESTS.parent
 EXAMPLES = ROOT / "examples"
 GENERATOR = EXAMPLES / "solver" / "generate.py"
+LRUP_CHAIN = ROOT / "tools" / "lrup-chain"
 LIMIT = 120  # seconds, after which a run hangs
 FOUR = "p cnf 2 4\n1 2 0\n-1 2 0\n1 -2 0\n-1 -2 0\n"
 VERDICTS = {0: "s UNSATISFIABLE", 3: "s UNKNOWN", 8: "s UNSATISFIABLE UNDER ASSUMPTIONS"}
+
+# A shell starts what is in the background with this one ignored, and then programs under test would ignore it, too.
+signal.signal(signal.SIGINT, signal.default_int_handler)
 
 Words = Iterable[object]
 Row = Tuple[Any, ...]
@@ -37,7 +42,7 @@ class Skipped(Exception):
 
 
 class Ran(NamedTuple):
-    """What a program wrote on standard output and standard error, and its status."""
+    """A program's standard output, standard error and status."""
     out: str
     err: str
     status: Optional[int]
@@ -56,7 +61,7 @@ def text_of(data: Optional[bytes]) -> str:
 
 
 def run(words: Words, given: Union[str, bytes, None] = None, limit: float = LIMIT, **how: Any) -> Ran:
-    """Runs a program to its end, with so many bytes on its standard input."""
+    """Runs a program to its end, with these bytes on its standard input."""
     if given is not None:
         how["input"] = given.encode() if isinstance(given, str) else given
     else:
@@ -109,7 +114,7 @@ def held(path: Path) -> IO[bytes]:
 
 
 def feed(path: Path, pieces: Pieces) -> threading.Thread:
-    """Writes these into a pipe as soon as somebody reads there; where one is a number, it waits so many seconds."""
+    """Writes these into a pipe as soon as somebody reads there; a number is a wait, in seconds."""
     def write() -> None:
         try:
             with open(path, "wb", buffering=0) as pipe:
@@ -137,7 +142,7 @@ def dimacs(variables: int, clauses: Sequence[Sequence[int]]) -> str:
 
 
 def random_clauses(numbers: random.Random, variables: int, count: int, lengths: Sequence[int] = (3,)) -> List[List[int]]:
-    """Clauses of so many variables, with lengths drawn from these."""
+    """Clauses over that number of variables, with lengths drawn from these."""
     clauses = []
     for _ in range(count):
         chosen = numbers.sample(range(1, variables + 1), min(variables, numbers.choice(lengths)))
@@ -166,7 +171,7 @@ def words_given(usage: Optional[str], least: int = 1, most: int = 1) -> List[str
     return [os.path.abspath(words[0]), *words[1:]]
 
 
-# What the checker has to answer.
+# The answers that the checker has to give.
 
 
 def report(said: Sequence[str], status: int) -> str:
@@ -204,7 +209,7 @@ def answers(program: str, wanted: Wanted, work: Path) -> None:
 
 
 def with_memory(function: Callable[..., None], *arguments: Any) -> None:
-    """What takes up to 2 GB."""
+    """For rows that take up to 2 GB."""
     available = re.search(r"^MemAvailable: +(\d+)", Path("/proc/meminfo").read_text(), re.M)
     if not available or int(available[1]) < 4_000_000:
         raise Skipped("less than 4 GB are free")
@@ -215,7 +220,7 @@ def with_memory(function: Callable[..., None], *arguments: Any) -> None:
 
 
 def outcome(row: Row) -> Optional[Exception]:
-    """What is off, or why it is skipped; nothing where it passed."""
+    """The failure, or why the row is skipped; nothing where it passed."""
     _, function, *arguments = row
     with tempfile.TemporaryDirectory() as work:
         try:
@@ -231,11 +236,16 @@ def closing(passed: int, failed: int, skipped: int = 0, title: str = "") -> int:
     return 1 if failed else 0
 
 
-def run_all(rows: Sequence[Row], title: str = "") -> int:
-    """Shows what is off, and counts."""
+def run_all(rows: Sequence[Row], title: str = "", tries: int = 1) -> int:
+    """Shows what is off, and counts. Rows that race with the clock may be tried more than once."""
     failed = skipped = 0
     for row in rows:
         found = outcome(row)
+        for _ in range(tries - 1):
+            if not found or isinstance(found, Skipped):
+                break
+            print(f"{row[0]}, tried again: {found}", flush=True)
+            found = outcome(row)
         if isinstance(found, Skipped):
             skipped += 1
             print(f"{row[0]}: skipped, {found}", flush=True)

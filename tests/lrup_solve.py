@@ -15,72 +15,29 @@ import pty
 import random
 import re
 import resource
-import shlex
 import shutil
 import signal
-import stat
 import struct
 import subprocess
 import sys
 import termios
 import time
 from pathlib import Path
-from typing import Any, Dict, List, Mapping, Optional, Sequence, Tuple
+from typing import Any, Dict, List, Optional, Sequence, Tuple
 
 sys.dont_write_bytecode = True
-from harness import (EXAMPLES, FOUR, LIMIT, ROOT, VERDICTS, Failure, Ran, Row, Skipped, closing, dimacs, example, generated, piped,
-                     random_clauses, run, run_all, started, until, want, words_given, written)
+from harness import (EXAMPLES, FOUR, LIMIT, ROOT, Failure, Ran, Row, Skipped, dimacs, example, generated, piped, random_clauses, run,
+                     started, until, want, words_given, written)
 from proof_forms import read_formula
+from solving import (EARLY, ELIMINATING, OUT, PROGRAM, SOLVE, Answer, before_lrupd, check_again, children_of, in_place_of_lrupd,
+                     is_alive, random_formula, run_built, solve, want_answer)
 
-PROGRAM, *_ = words_given(__doc__, most=2)
-FLAGS = sys.argv[2] if len(sys.argv) > 2 else "-O2"
-PLACE = ROOT / "tools" / "solve" / "out"
-OUT = PLACE / re.sub(r"\W+", "", FLAGS) if len(sys.argv) > 2 else PLACE
-SOLVE, TESTED = OUT / "lrup-solve", OUT / "lrup-solve-tested"
-EARLY = "elimint=10 probeint=10 subsumeint=10 compactint=10 reduceint=20 rephaseint=20"
-ELIMINATING = "elimint=1 compact=0"
+words_given(__doc__, most=2)
 MITERS = EXAMPLES / "miter"
-ANSWERS = {0: VERDICTS[3], 10: "s SATISFIABLE", 20: VERDICTS[0]}
-
-
-class Answer:
-    """What a run wrote, and its status."""
-
-    def __init__(self, done: Ran) -> None:
-        self.out, self.said, self.status = done
-        lines = self.out.splitlines()
-        self.answers = [line for line in lines if line.startswith("s ")]
-        self.comments = [line[2:] for line in lines if line.startswith("c ")]
-        self.values = [int(word) for line in lines if line.startswith("v ") for word in line.split()[1:]]
-
-    def lost(self) -> List[str]:
-        return [line for line in self.comments if " is lost: " in line]
-
-
-def solve(words: Sequence[object], tested: Optional[Mapping[str, object]] = None, **how: Any) -> Answer:
-    """With `tested`, a build for tests, and words in its environment."""
-    environment = {**os.environ, **{f"LRUP_SOLVE_{name}": str(word) for name, word in (tested or {}).items()}}
-    return Answer(run([TESTED if tested is not None else SOLVE, "--lrupd", PROGRAM, *words], env=environment, **how))
 
 
 def in_shell(command: str, *words: object, **how: Any) -> Ran:
     return run(["sh", "-c", command, *words], **how)
-
-
-def want_answer(answer: Answer, status: Optional[int], formula: Optional[Path] = None, verdict: Optional[str] = None) -> None:
-    """The status and its line; of a satisfiable formula's, an assignment that makes each clause true."""
-    assert status is not None
-    wanted = ([verdict or ANSWERS[status]], status, "")
-    want((answer.answers, answer.status, answer.said), wanted, f"the answer of\n{answer.out[-2000:]}")
-    if status != 10 or formula is None:
-        return want(answer.values, [], "the assignment")
-    header = re.search(r"^p cnf +(\d+)", formula.read_text(), re.M)
-    assert header
-    want([abs(value) for value in answer.values], [*range(1, int(header[1]) + 1), 0], "the variables of the assignment")
-    true = set(answer.values)
-    for clause in read_formula(formula):
-        if not true & set(clause):
-            raise Failure(f"the assignment makes the clause {clause} false")
 
 
 # Answers.
@@ -103,14 +60,6 @@ def without_a_clause(work: Path) -> None:
     want_answer(solve([formula]), 10, formula)
 
 
-def random_formula(seed: int) -> str:
-    numbers = random.Random(seed)
-    variables = numbers.randrange(20, 130)
-    lengths: Tuple[int, ...] = numbers.choice(((3,), (3,), (2, 3, 3, 3, 4, 5), (1, 2, 3, 4, 5, 6)))
-    ratio = numbers.uniform(3.9, 5) if lengths == (3,) else numbers.uniform(2, 6)
-    return dimacs(variables, random_clauses(numbers, variables, round(ratio * variables), lengths))
-
-
 def randomly(seed: int, work: Path) -> None:
     """Any answer but 'unknown': an assignment is evaluated here, and of the others the kept proof is checked once more."""
     numbers = random.Random(f"{seed} engines")
@@ -124,12 +73,6 @@ def randomly(seed: int, work: Path) -> None:
     want_answer(answer, answer.status if answer.status in (10, 20) else 20, formula)
     if keeps and answer.status == 20:
         check_again(kept)
-
-
-def check_again(kept: Path) -> None:
-    """The record is enough to have the streams checked once more, by its command, in any folder. The report is the same."""
-    done = run(["sh", kept / "command"], cwd="/")
-    want((done.out, done.status), ((kept / "report").read_text(), 0), "the streams, checked again")
 
 
 def keeps(words: List[str], work: Path) -> None:
@@ -173,9 +116,9 @@ def links_in_a_record(work: Path) -> None:
     """Links that have a stream's name are removed, and what they lead to stays."""
     kept, targets = work / "kept", [written("text", work, name) for name in ("one", "two", "three")]
     kept.mkdir()
-    for target, name in zip(targets, ("stream1", "report", ".report.new")):
+    for target, name in zip(targets, ("round-1.stream-1", "report", ".report.new")):
         os.symlink(target, kept / name)
-    os.link(targets[1], kept / "stream2")
+    os.link(targets[1], kept / "round-1.stream-2")
     want_answer(solve(["-j", "2", "--proofs", kept, example("bmc.cnf")]), 20)
     want([target.read_text() for target in targets], ["text"] * 3, "what the links led to")
     check_again(kept)
@@ -184,16 +127,19 @@ def links_in_a_record(work: Path) -> None:
 def earlier_run(work: Path) -> None:
     """Of a record there is nothing left once the next run is there; its formula may come from the record, by a pipe."""
     kept = work / "kept"
-    streams = [f"stream{k}" for k in range(1, 65)]
-    for name in ["report", "command", "assumptions", "another", *streams]:
+    rounds = [f"round-{k}.{name}" for k in (1, 2, 9, 10, 123) for name in ("sizes", "cnf", "stream-1", "stream-2", "stream-64")]
+    others = ["another", "round-0.sizes", "round-1.stream-", "round-1.stream-x", "round-2.cnf.old", "round.cnf", "stream1"]
+    for name in ["report", "command", "assumptions", *rounds, *others]:
         written("of an earlier run\n", kept, name)
     shutil.copy(example("bmc.cnf"), kept / "formula.cnf")
     in_shell('cat "$2"/formula.cnf | "$0" --lrupd "$1" -j 2 --proofs "$2" -', SOLVE, PROGRAM, kept)
-    want(sorted(os.listdir(kept)), ["another", "command", "formula.cnf", "report", "stream1", "stream2"], "what is there")
+    one = ["round-1.sizes", "round-1.stream-1"]
+    want(sorted(os.listdir(kept)), sorted([*others, "command", "formula.cnf", "report", *one, "round-1.stream-2"]), "what is there")
     want((kept / "formula.cnf").read_text(), example("bmc.cnf").read_text(), "the formula")
     check_again(kept)
-    want_answer(solve(["-j", "1", "--memory", "300K", "--proofs", kept, generated("pigeons 9", work)]), 0)
-    want(sorted(os.listdir(kept)), ["another", "stream1"], "what is there after 's UNKNOWN'")
+    one_round = {"FIRST_WORDS": 1 << 62}      # no machine fills its row within a second
+    want_answer(solve(["-j", "1", "--time", "1", "--proofs", kept, generated("pigeons 11", work)], tested=one_round), 0)
+    want(sorted(os.listdir(kept)), sorted([*others, *one]), "what is there after 's UNKNOWN'")
 
 
 def own_files(name: str, work: Path) -> None:
@@ -206,17 +152,6 @@ def own_files(name: str, work: Path) -> None:
         want(solve(["--proofs", work / "kept", "-"], given=text).status, status, f"the status with {text}")
 
 
-def in_place_of_lrupd(body: str, work: Path) -> Path:
-    path = written(f"#!/bin/sh\n{body}\n", work, "lrupd")
-    path.chmod(path.stat().st_mode | stat.S_IXUSR)
-    return path
-
-
-def before_lrupd(what: str, work: Path) -> Path:
-    """A program that does this, but where lrupd only has to read the formula, and goes on as lrupd."""
-    return in_place_of_lrupd(f"case \"$*\" in *' /dev/null') ;; *) {what};; esac\nexec {shlex.quote(PROGRAM)} \"$@\"", work)
-
-
 def unkept(work: Path) -> None:
     """The report can't be kept: the answer is told all the same."""
     kept = work / "kept"
@@ -224,7 +159,7 @@ def unkept(work: Path) -> None:
     answer = solve(["--lrupd", path, "--proofs", kept, example("bmc.cnf")])
     want((answer.answers, answer.status, answer.said), (["s UNSATISFIABLE"], 1,
          f"lrup-solve: cannot write {kept}/report: Is a directory\n"), "the answer")
-    want(sorted(set(os.listdir(kept)) - {"stream1", "stream2"}), ["report"], "what is there")
+    want([name for name in os.listdir(kept) if not name.startswith("round-1.")], ["report"], "what is there")
 
 
 def another_name(words: List[str], work: Path) -> None:
@@ -338,29 +273,6 @@ def impostor(body: str, cause: str, work: Path) -> None:
 # What happens while it runs.
 
 
-def of_process(pid: int, name: str) -> str:
-    """What the system tells of it; nothing where it isn't there."""
-    try:
-        return Path(f"/proc/{pid}/{name}").read_text()
-    except OSError:
-        return ""
-
-
-def children_of(pid: int) -> Dict[str, int]:
-    """Their names, with the ids. Of two lrupd the one counts that reads streams."""
-    found = {}
-    for child in map(int, of_process(pid, f"task/{pid}/children").split()):
-        title = of_process(child, "comm").strip()
-        if title and (title != "lrupd" or "/dev/fd/" in of_process(child, "cmdline")):
-            found[title] = child
-    return found
-
-
-def is_alive(pid: int) -> bool:
-    state = of_process(pid, "stat").rsplit(")", 1)[-1].split()
-    return bool(state) and state[0] not in "ZX"
-
-
 class Running:
     """One that is at work: both engines, their filters and lrupd are there."""
 
@@ -440,28 +352,11 @@ def time_is_up(work: Path) -> None:
 
 
 def row_is_full(work: Path) -> None:
-    answer = solve(["-j", "2", "--memory", "300K", generated("pigeons 9", work)])
+    """The clauses that the engines have come to more than a row holds."""
+    answer = solve(["-j", "2", "--memory", "200K", generated("pigeons 9", work)])
     want_answer(answer, 0)
-    want(sorted(set(answer.comments[:3])), [*(f"engine {k} is lost: its filter stopped: the row is full" for k in (1, 2)),
-                                            "no engine is left"], "why no engine is left")
-
-
-def rows_grow(work: Path) -> None:
-    """A first row that is far too small."""
-    answer = solve(["-v", "-j", "2", generated("random 200 3", work)], tested={"FIRST_WORDS": 2000})
-    want_answer(answer, 20)
-    commands = [line for line in answer.comments if "lrupd --tries " in line]
-    if len(commands) < 2:
-        raise Failure(f"wanted a second row, and not\n{answer.out}")
-
-
-def rows_that_fail(work: Path) -> None:
-    """There is no memory for a larger row: the run goes on with the one that it has."""
-    was_there = work / "started"
-    path = before_lrupd(f"[ -e {was_there} ] && exit 6; touch {was_there}", work)
-    answer = solve(["-v", "-j", "2", "--lrupd", path, generated("random 200 3", work)], tested={"FIRST_WORDS": 400000})
-    want(sum("no larger row" in line for line in answer.comments), 1, f"rows that fail in\n{answer.out}")
-    want_answer(answer, answer.status)
+    want(answer.comments[0], "the clauses that the engines have leave no room in a row of 200,000 bytes: --memory says how large it is",
+         "why the run doesn't go on")
 
 
 def full(words: List[str], out: str, most: int, cause: str, work: Path) -> None:
@@ -633,8 +528,8 @@ def words_and_files() -> List[Row]:
               ["--proofs", "{work}/kept", "/dev/stdin"])]
     runs += [(f"an own {name}", own_files, name) for name in ("formula.cnf", "assumptions", "report", "command")]
     runs += [(" ".join(["over", *words]), writes_over, words) for words in
-             (["formula.cnf"], ["formula.cnf", "{path}"], ["stream1", "{path}"], ["stream64", "{path}"], ["report", "{work}/link"],
-              ["command", "{work}/other"], ["stream2", "/dev/stdin"], ["x", "--assume", "{cube}", "{path}"])]
+             (["formula.cnf"], ["formula.cnf", "{path}"], ["round-1.stream-1", "{path}"], ["round-12.stream-64", "{path}"],
+              ["report", "{work}/link"], ["command", "{work}/other"], ["round-1.stream-2", "/dev/stdin"], ["round-3.sizes", "{path}"], ["x", "--assume", "{cube}", "{path}"])]
     return runs
 
 
@@ -679,9 +574,8 @@ def what_happens() -> List[Row]:
             ("filter 1 killed", killed, ["filter 1"], kill, 20, "engine 1 is lost"),
             ("filter 2 killed", killed, ["filter 2"], term, 20, "engine 2 is lost"),
             ("an engine and a filter killed", killed, ["engine 1", "filter 2"], kill, 0, "no engine is left"),
-            ("the first process killed", left_alone), ("time", time_is_up), ("a full row", row_is_full), ("rows", rows_grow),
-            ("rows that fail", rows_that_fail),
-            ("a full disk for streams", full, ["-j", "1", "--proofs", "{work}"], os.devnull, 4096, "stream1: File too large"),
+            ("the first process killed", left_alone), ("time", time_is_up), ("a full row", row_is_full),
+            ("a full disk for streams", full, ["-j", "1", "--proofs", "{work}"], os.devnull, 4096, "round-1.stream-1: File too large"),
             ("a full disk for the answer", full, [], "/dev/full", 0, "cannot write the answer"),
             ("a closed output", closed, "bmc.cnf"), ("a closed output, satisfiable", closed, "assumed.cnf"),
             ("a reader that left", reader_left), ("no progress", progress, ["-q"], False, 80)]
@@ -713,26 +607,9 @@ def sharing() -> List[Row]:
             ("published late", published_late)]
 
 
-def build() -> Optional[str]:
-    """None, or why there is nothing to be tested."""
-    for path, flags in ((SOLVE, FLAGS), (TESTED, FLAGS + " -DSOLVE_TESTS")):
-        out, err, status = run(["make", "-s", "-C", ROOT, "solve", f"SOLVE={path.relative_to(ROOT)}", f"SOLVE_FLAGS={flags}"],
-                               limit=600)
-        if status and "libcadical-dev" in out + err:
-            return (out + err).splitlines()[0]
-        if status:
-            sys.exit(out + err)
-    return None
-
-
 def main() -> int:
     runs = known() + words_and_files() + refusals() + what_happens() + others_formulas() + sharing()
-    runs += [(f"random {seed}", randomly, seed) for seed in range(300)]
-    cause = build()
-    if cause:
-        print(f"lrup-solve: skipped, {cause}")
-        return closing(0, 0, len(runs))
-    return run_all(runs)
+    return run_built(runs + [(f"random {seed}", randomly, seed) for seed in range(300)])
 
 
 sys.exit(main())

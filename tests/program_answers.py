@@ -6,6 +6,7 @@ what is wanted.
 
 It shows what is off; the last line is 'N passed, M failed', and the status is 1 where a row failed.
 """
+import re
 import sys
 from pathlib import Path
 from typing import Dict, Iterator, List, Tuple
@@ -13,6 +14,9 @@ from typing import Dict, Iterator, List, Tuple
 sys.dont_write_bytecode = True
 from harness import (FOUR, ROOT, Failure, Pieces, Row, Wanted, answered, answers, example, report, run_all, want,
                      with_memory, words_given)
+
+sys.path.append(str(ROOT / "gate"))
+import tables
 
 Named = Tuple[str, Wanted]
 WAYS = ["", "--serial"]
@@ -251,7 +255,7 @@ def refused_assumptions() -> Iterator[Named]:
 
 
 def watched() -> Iterator[Named]:
-    """What is told while it goes on. On standard output and of the status it changes nothing."""
+    """With --watch standard error has lines while the run goes on, and standard output and the status are the same."""
     said = ["0 added, 0 deleted, bad line 1 (spelling)", "0 added, 0 deleted, ended"]
     told = "".join(f"lrupd: stream {number}: {words}\n" for number, words in enumerate(said, 1))
     words = ["--watch", "--serial", "formula", "stream", "/dev/null"]
@@ -288,14 +292,14 @@ def largest() -> Iterator[Named]:
 
 
 def little_memory() -> Iterator[Named]:
-    """In an address space of so many kilobytes, with stacks of 8 MB."""
+    """In a small address space, with stacks of 8 MB."""
     within = 'ulimit -s 8192 && ulimit -v {} && exec "$@"'
     yield refused("out of memory", 6, "--room", "268000000", "formula", "one", shell=within.format(1000000))
     yield refused("worker 1 not started", 6, "--lines", "1", "--room", "1", "formula", "one", shell=within.format(9000))
 
 
 def full_outputs() -> Iterator[Named]:
-    """What can't be said on standard error changes no status."""
+    """A standard error that can't be written changes no status."""
     cut = "lrupd: cannot write report\n"
     for name, shell, status, words, err in [
             ("a full output", 'exec "$@" > /dev/full', 7, ["formula", "one"], cut),
@@ -306,7 +310,7 @@ def full_outputs() -> Iterator[Named]:
         yield name, Wanted(words, status, err=err, files=FILES, shell=shell)
 
 
-# What isn't compared to the letter.
+# Not compared to the letter.
 
 
 def usage(program: str, words: List[str], work: Path) -> None:
@@ -318,8 +322,18 @@ def usage(program: str, words: List[str], work: Path) -> None:
         raise Failure(f"wanted words of usage, once, and not\n{err}")
 
 
+def help_told(program: str, work: Path) -> None:
+    """The options and the sizes, in the words of the manual page, to the letter but for the lines' ends."""
+    err = answered(program, Wanted(["--help"], 2), work).err
+    shown = re.findall(r"^ {6}(--.*)\n((?: {10}.*\n)+)", err, re.M)
+    want([(re.sub("[<>]", "", head), " ".join(text.split())) for head, text in shown],
+         [(option.head, option.text) for option in tables.options()], "what --help says of the options")
+    if tables.sizes() not in " ".join(err.split()):
+        raise Failure(f"wanted '{tables.sizes()}' in\n{err}")
+
+
 def many_watched(program: str, work: Path) -> None:
-    """Of 64 streams each end is told, in any order."""
+    """Of 64 streams each end has its line, in any order."""
     plain = answered(program, Wanted(["formula", *["one"] * 64], 3, files=FILES), work)
     out, err, status = answered(program, Wanted(["--watch", "formula", *["one"] * 64], 3, files=FILES), work)
     told = [line.replace("c ", "lrupd: ", 1) for line in plain.out.splitlines() if line.startswith("c ")]
@@ -335,6 +349,7 @@ def rows(program: str) -> Iterator[Row]:
         yield name, with_memory, answers, program, wanted
     for name, words in USAGE:
         yield name, usage, program, words
+    yield "the words of help", help_told, program
     yield "64 streams, watched", many_watched, program
 
 

@@ -38,7 +38,7 @@ NO_REPORT = "lrupd: cannot write report\n"
 Named = Tuple[str, Wanted]
 
 
-# What is saved.
+# Checkpoints that are saved.
 
 
 def saved(name: str, status: int, said: Sequence[str], texts: Sequence[str], wanted: str, formula: str = FOUR,
@@ -90,7 +90,7 @@ def formulas() -> Iterator[Named]:
 
 
 def several_streams() -> Iterator[Named]:
-    """What all have dropped is left out, and what a few have dropped is not; identities are in order, whoever has them."""
+    """Clauses that all have dropped are left out, those that a few have dropped aren't; identities are in order, whoever has them."""
     both = ["5 d 1 2 0\n", "6 d 3 1 0\n"]
     kept = "c id 2\n-1 2 0\nc id 3\n1 -2 0\nc id 4\n-1 -2 0\n"
     yield from saved("what both have dropped", 3, ["0 added, 2 deleted, ended"] * 2, both, "p cnf 2 3\n" + kept)
@@ -111,7 +111,7 @@ def several_streams() -> Iterator[Named]:
     yield from saved("64 streams", 3, ["1 added, 1 deleted, ended"] * 64, many, "p cnf 2 67\n" + kept + derived)
 
 
-# What isn't created, and nothing is touched.
+# Checkpoints that aren't created; nothing is touched.
 
 
 def not_created() -> Iterator[Named]:
@@ -125,21 +125,19 @@ def not_created() -> Iterator[Named]:
 
 
 def order_of_work() -> Iterator[Named]:
-    """The file is created after all that is opened, and before the run."""
+    """The file is created after all that is opened, and once there is a layout."""
     refused = {**FILES, "refused": "p cnf 1\n", "cube": "-2  0\n"}
     for cause, status, words in [
             ("cannot read formula", 5, ["absent", "one"]),
             ("formula refused: bad header", 4, ["refused", "one"]),
             ("cannot read assumptions", 5, ["--assume", "absent", "formula", "one"]),
             ("assumptions refused: spelling", 4, ["--assume", "cube", "formula", "one"]),
-            ("cannot open stream 2", 5, ["formula", "one", "absent"])]:
+            ("cannot open stream 2", 5, ["formula", "one", "absent"]),
+            ("row too long", 2, ["--lines", "268435456", "formula", "one"]),
+            ("stream count", 2, ["formula", *["one"] * 65])]:
         for path, left in ("saved", None), ("one", ONE):
             yield f"{cause}, {path}", Wanted(["--checkpoint", path, *words], status, err=f"lrupd: {cause}\n", files=refused,
                                              left={path: left})
-    for cause, words in ("row too long", ["--lines", "268435456", "formula", "one"]), ("stream count", ["formula", *["one"] * 65]):
-        yield cause, Wanted(["--checkpoint", "saved", *words], 2, err=f"lrupd: {cause}\n", files=FILES, left={"saved": ""})
-        yield f"{cause}, and nothing created", Wanted(["--checkpoint", "one", *words], 5, err=NOT_CREATED, files=FILES,
-                                                      left={"one": ONE})
 
 
 USAGE = [["--checkpoint"], ["--checkpoint", "saved"], ["--checkpoint", "saved", "formula"],
@@ -154,8 +152,8 @@ def usage(program: str, words: List[str], work: Path) -> None:
 # Where the saving or the report fails.
 
 
-def told() -> Iterator[Named]:
-    """--watch tells what it does without a checkpoint."""
+def watched() -> Iterator[Named]:
+    """--watch says what it says without a checkpoint."""
     for way in WAYS:
         yield f"watched {way}", Wanted(["--watch", "--checkpoint", "saved", *way.split(), "formula", "dropping"], 3,
                                        report(["1 added, 1 deleted, ended"], 3), "lrupd: stream 1: 1 added, 1 deleted, ended\n",
@@ -185,7 +183,7 @@ def full() -> Iterator[Named]:
 
 
 def torn(program: str, way: List[str], limit: Optional[int], work: Path) -> None:
-    """Files of so many bytes at most, or a disk that is full: what is left is a part of the checkpoint, and no formula."""
+    """A limit on the size of files, or a disk that is full: what is left is a part of the checkpoint, and no formula."""
     formula, whole = example("bmc.cnf"), printed(variables_of(example("bmc.cnf")), live(example("bmc.cnf"), [Path("/dev/null")]))
     path, words = work / "saved", [*way, "--checkpoint", "saved", formula, "/dev/null"]
     if limit is None:
@@ -209,7 +207,7 @@ def torn(program: str, way: List[str], limit: Optional[int], work: Path) -> None
 
 
 def within(limit: Optional[int]) -> None:
-    """Files of so many bytes at most, beyond which writes fail."""
+    """A limit on the size of files, beyond which writes fail."""
     if limit is not None:
         signal.signal(signal.SIGXFSZ, signal.SIG_IGN)
         resource.setrlimit(resource.RLIMIT_FSIZE, (limit, limit))
@@ -257,7 +255,7 @@ def refused(fault: str, count: int, program: str, work: Path) -> None:
     want((work / "saved").read_bytes() == (b"" if fault else formula.read_bytes()), True, "whether the checkpoint is as wanted")
 
 
-# What is saved of recorded streams.
+# Checkpoints of recorded streams.
 
 
 def recorded(program: str, way: str, formula: Path, names: List[str], part: float, work: Path) -> None:
@@ -285,7 +283,7 @@ RECORDED = [("pigeonhole.cnf", ["pigeonhole.lrup"]), ("bmc.cnf", ["bmc.lrup"]),
 
 
 def rows(program: str) -> Iterator[Row]:
-    for table in one_stream, formulas, several_streams, not_created, order_of_work, told, full:
+    for table in one_stream, formulas, several_streams, not_created, order_of_work, watched, full:
         for name, wanted in table():
             yield name, answers, program, wanted
     for words in USAGE:

@@ -1,7 +1,7 @@
 #!/usr/bin/env python3
 """Four solvers at work, as they were recorded: each writes its lines into a pipe of its own, one after the other at a steady
 pace, and the program checks them all meanwhile. Its report comes as the last solver ends, after some five seconds. Then two
-pipes with --watch: a bad line in the one is told while both are open. Then the first half of the four solvers' lines, with a
+pipes with --watch: a bad line in the one is reported while both are open. Then the first half of the four solvers' lines, with a
 checkpoint, which stays empty until all of them have ended.
 
     program_live.py PROGRAM
@@ -21,7 +21,7 @@ from checkpoints import live, printed, variables_of, want_checkpoint
 from harness import Failure, Ran, example, feed, held, piped, run, started, until, want, words_given, written
 
 PAUSE = 0.004  # seconds, after each of some 750 lines
-TOLD = "lrupd: stream 1: 0 added, 0 deleted, bad line 1 (spelling)\n"
+BAD = "lrupd: stream 1: 0 added, 0 deleted, bad line 1 (spelling)\n"
 
 
 def lines_of(number: int) -> Iterator[Union[bytes, float]]:
@@ -40,23 +40,23 @@ def four_solvers(program: str, work: Path) -> None:
     want(found, Ran(example("bmc-four.out").read_text(), "", 0), "the answer")
 
 
-def told_while_open(program: str, work: Path) -> None:
+def reported_while_open(program: str, work: Path) -> None:
     pipes, errors = [work / "bad", work / "open"], work / "errors"
     words = [program, "--watch", example("four-clause.cnf"), *pipes]
     with held(pipes[0]) as bad, held(pipes[1]) as end, open(errors, "wb") as err, \
             started(words, stdout=subprocess.PIPE, stderr=err, text=True) as checker:
         bad.write(b"no line\n")
         print("one stream is bad, both are open", flush=True)
-        until(f"somebody tells {TOLD}", lambda: errors.read_text() == TOLD, 10)
-        print(TOLD, end="", flush=True)
+        until(f"standard error has {BAD}", lambda: errors.read_text() == BAD, 10)
+        print(BAD, end="", flush=True)
         bad.close()
         end.close()
         out, _ = checker.communicate(timeout=10)
         status = checker.returncode
     print(out, end="")
-    told = TOLD + "lrupd: stream 2: 0 added, 0 deleted, ended\n"
-    print(told[len(TOLD):], end="", flush=True)
-    want(Ran(out, errors.read_text(), status), Ran(re.sub("^lrupd:", "c", told, flags=re.M) + "s UNKNOWN\n", told, 3), "the answer")
+    ends = BAD + "lrupd: stream 2: 0 added, 0 deleted, ended\n"
+    print(ends[len(BAD):], end="", flush=True)
+    want(Ran(out, errors.read_text(), status), Ran(re.sub("^lrupd:", "c", ends, flags=re.M) + "s UNKNOWN\n", ends, 3), "the answer")
 
 
 def checkpoint_at_the_end(program: str, work: Path) -> None:
@@ -80,7 +80,7 @@ def checkpoint_at_the_end(program: str, work: Path) -> None:
 
 def main() -> None:
     program, = words_given(__doc__)
-    for part in four_solvers, told_while_open, checkpoint_at_the_end:
+    for part in four_solvers, reported_while_open, checkpoint_at_the_end:
         with tempfile.TemporaryDirectory() as work:
             part(program, Path(work))
 

@@ -30,19 +30,19 @@ from harness import EXAMPLES, FOUR, ROOT, TESTS, Words, compiled, piped, report,
 
 
 class Test(NamedTuple):
-    """A test, what it tells where an allocation is refused, and how many streams it starts threads for; whether it tells each
+    """A test, its answers where an allocation is refused, and how many streams it starts threads for; whether it reports each
     refusal, since none of its allocations is made by a call that has no such answer; and the last allocation that is refused, where
     those behind it are for threads of the test's own that wait for each other."""
     crate: str
     name: str
-    told: List[str]
+    causes: List[str]
     streams: int = 0
     always: bool = False
     last: Optional[int] = None
 
 
 class Answer(NamedTuple):
-    """What was written, the status, and what the checkpoint has, if one was created."""
+    """The two outputs, the status, and the text of the checkpoint, if one was created."""
     out: str
     err: str
     status: Optional[int]
@@ -101,8 +101,8 @@ class Machine:
 
     def run(self, words: Sequence[str], refuse: str = "", out: Optional[str] = None,
             limit: float = HANGS) -> Tuple[Answer, bool, float]:
-        """The answer, whether a call was refused, and the seconds that it took. What `--watch` tells is compared with the report,
-        and isn't in the answer where it is right."""
+        """The answer, whether a call was refused, and the seconds that it took. The lines of `--watch` are compared with the
+        report, and aren't in the answer where they are right."""
         checkpoint = Path(words[words.index("--checkpoint") + 1]) if "--checkpoint" in words else None
         for path in [self.mark, *([checkpoint] if checkpoint else [])]:
             if path.is_file():
@@ -119,20 +119,20 @@ class Machine:
         if checkpoint and checkpoint.is_file():
             answer = answer._replace(saved=checkpoint.read_text())
         if "--watch" in words:
-            answer = without_told_ends(answer, refuse)
+            answer = without_watched_ends(answer, refuse)
         return answer, self.mark.exists(), time.monotonic() - began
 
     def threads(self) -> str:
-        """What became of the threads that were started before the one that was refused, in words."""
-        told = self.mark.read_text().split() if self.mark.exists() else []
-        return "; of {} threads {} had begun, and {} ended".format(*told) if told else ""
+        """How many threads that were started before the one that was refused had begun, and had ended, in words."""
+        counts = self.mark.read_text().split() if self.mark.exists() else []
+        return "; of {} threads {} had begun, and {} ended".format(*counts) if counts else ""
 
     def has_waited_for(self, count: int) -> bool:
         """Were as many threads started before the one that was refused, and had they all begun, and ended, when that was said?"""
         return self.mark.read_text().split() == [str(count)] * 3
 
     def answer_without(self, given: Input, number: int, line: int) -> Answer:
-        """What has to be said where the reading of a stream fails in a line: what is said where it ends before that line."""
+        """The answer where the reading of a stream fails in a line: the one of a stream that ends before that line."""
         if (given, number, line) not in self.ends:
             words, place = list(given.words), number - 1 - given.streams
             before = Path(words[place]).read_bytes().splitlines(keepends=True)[:line - 1]
@@ -144,15 +144,15 @@ class Machine:
         return self.ends[given, number, line]
 
 
-def without_told_ends(answer: Answer, refuse: str) -> Answer:
-    """Without the lines that tell how each stream ended, where they say what the report does; else no answer. A report that is cut
-    may say less, and so may what is told where a write fails."""
+def without_watched_ends(answer: Answer, refuse: str) -> Answer:
+    """Without the lines of --watch on how each stream ended, where they say what the report does; else no answer. A report that is
+    cut may say less, and so may these lines where a write fails."""
     lines = answer.err.splitlines(keepends=True)
-    told = {line for line in lines if line.startswith("lrupd: stream ")}
+    watched = {line for line in lines if line.startswith("lrupd: stream ")}
     reported = {re.sub("^c", "lrupd:", line) for line in answer.out.splitlines(keepends=True) if line.startswith("c stream ")}
-    if told == reported or answer.status == 7 and told > reported or refuse.startswith("write") and told < reported:
-        return answer._replace(err="".join(line for line in lines if line not in told))
-    return Answer(answer.out, f"told {sorted(told)}", None)
+    if watched == reported or answer.status == 7 and watched > reported or refuse.startswith("write") and watched < reported:
+        return answer._replace(err="".join(line for line in lines if line not in watched))
+    return Answer(answer.out, f"watched {sorted(watched)}", None)
 
 
 def is_cut(answer: Answer, ample: Answer) -> bool:
@@ -214,8 +214,8 @@ def is_failed_write(answer: Answer, ample: Answer) -> bool:
 
 
 def may_be_ample(kind: str, how: str, ample: Answer, given: Input) -> bool:
-    """May the answer be as if nothing had been refused? A call that fails is told, but for a read of what follows a bad line, and
-    where the report goes to a full device anyway."""
+    """May the answer be as if nothing had been refused? A call that fails is reported, but for a read of what follows a bad line,
+    and where the report goes to a full device anyway."""
     if how in SHORT or kind == "allocate":
         return True
     return kind == "read" and "bad line" in ample.out or kind in ["read", "write"] and given.out is not None
@@ -245,7 +245,7 @@ def is_right(kind: str, how: str, number: int, answer: Answer, ample: Answer, gi
 
 
 def are_in_order(causes: List[str], ample: Answer, given: Input) -> bool:
-    """What the first reads are said to be of: the formula, then the assumptions, and then what isn't told on standard error."""
+    """The files that standard error names for the first reads: the formula, then the assumptions, then none."""
     wanted = [NO_FORMULA.err] + [NO_ASSUMPTIONS.err] * given.assumes + [ample.err]
     found = [cause for cause, _ in itertools.groupby(causes)]
     reads_assumptions = given.assumes and ample != NO_ASSUMPTIONS
@@ -330,7 +330,7 @@ def inputs_of_way(serial: List[str], files: Dict[str, Path], folder: Path) -> It
                 dropped("1 added, 1 deleted, out of memory at line 2"))
     yield Input("row 1" + kind, [*serial, FOUR_CLAUSE, ROW_ONE], 1)
     yield Input("a dropped clause, watched" + kind, [*serial, "--watch", FOUR_CLAUSE, files["dropping"]], 1, dropped(AT_ONCE))
-    # So many tries take a third of a second, where the other stream fails.
+    # These tries take a third of a second, where the other stream fails.
     few = serial or ["--tries", "5000", "--lines", "100", "--room", "100"]
     yield Input("imports" + kind, [*few, FOUR_CLAUSE, files["importing"], files["other_importing"]], 2)
     yield Input("assumptions" + kind, [*few, "--assume", CUBE, *ASSUMED], 1)
@@ -363,7 +363,7 @@ def checkpoints(serial: List[str], files: Dict[str, Path], folder: Path) -> Iter
 
 
 def inputs(folder: Path) -> Iterator[Input]:
-    """What is swept."""
+    """The inputs that are swept."""
     files = {name: written(text, folder, name) for name, text in FILES.items()}
     for options in "", "--serial":
         yield from inputs_of_way(options.split(), files, folder)
@@ -392,7 +392,7 @@ def kinds(given: Input) -> Iterator[Tuple[str, str]]:
 
 
 def tests() -> Iterator[Test]:
-    """The tests that are swept. Each cause that one may tell has to come."""
+    """The tests that are swept. Each cause that one may answer with has to come."""
     memory = ["AllocError", "Memory"]  # of what the test makes by itself, and of the run's
 
     def reported(added: int, ending: str) -> str:
@@ -430,19 +430,19 @@ def program_of_tests(crate: str, rt: str) -> str:
     return str(program)
 
 
-def told(answer: Answer) -> str:
-    """What a test tells that failed; nothing where it passed."""
+def cause_of(answer: Answer) -> str:
+    """The cause that a test gives which failed; nothing where it passed."""
     found = re.fullmatch(r"error: (.*)\nthe test failed: its result gives status 1\n", answer.err)
     return "" if answer.status == 0 else found[1] if found else str(answer)
 
 
 def sweep_test(machine: Machine, test: Test, kind: str) -> Tuple[int, List[str]]:
-    """How many calls were refused, and what the test may not tell."""
+    """How many calls were refused, and the wrong answers of the test."""
     wrong: List[str] = []
     causes: Set[str] = set()
     for number in itertools.count(1):
         answer, refused, seconds = machine.run([f"tests::{test.name}"], f"{kind}:{number}")
-        cause = told(answer)
+        cause = cause_of(answer)
         if not refused or number == test.last:
             break
         causes.add(cause)
@@ -450,20 +450,20 @@ def sweep_test(machine: Machine, test: Test, kind: str) -> Tuple[int, List[str]]
             right = (test.streams > 0 and cause == f"Spawn({(number - 1) % test.streams + 1})"
                      and machine.has_waited_for(number - 1))
         else:
-            right = cause in test.told or not (cause or test.always)
+            right = cause in test.causes or not (cause or test.always)
         if not right or "Spawn" in cause and seconds > SECONDS:
             wrong.append(f"{test.name}, {kind}:{number}, {seconds:.1f} s: {cause}{machine.threads()}")
     if cause:
         wrong.append(f"{test.name}, nothing refused: {cause}")
     if kind == "allocate":
-        wrong += [f"{test.name}, never told: {never}" for never in test.told if never not in causes]
+        wrong += [f"{test.name}, never answered: {never}" for never in test.causes if never not in causes]
     if number - 1 != 2 * test.streams if kind == "thread" else number == 1:
         wrong.append(f"{test.name}, {number - 1} calls refused: {kind}")
     return number - 1, wrong
 
 
 def unjoined(folder: Path) -> List[str]:
-    """What is wrong where a program that waits for none of its threads isn't found wrong, wherever some were started."""
+    """A complaint where a program that waits for none of its threads isn't found wrong, wherever some were started."""
     program = compiled(folder / "unjoined", [TESTS / "unjoined.c"], "-std=gnu11", "-pthread")
     machine, found = Machine(str(program), folder), []
     for number in range(1, 7):
@@ -480,7 +480,7 @@ def waiting(pipe: int) -> int:
 
 
 def leave(machine: Machine, folder: Path, count: int) -> Tuple[int, List[str]]:
-    """How many threads were refused beside so many pipes that stay open after their first line, and what went wrong.
+    """How many threads were refused beside a number of pipes that stay open after their first line, and what went wrong.
 
     The run ends all the same, and reads none of them.
     """
@@ -503,7 +503,7 @@ def leave(machine: Machine, folder: Path, count: int) -> Tuple[int, List[str]]:
 
 
 def kept(rt: str) -> List[str]:
-    """What a test says of a store of 16 million words that is opened and dropped four times, where it doesn't pass.
+    """The complaint of a test on a store of 16 million words that is opened and dropped four times, where it doesn't pass.
 
     An opening takes 128,000,000 bytes for the row, and as much again until it returns. Here are 307,200,000, and a second list
     that is still there would want 384,000,000.

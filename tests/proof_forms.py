@@ -80,7 +80,7 @@ def binary_lrat(step: Step, identity: Callable[[int], bytes] = code) -> bytes:
 
 
 class Deletions:
-    """The proof without hints: what is deleted is told by its literals."""
+    """The proof without hints: deleted clauses are named by their literals."""
 
     def __init__(self, formula: List[Clause]) -> None:
         self.clauses = dict(enumerate(formula, 1))
@@ -104,7 +104,7 @@ def binary_drat(formula: List[Clause], steps: List[Step]) -> List[bytes]:
 
 
 class Frat:
-    """Identities of its own, in no order; the clauses of the formula are told in another order, and so are their literals."""
+    """Identities of its own, in no order; the clauses of the formula come in another order, and so do their literals."""
 
     def __init__(self, formula: List[Clause], steps: List[Step], seed: int, hinted: float) -> None:
         self.numbers = random.Random(seed)

@@ -50,7 +50,7 @@ __attribute__((constructor)) static void begin(void) {
     }
 }
 
-/* Whether this call is the one to be refused. */
+/* True of the call that is to be refused. */
 static int is_refused(enum kind kind) {
     if (kind != refused || atomic_fetch_add(&calls, 1) + 1 != number) return 0;
     close(open(mark, O_CREAT | O_WRONLY | O_CLOEXEC, 0600));

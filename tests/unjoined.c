@@ -1,4 +1,4 @@
-/* What the sweep has to find wrong: a program that starts six threads, as lrupd does for three streams, and where one isn't started
+/* The sweep has to find this wrong: a program that starts six threads, as lrupd does for three streams, and where one isn't started
    says so without having waited for the others. A test's test, and no part of the program. */
 #include <pthread.h>
 #include <stdio.h>

@@ -43,10 +43,10 @@ complete -o default -F $function $name
 END
 done
 
-# dpkg-shlibdeps wants a source package around it.
+# dpkg-shlibdeps wants a source package around it, and no script.
 mkdir "$work/debian"
 printf 'Source: lrupd\n\nPackage: lrupd\nArchitecture: any\n' > "$work/debian/control"
-depends=$(cd "$work" && dpkg-shlibdeps -O "$root"/usr/bin/* | sed -n 's/^shlibs:Depends=//p')
+depends=$(cd "$work" && find "$root/usr/bin" ! -name lrup-chain -type f -exec dpkg-shlibdeps -O {} + | sed -n 's/^shlibs:Depends=//p')
 cat > "$root/DEBIAN/control" << END
 Package: lrupd
 Version: $version
@@ -60,7 +60,8 @@ Description: proved checker of the proofs of SAT solvers that share clauses
  lrupd checks streams of LRAT lines of one or more SAT solvers while they are
  written, and answers 's UNSATISFIABLE' only if no assignment satisfies the
  formula, which is proved of it. lrup-exact, a filter that nobody has to trust,
- makes such streams of DRUP, DRAT, LRAT and FRAT proofs. lrup-solve, where it
- was built, solves a formula and has the answer checked.
+ makes such streams of DRUP, DRAT, LRAT and FRAT proofs. lrup-chain has proofs
+ of any length checked in rounds. lrup-solve, where it was built, solves a
+ formula and has the answer checked.
 END
 dpkg-deb --root-owner-group --build "$root" "$root/../lrupd_${version}_$(dpkg --print-architecture).deb"

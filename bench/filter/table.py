@@ -52,7 +52,7 @@ def with_other_hints(stream, more, out):
 
 
 def wanted(words, status):
-    """What it prints, where it has to end so."""
+    """The output of a program that has to end so."""
     _, seconds, _, (out, found) = run(words)
     if found != status:
         sys.exit(f"status {found}: {' '.join(words)}")

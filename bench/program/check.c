@@ -5,7 +5,7 @@
 // Without --threads all streams are checked on one thread, a line of each by turns. With it each has a thread, and a hint of
 // another stream is looked up a million times, a microsecond later each time. All share one array of pointers to clauses; a
 // pointer's lowest bit says that the clause was retired. N identities a stream, 65,536 if not said; there is no limit of room.
-// It prints what lrupd prints of good streams; of a bad line it tells the fault of a hint, and else 'not taken'.
+// It prints what lrupd prints of good streams; of a bad line it names the fault of a hint, and else 'not taken'.
 #include <fcntl.h>
 #include <stdatomic.h>
 #include <stdint.h>
@@ -138,7 +138,7 @@ static inline int owns(const Stream *s, uint64_t id) {
     return id > clauses && id <= last_identity && (id - clauses - 1) % streams == s->number - 1;
 }
 
-// What is found under an identity: 0 where nothing is, in time.
+// The clause under an identity: 0 where there is none, in time.
 static inline uintptr_t look(const Stream *s, uint64_t id) {
     if (id == 0 || id > last_identity) return 0;
     uintptr_t found = atomic_load_explicit(&clause_at[id], memory_order_acquire);

@@ -1,5 +1,5 @@
 #!/usr/bin/env python3
-"""What the program costs while its streams are slow, and how soon it has checked what comes.
+"""Measures what the program costs while its streams are slow, and how soon it has checked what comes.
 
     live.py PROGRAM
 
@@ -67,7 +67,7 @@ def silent(folder):
 
 
 def behind_a_hint(folder, behind):
-    """Stream 1 cites a clause of stream 2, which writes none, and has so many bytes behind it."""
+    """Stream 1 cites a clause of stream 2, which writes none, and has this number of bytes behind it."""
     run = Run(folder, 2, "--tries", "1000000")
     run.write("5 0 6 0\n")
     if behind:

@@ -15,7 +15,7 @@ import sys
 
 # literals and hints of a line, least and most
 STREAMS = {"short": ((1, 3), (1, 5)), "long": ((20, 100), (40, 200)), "huge": ((100, 100), (50_000, 50_000))}
-# literals of a clause, some bytes that it takes, and a number of variables for so many clauses
+# literals of a clause, some bytes that it takes, and the number of variables by that of clauses
 FORMULAS = {
     "random": (3, 25.5, lambda clauses: max(3, int(clauses / 4.26))),
     "wide": (100_000, 840_000, lambda clauses: 2_000_000),

@@ -1,7 +1,7 @@
 /* row store LINES ROOM LOOKS: the words of the store in a row of plain memory, with C's sequentially consistent loads, stores and
  * exchanges. Four streams publish clauses of 3 to 5 literals, and then all clauses are read, in order and at random places.
  * row open WORDS: zeroed memory for a row, with each page touched.
- * Tells the nanoseconds and a checksum of each pass. */
+ * Prints the nanoseconds and a checksum of each pass. */
 #include <pthread.h>
 #include <stdint.h>
 #include <stdio.h>
@@ -117,7 +117,7 @@ static void *at_random(void *at) {
     return NULL;
 }
 
-/* Has all streams' workers take a part, on so many threads, and tells the time and the sum. */
+/* Has all streams' workers take a part, on that number of threads, and prints the time and the sum. */
 static void measure(const char *name, void *(*act)(void *), int threads) {
     pthread_t started[STREAMS];
     uint64_t sum = 0;

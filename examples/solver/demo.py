@@ -3,7 +3,7 @@
 
     demo.py PROGRAM SOLVER [FORMULA]
 
-Shows once a second how many lines each stream has, and what lrupd tells meanwhile; then what the solvers say, the report, and
+Shows once a second how many lines each stream has, and what lrupd says meanwhile; then what the solvers say, the report, and
 how long after the solvers' last byte it came. Without FORMULA it is random 3-SAT that takes some ten seconds. The status is the
 program's.
 """
@@ -57,7 +57,7 @@ def main():
             shows.join()
         print("\nThe solvers:", "".join(line for line in said.splitlines(True) if line[0] != "v"), sep="\n")
         early = sum(moment < last_byte for moment in times)
-        print("Of %d lines that lrupd told, %d came before the last byte." % (len(times), early))
+        print("Of %d lines that lrupd said, %d came before the last byte." % (len(times), early))
         print("The report, %.3f s after the last byte:" % waited, report, sep="\n")
         print("status", checker.returncode)
         return checker.returncode

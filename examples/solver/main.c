@@ -141,7 +141,7 @@ int main(int count, char **words) {
     if (portfolio.solvers < 1 || portfolio.first < 1 || portfolio.first + portfolio.solvers - 1 > portfolio.streams)
         fail("usage: solver [--share LBD] [--imports] [--seed N] [--first S --streams N] [--progress]", "FORMULA STREAM...");
     if (portfolio.solvers == 1) portfolio.share = 0;
-    signal(SIGPIPE, SIG_IGN);       // a reader that went away is told as a write that failed
+    signal(SIGPIPE, SIG_IGN);       // a reader that went away is reported as a write that failed
     formula_read(&portfolio.formula, paths[0]);
     portfolio.solver = zeroed((size_t)portfolio.solvers, sizeof *portfolio.solver);
     open_all(&portfolio, paths + 1);

@@ -9,7 +9,7 @@
 enum { LITERALS_OF_A_LINE = 65535, IDENTITIES_OF_A_LINE = 65536 };  // lrupd takes no more
 
 // With m clauses in the formula and n streams, line k of stream s, from 0, has the identity m + s + k n. So each solver counts
-// for itself, and an identity tells whose it is.
+// for itself, and an identity says whose it is.
 void proof_open(Proof *proof, const char *path, uint64_t clauses, int stream, int streams) {
     proof->path = path;
     proof->file = open(path, O_WRONLY | O_CREAT | O_TRUNC, 0666);   // waits for the reader of a FIFO

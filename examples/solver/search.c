@@ -185,7 +185,7 @@ static void give(Solver *solver) {
     solver->gifts.length = 0;
 }
 
-// A clause of another solver keeps its identity, and so needs no line here; with an import the stream tells that it came, and
+// A clause of another solver keeps its identity, and so needs no line here; with an import the stream says that it came, and
 // with which literals. One that is true at level 0 isn't taken over.
 static Clause *take_over(Solver *solver, const Gift *gift) {
     for (unsigned k = 0; k < gift->length; k++)

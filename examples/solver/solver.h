@@ -64,7 +64,7 @@ typedef struct { Gift **items; size_t length, capacity; } Gifts;
 
 typedef enum { UNKNOWN = 0, SATISFIABLE = 10, UNSATISFIABLE = 20 } Answer;
 
-// What all solvers of the process share.
+// Shared by all solvers of the process.
 typedef struct Portfolio {
     Formula formula;
     int solvers;                // threads here, each with its stream

@@ -6,8 +6,9 @@
 //
 // An engine that shares clauses writes DRAT with two steps more:
 //
-//     i id literals              it took over this clause of another stream
-//     x                          a mark before the addition of a clause that may be given away
+//     i engine position literals     it took over the clause that this engine gave away there
+//     r engine position              it takes over none that was given away before
+//     x                              a mark before the addition of a clause that may be given away
 #include "exact.h"
 
 enum { MOST_SHIFT = 56 };
@@ -50,12 +51,15 @@ static void drat_step(Filter *filter, Input *input, int letter, Numbers *list) {
     else filter_add(filter, &(Addition){ .literals = list->items, .length = list->length });
 }
 
-static void import_step(Filter *filter, Input *input, Numbers *list) {
-    uint64_t identity = number(input);
+static void sharing_step(Filter *filter, Input *input, int letter, Numbers *list) {
+    uint64_t engine = number(input), position = number(input);
+    if (letter == 'r') {
+        filter->hooks->passed(engine, position);
+        return;
+    }
     numbers(input, list);
     decode(list, 0, list->length, DOUBLED);
-    if (identity > LAST_IDENTITY) stop("a number that is too large");
-    filter_import(filter, (int64_t)identity, list->items, list->length);
+    filter_take_over(filter, filter->hooks->gift(engine, position), list->items, list->length);
 }
 
 static bool has_odd(const Numbers *list, size_t start) {
@@ -99,11 +103,11 @@ void binary_run(Filter *filter, Input *input, Form form) {
     Coding coding = UNDECIDED;
     for (;;) {
         position_set("byte", input_position(input) + 1);
-        int letter = input_byte(input);
-        if (letter < 0 || (filter->hooks && filter->hooks->ends())) break;
+        int letter = filter_ends(filter) ? -1 : input_byte(input);
+        if (letter < 0) break;
         list.length = 0;
         if (form == SHARING_DRAT && letter == 'x') filter->marked = true;
-        else if (form == SHARING_DRAT && letter == 'i') import_step(filter, input, &list);
+        else if (form == SHARING_DRAT && (letter == 'i' || letter == 'r')) sharing_step(filter, input, letter, &list);
         else if (letter != 'a' && letter != 'd') stop("no step of a binary proof, which begins with a or d");
         else if (form == BINARY_LRAT) lrat_step(filter, input, letter, &list, &coding);
         else drat_step(filter, input, letter, &list);

@@ -54,9 +54,9 @@ static Form binary_form(Input *input, const Formula *formula) {
         if (letter == 'a') {
             found = number_ahead(input, &at);
             if (found <= formula->clauses) return BINARY_DRAT;
-            return found > last_literal ? BINARY_LRAT : UNKNOWN;
+            return found > last_literal ? BINARY_LRAT : UNKNOWN_FORM;
         }
-        if (letter != 'd') return UNKNOWN;
+        if (letter != 'd') return UNKNOWN_FORM;
         while ((found = number_ahead(input, &at)) != 0)
             if (found > last_literal) return BINARY_LRAT;
     }

@@ -3,7 +3,7 @@
 #ifndef EXACT_H
 #define EXACT_H
 
-#include "formula.h"
+#include "proof.h"
 
 enum { LITERALS_OF_A_LINE = 65535, IDENTITIES_OF_A_LINE = 65536, DIGITS = 18 };     // lrupd takes no more
 #define LAST_IDENTITY UINT64_C(999999999999999999)
@@ -28,6 +28,7 @@ typedef struct {
     int file;
     const char *path;
     bool ended;
+    void (*idle)(void);                 // NULL, or what is called again and again while a read would wait
     unsigned char *bytes;               // some more than the capacity, which are 0
     size_t at, length, capacity;        // unread: those from `at` on
     uint64_t passed;                    // the bytes that came before the first of these
@@ -43,6 +44,7 @@ static inline int input_byte(Input *input) {
     if (input->at == input->length && !input_read(input)) return -1;
     return input->bytes[input->at++];
 }
+void input_close(Input *input);
 static inline uint64_t input_position(const Input *input) { return input->passed + input->at; }
 
 // write.c: the stream, on standard output where no other place is said. Whole lines alone go out.
@@ -112,6 +114,7 @@ void clauses_keep_sets(Clauses *clauses);       // of those that are there, too
 void clauses_keep_set(Clauses *clauses, Place place);
 Place clauses_take_set(Clauses *clauses, const Literal *literals, size_t length, const unsigned char *marks);
 void clauses_delete(Clauses *clauses, Place place);
+Place clauses_after(const Clauses *clauses, Place place);       // the next one that is there, or 0; after 0 the first
 void clauses_age(Clauses *clauses);
 uint64_t *clauses_begin_move(Clauses *clauses);         // to a new row, without the dead; the old one is returned
 Place clauses_moved(const uint64_t *old, Place place);  // 0 for a dead one
@@ -188,8 +191,10 @@ typedef struct Filter Filter;
 // Of a program that has the filter as a part of its own: what it is told, and what it says.
 typedef struct {
     bool (*ends)(void);                     // before each step: whether no more of the proof is read
-    void (*derives)(const Filter *filter);  // before a line is written: the clause's literals and its chain
-    void (*derived)(const Filter *filter);  // and once it is, but not yet out: its identity is the last one
+    void (*derives)(const Filter *filter);  // before a chain is looked for: the clause's literals
+    void (*derived)(const Filter *filter);  // once the line is written, but not yet out: its identity is the last one
+    uint64_t (*gift)(uint64_t engine, uint64_t position);       // what this engine gave away there: the identity
+    void (*passed)(uint64_t engine, uint64_t position);         // nothing before it will be taken over
 } Hooks;
 
 struct Filter {
@@ -220,16 +225,22 @@ typedef struct {
     const Line *line;               // where it is spelled as in a stream
 } Addition;
 
+static inline bool filter_ends(const Filter *filter) { return filter->hooks && filter->hooks->ends(); }
+
 void filter_open(Filter *filter, bool frat);
+void filter_name_formula(Filter *filter);      // after it was opened for FRAT, and before the first step, where the proof isn't that
 void filter_add(Filter *filter, const Addition *addition);
 void filter_import(Filter *filter, int64_t identity, const int64_t *literals, size_t length);
+void filter_take_over(Filter *filter, uint64_t identity, const int64_t *literals, size_t length);
 void filter_delete(Filter *filter, const int64_t *names, size_t length);
 void filter_delete_literals(Filter *filter, const int64_t *literals, size_t length);
 void filter_original(Filter *filter, int64_t name, const int64_t *literals, size_t length);
 void filter_rename(Filter *filter, const int64_t *pairs, size_t length);
+void filter_write_deletion(Filter *filter);                     // of the identities of the chain
 
-// The forms of a proof. The last one is that of an engine that shares clauses within one program, and isn't offered by name.
-typedef enum { UNKNOWN, TEXT, LRAT, DRAT, FRAT, BINARY_LRAT, BINARY_DRAT, SHARING_DRAT } Form;
+// rounds.c: from a run of lrupd to the next one.
+void round_delete(Filter *filter, const Identities *kept);
+void round_begin(Filter *filter, const Checkpoint *checkpoint, uint64_t stream, uint64_t streams);
 
 Form form_of(Input *input, const Formula *formula);         // detect.c
 

@@ -29,6 +29,12 @@ void filter_open(Filter *filter, bool frat) {
     formula->literals.items = grow(formula->literals.items, 0);
 }
 
+void filter_name_formula(Filter *filter) {
+    uint64_t name = 0;
+    for (Place place = 0; (place = clauses_after(&filter->clauses, place)) != 0;) clauses_name(&filter->clauses, ++name, place);
+    filter->frat = false;
+}
+
 static uint64_t owner(const Filter *filter, uint64_t identity) {
     return (identity - filter->formula.clauses - 1) % filter->streams + 1;
 }
@@ -120,13 +126,13 @@ static void write_addition(Filter *filter, const Addition *addition, Found found
 }
 
 static void derive(Filter *filter, const Addition *addition) {
+    if (filter->hooks) filter->hooks->derives(filter);
     Found found = addition->hinted > 0 ? try_hints(filter, addition) : NO_CHAIN;
     if (found == NO_CHAIN && !propagation_chain(&filter->propagation, &filter->literals, &filter->chain))
         stop("no conflict by unit propagation: a RAT step, which lrupd doesn't check, or a clause that doesn't follow");
     size_t hints = found == SAME_CHAIN ? addition->hinted : filter->chain.length;
     if (hints > IDENTITIES_OF_A_LINE || filter->literals.length > LITERALS_OF_A_LINE)
         stop("longer than a line may be");
-    if (filter->hooks) filter->hooks->derives(filter);
     filter->last = new_identity(filter, addition);
     filter->renumbered |= addition->named && addition->name != (int64_t)filter->last;
     Place place = clauses_add(&filter->clauses, filter->last, filter->literals.items, filter->literals.length, false);
@@ -157,9 +163,20 @@ static bool same_literals(const Filter *filter, const Clause *clause) {
     return true;
 }
 
+static void write_import(uint64_t identity, const int64_t *literals, size_t length) {
+    write_number(identity, ' ');
+    write_bytes("i ", 2);
+    for (size_t k = 0; k < length; k++) {
+        if (literals[k] < 0) write_bytes("-", 1);
+        write_number((uint64_t)(literals[k] < 0 ? -literals[k] : literals[k]), ' ');
+    }
+    write_bytes("0\n", 2);
+}
+
 // The clause is known from now on.
 void filter_import(Filter *filter, int64_t identity, const int64_t *literals, size_t length) {
     int64_t formula = (int64_t)filter->formula.clauses;
+    if (filter->hooks) stop("an import, of a solver that shares nothing");
     if (identity < 1 || (identity > formula && owner(filter, (uint64_t)identity) == filter->stream))
         stop("an import of %lld, which is no clause of the formula or of another stream", (long long)identity);
     bool tautology = take_or_stop(filter, literals, length);
@@ -178,13 +195,16 @@ void filter_import(Filter *filter, int64_t identity, const int64_t *literals, si
         stop("the literals of the import aren't those of the clause %lld", (long long)identity);
     }
     release(filter);
-    write_number((uint64_t)identity, ' ');
-    write_bytes("i ", 2);
-    for (size_t k = 0; k < length; k++) {
-        if (literals[k] < 0) write_bytes("-", 1);
-        write_number((uint64_t)(literals[k] < 0 ? -literals[k] : literals[k]), ' ');
-    }
-    write_bytes("0\n", 2);
+    write_import((uint64_t)identity, literals, length);
+}
+
+// As an import, but that the proof has no name for the clause.
+void filter_take_over(Filter *filter, uint64_t identity, const int64_t *literals, size_t length) {
+    bool tautology = take_or_stop(filter, literals, length);
+    if (length > LITERALS_OF_A_LINE) stop("longer than a line may be");
+    make_known(filter, clauses_add(&filter->clauses, identity, filter->literals.items, filter->literals.length, tautology));
+    release(filter);
+    write_import(identity, literals, length);
 }
 
 // Deletions.
@@ -209,7 +229,7 @@ static void delete(Filter *filter, Place place) {
     if (clauses_named(&filter->dropped, identity) == 0) clauses_name(&filter->dropped, identity, 1);
 }
 
-static void write_deletion(Filter *filter) {
+void filter_write_deletion(Filter *filter) {
     for (size_t start = 0; start < filter->chain.length; start += IDENTITIES_OF_A_LINE) {
         size_t left = filter->chain.length - start;
         write_number(filter->last ? filter->last : 1, ' ');
@@ -230,7 +250,7 @@ void filter_delete(Filter *filter, const int64_t *names, size_t length) {
         if (!needed || filter->frat) clauses_forget_name(&filter->clauses, (uint64_t)names[k]);
         if (!needed) delete(filter, place);
     }
-    write_deletion(filter);
+    filter_write_deletion(filter);
 }
 
 // The clause of these literals that isn't taken already, or 0.
@@ -250,7 +270,7 @@ void filter_delete_literals(Filter *filter, const int64_t *literals, size_t leng
     filter->chain.length = 0;
     if (place == 0 || propagation_needs(&filter->propagation, place)) return;
     delete(filter, place);
-    write_deletion(filter);
+    filter_write_deletion(filter);
 }
 
 // What FRAT alone has.

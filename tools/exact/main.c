@@ -121,8 +121,8 @@ static void read_word(CommandLine *given, char ***words) {
 }
 
 static void run(Filter *filter, Input *input, Form form) {
-    if (form == UNKNOWN) form = form_of(input, &filter->formula);
-    if (form == UNKNOWN) {
+    if (form == UNKNOWN_FORM) form = form_of(input, &filter->formula);
+    if (form == UNKNOWN_FORM) {
         position_set("byte", 1);
         stop("the first bytes don't tell the form: say it, --format lrat|drat|frat|binary-lrat|binary-drat");
     }
@@ -136,7 +136,7 @@ static void run(Filter *filter, Input *input, Form form) {
 int main(int count, char **words) {
     static Filter filter;
     static Input input;
-    CommandLine given = { .stream = 1, .streams = 1, .form = UNKNOWN };
+    CommandLine given = { .stream = 1, .streams = 1, .form = UNKNOWN_FORM };
     given.others = zeroed((size_t)count + 1, sizeof *given.others);
     for (char **word = words + 1; word < words + count; word++) read_word(&given, &word);
     if (given.files_length == 0) refuse("no", "FORMULA");

@@ -14,7 +14,7 @@
 
 namespace {
 
-const uint64_t USUAL_MEMORY = UINT64_C(1) << 30, LEAST_MEMORY = UINT64_C(1) << 26;
+const uint64_t USUAL_MEMORY = UINT64_C(1) << 29, LEAST_MEMORY = UINT64_C(1) << 26;
 const int STREAM_PIPE = 1 << 20, PIECE = 1 << 16;
 const uint64_t DROPPED = UINT64_C(1) << 22, PAGE = 4096;    // bytes that are given back at once
 const char TRIES[] = "1000000";     // a stream waits for another one's line up to a minute
@@ -56,7 +56,7 @@ void append(int file, std::string &text) {
     for (const std::string &word : words) list.push_back(const_cast<char *>(word.c_str()));
     list.push_back(nullptr);
     execv(program.c_str(), list.data());
-    fprintf(stderr, "lrup-solve: cannot start %s: %s\n", program.c_str(), error_text().c_str());
+    fprintf(stderr, "%s: cannot start %s: %s\n", program_name, program.c_str(), error_text().c_str());
     _exit(127);
 }
 
@@ -75,12 +75,20 @@ std::string find_checker(const char *given) {
     return absolute(found);
 }
 
-std::vector<std::string> row_words(const Row &row) {
-    const char *tries = test_word("LRUP_SOLVE_TRIES");
-    return { "--tries", tries ? tries : TRIES, "--lines", std::to_string(row.lines), "--room", std::to_string(row.room) };
+// Only the record's command needs it.
+std::string find_chain(const std::string &checker) {
+    for (const std::string &folder : { folder_of_this(), checker.substr(0, checker.rfind('/') + 1) })
+        if (is_program(folder + "lrup-chain")) return folder + "lrup-chain";
+    std::string found = on_the_path("lrup-chain");
+    return found.empty() ? "lrup-chain" : absolute(found);
 }
 
-// An eighth of the machine's, up to a gigabyte: at its start lrupd takes twice the row.
+std::string tries() {
+    const char *given = test_word("LRUP_SOLVE_TRIES");
+    return given ? given : TRIES;
+}
+
+// An eighth of the machine's, up to half a gigabyte: at its start lrupd takes twice the row.
 uint64_t default_memory() {
     long pages = sysconf(_SC_PHYS_PAGES), bytes = sysconf(_SC_PAGESIZE);
     uint64_t all = pages > 0 && bytes > 0 ? uint64_t(pages) * uint64_t(bytes) : 0;
@@ -127,7 +135,7 @@ double Checker::stop() {
     return seconds;
 }
 
-// What the pipe takes. Memory of what was fed is given back where no larger row follows, which would have it all once more.
+// What the pipe takes. Memory of what was fed is given back, but where it is kept.
 bool Checker::feed(size_t number, uint64_t bytes, bool drop) {
     Stream &stream = streams[number];
     static std::vector<char> piece(PIECE);

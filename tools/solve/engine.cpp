@@ -5,7 +5,9 @@
 //   the proof has deleted, without a line. Whenever the number of active variables changed, the witnesses are asked anew.
 // - The line of an import comes before the clause is added: CaDiCaL may shorten it by what it knows at the root, and then
 //   traces the shorter clause, which follows only from the one that was taken over.
-// - The filter publishes a clause only once its line went out, and never deletes one (filtering.c).
+// - The filter publishes a clause only once its line went out, and doesn't delete it in the round in which it was given away.
+// - Identities change from round to round. So a clause is asked for by its position in the outbox, whose owner renews identities
+//   there, and overwrites nothing that others may ask for (outbox.c). No filter drops what it may be asked for (filtering.c).
 #include <cadical.hpp>
 
 #include <algorithm>
@@ -26,6 +28,7 @@ const double SLICE = 0.5;               // seconds after which an engine looks f
 const int FIRST_CONFLICTS = 1000, LEAST_CONFLICTS = 200, MOST_CONFLICTS = 1000000;
 const int MOST_TAKEN = 5000;            // clauses of more than two literals, at once
 const int PROOF_BUFFER = 1 << 15;
+const size_t MOST_KNOWN = 1 << 18;
 
 enum { OUT_OF_MEMORY = 3, NO_PROOF = 4 };       // statuses of the process
 
@@ -48,13 +51,13 @@ private:
     Part &part;
     CaDiCaL::Solver solver;
     FILE *proof = nullptr;
-    std::vector<uint64_t> read;             // by engine: words of its outbox
+    std::vector<uint64_t> read;             // by engine: how far in its outbox
     std::vector<unsigned char> gone;        // by variable, from 1: eliminated or substituted here
     int active = -1;
-    std::unordered_set<uint64_t> known;     // sums of what was given away or taken over
+    std::unordered_set<uint64_t> known, known_before;   // sums of what was given away or taken over of late
     std::vector<int> clause;
 
-    bool shares() const { return engine.options->share && engine.options->engines > 1; }
+    bool shares() const { return engine.options->shares(); }
 
     // CaDiCaL asks right before it traces a clause that conflict analysis learned. No literals are wanted: a mark in the proof
     // says that the next line may be given away, and the filter, which names that line, does so.
@@ -152,6 +155,13 @@ private:
         return sum;
     }
 
+    // The older half is forgotten as the other one gets full: a clause may come twice.
+    bool is_new(const Literal *literals, size_t length) {
+        uint64_t sum = sum_of(literals, length);
+        if (known.size() >= MOST_KNOWN) known_before = std::move(known), known.clear();
+        return known_before.count(sum) == 0 && known.insert(sum).second;
+    }
+
     void put_number(uint64_t number) {
         for (; number > 127; number >>= 7) putc_unlocked(int(number & 127) | 128, proof);
         putc_unlocked(int(number), proof);
@@ -163,13 +173,20 @@ private:
         put_number(0);
     }
 
+    void put_step(int letter, int other, uint64_t position) {
+        putc_unlocked(letter, proof);
+        put_number(uint64_t(other) + 1);
+        put_number(position);
+    }
+
     void add_clause() {
         for (int literal : clause) solver.add(literal);
         solver.add(0);
     }
 
-    void take(uint64_t identity, const Literal *literals, size_t length) {
-        if (!known.insert(sum_of(literals, length)).second) return;
+    // Another engine gave the clause away at that position, which is its name in the proof.
+    void take(int other, uint64_t position, const Literal *literals, size_t length) {
+        if (!is_new(literals, length)) return;
         clause.clear();
         for (size_t k = 0; k < length; k++) {
             int literal = as_written(literals[k]);
@@ -185,26 +202,24 @@ private:
         }
         STORE(part.taken, part.taken + 1);
         if (without("order")) add_clause();
-        putc_unlocked('i', proof);
-        put_number(identity);
+        put_step('i', other, position);
         put_clause();
         if (!without("order")) add_clause();
     }
 
-    // Units and binary clauses all; of longer ones at most so many at once, and those beyond never.
+    // Units and binary clauses all; of longer ones at most MOST_TAKEN at once, and those beyond never. Then the proof says that
+    // none of these will be asked for again.
     void take_over() {
         look_for_witnesses();
         int left = MOST_TAKEN;
         for (int other = 0; other < engine.options->engines; other++) {
             uint64_t end = LOAD(engine.shared->parts[other].outbox_used), at = read[size_t(other)];
-            while (at < end) {
-                const uint32_t *words = engine.outboxes[other] + at;
-                size_t length = words[0];
-                const Literal *literals = reinterpret_cast<const Literal *>(words + HEAD_OF_A_GIFT);
-                if (other + 1 == engine.number) known.insert(sum_of(literals, length));
-                else if (length <= 2 || left-- > 0) take(words[1] | uint64_t(words[2]) << 32, literals, length);
-                at += HEAD_OF_A_GIFT + length;
+            while (const uint32_t *gift = next_gift(engine.shared, engine.outboxes[other], &at, end)) {
+                size_t length = gift[0];
+                if (other + 1 == engine.number) is_new(literals_of(gift), length);
+                else if (length <= 2 || left-- > 0) take(other, at - HEAD_OF_A_GIFT - length, literals_of(gift), length);
             }
+            if (at > read[size_t(other)]) put_step('r', other, at);
             read[size_t(other)] = at;
         }
     }

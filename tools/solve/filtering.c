@@ -1,6 +1,7 @@
-// Unverified, as all of this solver. A filter's process: tools/exact from an engine's proof to its stream, and what it gives
-// away.
+// Unverified, as all of this solver. A filter's process: tools/exact from an engine's proof to its streams, one for each round, and
+// the clauses that it gives away.
 #include <errno.h>
+#include <fcntl.h>
 #include <stdarg.h>
 #include <stdio.h>
 #include <sys/ioctl.h>
@@ -9,16 +10,22 @@
 #include "../exact/exact.h"
 #include "shared.h"
 
-static const Filtering *own;        // NULL in the main process
+enum { PAUSE = 500 };               // microseconds after which a filter that waits looks again
+enum { MOST_AHEAD = 1 << 25 };      // bytes of a stream that lrupd hasn't got
+
+static const Filtering *own;        // NULL in the first process
 static Part *part;
+static Filter filter;
 static Input input;
 static unsigned char *assumed;      // by literal
-static uint64_t staged;             // words of the outbox that are written; others read those up to `outbox_used`
+static uint64_t round_number;       // from 1
+static uint64_t staged;             // the end of the outbox; others read up to `outbox_used`
+static Identities kept;             // what it gave away in this round
 static bool refuted;
 static const char *position_unit;
 static uint64_t position_number;
 
-// The ends: a cause is told by the main process, once this one has ended.
+// The ends: the first process says why, once this one has ended.
 
 static _Noreturn void leave(const char *cause) {
     bool over = LOAD(own->shared->over);        // then the engine was ended within a step
@@ -65,100 +72,228 @@ void *zeroed(size_t count, size_t bytes) {
     return memory;
 }
 
-// Giving away.
+// The stream.
 
 static uint64_t waiting(int file) {
     int bytes = 0;
     return ioctl(file, FIONREAD, &bytes) == 0 ? (uint64_t)bytes : 0;
 }
 
+static _Noreturn void leave_unwritten(void) {
+    int error = errno;
+    STORE(part->unwritten, 1);
+    leave(strerror(error));
+}
+
 // Whole lines go to the stream's file, which outlives this process, and only then the others hear of the clauses that they
 // derive: a filter that dies with lines in its buffer would leave clauses that others cite and lrupd never gets. They were
-// missing, after a minute of waiting.
+// missing, after a minute of waiting. A slow lrupd slows filters, and they the engines: of a stream there is never much in memory.
 static void out(const char *bytes, size_t length) {
-    if (!write_whole(own->stream, bytes, length)) {
-        int error = errno;
-        STORE(part->unwritten, 1);
-        leave(strerror(error));
-    }
+    if (!write_whole(own->stream, bytes, length)) leave_unwritten();
     STORE(part->bytes, part->bytes + length);
     STORE(part->outbox_used, staged);
     STORE(part->behind, waiting(own->proof) + (input.length - input.at));
+    const char *most = test_word("LRUP_SOLVE_AHEAD");
+    uint64_t ahead = most ? strtoull(most, NULL, 10) : MOST_AHEAD;
+    while (part->bytes > LOAD(part->fed) + ahead && !LOAD(own->shared->over)) usleep(PAUSE);
 }
 
-static void give(const Filter *filter) {
-    size_t length = filter->literals.length;
-    uint64_t end = staged + HEAD_OF_A_GIFT + length;
-    if (end > OUTBOX_WORDS) return;
-    uint32_t *words = own->outbox + staged;
-    words[0] = (uint32_t)length;
-    words[1] = (uint32_t)filter->last;
-    words[2] = (uint32_t)(filter->last >> 32);
-    memcpy(words + HEAD_OF_A_GIFT, filter->literals.items, length * sizeof *filter->literals.items);
-    staged = end;
+// Rounds.
+
+// The filter may still be asked to take over what others have given away from its floor on.
+static void keep_for_imports(void) {
+    uint64_t formula = filter.formula.clauses;
+    for (int k = 0; k < own->shared->engines; k++) {
+        uint64_t at = part->floors[k], end = LOAD(own->shared->parts[k].outbox_used);
+        if (k == own->engine - 1 || without("floor")) continue;
+        for (uint32_t *gift; (gift = next_gift(own->shared, own->outboxes[k], &at, end)) != NULL;) {
+            uint64_t identity = gift_identity(gift);
+            if (identity > 0 && identity <= formula) PUSH(&kept, identity);
+        }
+    }
+}
+
+// Until the first process says so, unless it wants no more.
+static void await(const uint64_t *field, uint64_t wanted) {
+    while (LOAD(*field) < wanted) {
+        if (LOAD(own->shared->over)) leave(NULL);
+        usleep(PAUSE);
+    }
+}
+
+static void open_stream(void) {
+    char path[LONGEST_PATH + 64];
+    if (own->shared->record[0] == 0) {
+        lseek(own->stream, 0, SEEK_SET);        // the first process has cut it
+        return;
+    }
+    snprintf(path, sizeof path, "%sround-%llu.stream-%llu", own->shared->record, (unsigned long long)round_number,
+             (unsigned long long)filter.stream);
+    int file = open(path, O_WRONLY | O_CLOEXEC);
+    if (file < 0 || dup2(file, own->stream) < 0) leave_unwritten();
+    close(file);
+}
+
+// Ends the stream, waits until lrupd has saved, and goes on from there. A clause that was given away isn't deleted, since others
+// may cite it; in the next round it is one of the formula's.
+static void next_round(void) {
+    Checkpoint checkpoint;
+    keep_for_imports();
+    round_delete(&filter, &kept);
+    write_flush();
+    STORE(part->ended_round, round_number);
+    await(&own->shared->saved_round, round_number);
+    checkpoint_read(&checkpoint, own->shared->checkpoint);
+    round_begin(&filter, &checkpoint, part->stream, own->shared->streams);
+    if (!without("renewal")) outbox_renew(own->shared, own->outboxes[own->engine - 1], own->engine, &checkpoint);
+    checkpoint_free(&checkpoint);
+    kept.length = 0;
+    STORE(part->bytes, 0);
+    STORE(part->round_lines, 0);
+    STORE(part->round_literals, 0);
+    STORE(part->mapped_round, round_number);
+    await(&own->shared->round, ++round_number);
+    open_stream();
+}
+
+// Where the first process ends the round this one does, too, also while it waits for the engine.
+static void look_at_round(void) {
+    if (!refuted && LOAD(own->shared->ending_round) == round_number) next_round();
+}
+
+static bool ends(void) {
+    look_at_round();
+    return refuted || LOAD(own->shared->over);
+}
+
+static bool has_room(size_t literals) {
+    return part->round_lines < LOAD(own->shared->most_lines) &&
+           part->round_literals + literals <= LOAD(own->shared->most_literals);
+}
+
+// The row has room for another line, or the stream ends here: lrupd would refuse the line.
+static void derives(const Filter *one) {
+    for (int tries = 0; !has_room(one->literals.length); tries++) {
+        size_t length = one->literals.length;
+        if (tries == 2) stop("a clause of %zu literals has no room in the row: --memory says how large it is", length);
+        STORE(part->wanted, length);
+        next_round();
+    }
+}
+
+// Giving away.
+
+// Where there is no room in the outbox others don't get it.
+static void give(void) {
+    if (!outbox_put(own->shared, own->outboxes[own->engine - 1], own->engine, &staged, filter.last, &filter.literals)) return;
+    PUSH(&kept, filter.last);
     STORE(part->given, part->given + 1);
     if (without("flush")) STORE(part->outbox_used, staged);
     const char *last = test_word("LRUP_SOLVE_LAST_GIFT");       // the filter of engine 1 dies at it, its line in the buffer
     if (last && own->engine == 1 && part->given == strtoull(last, NULL, 10)) _exit(1);
 }
 
-static bool ends(void) { return refuted || LOAD(own->shared->over); }
-
-// The row has room for another line, or the stream ends here: lrupd would refuse the line.
-static void derives(const Filter *filter) {
-    if (part->lines < LOAD(own->shared->most_lines) &&
-        part->literals + filter->literals.length <= LOAD(own->shared->most_literals)) return;
-    write_flush();
-    STORE(part->full, 1);
-    leave("the row is full");
+// Streams of one host follow each other, as its engines do.
+static bool is_elsewhere(uint64_t stream) {
+    const Shared *shared = own->shared;
+    int first = shared->first_here;
+    for (int k = first; k < first + shared->engines_here; k++)
+        if (shared->parts[k].stream == stream) return false;
+    return true;
 }
 
-static void count(const Filter *filter) {
-    uint64_t others = 0, formula = filter->formula.clauses;
-    for (size_t k = 0; k < filter->chain.length; k++) {
-        uint64_t identity = filter->chain.items[k];
-        others += identity > formula && (identity - formula - 1) % filter->streams != filter->stream - 1;
+static void count(void) {
+    uint64_t others = 0, elsewhere = 0, formula = filter.formula.clauses;
+    for (size_t k = 0; k < filter.chain.length; k++) {
+        uint64_t identity = filter.chain.items[k], stream = identity > formula ? (identity - formula - 1) % filter.streams + 1 : 0;
+        if (stream == 0 || stream == filter.stream) continue;
+        others++;
+        elsewhere += is_elsewhere(stream);
     }
     STORE(part->lines, part->lines + 1);
-    STORE(part->literals, part->literals + filter->literals.length);
-    STORE(part->hints, part->hints + filter->chain.length);
+    STORE(part->literals, part->literals + filter.literals.length);
+    STORE(part->round_lines, part->round_lines + 1);
+    STORE(part->round_literals, part->round_literals + filter.literals.length);
+    STORE(part->hints, part->hints + filter.chain.length);
     STORE(part->citing_others, part->citing_others + (others > 0));
+    STORE(part->citing_elsewhere, part->citing_elsewhere + (elsewhere > 0));
 }
 
 // The clause is empty, or contradicts the assumed literals.
-static bool is_wanted(const Filter *filter) {
-    for (size_t k = 0; k < filter->literals.length; k++)
-        if (!assumed[complement_of(filter->literals.items[k])]) return false;
+static bool is_wanted(void) {
+    for (size_t k = 0; k < filter.literals.length; k++)
+        if (!assumed[complement_of(filter.literals.items[k])]) return false;
     return true;
 }
 
 // Units of any origin are given away, and what the engine marked. The line is in the buffer; `out` publishes it.
-static void derived(const Filter *filter) {
-    size_t length = filter->literals.length;
-    count(filter);
-    if (own->shares && length > 0 && (length == 1 || filter->marked)) give(filter);
-    refuted |= is_wanted(filter);
+static void derived(const Filter *one) {
+    size_t length = one->literals.length;
+    count();
+    if (own->shares && length > 0 && (length == 1 || one->marked)) give();
+    refuted |= is_wanted();
+}
+
+// Taking over.
+
+static int engine_of(uint64_t number) {
+    if (number < 1 || number > (uint64_t)own->shared->engines) stop("no engine %llu", (unsigned long long)number);
+    return (int)number - 1;
+}
+
+static uint64_t gift(uint64_t engine, uint64_t position) {
+    uint32_t *outbox = own->outboxes[engine_of(engine)];
+    uint64_t identity = gift_identity(outbox + position % own->shared->outbox_words);
+    if (identity == 0) stop("lrupd hasn't saved a clause that was taken over");
+    return identity;
+}
+
+static void passed(uint64_t engine, uint64_t position) { STORE(part->floors[engine_of(engine)], position); }
+
+// A round may end before the first bytes are there, so the filter is open by then. A binary proof that may be either is DRAT.
+static Form form_found(const Formula *formula) {
+    Form form = form_of(&input, formula);
+    if (form != FRAT) filter_name_formula(&filter);
+    return form == UNKNOWN_FORM ? BINARY_DRAT : form;
+}
+
+static void read_proof(const Formula *formula) {
+    bool is_unknown = own->form == UNKNOWN_FORM;
+    filter_open(&filter, is_unknown || own->form == FRAT);
+    filter.keeps_identities = false;        // gaps would count towards the row's lines
+    Form form = is_unknown ? form_found(formula) : own->form;
+    if (form == FRAT) frat_run(&filter, &input);
+    else if (form >= BINARY_LRAT) binary_run(&filter, &input, form);
+    else text_run(&filter, &input, form);
+}
+
+// Where a solver says 20, and hasn't written the empty clause.
+static void end_proof(void) {
+    if (refuted || LOAD(own->shared->over) || own->form != UNKNOWN_FORM || LOAD(part->answer) != 20) return;
+    if (!propagation_chain(&filter.propagation, &filter.literals, &filter.chain)) leave("the proof ends without the empty clause");
+    filter_add(&filter, &(Addition){0});
 }
 
 // Doesn't return. The formula was read before the fork; what the filter does with it stays in this process. Of the stream no
-// clause is ever deleted: others may cite what was given away at any time, and lrupd gives no memory back for a deletion.
+// clause is deleted before a round ends: others may cite what was given away at any time, and lrupd gives no memory back for it.
 void filter_process(const Filtering *filtering, const void *formula) {
-    static Filter filter;
-    static const Hooks hooks = { .ends = ends, .derives = derives, .derived = derived };
+    static const Hooks hooks = { .ends = ends, .derives = derives, .derived = derived, .gift = gift, .passed = passed };
     own = filtering;
     part = &own->shared->parts[own->engine - 1];
+    round_number = 1;
     input_open(&input, NULL);
     input.file = own->proof;
+    input.idle = look_at_round;
     write_to(out);
     filter.formula = *(const Formula *)formula;
     filter.stream = (uint64_t)own->engine;
-    filter.streams = (uint64_t)own->engines;
+    filter.streams = (uint64_t)own->shared->engines;
     filter.keeps_clauses = !without("keeping");
     filter.hooks = &hooks;
     assumed = zeroed(2 * (size_t)filter.formula.variables, 1);
     for (size_t k = 0; k < own->assumed_length; k++) assumed[own->assumed[k]] = 1;
-    filter_open(&filter, false);
-    binary_run(&filter, &input, SHARING_DRAT);
+    read_proof(formula);
+    end_proof();
     write_flush();
     if (refuted) STORE(part->refuted, 1);
     leave(NULL);

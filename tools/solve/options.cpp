@@ -12,21 +12,23 @@ namespace {
 const uint64_t MOST_MEMORY = UINT64_C(1) << 31;     // bytes of lrupd's largest row
 
 const char summary[] =
-    "usage: lrup-solve [OPTIONS] [FORMULA]\n"
     "\n"
     "Solves a formula in DIMACS CNF, standard input where none or - is named, with several engines of CaDiCaL that\n"
     "share clauses, and has lrupd check their proofs while they are written. 's UNSATISFIABLE' is proved by lrupd;\n"
     "'s SATISFIABLE' comes with an assignment that was evaluated.\n"
     "\n"
     "  -j N               engines, 1 to 64; each has a filter that works as hard. Half of the cores if not said\n"
+    "  --solver COMMAND   a solver of yours, as 'cadical -q %formula %proof', that shares nothing; more than once for\n"
+    "                     several. Then there are no engines beside them but those of -j\n"
     "  --time SECONDS     by the clock; then the answer is 's UNKNOWN'\n"
-    "  --memory BYTES     the most that lrupd may take for the clauses it keeps, as 2000000000, 2000M or 2G, at most\n"
-    "                     2147483648; at its start it takes twice that\n"
+    "  --memory BYTES     the most that lrupd may take for the clauses it keeps, as 500000000, 500M or 2G, at most\n"
+    "                     2147483648, 536870912 if not said; at its start it takes twice that. A run that needs more goes\n"
+    "                     on in rounds\n"
     "  --share-size N     learned clauses of at most N literals are given away, 0 to 1000; 4 if not said. Units always are\n"
     "  --no-share         engines that share nothing\n"
     "  --seed N           other runs of the engines\n"
-    "  --proofs DIR       keep the streams there, the report, and the command that checks them again: sh DIR/command.\n"
-    "                     Those of an earlier run are removed\n"
+    "  --proofs DIR       keep the streams of all rounds there, the report, and the command that checks them again:\n"
+    "                     sh DIR/command. Those of an earlier run are removed\n"
     "  --assume FILE      literals that are assumed, in one line that ends with 0, as for lrupd\n"
     "  --lrupd PATH       the checker; if not said it is looked for beside this program, and then on the PATH\n"
     "  -v                 say what goes on, in lines that begin with c\n"
@@ -37,7 +39,7 @@ const char summary[] =
     "After -- a word is the formula. Statuses: 10 satisfiable, 20 unsatisfiable (or so under the assumptions),\n"
     "0 unknown, 1 a mistake, or a file that can't be used.\n";
 
-std::string version() { return std::string("lrup-solve ") + VERSION + ", with CaDiCaL " + engine_version() + "\n"; }
+std::string version() { return std::string(program_name) + " " + VERSION + ", with CaDiCaL " + engine_version() + "\n"; }
 
 class Words {
 public:
@@ -120,9 +122,15 @@ const char *name_of_file(const char *name, const char *what, const char *value) 
     exit(0);
 }
 
+const char *solver_of(const char *value) {
+    if (!strstr(value, "%formula") || !strstr(value, "%proof")) bad_value("--solver", "a command with %formula and %proof", value);
+    return value;
+}
+
 bool read_valued(Options &options, Words &words, const char *word) {
     const char *value;
     if (words.option(word, "-j", value)) options.engines = int(number("-j", value, 1, MOST_ENGINES));
+    else if (words.option(word, "--solver", value)) options.solvers.push_back(solver_of(value));
     else if (words.option(word, "--time", value)) options.time = seconds("--time", value);
     else if (words.option(word, "--memory", value)) options.memory = bytes("--memory", value);
     else if (words.option(word, "--share-size", value)) options.share_size = int(number("--share-size", value, 0, 1000));
@@ -151,7 +159,7 @@ Options read_words(int count, char **list) {
             take_formula(options, word);
             continue;
         }
-        if (strcmp(word, "--help") == 0 || strcmp(word, "-h") == 0) show(summary);
+        if (strcmp(word, "--help") == 0 || strcmp(word, "-h") == 0) show((std::string(program_usage) + summary + program_words).c_str());
         if (strcmp(word, "--version") == 0) show(version().c_str());
         if (strcmp(word, "--") == 0) only_words = true;
         else if (strcmp(word, "--no-share") == 0) options.share = false;
@@ -161,5 +169,7 @@ Options read_words(int count, char **list) {
         else if (word[0] == '-' && word[1] != 0) refuse(std::string("no such option: ") + word + " (--help lists them)");
         else take_formula(options, word);
     }
+    if (options.solvers.size() + size_t(options.engines) > MOST_ENGINES) refuse("more than 64 engines, with those of --solver");
+    if (!options.solvers.empty() && options.assume) refuse("--assume and --solver: a solver isn't told of assumptions");
     return options;
 }

@@ -6,6 +6,7 @@
 #include <cstdlib>
 #include <cstring>
 
+#include <dirent.h>
 #include <fcntl.h>
 #include <sys/mman.h>
 #include <sys/prctl.h>
@@ -19,7 +20,11 @@
 namespace {
 
 std::vector<pid_t> alive;       // children that weren't waited for
+std::vector<pid_t> handing_on;  // those that hand signals on
 std::vector<int> opened;        // files of ours
+std::string folder;             // for this process alone, removed at its end
+const int CLEANING = 500;       // tries to remove it
+const unsigned LETTING_ANOTHER = 30;    // seconds
 
 bool write_all(int file, const char *bytes, size_t length) {
     for (size_t written = 0; written < length;) {
@@ -43,9 +48,12 @@ int kept_open(int file) {
 
 }
 
+bool another_refuses = false;
+
 void refuse(const std::string &cause) {
+    if (another_refuses) sleep(LETTING_ANOTHER);
     end_children();
-    fprintf(stderr, "lrup-solve: %s\n", one_line(cause).c_str());
+    if (!another_refuses) fprintf(stderr, "%s: %s\n", program_name, one_line(cause).c_str());
     _exit(1);
 }
 
@@ -89,6 +97,12 @@ std::string write_file(const std::string &path, const std::string &text) {
     return cause;
 }
 
+void *shared_bytes(size_t bytes) {
+    void *memory = mmap(nullptr, bytes, PROT_READ | PROT_WRITE, MAP_SHARED | MAP_ANONYMOUS | MAP_NORESERVE, -1, 0);
+    if (memory == MAP_FAILED) refuse("cannot share memory: " + error_text());
+    return memory;
+}
+
 int file_in_memory() {
     int file = memfd_create("lrup-solve", MFD_CLOEXEC);
     if (file < 0) refuse("cannot make a file in memory: " + error_text());
@@ -106,6 +120,45 @@ void copy_file(int file, const std::string &name, int copy) {
     }
 }
 
+// All that is in it is lrupd's.
+static bool remove_folder() {
+    if (DIR *list = opendir(folder.c_str())) {
+        while (const dirent *entry = readdir(list)) unlink((folder + "/" + entry->d_name).c_str());
+        closedir(list);
+    }
+    return rmdir(folder.c_str()) == 0 || errno == ENOENT;
+}
+
+// A child that does nothing until this process has ended, however it did. lrupd ends then, too, but maybe a moment later.
+static void watch_folder() {
+    Pipe pipe = make_pipe(0);
+    pid_t pid = fork();
+    if (pid < 0) refuse("cannot start a process: " + error_text());
+    if (pid == 0) {
+        char byte;
+        prctl(PR_SET_NAME, "cleaner");
+        setsid();       // what kills the whole group leaves it alone
+        for (int number : { SIGINT, SIGTERM, SIGHUP }) signal(number, SIG_IGN);
+        for (int file : opened)
+            if (file != pipe.read) close(file);
+        for (int file = 0; file <= 2; file++) close(file);
+        while (read(pipe.read, &byte, 1) < 0 && errno == EINTR) {}
+        for (int tries = 0; tries < CLEANING && !remove_folder(); tries++) usleep(20000);
+        _exit(0);
+    }
+    alive.push_back(pid);
+    close_file(pipe.read);
+}
+
+std::string private_folder(const std::string &begin) {
+    if (!folder.empty()) return folder;
+    std::string path = begin + "XXXXXX";
+    if (!mkdtemp(&path[0])) refuse("cannot make a folder " + begin + "XXXXXX: " + error_text());
+    folder = path;
+    watch_folder();
+    return folder;
+}
+
 // Children. One ends with its parent, whatever ends that; what a terminal sends to all is the parent's to handle.
 
 bool Child::ended_with(int code) const { return ended() && WIFEXITED(status) && WEXITSTATUS(status) == code; }
@@ -115,8 +168,15 @@ std::string Child::end() const {
     return "ended with status " + std::to_string(WEXITSTATUS(status));
 }
 
+// One that hands signals on can't take SIGKILL and SIGSTOP. SIGTSTP stops it while it starts: so SIGCONT comes behind SIGTERM.
+static void send(pid_t pid, int number, bool hands_on) {
+    if (hands_on) number = number == SIGKILL ? SIGTERM : number == SIGSTOP ? SIGTSTP : number;
+    kill(pid, number);
+    if (number == SIGTERM) kill(pid, SIGCONT);
+}
+
 void Child::signal(int number) const {
-    if (running) kill(pid, number);
+    if (running && pid != ELSEWHERE) send(pid, number, hands_on);
 }
 
 bool begin(Child &child, const std::string &name, const std::vector<int> &kept) {
@@ -125,6 +185,7 @@ bool begin(Child &child, const std::string &name, const std::vector<int> &kept) 
     if (pid < 0) refuse("cannot start a process: " + error_text());
     if (pid > 0) {
         alive.push_back(pid);
+        if (child.hands_on) handing_on.push_back(pid);
         child.pid = pid;
         child.running = true;
         return false;
@@ -163,13 +224,16 @@ bool reap(const std::vector<Child *> &children) {
 void wait_for(Child &child) {
     int status;
     rusage used;
+    if (child.pid == ELSEWHERE) child.running = false;
     while (child.running && wait4(child.pid, &status, 0, &used) < 0 && errno == EINTR) {}
     if (child.running) take_end(child, status, used);
 }
 
 void end_children() {
-    for (pid_t pid : alive) kill(pid, SIGKILL);
+    for (pid_t pid : alive)
+        send(pid, SIGKILL, std::find(handing_on.begin(), handing_on.end(), pid) != handing_on.end());
     for (pid_t pid : alive)
         while (waitpid(pid, nullptr, 0) < 0 && errno == EINTR) {}
     alive.clear();
+    if (!folder.empty()) remove_folder();
 }

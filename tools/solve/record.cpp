@@ -4,6 +4,7 @@
 #include <cerrno>
 #include <cstring>
 
+#include <dirent.h>
 #include <fcntl.h>
 #include <sys/stat.h>
 #include <unistd.h>
@@ -30,15 +31,31 @@ bool is_there(const std::string &path) {
     return lstat(path.c_str(), &found) == 0;
 }
 
-// Beside the streams.
+// Beside what rounds leave.
 const char *const NAMES[] = { "formula.cnf", "assumptions", "report", "command" };
+const char FIRST_STREAM[] = "/round-1.stream-1";
+
+// round-R.stream-K, round-R.sizes, or round-R.cnf, which is there while the command checks.
+bool is_of_a_round(const std::string &name) {
+    auto is_number = [](const std::string &word) {
+        return !word.empty() && word[0] != '0' && word.find_first_not_of("0123456789") == std::string::npos;
+    };
+    size_t dot = name.find('.');
+    if (name.rfind("round-", 0) != 0 || dot == std::string::npos || !is_number(name.substr(6, dot - 6))) return false;
+    std::string rest = name.substr(dot + 1);
+    return rest == "sizes" || rest == "cnf" || (rest.rfind("stream-", 0) == 0 && is_number(rest.substr(7)));
+}
 
 // All that a run writes, or wrote there.
 std::vector<std::string> files_of(const std::string &folder) {
     std::vector<std::string> paths;
     for (const char *name : NAMES)
         for (const std::string &path : { folder + "/" + name, unfinished(folder + "/" + name) }) paths.push_back(path);
-    for (int k = 1; k <= MOST_ENGINES; k++) paths.push_back(folder + "/stream" + std::to_string(k));
+    if (DIR *list = opendir(folder.c_str())) {
+        while (const dirent *entry = readdir(list))
+            if (is_of_a_round(entry->d_name)) paths.push_back(folder + "/" + entry->d_name);
+        closedir(list);
+    }
     return paths;
 }
 
@@ -111,7 +128,7 @@ void open_record(const std::string &folder, const std::vector<std::string> &inpu
             if (find(path, found) && find(name, input) && is_same(found, input))
                 refuse(path + " would be written over: another --proofs");
     for (const std::string name : NAMES)
-        if (!is_there(folder + "/stream1") && is_there(folder + "/" + name))
+        if (!is_there(folder + FIRST_STREAM) && is_there(folder + "/" + name))
             refuse(folder + "/" + name + " is there, and isn't of an earlier run: another --proofs");
 }
 

@@ -1,5 +1,5 @@
 // Unverified, as all of this solver: what it calls proved, lrupd has proved. What its processes share: one mapping, made before
-// they are forked. For C and C++.
+// they are forked, and the outboxes. For C and C++.
 #ifndef SHARED_H
 #define SHARED_H
 
@@ -9,40 +9,81 @@
 #include <stdlib.h>
 #include <string.h>
 
-enum { MOST_ENGINES = 64, LONGEST_CAUSE = 160, OUTBOX_WORDS = 1 << 24, HEAD_OF_A_GIFT = 3 };
+#include "../exact/proof.h"
 
-// Of an engine and its filter. Each field has one writer, and is read by others at any time: only by LOAD and STORE.
+enum { MOST_ENGINES = 64, LONGEST_CAUSE = 160, LONGEST_PATH = 4096 };
+
+// Of an engine and its filter. Each field has one writer, and is read by others at any time: only by LOAD and STORE. A round is
+// one run of lrupd.
 typedef struct {
     // The engine writes:
     int answer;                 // 10 or 20, once its proof and the model are written
     uint64_t conflicts, slices, taken, refused, satisfied;
+    int group;                  // the processes of a solver that the user has
     // The filter writes:
-    uint64_t lines, literals, hints, citing_others, given;
+    uint64_t lines, literals, hints, given;                     // of all rounds
+    uint64_t citing_others, citing_elsewhere;                   // lines with a hint of another stream; of one of another host
+    uint64_t round_lines, round_literals;                       // of this one
     uint64_t bytes;             // of its stream
     uint64_t behind;            // of the proof, that it hasn't read
-    uint64_t outbox_used;       // words of its outbox that others may read
+    uint64_t outbox_used;       // positions of its outbox that others may read
+    uint64_t floors[MOST_ENGINES];  // by engine, from 0: what it gave away before that position isn't asked for any more
+    uint64_t wanted;            // literals of a clause for which a whole stream has no room
+    uint64_t ended_round;       // its stream of this round is whole
+    uint64_t mapped_round;      // what it holds has the identities of the next one
     int refuted;                // the line is in the stream that shows what is asked
-    int full;                   // no line more, since the row has no room for it
     int unwritten;              // the stream couldn't be written
     char cause[LONGEST_CAUSE];  // why it stopped; to be read once it has ended
+    // The first process writes:
+    uint64_t stream;            // its number in the round that comes next, or is on; 0: it has none
+    uint64_t fed;               // bytes of its stream that lrupd has got
+    int gone;                   // the filter has ended
 } Part;
 
+// The first process writes all of it but the parts.
 typedef struct {
-    int over;                               // the main process has what it wants: streams end after a whole line
-    uint64_t most_lines, most_literals;     // of a stream, that the largest row has
+    int engines;
+    int first_here, engines_here;       // from 0; others are on other hosts
+    uint64_t outbox_words;              // of each outbox
+    int over;                           // it has what it wants: streams end after a whole line
+    uint64_t round;                     // from 1
+    uint64_t ending_round;              // all streams of this one end after a whole line
+    uint64_t saved_round;               // lrupd has saved this one's checkpoint: the two names below and the streams are the next one's
+    uint64_t streams;
+    uint64_t most_lines, most_literals; // of a stream
+    char checkpoint[LONGEST_PATH];
+    char record[LONGEST_PATH];          // the folder of the streams, with a slash, where they are kept
     Part parts[MOST_ENGINES];
 } Shared;
 
 #define LOAD(field) __atomic_load_n(&(field), __ATOMIC_ACQUIRE)
 #define STORE(field, value) __atomic_store_n(&(field), (value), __ATOMIC_RELEASE)
 
-// What a filter needs to know. An outbox has the clauses that a filter gives away, one after the other: how many literals, the
-// identity in two words, and the literals.
+// An outbox has the clauses that a filter gives away, one after the other: how many literals, the identity, and the literals.
+// It is a ring: positions count on, and a gift lies whole at its position modulo the ring's size. One that would cross the end
+// begins behind it, and a word says so. From round to round the identity changes; the position is the gift's name.
+enum { OUTBOX_WORDS = 1 << 20, HEAD_OF_A_GIFT = 2 };
+#define TO_THE_BEGINNING UINT32_MAX
+
+// The gift at that position, which goes on to the one behind it; NULL at the end.
+static inline uint32_t *next_gift(const Shared *shared, uint32_t *outbox, uint64_t *at, uint64_t end) {
+    uint64_t size = shared->outbox_words;
+    if (*at < end && outbox[*at % size] == TO_THE_BEGINNING) *at += size - *at % size;
+    if (*at >= end) return NULL;
+    uint32_t *gift = outbox + *at % size;
+    *at += HEAD_OF_A_GIFT + gift[0];
+    return gift;
+}
+
+static inline const Literal *literals_of(const uint32_t *gift) { return (const Literal *)(const void *)(gift + HEAD_OF_A_GIFT); }
+
+// What a filter needs to know.
 typedef struct {
     Shared *shared;
-    uint32_t *outbox;
-    int engine, engines;            // counted from 1
+    uint32_t *const *outboxes;      // by engine, from 0
+    int engine;                     // counted from 1
     int proof, stream;              // the pipe of the engine's proof, and a file
+    Form form;                      // of the proof
     bool shares;
     const int *assumed;             // literals
     size_t assumed_length;
@@ -62,12 +103,18 @@ static inline bool without(const char *what) {
 
 #ifdef __cplusplus
 extern "C" {
-[[noreturn]] void formula_refused(const char *cause);       // main.cpp
-[[noreturn]] void filter_process(const Filtering *filtering, const void *formula);     // filtering.c
+#endif
+
+_Noreturn void formula_refused(const char *cause);      // main.cpp
+_Noreturn void filter_process(const Filtering *filtering, const void *formula);     // filtering.c
+
+// outbox.c: of the engine that is counted from 1.
+bool outbox_put(const Shared *shared, uint32_t *outbox, int engine, uint64_t *staged, uint64_t identity, const Literals *literals);
+uint32_t gift_identity(const uint32_t *gift);
+void outbox_renew(const Shared *shared, uint32_t *outbox, int engine, const Checkpoint *checkpoint);
+
+#ifdef __cplusplus
 }
-#else
-_Noreturn void formula_refused(const char *cause);
-_Noreturn void filter_process(const Filtering *filtering, const void *formula);
 #endif
 
 #endif

@@ -2,6 +2,7 @@
 #ifndef SOLVE_H
 #define SOLVE_H
 
+#include <climits>
 #include <cstdint>
 #include <string>
 #include <vector>
@@ -12,9 +13,13 @@
 #include "../exact/formula.h"
 #include "shared.h"
 
+// alone.cpp, or mpi_run.cpp: what --help begins with, and ends with.
+extern const char program_name[], program_usage[], program_words[];
+
 // options.cpp: the command line.
 struct Options {
-    int engines = 0;            // 0: half of the cores
+    int engines = 0;            // 0: half of the cores; once it is known, with the solvers
+    std::vector<const char *> solvers;      // commands; they are the last engines, and share nothing
     double time = 0;            // seconds; 0: as long as it takes
     uint64_t memory = 0;        // bytes of lrupd's row; 0: by the machine's
     int share_size = 4;         // literals of a clause that is given away; units always are
@@ -22,12 +27,15 @@ struct Options {
     int seed = 0;
     const char *proofs = nullptr, *assume = nullptr, *lrupd = nullptr, *formula = nullptr;
     bool verbose = false, quiet = false;
+
+    bool shares() const { return share && size_t(engines) > solvers.size() + 1; }
 };
 
 Options read_words(int count, char **words);
 
 // processes.cpp: children, pipes and files.
 [[noreturn]] void refuse(const std::string &cause);     // one line on standard error, and status 1; all children are ended
+extern bool another_refuses;                            // a process that says the same, and whose end ends this one
 std::string error_text();                               // of errno
 double now();                                           // seconds
 
@@ -38,13 +46,23 @@ void close_file(int &file);
 int create_file(const std::string &path);               // a new one, whatever had the name
 std::string write_file(const std::string &path, const std::string &text);   // the cause, where it can't be written
 int file_in_memory();
+void *shared_bytes(size_t bytes);                       // with the children that come later
+
+template <typename Item> Item *shared_memory(size_t count) {
+    return static_cast<Item *>(shared_bytes((count > 0 ? count : 1) * sizeof(Item)));
+}
+
 void copy_file(int file, const std::string &name, int copy);
+std::string private_folder(const std::string &begin);   // made where it isn't there, by a name that begins so; removed at the end
+
+const pid_t ELSEWHERE = INT_MAX;                        // of a process on another host, in place of its id
 
 struct Child {
     pid_t pid = 0;
     bool running = false;
     int status = 0;             // as wait gives it
     double seconds = 0;         // of processor time
+    bool hands_on = false;      // signals to a program of its own (solver.cpp)
 
     bool ended() const { return pid != 0 && !running; }
     bool ended_with(int code) const;
@@ -55,7 +73,7 @@ struct Child {
 bool begin(Child &child, const std::string &name, const std::vector<int> &kept);    // true in the child, with these files
 bool reap(const std::vector<Child *> &children);         // one that has ended, if there is one
 void wait_for(Child &child);
-void end_children();
+void end_children();                                     // and removes the folder
 
 // record.cpp: paths, and the folder of --proofs. An input is a path, or `-`.
 std::string quoted(const std::string &word);
@@ -75,13 +93,17 @@ struct Engine {
     const Formula *formula;
     const std::vector<Literal> *assumed;
     Shared *shared;
-    const uint32_t *const *outboxes;    // by engine, from 0
+    uint32_t *const *outboxes;          // by engine, from 0
     signed char *model;                 // by variable, from 0: 1 true, -1 false
     int number, proof;                  // from 1; the file
 };
 
 [[noreturn]] void engine_process(const Engine &engine);
 const char *engine_version();
+
+// solver.cpp: the same of a solver that the user has, which opens these files.
+std::string solver_command(const std::string &command, const std::string &formula, int proof);
+[[noreturn]] void solver_process(const Engine &engine, const std::string &command, const std::vector<int> &files);
 
 // checker.cpp: lrupd, its words, and the sizes of its row.
 struct Row { uint64_t lines, room; };       // of each stream
@@ -90,7 +112,6 @@ class Checker {
 public:
     Child child;
     Row row = { 0, 0 };
-    std::string command;                // for the record
     std::string report, said;           // standard output, and standard error
 
     // The words end with the streams, which are fed from these files.
@@ -115,7 +136,8 @@ private:
 };
 
 std::string find_checker(const char *given);                    // refuses where there is none
-std::vector<std::string> row_words(const Row &row);
+std::string find_chain(const std::string &checker);             // the script that goes on from round to round
+std::string tries();
 uint64_t default_memory();
 Row split(uint64_t words, double literals_of_a_clause);         // of one stream
 

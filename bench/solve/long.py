@@ -1,0 +1,107 @@
+#!/usr/bin/env python3
+"""Runs lrup-solve for a long time, and shows what it takes from round to round.
+
+    long.py [--time SECONDS] [--memory SIZE] [--engines N] [--svg FILE] SOLVE LRUPD FORMULA
+
+It prints a line for each round: the row, the clauses that were derived and those that were carried over, and the pause; then the
+share of the pauses, and the most memory of its own that each process had, in MB. --svg draws both: clauses that each round carried
+over, and memory by time.
+"""
+import argparse
+import re
+import subprocess
+import sys
+import threading
+import time
+from pathlib import Path
+from typing import Dict, List, NamedTuple, Tuple
+
+ROUND = re.compile(r"^c round (\d+): ([\d,]+) clauses .* in a row of ([\d,]+) words; ([\d,]+) carried over; a pause of ([\d.]+) s", re.M)
+COLOURS = {"engine 1": "#1f5a8a", "engine 2": "#4f94c4", "filter 1": "#a35a00", "filter 2": "#d99b3d", "lrupd": "#3a7d44"}
+WIDTH, HEIGHT, LEFT = 640, 180, 60
+
+
+class Round(NamedTuple):
+    number: int
+    clauses: int
+    words: int
+    carried: int
+    pause: float
+
+
+Samples = Dict[str, List[Tuple[float, float]]]      # by name: seconds, and MB
+
+
+def rounds_of(text: str) -> List[Round]:
+    found = [[word.replace(",", "") for word in match.groups()] for match in ROUND.finditer(text)]
+    return [Round(int(number), int(clauses), int(words), int(carried), float(pause)) for number, clauses, words, carried, pause in found]
+
+
+def look(pid: int, began: float, samples: Samples) -> None:
+    try:
+        children = Path(f"/proc/{pid}/task/{pid}/children").read_text().split()
+        for child in [str(pid), *children]:
+            facts = dict(re.findall(r"^(\w+):\s+(.*)$", Path(f"/proc/{child}/status").read_text(), re.M))
+            samples.setdefault(facts["Name"], []).append((time.monotonic() - began, int(facts["RssAnon"].split()[0]) / 1000))
+    except (OSError, KeyError):
+        pass        # it has ended
+
+
+def axes(top: int, title: str, most: float, unit: str) -> List[str]:
+    return [f'<text x="{LEFT}" y="{top - 8}" font-size="12">{title}</text>',
+            f'<path d="M{LEFT} {top}V{top + HEIGHT}H{LEFT + WIDTH}" fill="none" stroke="#888"/>',
+            f'<text x="{LEFT - 6}" y="{top + 10}" text-anchor="end" font-size="10">{most:,.0f}{unit}</text>',
+            f'<text x="{LEFT - 6}" y="{top + HEIGHT}" text-anchor="end" font-size="10">0</text>']
+
+
+def chart(rounds: List[Round], samples: Samples) -> str:
+    most = max(one.carried for one in rounds)
+    step = WIDTH / len(rounds)
+    lines = axes(30, "clauses carried over, by round", most, "")
+    for k, one in enumerate(rounds):
+        height = HEIGHT * one.carried / most
+        lines.append(f'<rect x="{LEFT + k * step + 1:.1f}" y="{30 + HEIGHT - height:.1f}" width="{step - 2:.1f}" height="{height:.1f}" '
+                     f'fill="#1f5a8a"/>')
+    top, last = 60 + HEIGHT, max(at for points in samples.values() for at, _ in points)
+    size = max(much for name in COLOURS for _, much in samples.get(name, [(0, 0)]))
+    lines += axes(top, f"memory of each process, over {last / 60:.0f} minutes", size, " MB")
+    for k, (name, colour) in enumerate(COLOURS.items()):
+        points = " ".join(f"{LEFT + WIDTH * at / last:.1f},{top + HEIGHT - HEIGHT * much / size:.1f}" for at, much in samples.get(name, []))
+        lines += [f'<polyline points="{points}" fill="none" stroke="{colour}"/>',
+                  f'<text x="{LEFT + 120 * k}" y="{top + HEIGHT + 18}" font-size="11" fill="{colour}">{name}</text>']
+    head = f'<svg xmlns="http://www.w3.org/2000/svg" width="{LEFT + WIDTH + 20}" height="{top + HEIGHT + 30}" font-family="sans-serif">'
+    return "\n".join([head, *lines, "</svg>", ""])
+
+
+def main() -> None:
+    arguments = argparse.ArgumentParser(description=__doc__, formatter_class=argparse.RawDescriptionHelpFormatter)
+    for name, usual in (("--time", "1200"), ("--memory", "64M"), ("--engines", "2"), ("--svg", "")):
+        arguments.add_argument(name, default=usual)
+    for name in ("solve", "lrupd", "formula"):
+        arguments.add_argument(name)
+    given = arguments.parse_args()
+    words = [given.solve, "--lrupd", given.lrupd, "-v", "-j", given.engines, "--memory", given.memory, "--time", given.time, given.formula]
+    run = subprocess.Popen(words, stdout=subprocess.PIPE, text=True)
+    samples: Samples = {}
+    said: List[str] = []
+    assert run.stdout
+    reading = threading.Thread(target=lambda: said.extend(run.stdout or []))
+    began = time.monotonic()
+    reading.start()
+    while reading.is_alive():
+        look(run.pid, began, samples)
+        reading.join(5)
+    status, rounds = run.wait(), rounds_of("".join(said))
+    for one in rounds:
+        print(f"round {one.number}: row {one.words:,} words, {one.clauses:,} clauses, {one.carried:,} carried over, pause {one.pause:.2f} s")
+    for letter in "cs":
+        print([line for line in said if line.startswith(letter)][-1], end="")
+    for name, points in samples.items():
+        print(f"{name}: at most {max(much for _, much in points):.1f} MB")
+    if given.svg and rounds:
+        Path(given.svg).write_text(chart(rounds, samples))
+    sys.exit(status)
+
+
+if __name__ == "__main__":
+    main()

@@ -1,0 +1,311 @@
+#!/usr/bin/env python3
+"""Runs lrup-solve-mpi in two to eight processes of one host, and breaks what may break between them.
+
+    lrup_solve_mpi.py PROGRAM [FLAGS]
+
+Each answer, with and without sharing, rows so small that a run goes on for many rounds, the record; what is refused; each kind of
+process killed or stopped, in process 0 and in another one, and mpirun ended. The flags, and what is shown, are as of lrup_solve.py;
+without MPI, or mpirun, nothing is run.
+"""
+import os
+import random
+import re
+import shutil
+import signal
+import subprocess
+import sys
+import time
+from pathlib import Path
+from typing import Dict, List, Mapping, Optional, Sequence
+
+sys.dont_write_bytecode = True
+from harness import (FOUR, LIMIT, Failure, Ran, Row, closing, dimacs, example, generated, random_clauses, run, until, want,
+                     words_given, written)
+from solving import PROGRAM, SOLVE, TESTED, Answer, check_again, children_of, is_alive, of_process, run_built, want_answer
+
+words_given(__doc__, most=2)
+SMALL = {"SAME_WORDS": 1, "SLICE": 100, "EXCHANGING": 0.05}     # rows that don't grow, and much that is exchanged
+PATIENT = ["--mca", "odls_base_sigkill_timeout", "3"]           # seconds that mpirun gives to those that it ends
+ENDED = 30      # seconds, in which a run has to end that can't go on; in ten where nothing else runs
+LATE = ["sh", "-c", 'test "$OMPI_COMM_WORLD_RANK" != 0 || sleep 5; exec "$@"', "sh"]    # process 0, by more than PATIENT
+ENGINE_KILLED = "the engine ended by a signal: Killed|its filter stopped: .*the proof ends "     # whichever is seen first
+GROWING = 16_000_000    # bytes: two streams with 4 MB on the way, 2 MB that wait, and what is in pipes
+
+
+def launched(processes: int, words: Sequence[object], tested: Optional[Mapping[str, object]] = None,
+             before: Sequence[str] = ()) -> List[str]:
+    """What starts so many on this host, whoever one is. mpirun's own lines are left out."""
+    program = f"{SOLVE if tested is None else TESTED}-mpi"
+    as_root = ["--allow-run-as-root"] * (os.getuid() == 0)
+    exported = [word for name, value in (tested or {}).items() for word in ("-x", f"LRUP_SOLVE_{name}={value}")]
+    launcher = ["mpirun", "-q", *as_root, "--oversubscribe", "--bind-to", "none", *PATIENT, *exported]
+    return [str(word) for word in [*launcher, "-n", processes, *before, program, "--lrupd", PROGRAM, *words]]
+
+
+def solve(processes: int, words: Sequence[object], tested: Optional[Mapping[str, object]] = None) -> Answer:
+    return Answer(run(launched(processes, words, tested)))
+
+
+def named(words: str, work: Path) -> Path:
+    return example(words) if words.endswith(".cnf") else generated(words, work)
+
+
+def rounds_of(answer: Answer) -> int:
+    found = re.search(r" engines?, (\d+) rounds with ", answer.comments[-1])
+    return int(found[1]) if found else 1
+
+
+def of_processes(answer: Answer, what: str) -> List[int]:
+    """This number of each process."""
+    return [int(number.replace(",", "")) for number in re.findall(rf"^c process \d+: .*?([\d,]+) {what}", answer.out, re.M)]
+
+
+# Answers.
+
+
+def answers(processes: int, words: str, options: List[str], status: int, work: Path) -> None:
+    formula = named(words, work)
+    answer = solve(processes, ["-v", *options, formula])
+    want_answer(answer, status, formula)
+    want(answer.lost(), [], "engines that are lost")
+    engines = processes * int(options[options.index("-j") + 1])
+    want(len([line for line in answer.comments if re.match(r"engine \d+: ", line)]), engines, "engines that are listed")
+
+
+def exchanges(work: Path) -> None:
+    """What goes out comes in or is late; some of it is used. Without sharing nothing goes out."""
+    for options, share in ([], True), (["--no-share"], False):
+        answer = solve(3, ["-v", "-j", "1", *options, generated("pigeons 9", work)], {"EXCHANGING": 0.05})
+        want_answer(answer, 20)
+        sent, came = of_processes(answer, "sent"), of_processes(answer, "came")
+        citing = of_processes(answer, "% of lines cite another process")
+        found = (len(sent), all(sent), all(came), any(citing))
+        want(found, (3, share, share, share), f"what is sent, comes and is cited\n{answer.out}")
+        want(sum(came) + sum(of_processes(answer, "late")) <= 2 * sum(sent), True, "clauses that came, of those sent to two others")
+
+
+def in_rounds(processes: int, words: str, size: int, options: List[str], status: int, work: Path) -> None:
+    """Several rounds over all processes; the record is checked once more, as a chain."""
+    formula, kept = named(words, work), work / "a record"
+    answer = solve(processes, ["-v", "-j", "1", "--proofs", kept, *options, formula], {**SMALL, "FIRST_WORDS": size})
+    want_answer(answer, status, formula)
+    want(answer.lost(), [], "engines that are lost")
+    if status == 20:
+        want(rounds_of(answer) >= 4, True, f"rounds of\n{answer.out}")
+        check_again(kept)
+
+
+def assuming(work: Path) -> None:
+    """The formula alone is satisfiable."""
+    clauses = [[9999, *clause] for clause in random_clauses(random.Random(7), 130, 600)]
+    formula = written(dimacs(9999, clauses), work)
+    for literal, status in (("-9999", 20), ("9999", 10)):
+        cube = written(f"{literal} 0\n", work, "cube")
+        answer = solve(2, ["-j", "1", "--assume", cube, formula], {**SMALL, "FIRST_WORDS": 3000})
+        want_answer(answer, status, formula, "s UNSATISFIABLE UNDER ASSUMPTIONS" if status == 20 else None)
+
+
+def full_row(work: Path) -> None:
+    answer = solve(2, ["-j", "1", "--memory", "100K", generated("pigeons 11", work)])
+    want((answer.answers, answer.status), (["s UNKNOWN"], 0), f"the answer of\n{answer.out}{answer.said}")
+    want("leave no room in a row of 100,000 bytes" in answer.out, True, f"the cause in\n{answer.out}")
+
+
+def time_is_up(work: Path) -> None:
+    answer = solve(2, ["-j", "1", "--time", "2", generated("pigeons 11", work)])
+    want_answer(answer, 0)
+    want("time is up" in answer.comments, True, "the cause")
+
+
+def rests_on(what: str, found: str, tested: Mapping[str, object], work: Path) -> None:
+    """Without it lrupd refuses some of the proofs; with it there is nothing of the kind."""
+    seen = {True: 0, False: 0}
+    for seed in range(12):
+        formula = generated(f"random 170 {seed}", work)
+        for left_out in (True, False):
+            words = {**SMALL, **tested, "TRIES": 20000, **({"WITHOUT": what} if left_out else {})}
+            answer = solve(3, ["-v", "--time", "20", "-j", "1", formula], words)
+            seen[left_out] += any(re.search(found, line) for line in answer.comments)
+        if seen[True] and seed > 1:
+            break
+    want((seen[True] > 0, seen[False]), (True, 0), f"runs that broke without it, and with it: {seen}")
+
+
+# Refused.
+
+
+def refused(processes: int, words: List[str], said: str, before: Sequence[str], work: Path) -> None:
+    """One line, of process 0, also where it begins after the others. The formula is the last word, if none is given."""
+    formula = written(FOUR, work)
+    answer = Answer(run(launched(processes, [*(word.format(work=work) for word in words), formula], before=before)))
+    want((answer.out, answer.status), ("", 1), f"the answer, which says {answer.said}")
+    want(re.sub(r"/\S*/", "", answer.said), said, "what is said")
+
+
+def shows(word: str, beginning: str, work: Path) -> None:
+    """Once."""
+    out, said, status = run(launched(3, [word]))
+    want((out.count(beginning), out.startswith(beginning), said, status), (1, True, "", 0), f"what is shown: {out}")
+
+
+def bad_formula(work: Path) -> None:
+    """lrupd's words."""
+    formula = written("p cnf 2 1\n1 3 0\n", work)
+    said = run([PROGRAM, formula, "/dev/null"]).err
+    answer = solve(2, ["-j", "1", formula])
+    want((answer.out, answer.said, answer.status), ("", said, 1), "what is said")
+
+
+# Deaths.
+
+
+class Running:
+    """A run that takes long, with the ids of what belongs to it: by process, by name."""
+
+    def __init__(self, formula: Path, processes: int, tested: Optional[Mapping[str, object]] = None) -> None:
+        words = launched(processes, ["-v", "-j", "1", formula], tested)
+        self.main = subprocess.Popen(words, stdout=subprocess.PIPE, stderr=subprocess.PIPE, text=True)
+        self.ids: List[Dict[str, int]] = []
+        try:
+            until("processes at work", lambda: self.is_at_work(processes), 30)
+        except Failure:
+            self.main.kill()
+            raise
+
+    def is_at_work(self, processes: int) -> bool:
+        found = {}
+        for pid in children_of_all(self.main.pid):
+            rank = re.search(r"\0OMPI_COMM_WORLD_RANK=(\d+)\0", of_process(pid, "environ"))
+            if rank:
+                found[int(rank[1])] = {"run": pid, **children_of(pid)}
+        self.ids = [found[rank] for rank in sorted(found)]
+        names = [{"carrier", f"engine {number}", f"filter {number}"} for number in range(1, processes + 1)]
+        return len(self.ids) == processes and all(map(set.issubset, names, self.ids)) and "lrupd" in self.ids[0]
+
+    def end(self) -> Ran:
+        """No process is left."""
+        began = time.monotonic()
+        try:
+            out, said = self.main.communicate(timeout=LIMIT)
+        finally:
+            self.main.kill()
+        self.seconds = time.monotonic() - began
+        pids = [pid for one in self.ids for pid in one.values()]
+        until("all have ended", lambda: not any(map(is_alive, pids)))
+        return Ran(out, said, self.main.returncode)
+
+
+def children_of_all(pid: int) -> List[int]:
+    return [int(word) for word in of_process(pid, f"task/{pid}/children").split()]
+
+
+def ends(process: int, name: str, number: int, cause: str, work: Path) -> None:
+    """Without an answer, and soon; 'mpirun' is the one that started them."""
+    running = Running(generated("pigeons 11", work), 2)
+    os.kill(running.main.pid if name == "mpirun" else running.ids[process][name], number)
+    answer = Answer(running.end())
+    want(running.seconds < ENDED, True, f"{running.seconds} seconds to the end")
+    want(answer.answers, ["s UNKNOWN"], f"the answer of\n{answer.out}{answer.said}")
+    want(any(re.search(cause, line) for line in answer.comments), True, f"the cause in\n{answer.out}")
+
+
+def goes_on(processes: int, process: int, name: str, lost: str, work: Path) -> None:
+    """The others find the answer."""
+    running = Running(generated("pigeons 9", work), processes)
+    os.kill(running.ids[process][name], signal.SIGKILL)
+    answer = Answer(running.end())
+    want_answer(answer, 20)
+    want(len([line for line in answer.lost() if re.match(lost, line)]), 1, f"engines that are lost in\n{answer.out}")
+
+
+def bytes_kept(pid: int) -> int:
+    """In streams that are kept in memory."""
+    files = [f"/proc/{pid}/fd/{name}" for name in os.listdir(f"/proc/{pid}/fd")]
+    return sum(os.stat(file).st_size for file in files if "memfd:" in os.readlink(file))
+
+
+def stands_still(pids: List[int]) -> bool:
+    kept = [bytes_kept(pid) for pid in pids]
+    time.sleep(2)
+    return [bytes_kept(pid) for pid in pids] == kept
+
+
+def slow_checker(work: Path) -> None:
+    """Where lrupd stands still nothing grows, and all go on when it does."""
+    running = Running(generated("pigeons 9", work), 2, {"AHEAD": 2000000})
+    runs, lrupd = [one["run"] for one in running.ids], running.ids[0]["lrupd"]
+    os.kill(lrupd, signal.SIGSTOP)
+    kept = [bytes_kept(pid) for pid in runs]
+    try:
+        until("nothing grows", lambda: stands_still(runs), 60)
+        grown = [bytes_kept(pid) - before for pid, before in zip(runs, kept)]
+    finally:
+        os.kill(lrupd, signal.SIGCONT)
+    want_answer(Answer(running.end()), 20)
+    want(max(grown) < GROWING, True, f"the bytes that came while it stood still, {grown}")
+
+
+# The tests.
+
+
+def known() -> List[Row]:
+    rows: List[Row] = []
+    for processes, engines in ((1, 1), (2, 1), (2, 2), (4, 1), (8, 1)):
+        for words, status in (("bmc.cnf", 20), ("pigeonhole.cnf", 20), ("pigeons 9", 20), ("random 200 22 4.2", 10)):
+            rows.append((f"{words}, {processes} of {engines}", answers, processes, words, ["-j", str(engines)], status))
+    rows.append(("nothing shared", answers, 2, "pigeons 8", ["-j", "1", "--no-share"], 20))
+    for processes in (1, 2, 4):
+        rows += [(f"rounds of bmc, {processes}", in_rounds, processes, "bmc.cnf", 1500 * processes, [], 20),
+                 (f"rounds of pigeonholes, {processes}", in_rounds, processes, "pigeons 8", 20000 * processes, [], 20),
+                 (f"rounds of a random formula, {processes}", in_rounds, processes, "random 170 4", 12000 * processes, [], 20),
+                 (f"rounds, satisfiable, {processes}", in_rounds, processes, "random 260 5 4.15", 30000 * processes, [], 10)]
+    return rows + [("rounds, nothing shared", in_rounds, 2, "pigeons 8", 40000, ["--no-share"], 20), ("exchanges", exchanges),
+                   ("assumptions", assuming), ("a full row", full_row), ("time is up", time_is_up),
+                   ("gifts of an earlier round", rests_on, "lateness", r"bad line|hasn't taken|hasn't saved",
+                    {"FIRST_WORDS": 20000, "LATE": 1}),
+                   ("gifts once lrupd has saved", rests_on, "saving", r"bad line|hasn't taken|hasn't saved",
+                    {"FIRST_WORDS": 20000, "EXCHANGING": 0.02})]
+
+
+def refusals() -> List[Row]:
+    program = "lrup-solve-mpi: "
+    return [("65 engines", refused, 5, ["-j", "13"], program + "65 engines in all processes: at most 64\n", []),
+            ("no engine", refused, 3, ["-j", "0"], program + "-j takes 1 to 64, not 0\n", []),
+            ("no engine, process 0 is late", refused, 3, ["-j", "0"], program + "-j takes 1 to 64, not 0\n", LATE),
+            ("no formula", refused, 3, ["-j", "1", "--", "{work}/none"], program + "one word too many: formula.cnf\n", []),
+            ("a solver", refused, 2, ["--solver", "cadical %formula %proof"],
+             program + "--solver: lrup-solve has it, and this program hasn't\n", []),
+            ("help", shows, "--help", "usage: mpirun -n P lrup-solve-mpi "), ("version", shows, "--version", "lrup-solve-mpi "),
+            ("a formula that lrupd refuses", bad_formula)]
+
+
+def deaths() -> List[Row]:
+    rows: List[Row] = [(f"{name} of process {process} {word}", ends, process, name, number, cause)
+                       for process, name, word, number, cause in (
+                           (1, "run", "killed", signal.SIGKILL, "Terminated"),
+                           (1, "carrier", "killed", signal.SIGKILL, "Terminated|MPI's process"),
+                           (0, "carrier", "killed", signal.SIGKILL, "MPI's process here ended by a signal"),
+                           (0, "lrupd", "killed", signal.SIGKILL, "lrupd ended by a signal: Killed"),
+                           (0, "run", "terminated", signal.SIGTERM, "Terminated"),
+                           (1, "run", "stopped", signal.SIGSTOP, "process 1 has said nothing for 8 seconds"),
+                           (1, "carrier", "stopped", signal.SIGSTOP, "process 1 has said nothing for 8 seconds"),
+                           (0, "mpirun", "interrupted", signal.SIGINT, "Terminated"),
+                           (0, "mpirun", "terminated", signal.SIGTERM, "Terminated"))]
+    rows.append(("a checker that stands still", slow_checker))
+    return rows + [(f"{name} of process {process} of {processes} killed", goes_on, processes, process, name, lost)
+                   for processes, process, name, lost in (
+                       (3, 0, "engine 1", f"engine 1 is lost: ({ENGINE_KILLED})"),
+                       (3, 1, "engine 2", f"engine 2 is lost: ({ENGINE_KILLED})"),
+                       (3, 1, "filter 2", "engine 2 is lost: "),
+                       (2, 1, "filter 2", "engine 2 is lost: "))]
+
+
+def main() -> int:
+    rows = [*known(), *refusals(), *deaths()]
+    if not shutil.which("mpirun"):
+        print("lrup-solve-mpi: skipped, no mpirun is on the PATH: in Debian the package openmpi-bin")
+        return closing(0, 0, len(rows))
+    return run_built(rows, target="solve-mpi")
+
+
+sys.exit(main())

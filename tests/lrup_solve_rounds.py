@@ -1,0 +1,399 @@
+#!/usr/bin/env python3
+"""Runs lrup-solve with rows that are so small that a run goes on for many rounds, and breaks what may break there.
+
+    lrup_solve_rounds.py PROGRAM [FLAGS]
+
+One to four engines, with and without sharing, each answer; the record, which lrup-chain checks once more; a child killed in a
+round or in the pause after one, checkpoints that can't be written, signals; that nothing grows from round to round. What sharing
+rests on there is left out, one thing at a time. The flags, and what is shown, are as of lrup_solve.py.
+"""
+import contextlib
+import os
+import random
+import re
+import resource
+import shlex
+import shutil
+import signal
+import subprocess
+import sys
+from pathlib import Path
+from typing import Any, Callable, Dict, List, Mapping, Optional, Sequence
+
+sys.dont_write_bytecode = True
+from harness import (LIMIT, Failure, Ran, Row, dimacs, example, generated, random_clauses, run, until, want, words_given, written)
+from solving import (EARLY, PROGRAM, TESTED, Answer, before_lrupd, check_again, children_of, in_place_of_lrupd, is_alive,
+                     of_process, random_formula, run_built, solve, want_answer)
+
+words_given(__doc__, most=2)
+SMALL = {"SAME_WORDS": 1, "SLICE": 40}      # rows that don't grow
+TRIES = 10
+
+
+def rounds_of(answer: Answer) -> int:
+    found = re.search(r" engines?, (\d+) rounds with ", answer.comments[-1])
+    return int(found[1]) if found else 1
+
+
+def named(words: str, work: Path) -> Path:
+    return example(words) if words.endswith(".cnf") else generated(words, work)
+
+
+# Answers.
+
+
+def in_rounds(words: str, size: int, most: int, options: List[str], status: int, work: Path) -> None:
+    """Several rounds, and what they left is checked once more, as a chain."""
+    formula, kept = named(words, work), work / "a record"
+    answer = solve(["-v", "--proofs", kept, *options, formula], tested={**SMALL, "FIRST_WORDS": size})
+    want_answer(answer, status, formula)
+    want(answer.lost(), [], "engines that are lost")
+    rounds, least = rounds_of(answer), 3 if status == 20 else 1     # an assignment may be found at any time
+    want(least <= rounds <= most, True, f"{rounds} rounds, from {least} to {most}")
+    listed = sum(re.match(r"round \d+: ", line) is not None for line in answer.comments)
+    want(rounds - listed in ((1,) if status == 20 else (1, 2)), True, f"rounds that are listed in\n{answer.out}")
+    if status == 20:
+        check_again(kept)
+        names = [f"round-{number}.{name}" for number in range(1, rounds + 1) for name in ("sizes", "stream-1")]
+        want([name for name in names if not (kept / name).exists()], [], "files that aren't there")
+        want((kept / f"round-{rounds + 1}.stream-1").exists(), False, "a round too many")
+
+
+def plainly(options: List[str], work: Path) -> None:
+    """Without a record, and without -v. No file is left."""
+    (work / "files").mkdir()
+    answer = solve([*options, generated("random 170 4", work)], tested={**SMALL, "FIRST_WORDS": 30000},
+                   env_more={"TMPDIR": str(work / "files")})
+    want_answer(answer, 20)
+    found = rounds_of(answer) > 2, len(answer.comments), os.listdir(work / "files")
+    want(found, (True, 1, []), f"rounds, lines and files of\n{answer.out}")
+
+
+def randomly(seed: int, work: Path) -> None:
+    """Any answer but 'unknown', with early inprocessing: an assignment is evaluated here, of the others the record is checked once
+    more."""
+    numbers = random.Random(f"{seed} rounds")
+    formula, kept = written(random_formula(seed), work), work / "kept"
+    words = ["-v", "--seed", seed, "-j", numbers.randint(1, 4), *["--no-share"] * numbers.choice((0, 0, 0, 1)), "--proofs", kept,
+             formula]
+    tested = {"SET": EARLY, "SLICE": numbers.choice((5, 20, 50)), "FIRST_WORDS": numbers.choice((300, 1000, 3000)), "SAME_WORDS": 1,
+              "OUTBOX": numbers.choice((100, 1000, 1 << 20))}
+    answer = solve(words, tested=tested)
+    want(answer.lost(), [], "engines that are lost")
+    want_answer(answer, answer.status if answer.status in (10, 20) else 20, formula)
+    if answer.status == 20:
+        check_again(kept)
+
+
+def assuming(engines: int, work: Path) -> None:
+    """The clause that contradicts the assumptions comes after some rounds; the formula alone is satisfiable. As a chain, too."""
+    clauses = [[9999, *clause] for clause in random_clauses(random.Random(7), 130, 600)]
+    formula = written(dimacs(9999, clauses), work)
+    for literal, status in (("-9999", 20), ("9999", 10)):
+        cube, kept = written(f"{literal} 0\n", work, "cube"), work / f"record of {literal}"
+        answer = solve(["-j", engines, "--assume", cube, "--proofs", kept, formula], tested={**SMALL, "FIRST_WORDS": 3000})
+        want_answer(answer, status, formula, "s UNSATISFIABLE UNDER ASSUMPTIONS" if status == 20 else None)
+        if status == 20:
+            want(rounds_of(answer) > 4, True, f"rounds of\n{answer.out}")
+            done = run(["sh", kept / "command"], cwd="/")
+            want((done.out.splitlines()[-1], done.status), ("s UNSATISFIABLE UNDER ASSUMPTIONS", 8), "the streams, checked again")
+
+
+def rows_grow(work: Path) -> None:
+    """Each row is twice the one before, up to what --memory says, with the formula in it."""
+    answer = solve(["-v", "-j", "2", "--memory", "3200K", generated("random 220 5", work)], tested={"FIRST_WORDS": 10000})
+    want_answer(answer, 20)
+    rows = [int(row.replace(",", "")) for row in re.findall(r"^c round \d+: .* in a row of ([\d,]+) words", answer.out, re.M)]
+    carried = [int(count.replace(",", "")) for count in re.findall(r"; ([\d,]+) carried over", answer.out)]
+    want((len(rows) > 4, max(rows) <= 400000, rows[-1] > 399000), (True, True, True), f"the rows, {rows}")
+    for number, row in enumerate(rows[:3]):
+        want(row > 10000 << number, True, f"the row of round {number + 1} with its formula, {row}")
+    want(min(carried) > 0, True, f"clauses that are carried over, {carried}")
+
+
+def rows_stay_large(work: Path) -> None:
+    """However often they are doubled."""
+    answer = solve(["-v", "-j", "1", "--memory", "1M", generated("pigeons 8", work)], tested={"FIRST_WORDS": 1 << 62})
+    want_answer(answer, 20)
+    rows = re.findall(r"^c round \d+: .* in a row of ([\d,]+) words", answer.out, re.M)
+    want((len(rows) > 3, {row for row in rows if row not in ("125,000", "124,999")}), (True, set()), "the rows")
+
+
+def one_clause(work: Path) -> None:
+    """A row that has no room for one clause: the next one has."""
+    clauses = [[-k for k in range(1, 400)], *([k, 1000 + k] for k in range(1, 400)), *([k, -1000 - k] for k in range(1, 400))]
+    answer = solve(["-j", "1", written(dimacs(1400, clauses), work)], tested={**SMALL, "FIRST_WORDS": 64})
+    want_answer(answer, 20)
+
+
+def no_room_for_one_clause(work: Path) -> None:
+    """And where none has, the engine is lost."""
+    formula = generated("pigeons 9", work)
+    answer = solve(["-j", "1", "--memory", "12K", formula], tested={**SMALL, "FIRST_WORDS": 64})
+    want_answer(answer, 0)
+    wanted = r"engines have leave no room in a row of 12,000 bytes|a clause of \d+ literals has no room in the row"
+    want(any(re.search(wanted, line) for line in answer.comments), True, f"why there is no answer:\n{answer.out}")
+
+
+# What happens in a round, and between two.
+
+
+class Running:
+    """One that has come to a round: lrupd of that round is to save round-N.cnf."""
+
+    def __init__(self, words: Sequence[object], number: int, work: Path, **tested: object) -> None:
+        self.folder = work / "folder"
+        self.folder.mkdir(exist_ok=True)
+        environment = {**os.environ, "TMPDIR": str(self.folder), "LRUP_SOLVE_SLICE": "40", "LRUP_SOLVE_SAME_WORDS": "1",
+                       "ASAN_OPTIONS": "quarantine_size_mb=1"}      # what is freed would be kept
+        environment.update({f"LRUP_SOLVE_{name}": str(word) for name, word in tested.items()})
+        words = [TESTED, *([] if "--lrupd" in words else ["--lrupd", PROGRAM]), "-v", *words]
+        self.process = subprocess.Popen([*map(str, words)], stdout=subprocess.PIPE, stderr=subprocess.PIPE, text=True,
+                                        env=environment, start_new_session=True)
+        self.saved = f"round-{number + 1}.cnf"
+        self.children: Dict[str, int] = {}
+        try:
+            until(f"round {number}", self.has_come)
+        except Failure:
+            self.process.kill()
+            raise
+
+    def has_come(self) -> bool:
+        self.children = {**self.children, **children_of(self.process.pid)}
+        return bool(list(self.folder.parent.glob(f"*/*/{self.saved}"))) or self.process.poll() is not None
+
+    def end(self, limit: float = LIMIT) -> Answer:
+        """What it said; no child of it is left, and no file."""
+        try:
+            out, said = self.process.communicate(timeout=limit)
+        except subprocess.TimeoutExpired:
+            self.end_all()
+            raise
+        until("its children end", lambda: not any(map(is_alive, self.children.values())))
+        until("its files are removed", lambda: not os.listdir(self.folder))
+        return Answer(Ran(out, said, self.process.returncode))
+
+    def end_all(self) -> None:
+        with contextlib.suppress(ProcessLookupError):
+            os.killpg(self.process.pid, signal.SIGKILL)
+
+
+def says(answer: Answer, cause: str) -> bool:
+    return any(re.search(cause, line) for line in answer.comments)
+
+
+def want_cause(answer: Answer, cause: str) -> None:
+    if not says(answer, cause):
+        raise Failure(f"wanted a word on '{cause}', and not\n{answer.out}")
+
+
+def kill(words: Sequence[object], number: int, first_words: int, names: List[str], status: int, cause: str, work: Path) -> None:
+    """Children of a run that has come to that round are killed. Where one had ended before, the run is tried again."""
+    formula = generated("random 220 5", work) if status else generated("pigeons 11", work)
+    said = []
+    for _ in range(TRIES):
+        running = Running([*words, "-j", "3", formula], number, work, FIRST_WORDS=first_words)
+        try:
+            for name in names:
+                os.kill(running.children[name], signal.SIGKILL)
+            answer = running.end(LIMIT / 2)
+        except (KeyError, ProcessLookupError, subprocess.TimeoutExpired) as error:
+            said.append(repr(error))
+            running.end_all()
+            running.end()
+            continue
+        want_answer(answer, status, formula)
+        if says(answer, cause):
+            return
+        said.append(answer.out)
+    raise Failure(f"wanted a word on '{cause}', and not\n" + "\n".join(said))
+
+
+def killed(names: List[str], status: int, cause: str, work: Path) -> None:
+    kill(["--proofs", work / "kept"], 4, 40000, names, status, cause, work)
+    if status == 20:
+        check_again(work / "kept")
+
+
+def late_lrupd(work: Path, rounds: str = "*") -> Path:
+    """It begins a second late, in all rounds or in these, and so the pause before its round's end is as long."""
+    return before_lrupd(f"case \"$*\" in {rounds}) sleep 1 ;; esac", work)
+
+
+def killed_in_a_pause(names: List[str], status: int, cause: str, work: Path) -> None:
+    """A filter that dies as it waits for what lrupd saves: what it gave away others may still take over."""
+    in_the_first = "*round-3.cnf*) ;; *round-2.cnf*"
+    kill(["--lrupd", late_lrupd(work, in_the_first)], 1, 150000, names, status, cause, work)
+
+
+def ended_by(number: int, round_number: int, pause: bool, work: Path) -> None:
+    """In a round, or in the pause after it. SIGKILL goes to all processes at once."""
+    words: List[object] = ["--lrupd", late_lrupd(work)] if pause else []
+    running = Running([*words, "-j", "2", generated("pigeons 11", work)], round_number, work, FIRST_WORDS=50000)
+    if number == signal.SIGKILL:
+        os.killpg(running.process.pid, number)
+    else:
+        running.process.send_signal(number)
+    answer = running.end()
+    want(answer.status, -number, "the end")
+    if number != signal.SIGKILL:
+        want(answer.answers, ["s UNKNOWN"], "the answer")
+
+
+def folder_removed(work: Path) -> None:
+    """Checkpoints can't be created any more."""
+    running = Running(["-j", "2", generated("pigeons 11", work)], 2, work, FIRST_WORDS=50000)
+    for folder in running.folder.iterdir():
+        while folder.exists():
+            shutil.rmtree(folder, ignore_errors=True)
+    answer = running.end()
+    if answer.status == 1:      # what was saved was gone before it was read
+        return want((answer.answers, "cannot open" in answer.said), ([], True), f"what is said: {answer.said}")
+    want_answer(answer, 0)
+    want_cause(answer, "^lrupd ended with status [459]$")
+
+
+def no_folder(work: Path) -> None:
+    answer = solve(["-j", "2", generated("pigeons 11", work)], tested={**SMALL, "FIRST_WORDS": 50000},
+                   env_more={"TMPDIR": str(work / "none")})
+    want((answer.out, answer.status, answer.said),
+         ("", 1, f"lrup-solve: cannot make a folder {work}/none/lrup-solve-XXXXXX: No such file or directory\n"), "what is said")
+
+
+def full(work: Path) -> None:
+    """A disk that has no room for what is saved: files of 200,000 bytes at most. The streams of a round have room."""
+    clauses = random_clauses(random.Random(3), 2000, 30000, (6,))
+    formula = written(dimacs(2000, clauses + read(generated("pigeons 11", work))), work)
+    limit = lambda: resource.setrlimit(resource.RLIMIT_FSIZE, (200000, 200000))
+    answer = solve(["-j", "2", formula], tested={**SMALL, "FIRST_WORDS": 20000}, preexec_fn=limit)
+    want_answer(answer, 0)
+    want_cause(answer, "^lrupd: checkpoint not written")
+    want_cause(answer, "^lrupd ended with status 9$")
+
+
+def read(path: Path) -> List[List[int]]:
+    return [[int(word) for word in line.split()[:-1]] for line in path.read_text().splitlines()[1:]]
+
+
+def impostor(body: str, status: int, cause: str, work: Path) -> None:
+    """Another program in lrupd's place, which is lrupd in the first round alone. `$saved` is where it is to save."""
+    path = in_place_of_lrupd(f"""case "$*" in *' /dev/null') exit 3;; */round-3.cnf*) ;; *) exec {shlex.quote(PROGRAM)} "$@";; esac
+while [ "$1" != --checkpoint ]; do shift; done
+saved=$2 formula=$3; shift 3
+cat "$@" > /dev/null
+{body}""", work)
+    answer = solve(["--lrupd", path, "-j", "2", generated("pigeons 11", work)], tested={**SMALL, "FIRST_WORDS": 50000})
+    want((answer.status, answer.answers), (status, ["s UNKNOWN"] * (status == 0)), f"the answer {answer.said}")
+    found = [line for line in [*answer.comments, answer.said] if re.search(cause, line)]
+    want(len(found) > 0, True, f"a word on '{cause}' in\n{answer.out}{answer.said}")
+
+
+# Nothing grows from round to round.
+
+
+def resident(pid: int) -> int:
+    """Kilobytes."""
+    found = re.search(r"^VmRSS:\s+(\d+)", of_process(pid, "status"), re.M)
+    return int(found[1]) if found else 0
+
+
+def in_files(pid: int) -> int:
+    """Kilobytes of files in memory that it has open, which nothing else counts."""
+    total = 0
+    for link in Path(f"/proc/{pid}/fd").iterdir():
+        if os.readlink(link).startswith("/memfd:"):
+            total += link.stat().st_blocks // 2
+    return total
+
+
+def stays_small(work: Path) -> None:
+    """From round 10 to round 60, of some 500 KB of streams each, with clauses that the engines soon delete."""
+    tested = {"FIRST_WORDS": 100000, "SET": "reduceint=20 reducetarget=95"}
+    running = Running(["-j", "2", generated("random 300 5", work)], 10, work, **tested)
+    sizes = lambda: {"files": in_files(running.process.pid), "first": resident(running.process.pid),
+                     **{name: resident(pid) for name, pid in running.children.items() if name.startswith(("filter", "engine"))}}
+    before = sizes()
+    running.saved = "round-61.cnf"
+    until("round 60", running.has_come, 60)
+    after = sizes()
+    running.process.terminate()
+    running.end()
+    for name, size in after.items():
+        want(size < 1.3 * before[name] + 6000, True, f"kilobytes of {name}, {before[name]} and then {size}")
+
+
+# What sharing rests on from round to round: left out, it is found out; and with it nothing of the kind happens.
+
+
+def rests_on(what: str, found: str, tested: Mapping[str, object], work: Path) -> None:
+    seen = {True: 0, False: 0}
+    for seed in range(100):
+        formula = generated(f"random {random.Random(seed).randrange(120, 180)} {seed}", work)
+        for left_out in (True, False):
+            words = {**SMALL, **tested, "TRIES": 20000, **({"WITHOUT": what} if left_out else {})}
+            answer = solve(["-v", "--time", "20", "-j", "3", formula], tested=words)
+            seen[left_out] += any(re.search(found, line) for line in answer.comments)
+            if not left_out and "time is up" not in answer.comments:
+                want_answer(answer, answer.status if answer.status in (10, 20) else 20, formula)
+        if seen[True] and seed > 5 or seen[False]:
+            break
+    want((seen[True] > 0, seen[False]), (True, 0), f"runs that broke without it, and with it: {seen}")
+
+
+# The tests.
+
+
+def known() -> List[Row]:
+    rows: List[Row] = []
+    for options in (["-j", "1"], ["-j", "2"], ["-j", "3"], ["-j", "4"], ["-j", "2", "--no-share"], ["-j", "4", "--no-share"]):
+        title = " ".join(["", *options])
+        rows += [("bmc" + title, in_rounds, "bmc.cnf", 1500 * int(options[1]), 200, options, 20),
+                 ("pigeonholes" + title, in_rounds, "pigeons 8", 20000 * int(options[1]), 300, options, 20),
+                 ("random" + title, in_rounds, "random 170 4", 12000 * int(options[1]), 300, options, 20),
+                 ("satisfiable" + title, in_rounds, "random 260 5 4.15", 30000 * int(options[1]), 500, options, 10),
+                 ("no record" + title, plainly, options)]
+    rows += [(f"under assumptions, {engines}", assuming, engines) for engines in (1, 2, 4)]
+    return rows + [("rows that grow", rows_grow), ("rows that stay large", rows_stay_large),
+                   ("a row without room for one clause", one_clause),
+                   ("no row with room for one clause", no_room_for_one_clause)]
+
+
+def what_happens() -> List[Row]:
+    rows: List[Row] = [("lrupd killed", killed, ["lrupd"], 0, "lrupd ended by a signal"),
+                       ("an engine killed", killed, ["engine 2"], 20, "engine 2 is lost"),
+                       ("a filter killed", killed, ["filter 1"], 20, "engine 1 is lost"),
+                       ("two killed", killed, ["engine 3", "filter 2"], 20, "engine 2 is lost"),
+                       ("all killed", killed, ["filter 1", "filter 2", "filter 3"], 0, "no engine is left"),
+                       ("a filter killed in a pause", killed_in_a_pause, ["filter 2"], 20, "engine 2 is lost"),
+                       ("all filters killed in a pause", killed_in_a_pause, [f"filter {k}" for k in (1, 2, 3)], 0,
+                        "no engine is left"),
+                       ("the folder removed", folder_removed), ("no folder", no_folder), ("a full disk", full),
+                       ("nothing grows", stays_small)]
+    rows += [(f"signal {number} in round {at}, pause {pause}", ended_by, number, at, pause) for number in
+             (signal.SIGINT, signal.SIGTERM, signal.SIGHUP, signal.SIGKILL) for at, pause in ((3, False), (1, True), (2, True))]
+    whole = 'printf "c stream 1: 9 added, 0 deleted, ended\\nc stream 2: 9 added, 0 deleted, ended\\ns UNKNOWN\\n"'
+    untaken = "^lrupd hasn't taken the proof$"
+    alone = whole.replace("c stream 2: 9 added, 0 deleted, ended\\n", "")
+    for body, status, cause in (("exit 3", 0, untaken), ("exit 9", 0, "ended with status 9"),
+                                ("kill -9 $$", 0, "ended by a signal"),
+                                (whole.replace("2: 9 added, 0 deleted, ended", "2: 9 added, 0 deleted, bad line 7 (missing 3)") +
+                                 "; cp $formula $saved; exit 3", 0, untaken),
+                                (alone + "; cp $formula $saved; exit 3", 0, untaken),
+                                (whole + "; exit 3", 1, "cannot open .*/round-3.cnf"),
+                                (whole + "; echo p cnf 2 1 > $saved; exit 3", 1, "no checkpoint: .*/round-3.cnf"),
+                                (whole + "; cp $formula $saved; exit 3", 0, "lrupd hasn't saved the clause|no engine is left")):
+        rows.append((f"another lrupd: {body}", impostor, body, status, cause))
+    return rows
+
+
+def sharing() -> List[Row]:
+    small = {"FIRST_WORDS": 20000, "SLICE": 30}
+    return [("identities of gifts", rests_on, "renewal", r"bad line|hasn't taken", small),
+            ("floors of gifts", rests_on, "floor", r"bad line|hasn't taken|hasn't saved", {**small, "OUTBOX": 200})]
+
+
+def main() -> int:
+    return run_built([*known(), *what_happens(), *sharing(), *((f"random {seed}", randomly, seed) for seed in range(150))])
+
+
+sys.exit(main())

@@ -1,0 +1,347 @@
+#!/usr/bin/env python3
+"""Runs lrup-solve with solvers that people have, by --solver, and with scripts in their place that misbehave.
+
+    lrup_solve_solvers.py PROGRAM [FLAGS]
+
+CaDiCaL and CryptoMiniSat, where they are on the PATH, and the example solver, alone, together and beside engines: known formulas,
+random ones, in one round and in many. A solver that dies, lies, writes nonsense or stands still is lost, and alone gives no
+verdict; beside a good one the answer is the good one's. No process of a command outlives the run. It builds as lrup_solve.py does.
+It shows what is off; the last line is 'N passed, M failed', and ', K skipped' where something isn't there. The status is 1 where
+a run failed.
+"""
+import os
+import random
+import re
+import shlex
+import shutil
+import signal
+import subprocess
+import sys
+import time
+from pathlib import Path
+from typing import Dict, List, Mapping, Sequence
+
+sys.dont_write_bytecode = True
+from harness import (EXAMPLES, FOUR, LIMIT, ROOT, Row, Skipped, compiled, dimacs, example, generated, started, until, want,
+                     words_given, written)
+from solving import PROGRAM, SOLVE, check_again, is_alive, of_process, random_formula, run_built, solve, want_answer
+
+words_given(__doc__, most=2)
+CADICAL, AS_TEXT = "cadical -q %formula %proof", "cadical -q --no-binary %formula %proof"
+CRYPTOMINISAT = "cryptominisat5 --verb 0 %formula %proof"
+EARLY = "cadical -q --elimint=10 --probeint=10 --subsumeint=10 --reduceint=20 --seed={seed} %formula %proof"
+COMMANDS = [[CADICAL], [AS_TEXT], [CRYPTOMINISAT], [CADICAL, CRYPTOMINISAT],
+            [CADICAL, CADICAL + " --seed=2", AS_TEXT + " --seed=3"]]
+FORMULAS = [("four clauses", FOUR, 20), ("no clauses", "p cnf 3 0\n", 10), ("nothing", "p cnf 0 0\n", 10),
+            ("an empty clause", "p cnf 2 2\n1 2 0\n0\n", 20), ("the empty clause alone", "p cnf 0 1\n0\n", 20),
+            ("units", "p cnf 2 3\n1 0\n-1 2 0\n-2 0\n", 20), ("one unit", "p cnf 3 1\n-3 0\n", 10),
+            ("a form that isn't clear", dimacs(40, [[39, 40], [-39, 40], [39, -40], [-39, -40]]), 20),
+            ("tautologies", "p cnf 3 4\n1 -1 0\n2 2 3 0\n-2 3 3 0\n-3 -3 0\n", 20)]
+LARGER = [("bmc.cnf", 20), ("random 150 1", 20), ("pigeons 7", 20), ("random 120 7 3.6", 10)]
+MANY_ROUNDS = {"FIRST_WORDS": 4000, "SAME_WORDS": 1}
+
+
+def by(commands: Sequence[str]) -> List[str]:
+    for command in commands:
+        name = command.split()[0]
+        if name in ("cadical", "cryptominisat5") and not shutil.which(name):
+            raise Skipped(f"there is no {name} on the PATH")
+    return [word for command in commands for word in ("--solver", command)]
+
+
+def example_solver(work: Path) -> str:
+    """LRUP text, with hints."""
+    solver = EXAMPLES / "solver"
+    sources = [*sorted(solver.glob("*.c")), solver.parent.parent / "tools" / "exact" / "formula.c"]
+    program = compiled(work / "example solver", sources, "-std=c11", "-O2", "-pthread", "-I", str(sources[-1].parent))
+    return f"{shlex.quote(str(program))} %formula %proof"
+
+
+def given(words_or_name: str, work: Path) -> Path:
+    return example(words_or_name) if words_or_name.endswith(".cnf") else generated(words_or_name, work)
+
+
+# Answers.
+
+
+def answers(text: str, status: int, commands: List[str], words: List[str], work: Path) -> None:
+    formula = written(text, work)
+    want_answer(solve([*words, *by(commands), formula]), status, formula)
+
+
+def answers_of(name: str, status: int, commands: List[str], words: List[str], work: Path) -> None:
+    formula = given(name, work)
+    answer = solve([*words, *by(commands), formula])
+    want_answer(answer, status, formula)
+    want(answer.lost(), [], "engines that are lost")
+
+
+def in_rounds(name: str, commands: List[str], words: List[str], work: Path) -> None:
+    """Rows that are so small that a formula takes many; and the record has them all."""
+    formula, kept = given(name, work), work / "kept"
+    commands = commands or [example_solver(work)]
+    answer = solve(["-v", "--proofs", kept, *words, *by(commands), formula], tested=MANY_ROUNDS)
+    want_answer(answer, 20)
+    want(answer.lost(), [], "engines that are lost")
+    saved = sum(line.startswith("round ") for line in answer.comments)
+    want(saved >= 2, True, f"{answer.out}: whether there are more than two rounds")
+    check_again(kept)
+
+
+def late(form: str, work: Path) -> None:
+    """The proof begins when rounds have passed, and the engine is still at work. LRAT names the formula's clauses, in order."""
+    formula, commands = given("random 220 5", work), {"DRAT": CADICAL, "DRUP": AS_TEXT, "FRAT": CRYPTOMINISAT}
+    if form == "LRAT":
+        commands[form] = with_gaps(formula, work)
+    begins = f"until [ -e {work}/kept/round-4.sizes ]; do sleep 0.01; done; {commands[form]}"
+    answer = solve(["-v", "-j", "1", "--proofs", work / "kept", *by([begins]), formula],
+                   tested={"FIRST_WORDS": 20000, "SAME_WORDS": 1, "SLICE": 100})
+    want_answer(answer, 20)
+    lines = re.findall(r"^c engine 2: .* ([\d,]+) lines?, ", answer.out, re.M)
+    rounds = sum(line.startswith("round ") for line in answer.comments)
+    found = answer.lost(), rounds > 3, [int(count.replace(",", "")) > 100 for count in lines]
+    want(found, ([], True, [True]), f"{answer.out[-3000:]}: whether the solver came late")
+
+
+def with_gaps(formula: Path, work: Path) -> str:
+    """A solver that writes LRAT, in which two identities are left out after each clause."""
+    want_answer(solve(["--proofs", work / "exact", *by([CADICAL]), formula]), 20)
+    lines = (work / "exact" / "round-1.stream-1").read_text().splitlines()
+    first = int(lines[0].split()[0])
+    gaps = {str(first + number): str(first + 3 * number) for number in range(len(lines))}
+    text = "".join(" ".join(renamed(line.split(), gaps)) + "\n" for line in lines)
+    return f"cat {written(text, work, 'proof')} > %proof; exit 20 # %formula"
+
+
+def gaps(work: Path) -> None:
+    formula = given("random 150 1", work)
+    want_answer(solve([*by([with_gaps(formula, work)]), formula]), 20)
+
+
+def goes_on_sharing(work: Path) -> None:
+    """Engines beside a solver, which reads no outbox: more goes through a small one than it holds."""
+    answer = solve(["-v", "-j", "2", *by(["sleep 1000 # %formula %proof"]), given("random 200 3", work)],
+                   tested={"OUTBOX": 1000, "SLICE": 100})
+    want_answer(answer, 20)
+    given_away = [int(found.replace(",", "")) for found in re.findall(r"([\d,]+) given away", answer.out)]
+    want(sum(given_away) > 1000, True, f"clauses given away, in\n{answer.out[-3000:]}: whether they are more than 1,000")
+
+
+def renamed(words: List[str], names: Mapping[str, str]) -> List[str]:
+    """Of an addition or a deletion; literals stay."""
+    end = words.index("0") if words[1] != "d" else 1
+    return [names.get(words[0], words[0]), *words[1:end + 1], *(names.get(word, word) for word in words[end + 1:])]
+
+
+def by_example(name: str, status: int, work: Path) -> None:
+    answers_of(name, status, [example_solver(work)], [], work)
+
+
+def randomly(seed: int, work: Path) -> None:
+    numbers = random.Random(f"{seed} solvers")
+    formula, kept = written(random_formula(seed), work), work / "kept"
+    commands = [EARLY.format(seed=seed), AS_TEXT, CRYPTOMINISAT, CRYPTOMINISAT + f" --random {seed}"]
+    chosen = numbers.sample(commands, numbers.randint(1, 3))
+    words = ["-j", "2"] * numbers.randint(0, 1) + ["--proofs", kept] * (seed % 5 == 0)
+    tested = {"SLICE": 50, "FIRST_WORDS": numbers.choice((2000, 1 << 20))}
+    answer = solve(["-v", "--memory", "64M", *words, *by(chosen), formula], tested=tested)
+    want(answer.lost(), [], "engines that are lost")
+    want_answer(answer, answer.status if answer.status in (10, 20) else 20, formula)
+    if seed % 5 == 0 and answer.status == 20:
+        check_again(kept)
+
+
+def names(work: Path) -> None:
+    """The formula's name is one word for the shell; standard input is a file for the solver."""
+    formula = shutil.copy(example("bmc.cnf"), work / "it's $a \"formula\"\nof `two` lines")
+    want_answer(solve([*by([CADICAL]), formula]), 20)
+    for word in ("-", "/dev/stdin"):
+        want_answer(solve([*by([CADICAL, AS_TEXT]), word], given=example("bmc.cnf").read_text()), 20)
+    want_answer(solve([*by([CADICAL]), "--proofs", work / "kept"], given=example("bmc.cnf").read_text()), 20)
+    check_again(work / "kept")
+
+
+# Solvers that misbehave.
+
+MODEL = "echo s SATISFIABLE; echo v {}; exit 10"
+# A command; the cause, where it is alone.
+WRONG = [("exit 1 # %formula %proof", "the engine ended with status 1"),
+         ("exit 0 # %formula %proof", "the engine ended with status 0"),
+         ("exit 127 # %formula %proof", "the engine ended with status 127"),
+         ("kill -9 $$ # %formula %proof", "the engine ended by a signal: Killed"),
+         ("kill -PIPE $$ # %formula %proof", "the engine ended by a signal: Broken pipe"),
+         ("no-such-solver %formula %proof", "the engine ended with status 127"),
+         ("exit 20 # %formula %proof", "its filter stopped: the proof ends without the empty clause"),
+         ("echo s UNSATISFIABLE # %formula %proof", "its filter stopped: the proof ends without the empty clause"),
+         ("echo s SATISFIABLE; exit 20 # %formula %proof", "the engine ended with status 20"),
+         ("echo s UNSATISFIABLE; exit 10 # %formula %proof", "the engine ended with status 10"),
+         ("exit 10 # %formula %proof", "the engine ended with status 10"),
+         ("echo s SATISFIABLE; exit 10 # %formula %proof", "the engine ended with status 10"),
+         (MODEL.format("1 -2 3 0") + " # %formula %proof", "its assignment doesn't satisfy the formula"),
+         (MODEL.format("0") + " # %formula %proof", "its assignment doesn't satisfy the formula"),
+         (MODEL.format("99999999999999999999 x -0 1e5 0") + " # %formula %proof", "its assignment doesn't satisfy the formula"),
+         ("head -c 300000 /dev/urandom > %proof # %formula", "its filter stopped: "),
+         ("cat %formula > %proof", "its filter stopped: "),
+         ("yes '1 0' > %proof # %formula", "its filter stopped: line 1: no conflict by unit propagation"),
+         ("yes > %proof # %formula", "its filter stopped: line 1: "),
+         ("echo 0 > %proof # %formula", "its filter stopped: line 1: no conflict by unit propagation"),
+         ("printf a > %proof # %formula", "its filter stopped: "),
+         ("echo '1 i 1 2 0' > %proof # %formula", "its filter stopped: line 1: an import"),
+         ("yes s UNSATISFIABLE | head -n 100000; yes v 1 | head -n 100000; exit 3 # %formula %proof", "its filter stopped: "),
+         ("exec > /dev/null < /dev/null; exit 1 # %formula %proof", "the engine ended with status 1")]
+STANDING = ["sleep 1000 # %formula %proof", "sleep 1000 > %proof # %formula", "yes # %formula %proof",
+            "cat %formula; sleep 1000 # %proof",
+            "trap '' TERM INT HUP; while :; do sleep 1; done # %formula %proof", "setsid sleep 1000 & wait # %formula %proof"]
+
+
+def wrong(command: str, cause: str, work: Path) -> None:
+    """Alone it gives no verdict, and why; beside a good one that answers."""
+    formula = given("random 120 5", work)
+    answer = solve(["--time", "60", *by([command]), formula])
+    want_answer(answer, 0)
+    want([line.startswith("engine 1 is lost: " + cause) for line in answer.comments[:1]], [True], f"the cause in\n{answer.out}")
+    want(answer.comments[0].endswith("; -v shows its standard error"), True, f"whether it says where more is told\n{answer.out}")
+    want(answer.comments[1], "no engine is left", "what is said then")
+    want_answer(solve([*by([command, CADICAL]), formula]), 20)
+    want_answer(solve(["-j", "2", *by([command]), formula]), 20)
+
+
+def after_a_model(work: Path) -> None:
+    """A wrong one is found out, and the others go on; the right one counts, whoever has it. What it leaves out is false."""
+    formula = written("p cnf 3 3\n1 2 0\n-1 2 0\n-3 1 0\n", work)
+    want_answer(solve(by(["echo s SATISFIABLE; echo v 2; echo v 0; exit 10 # %formula %proof"]) + [formula]), 10, formula)
+    want_answer(solve(by(["echo s SATISFIABLE; echo v 2 7 -9 0 # %formula %proof"]) + [formula]), 10, formula)
+    long = "printf 's SATISFIABLE\\nv'; yes ' 2' | head -n 100000 | tr -d '\\n'; echo ' 0'; exit 10 # %formula %proof"
+    want_answer(solve([*by([long]), formula]), 10, formula)
+    want_answer(solve([*by([MODEL.format("-2 0") + " # %formula %proof", CADICAL]), formula]), 10, formula)
+
+
+def marked(work: Path) -> str:
+    """What the environment of all has that is started from now on."""
+    os.environ["LRUP_MARK"] = work.name
+    return f"LRUP_MARK={work.name}"
+
+
+def processes_of(mark: str) -> List[int]:
+    found = []
+    for place in Path("/proc").glob("[0-9]*"):
+        try:
+            if mark.encode() in (place / "environ").read_bytes() and is_alive(int(place.name)):
+                found.append(int(place.name))
+        except OSError:
+            pass
+    return found
+
+
+def none_left(mark: str) -> None:
+    until("no process of the run is left", lambda: not processes_of(mark))
+
+
+def standing(command: str, work: Path) -> None:
+    """It neither reads nor answers. Alone time is up; beside a good one that answers. It is ended, with what it has started."""
+    mark, formula = marked(work), given("random 120 5", work)
+    answer = solve(["--time", "1", *by([command]), formula])
+    want((answer.answers, answer.comments[0], answer.status), (["s UNKNOWN"], "time is up", 0), "the answer")
+    none_left(mark)
+    begin = time.monotonic()
+    answer = solve([*by([command, CADICAL]), formula])
+    want((answer.answers, time.monotonic() - begin < 20), (["s UNSATISFIABLE"], True), "the answer, in time")
+    none_left(mark)
+
+
+def background(work: Path) -> None:
+    """What a command leaves in the background holds nobody up, and is ended."""
+    mark = marked(work)
+    want_answer(solve([*by(["sleep 1000 & " + CADICAL]), example("bmc.cnf")]), 20)
+    none_left(mark)
+
+
+def killed(number: int, whom: str, work: Path) -> None:
+    """The first process or an engine's is ended: nothing of the command is left. The hard formula isn't solved meanwhile."""
+    mark, command = marked(work), "sleep 1000 & " + CADICAL
+    words = [SOLVE, "--lrupd", PROGRAM, *by([command]), given("pigeons 11", work)]
+    with started(words, stdout=subprocess.PIPE, text=True) as running:
+        until("the solver is there", lambda: "cadical" in [of_process(found, "comm").strip() for found in processes_of(mark)])
+        at_work = {of_process(found, "comm").strip(): found for found in processes_of(mark)}
+        os.kill(running.pid if whom == "first" else at_work[whom], number)
+        out = running.communicate(timeout=LIMIT)[0]
+        none_left(mark)
+    if whom != "first":
+        want("engine 1 is lost: " in out and out.endswith("s UNKNOWN\n"), True, f"that the engine is lost in\n{out}")
+    elif number != signal.SIGKILL:
+        want((out.endswith("s UNKNOWN\n"), running.returncode), (True, -number), "the end")
+
+
+def stopped(work: Path) -> None:
+    """What stops an engine, as while another's filter catches up, stops the solver; and so with what continues it."""
+    mark = marked(work)
+    with started([SOLVE, "--lrupd", PROGRAM, *by([CADICAL]), given("pigeons 11", work)], stdout=subprocess.PIPE) as running:
+        found: Dict[str, int] = {}
+
+        def all_there() -> bool:
+            found.update({of_process(one, "comm").strip(): one for one in processes_of(mark)})
+            return {"cadical", "engine 1"} <= set(found)
+
+        until("the solver is there", all_there)
+        state = lambda: of_process(found["cadical"], "stat").rsplit(")", 1)[-1].split()[0]
+        os.kill(found["engine 1"], signal.SIGTSTP)
+        until("the solver stands", lambda: state() == "T")
+        os.kill(found["engine 1"], signal.SIGCONT)
+        until("the solver goes on", lambda: state() != "T")
+        os.kill(found["engine 1"], signal.SIGTSTP)
+        until("the solver stands again", lambda: state() == "T")
+        running.terminate()
+        running.communicate(timeout=LIMIT)
+    none_left(mark)
+
+
+# Words.
+
+
+def refused(words: List[str], cause: str, work: Path) -> None:
+    cube = written("1 0\n", work, "cube")
+    answer = solve([*(word.format(cube=cube) for word in words), example("bmc.cnf")])
+    want((answer.out, answer.said, answer.status), ("", f"lrup-solve: {cause}\n", 1), "what is said")
+
+
+def told(work: Path) -> None:
+    """-v tells the command; the summary counts engines and solvers. USING has a line that is tried here."""
+    line = f"      lrup-solve --solver '{CADICAL}' --solver '{CRYPTOMINISAT}' formula.cnf\n"
+    want(line in (ROOT / "docs" / "USING.md").read_text(), True, f"whether USING has\n{line}")
+    answer = solve(["-v", "-j", "2", *by([CADICAL]), example("bmc.cnf")])
+    want_answer(answer, 20)
+    commands = [line for line in answer.comments if line.startswith("engine 3: cadical -q ") and "/dev/fd/" in line]
+    want((len(commands), ", 3 engines, " in answer.comments[-1]), (1, True), f"what is told in\n{answer.out}")
+
+
+def rows() -> List[Row]:
+    found: List[Row] = []
+    for commands in COMMANDS:
+        title = " and ".join(commands)
+        for words in [], ["-j", "2"]:
+            found += [(f"{title}, {name}", answers, text, status, commands, words) for name, text, status in FORMULAS]
+            found += [(f"{title}, {name}", answers_of, name, status, commands, words) for name, status in LARGER]
+        found.append((f"{title} in rounds", in_rounds, "random 150 1", commands, []))
+    found += [("rounds beside engines", in_rounds, "random 170 4", [CADICAL, CRYPTOMINISAT], ["-j", "2"]),
+              ("rounds of the example solver", in_rounds, "random 150 1", [], []), ("names", names), ("told", told)]
+    found += [("gaps", gaps), ("outboxes beside a solver", goes_on_sharing)]
+    found += [(f"late {form}", late, form) for form in ("DRAT", "DRUP", "FRAT", "LRAT")]
+    found += [(f"the example solver, {name}", by_example, name, status) for name, status in LARGER]
+    found += [(f"random {seed}", randomly, seed) for seed in range(60)]
+    found += [(f"wrong: {command}", wrong, command, cause) for command, cause in WRONG]
+    found += [(f"standing: {command}", standing, command) for command in STANDING]
+    found += [("models", after_a_model), ("in the background", background), ("stopped", stopped)]
+    found += [(f"{whom} ended by {number}", killed, number, whom) for whom in ("first", "engine 1", "cadical")
+              for number in (signal.SIGTERM, signal.SIGKILL)]
+    need = "--solver takes a command with %formula and %proof, not "
+    found += [(f"refused {words}", refused, words, cause) for words, cause in (
+        (["--solver", "cadical"], need + "cadical"), (["--solver", ""], need + "''"),
+        (["--solver=cadical %formula"], need + "'cadical %formula'"),
+        (["--solver", "cadical %proof"], need + "'cadical %proof'"),
+        (["--solver", CADICAL, "--assume", "{cube}"], "--assume and --solver: a solver isn't told of assumptions"),
+        (["--solver", CADICAL, "-j", "64"], "more than 64 engines, with those of --solver"),
+        (["--solver", CADICAL] * 65, "more than 64 engines, with those of --solver"))]
+    return found
+
+
+sys.exit(run_built(rows()))

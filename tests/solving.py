@@ -1,0 +1,136 @@
+"""What the tests of lrup-solve share: its two builds, runs, and what an answer has to be.
+
+Their command line is PROGRAM [FLAGS]. `make` builds both, with the compilers' flags where they are said.
+"""
+import os
+import random
+import re
+import shlex
+import stat
+import sys
+from pathlib import Path
+from typing import Any, Dict, List, Mapping, Optional, Sequence, Tuple
+
+from harness import ROOT, VERDICTS, Failure, Ran, Row, closing, dimacs, random_clauses, run, run_all, want, written
+from proof_forms import read_formula
+
+PROGRAM = os.path.abspath(sys.argv[1]) if len(sys.argv) > 1 else ""
+FLAGS = sys.argv[2] if len(sys.argv) > 2 else "-O2"
+PLACE = ROOT / "tools" / "solve" / "out"
+OUT = PLACE / re.sub(r"\W+", "", FLAGS) if len(sys.argv) > 2 else PLACE
+SOLVE, TESTED = OUT / "lrup-solve", OUT / "lrup-solve-tested"
+EARLY = "elimint=10 probeint=10 subsumeint=10 compactint=10 reduceint=20 rephaseint=20"
+ELIMINATING = "elimint=1 compact=0"
+ANSWERS = {0: VERDICTS[3], 10: "s SATISFIABLE", 20: VERDICTS[0]}
+
+
+class Answer:
+    """What a run wrote, and its status."""
+
+    def __init__(self, done: Ran) -> None:
+        self.out, self.said, self.status = done
+        lines = self.out.splitlines()
+        self.answers = [line for line in lines if line.startswith("s ")]
+        self.comments = [line[2:] for line in lines if line.startswith("c ")]
+        self.values = [int(word) for line in lines if line.startswith("v ") for word in line.split()[1:]]
+
+    def lost(self) -> List[str]:
+        return [line for line in self.comments if " is lost: " in line]
+
+
+def solve(words: Sequence[object], tested: Optional[Mapping[str, object]] = None, env_more: Optional[Mapping[str, str]] = None,
+          **how: Any) -> Answer:
+    """With `tested`, a build for tests, and words in its environment."""
+    environment = {**os.environ, **(env_more or {}), **{f"LRUP_SOLVE_{name}": str(word) for name, word in (tested or {}).items()}}
+    return Answer(run([TESTED if tested is not None else SOLVE, "--lrupd", PROGRAM, *words], env=environment, **how))
+
+
+def want_answer(answer: Answer, status: Optional[int], formula: Optional[Path] = None, verdict: Optional[str] = None) -> None:
+    """The status and its line; of a satisfiable formula's, an assignment that makes each clause true."""
+    assert status is not None
+    wanted = ([verdict or ANSWERS[status]], status, "")
+    want((answer.answers, answer.status, answer.said), wanted, f"the answer of\n{answer.out[-2000:]}")
+    if status != 10 or formula is None:
+        return want(answer.values, [], "the assignment")
+    header = re.search(r"^p cnf +(\d+)", formula.read_text(), re.M)
+    assert header
+    want([abs(value) for value in answer.values], [*range(1, int(header[1]) + 1), 0], "the variables of the assignment")
+    true = set(answer.values)
+    for clause in read_formula(formula):
+        if not true & set(clause):
+            raise Failure(f"the assignment makes the clause {clause} false")
+
+
+def random_formula(seed: int) -> str:
+    numbers = random.Random(seed)
+    variables = numbers.randrange(20, 130)
+    lengths: Tuple[int, ...] = numbers.choice(((3,), (3,), (2, 3, 3, 3, 4, 5), (1, 2, 3, 4, 5, 6)))
+    ratio = numbers.uniform(3.9, 5) if lengths == (3,) else numbers.uniform(2, 6)
+    return dimacs(variables, random_clauses(numbers, variables, round(ratio * variables), lengths))
+
+
+def check_again(kept: Path) -> None:
+    """The record is enough to have the streams checked once more, by its command, in any folder. The last report is the same."""
+    done, report = run(["sh", kept / "command"], cwd="/"), (kept / "report").read_text()
+    want((done.out[-len(report):], done.status), (report, 0), "the streams, checked again")
+    want(list(kept.glob("round-*.cnf")), [], "formulas that are left")
+
+
+def in_place_of_lrupd(body: str, work: Path) -> Path:
+    path = written(f"#!/bin/sh\n{body}\n", work, "lrupd")
+    path.chmod(path.stat().st_mode | stat.S_IXUSR)
+    return path
+
+
+def before_lrupd(what: str, work: Path) -> Path:
+    """A program that does this, but where lrupd only has to read the formula, and goes on as lrupd."""
+    return in_place_of_lrupd(f"case \"$*\" in *' /dev/null') ;; *) {what};; esac\nexec {shlex.quote(PROGRAM)} \"$@\"", work)
+
+
+# Processes.
+
+
+def of_process(pid: int, name: str) -> str:
+    """What the system tells of it; nothing where it isn't there."""
+    try:
+        return Path(f"/proc/{pid}/{name}").read_text()
+    except OSError:
+        return ""
+
+
+def children_of(pid: int) -> Dict[str, int]:
+    """Their names, with the ids. Of two lrupd the one counts that reads streams."""
+    found = {}
+    for child in map(int, of_process(pid, f"task/{pid}/children").split()):
+        title = of_process(child, "comm").strip()
+        if title and (title != "lrupd" or "/dev/fd/" in of_process(child, "cmdline")):
+            found[title] = child
+    return found
+
+
+def is_alive(pid: int) -> bool:
+    state = of_process(pid, "stat").rsplit(")", 1)[-1].split()
+    return bool(state) and state[0] not in "ZX"
+
+
+# The builds.
+
+
+def build(target: str) -> Optional[str]:
+    """None, or why there is nothing to be tested."""
+    for path, flags in ((SOLVE, FLAGS), (TESTED, FLAGS + " -DSOLVE_TESTS")):
+        out, err, status = run(["make", "-s", "-C", ROOT, target, f"SOLVE={path.relative_to(ROOT)}", f"SOLVE_FLAGS={flags}"],
+                               limit=600)
+        if status and re.search("libcadical-dev|libopenmpi-dev", out + err):
+            return (out + err).splitlines()[0]
+        if status:
+            sys.exit(out + err)
+    return None
+
+
+def run_built(rows: Sequence[Row], title: str = "", target: str = "solve") -> int:
+    cause = build(target)
+    if cause:
+        print(f"lrup-{target}: skipped, {cause}")
+        return closing(0, 0, len(rows), title)
+    return run_all(rows, title, tries=3)      # solvers race with each other and with what kills them

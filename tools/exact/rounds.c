@@ -1,0 +1,99 @@
+// Unverified, as all of this filter. A chain of runs: what a stream deletes at the end of one, so that it isn't carried along, and the
+// identities in the next one, which reads what the run before saved.
+#include <string.h>
+
+#include "exact.h"
+
+// The checkpoint. A comment before a clause has the identity that it had, unless that was its place.
+
+static uint64_t last_number(Line line) {
+    uint64_t number = 0, ten = 1;
+    for (const unsigned char *at = line.end; at > line.start && at[-1] >= '0' && at[-1] <= '9'; ten *= 10)
+        number += ten * (uint64_t)(*--at - '0');
+    return number;
+}
+
+static uint64_t spaces_in(Line line) {
+    uint64_t count = 0;
+    for (const unsigned char *at = line.start; at < line.end; at++) count += *at == ' ';
+    return count;
+}
+
+void checkpoint_read(Checkpoint *checkpoint, const char *path) {
+    Input input;
+    Line line;
+    uint64_t wanted = 0, named = 0, last = 0;
+    *checkpoint = (Checkpoint){0};
+    input_open(&input, path);
+    while (input_line(&input, &line)) {
+        if (*line.start == 'p') wanted = last_number(line);
+        else if (*line.start == 'c') named = last_number(line);
+        else {
+            uint64_t identity = named ? named : checkpoint->old.length + 1;
+            if (identity <= last) fail("no checkpoint:", path);
+            PUSH(&checkpoint->old, identity);
+            checkpoint->literals += spaces_in(line);
+            last = identity;
+            named = 0;
+        }
+    }
+    if (checkpoint->old.length != wanted) fail("no checkpoint:", path);
+    input_close(&input);
+}
+
+uint64_t checkpoint_place(const Checkpoint *checkpoint, uint64_t identity) {
+    const uint64_t *items = checkpoint->old.items;
+    size_t low = 0, high = checkpoint->old.length;
+    while (low < high) {
+        size_t middle = low + (high - low) / 2;
+        if (items[middle] < identity) low = middle + 1;
+        else high = middle;
+    }
+    return low < checkpoint->old.length && items[low] == identity ? low + 1 : 0;
+}
+
+void checkpoint_free(Checkpoint *checkpoint) { checkpoint->old.items = grow(checkpoint->old.items, 0); }
+
+// The filter.
+
+static bool is_own(const Filter *filter, uint64_t identity) {
+    return (identity - filter->formula.clauses - 1) % filter->streams == filter->stream - 1;
+}
+
+// Marks the clause, if the stream may delete it: the formula's come first, then its own.
+static void mark(const Filter *filter, unsigned char *marks, uint64_t identity) {
+    uint64_t formula = filter->formula.clauses;
+    if (identity <= formula) marks[identity - 1] = 1;
+    else if (is_own(filter, identity)) marks[formula + (identity - formula - 1) / filter->streams] = 1;
+}
+
+// All clauses of the formula and of the stream that the filter doesn't hold, but for these. The stream has deleted none so far.
+void round_delete(Filter *filter, const Identities *kept) {
+    uint64_t formula = filter->formula.clauses, first = formula + filter->stream;
+    uint64_t own = filter->last ? (filter->last - first) / filter->streams + 1 : 0;
+    unsigned char *marks = zeroed(formula + own, 1);
+    for (Place place = 0; (place = clauses_after(&filter->clauses, place)) != 0;)
+        mark(filter, marks, clause_at(&filter->clauses, place)->identity);
+    for (size_t k = 0; k < kept->length; k++) mark(filter, marks, kept->items[k]);
+    filter->chain.length = 0;
+    for (uint64_t k = 0; k < formula + own; k++)
+        if (!marks[k]) PUSH(&filter->chain, k < formula ? k + 1 : first + (k - formula) * filter->streams);
+    grow(marks, 0);
+    filter_write_deletion(filter);
+}
+
+// Goes on with what was saved, as another stream. Names of the proof that were identities aren't any more.
+void round_begin(Filter *filter, const Checkpoint *checkpoint, uint64_t stream, uint64_t streams) {
+    for (Place place = 0; (place = clauses_after(&filter->clauses, place)) != 0;) {
+        Clause *clause = clause_at(&filter->clauses, place);
+        uint64_t new_one = checkpoint_place(checkpoint, clause->identity);
+        if (new_one == 0) stop("lrupd hasn't saved the clause %llu, which the solver has", (unsigned long long)clause->identity);
+        clause->identity = new_one;
+    }
+    filter->formula.clauses = checkpoint->old.length;
+    filter->stream = stream;
+    filter->streams = streams;
+    filter->last = 0;
+    filter->keeps_identities = false;
+    filter->renumbered = true;
+}

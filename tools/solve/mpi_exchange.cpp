@@ -1,0 +1,92 @@
+// Unverified, as all of this solver. What engines give away to those of other processes. Of each exchange a process has a budget of
+// literals; the shortest clauses go first, and what finds no room isn't sent later: newer ones come.
+//
+// Only clauses of the round that is on are sent, and taken. Their lines are on their way before they are, and lrupd saves them at
+// the round's end, since no stream deletes what it gave away in it. What comes after that is dropped.
+#include <algorithm>
+
+#include "mpi_run.h"
+
+namespace {
+
+const size_t LITERALS_OF_AN_ENGINE = 1500;
+
+// A gift as it is sent: these, and the literals.
+struct Sent { uint32_t engine, identity, length; };
+
+}
+
+void Exchange::open(Shared *all, const std::vector<uint32_t *> &boxes) {
+    shared = all;
+    outboxes = boxes;
+    first = all->first_here;
+    end = first + all->engines_here;
+    for (std::vector<uint64_t> *list : { &read, &cleared, &staged }) list->assign(boxes.size(), 0);
+    for (int k = 0; k < int(boxes.size()); k++)
+        if (!is_here(k)) pass(k, UINT64_MAX);
+}
+
+// In place of the engines elsewhere, which read this outbox no further. Of those elsewhere they have others.
+void Exchange::pass(int engine, uint64_t position) {
+    for (int k = 0; k < int(outboxes.size()); k++)
+        if (!is_here(k)) STORE(shared->parts[k].floors[engine], position);
+}
+
+// Of the round and all that was given away since the last time.
+std::string Exchange::collect() {
+    struct Found { int engine; const uint32_t *gift; };
+    std::vector<Found> all;
+    Message message;
+    if (LOAD(shared->round) != round) begin_round();
+    if (LOAD(shared->saved_round) >= round && !without("saving")) pass_over();
+    for (size_t k = size_t(first); k < size_t(end); k++)
+        while (const uint32_t *gift = next_gift(shared, outboxes[k], &read[k], cleared[k])) all.push_back({ int(k), gift });
+    std::stable_sort(all.begin(), all.end(), [](const Found &one, const Found &other) { return one.gift[0] < other.gift[0]; });
+    message.put(round);
+    size_t left = LITERALS_OF_AN_ENGINE * size_t(end - first), sent = 0;
+    for (; sent < all.size() && all[sent].gift[0] <= left; sent++) {
+        const uint32_t *gift = all[sent].gift;
+        message.put(Sent{ uint32_t(all[sent].engine), gift_identity(gift), gift[0] });
+        message.bytes.append(reinterpret_cast<const char *>(literals_of(gift)), gift[0] * sizeof(Literal));
+        left -= gift[0];
+    }
+    for (int k = first; k < end; k++) pass(k, read[size_t(k)]);
+    traffic.out += sent;
+    traffic.left_out += all.size() - sent;
+    traffic.bytes_out += message.bytes.size();
+    traffic.exchanges++;
+    return message.bytes;
+}
+
+void Exchange::place(Message &message) {
+    uint64_t of_round = 0;
+    Sent sent;
+    std::vector<Literal> literals;
+    traffic.bytes_in += message.bytes.size();
+    message.take(of_round);
+    bool late = of_round != LOAD(shared->round) || LOAD(shared->saved_round) >= of_round;
+    while (message.take(sent) && sent.engine < outboxes.size() && !is_here(int(sent.engine))) {
+        literals.resize(sent.length);
+        for (Literal &literal : literals) message.take(literal);
+        Literals list = { literals.data(), literals.size(), literals.size() };
+        uint64_t &place = staged[sent.engine];
+        bool placed = (!late || without("lateness")) &&
+                      outbox_put(shared, outboxes[sent.engine], int(sent.engine) + 1, &place, sent.identity, &list);
+        ++(placed ? traffic.in : traffic.dropped);
+        STORE(shared->parts[sent.engine].outbox_used, place);
+    }
+}
+
+// What wasn't sent in its own round isn't any more.
+void Exchange::begin_round() {
+    round = LOAD(shared->round);
+    pass_over();
+}
+
+// Also once lrupd has saved: then filters give what is there the identities of the next round, before that begins.
+void Exchange::pass_over() {
+    for (int k = first; k < end; k++) {
+        read[size_t(k)] = cleared[size_t(k)] = LOAD(shared->parts[k].outbox_used);
+        pass(k, read[size_t(k)]);
+    }
+}

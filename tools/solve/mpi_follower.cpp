@@ -1,0 +1,273 @@
+// Unverified, as all of this solver. A process that has engines and filters, and tells process 0 what they come to. It writes
+// nothing on standard output.
+#include <algorithm>
+#include <cerrno>
+#include <csignal>
+#include <cstdio>
+#include <tuple>
+
+#include <fcntl.h>
+#include <sys/mman.h>
+#include <unistd.h>
+
+#include "mpi_run.h"
+
+namespace {
+
+const double LEAVING = 10, ENDING = 10, STARTING = 600;     // seconds
+const uint64_t DROPPED = UINT64_C(1) << 22, PAGE = 4096;    // bytes that are given back at once
+
+class Follower : public Linked {
+public:
+    using Linked::Linked;
+
+    int run() override {
+        prepare_here();
+        while (!ended) {
+            wait();
+            look_at_link();
+            look_here();
+            for (int k = first; k < first + here; k++) say(size_t(k));
+            if (now() - traffic_at >= PULSE) say_traffic();
+        }
+        for (Child *child : Run::children()) child->signal(SIGKILL), wait_for(*child);
+        for (int k = first; k < first + here; k++) say_facts(size_t(k), facts_of(size_t(k)));
+        say_traffic();
+        leave(LEAVING);
+        end_children();
+        return 0;
+    }
+
+private:
+    struct Told { uint64_t sent = 0, dropped = 0; bool has_model = false; double at = 0; Facts facts = {}; };
+
+    bool ended = false;
+    std::vector<Told> told;
+    std::string saved_bytes;
+    double traffic_at = 0;
+
+    // Before anything is solved.
+
+    void prepare_here() {
+        options.proofs = options.assume = nullptr;
+        options.time = 0;
+        receive_inputs();
+        formula_read(&formula, formula_path.c_str());
+        open_teams();
+        told.resize(teams.size());
+        for (int k = first; k < first + here; k++) teams[size_t(k)].model = shared_memory<signed char>(size_t(formula.variables));
+        open_exchange();
+        take_signals();
+        Message message;
+        while (LOAD(shared->most_lines) == 0)
+            if (link.wait(message, STARTING)) look_at(message);
+            else refuse("process 0 says nothing");
+        for (size_t k = 0; k < teams.size(); k++) start_team(k);
+    }
+
+    void receive_inputs() {
+        int file = file_in_memory();
+        for (Message message;;) {
+            if (!link.wait(message, STARTING)) refuse("no formula comes from process 0");
+            if (message.head.word != INPUT || message.bytes.empty()) break;
+            char kind = 0;
+            message.take(kind);
+            for (Literal literal; kind == 'a' && message.take(literal);) assumed.push_back(literal);
+            while (kind == 'f' && message.left() > 0) {
+                ssize_t count = write(file, message.rest(), message.left());
+                if (count < 0 && errno != EINTR) refuse("cannot keep the formula: " + error_text());
+                if (count > 0) message.skip(size_t(count));
+            }
+        }
+        formula_path = "/dev/fd/" + std::to_string(file);
+    }
+
+    // What process 0 says.
+
+    void take_control(const Control &control) {
+        STORE(shared->streams, control.streams);
+        STORE(shared->most_lines, control.most_lines);
+        STORE(shared->most_literals, control.most_literals);
+        for (size_t k = 0; k < teams.size(); k++) {
+            STORE(shared->parts[k].stream, control.parts[k].stream);
+            STORE(shared->parts[k].fed, control.parts[k].fed);
+        }
+        if (control.ending_round > LOAD(shared->ending_round)) end_own_round(control.ending_round);
+        if (control.saved_round > LOAD(shared->saved_round)) take_saved(control.saved_round);
+        if (control.round > LOAD(shared->round)) begin_own_round(control.round);
+        if (control.over) {
+            if (phase != ENDING_STREAMS) ending = now() + ENDING;
+            phase = ENDING_STREAMS;
+            STORE(shared->over, 1);
+        }
+    }
+
+    void end_own_round(uint64_t number) {
+        STORE(shared->ending_round, number);
+        phase = ENDING_ROUND;
+        for (int k = first; k < first + here; k++) {
+            Team &team = teams[size_t(k)];
+            for (Child *child : { &team.engine, &team.filter }) child->signal(SIGCONT);
+            team.paused = false;
+        }
+    }
+
+    // As a file that filters read as they read lrupd's: it has no literals.
+    void take_saved(uint64_t number) {
+        std::string text, path = folder_of_rounds() + "/" + "round-" + std::to_string(number + 1);
+        uint64_t identity = 0, value = 0, count = 0;
+        unsigned shift = 0;
+        for (unsigned char byte : saved_bytes) {
+            value |= uint64_t(byte & 127) << shift;
+            shift = byte & 128 ? shift + 7 : 0;
+            if (byte & 128) continue;
+            identity += value;
+            value = 0;
+            count++;
+            text += "c id " + std::to_string(identity) + "\n0\n";
+        }
+        std::string unwritten = write_file(path, format("p cnf 0 %llu\n", (unsigned long long)count) + text);
+        if (!unwritten.empty()) refuse(unwritten);
+        saved_bytes.clear();
+        checkpoint_read(&saved, path.c_str());
+        for (int k = first; k < first + here; k++) {
+            if (ftruncate(teams[size_t(k)].stream, 0) != 0) refuse("cannot empty a stream: " + error_text());
+            told[size_t(k)].dropped = 0;
+        }
+        copy_name(shared->checkpoint, path);
+        STORE(shared->saved_round, number);
+        phase = MAPPING;
+    }
+
+    void begin_own_round(uint64_t number) {
+        for (size_t k = 0; k < teams.size(); k++) {
+            told[k].sent = 0;
+            if (!is_here(k) || teams[k].filter.ended()) outbox_renew(shared, outboxes[k], int(k) + 1, &saved);
+        }
+        checkpoint_free(&saved);
+        unlink(shared->checkpoint);
+        phase = SOLVING;
+        STORE(shared->round, number);
+    }
+
+    void look_at(Message &message) override {
+        Control control;
+        if (message.head.word == CONTROL && message.take(control)) take_control(control);
+        if (message.head.word == SAVED) saved_bytes += message.bytes;
+        if (message.head.word == END) ended = true;
+    }
+
+    // What is here.
+
+    void look_here() {
+        if (ended_by || link.carrier.ended()) end_children(), _exit(1);     // mpirun ends all, or has
+        if (silent_process() >= 0) refuse("process 0 has said nothing for some seconds");
+        for (int k = first; k < first + here; k++) {
+            Team &team = teams[size_t(k)];
+            if (team.filter.ended()) STORE(shared->parts[k].gone, 1);
+            bool is_over = phase == ENDING_STREAMS, is_told = told[size_t(k)].facts.of_filter.ended;
+            if (is_over || (is_told && LOAD(shared->parts[k].answer) == 0)) team.engine.signal(SIGKILL);
+            if (is_over) team.filter.signal(now() > ending ? SIGKILL : SIGCONT);
+        }
+        if (phase == SOLVING) pause_others();
+    }
+
+    // What it says. Of what follows from a stream others hear when all of it is sent.
+
+    bool send_stream(size_t k) {
+        Part &part = shared->parts[k];
+        Told &one = told[k];
+        uint64_t round_on = LOAD(shared->round);
+        if (LOAD(part.mapped_round) + 1 != round_on || LOAD(shared->saved_round) >= round_on) return true;
+        uint64_t used = LOAD(part.outbox_used), bytes = LOAD(part.bytes);
+        static std::vector<char> piece(PIECE_OF_A_STREAM);
+        while (one.sent < bytes && one.sent < LOAD(part.fed) + WINDOW && !link.is_full()) {
+            size_t wanted = std::min<uint64_t>(piece.size(), bytes - one.sent);
+            ssize_t count = pread(teams[k].stream, piece.data(), wanted, off_t(one.sent));
+            if (count <= 0) refuse("cannot read a stream again: " + (count < 0 ? error_text() : "it is cut"));
+            Message message;
+            message.put(int32_t(k));
+            message.bytes.append(piece.data(), size_t(count));
+            link.send(STREAM, 0, message.bytes);
+            one.sent += uint64_t(count);
+            exchange.traffic.bytes_of_streams += uint64_t(count);
+        }
+        if (one.sent - one.dropped > DROPPED) {
+            fallocate(teams[k].stream, FALLOC_FL_PUNCH_HOLE | FALLOC_FL_KEEP_SIZE, 0, off_t(one.sent / PAGE * PAGE));
+            one.dropped = one.sent;
+        }
+        if (one.sent == bytes) exchange.clear(int(k), used);
+        return one.sent == bytes;
+    }
+
+    void send_model(size_t k) {
+        size_t all = size_t(formula.variables);
+        for (size_t from = 0; from < all; from += PIECE_OF_INPUT) {
+            Message message;
+            message.put(int32_t(k));
+            message.put(uint64_t(from));
+            message.bytes.append(reinterpret_cast<const char *>(teams[k].model) + from, std::min(PIECE_OF_INPUT, all - from));
+            link.send(MODEL, 0, message.bytes);
+        }
+        told[k].has_model = true;
+    }
+
+    void say_traffic() {
+        Message message;
+        message.put(exchange.traffic);
+        link.send(TRAFFIC, 0, message.bytes);
+        traffic_at = now();
+    }
+
+    static Ended end_of(const Child &child) { return { child.ended(), child.status, child.seconds }; }
+
+    // Rounds first: what a filter writes before it ends one is there then.
+    Facts facts_of(size_t k) const {
+        const Part &part = shared->parts[k];
+        Facts facts = {};
+        facts.engine = int32_t(k);
+        facts.of_engine = end_of(teams[k].engine);
+        facts.of_filter = end_of(teams[k].filter);
+        facts.refuted = LOAD(part.refuted);
+        facts.answer = LOAD(part.answer);
+        facts.unwritten = LOAD(part.unwritten);
+        if (facts.of_filter.ended) memcpy(facts.cause, part.cause, sizeof facts.cause);
+        for (size_t n = COUNTS; n-- > 0;) facts.counts[n] = LOAD(part.*COUNTED[n]);
+        return facts;
+    }
+
+    static bool is_news(const Facts &one, const Facts &other) {
+        auto what_counts = [](const Facts &facts) {
+            return std::make_tuple(facts.answer, facts.refuted, facts.of_engine.ended, facts.of_filter.ended,
+                                   facts.counts[ENDED_ROUND], facts.counts[MAPPED_ROUND]);
+        };
+        return what_counts(one) != what_counts(other);
+    }
+
+    void say(size_t k) {
+        Told &one = told[k];
+        Facts facts = facts_of(k);
+        bool late = !send_stream(k);
+        if (late) {
+            facts.refuted = one.facts.refuted;
+            facts.unwritten = one.facts.unwritten;
+            facts.of_filter = one.facts.of_filter;
+            facts.counts[ENDED_ROUND] = one.facts.counts[ENDED_ROUND];
+        }
+        if (!is_news(facts, one.facts) && now() - one.at < PULSE) return;
+        if (facts.answer == SATISFIABLE && !one.has_model) send_model(k);
+        say_facts(k, facts);
+    }
+
+    void say_facts(size_t k, const Facts &facts) {
+        Message message;
+        message.put(facts);
+        link.send(FACTS, 0, message.bytes);
+        told[k].facts = facts;
+        told[k].at = now();
+    }
+};
+
+}
+
+Run *make_follower(const Options &options, Link &link) { return new Follower(options, link); }

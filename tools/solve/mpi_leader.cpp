@@ -1,0 +1,201 @@
+// Unverified, as all of this solver. Process 0: it has lrupd, and what the others say stands in its `Shared`.
+#include <algorithm>
+#include <cerrno>
+#include <cstddef>
+
+#include <unistd.h>
+
+#include "mpi_run.h"
+
+namespace {
+
+const double LEAVING = 3;               // seconds
+
+class Leader : public Linked {
+public:
+    using Linked::Linked;
+
+private:
+    std::vector<Traffic> traffic;       // by process
+    Control told = {};
+    double told_at = 0;
+    uint64_t told_saved = 0;
+
+    int processes() const { return int(link.engines.size()); }
+
+    void to_all(Word word, const std::string &text) {
+        for (int k = 1; k < processes(); k++) link.send(word, k, text);
+    }
+
+    // Piece by piece; what comes first says which.
+    void broadcast(char kind, const void *bytes, size_t length) {
+        std::string text(1, kind);
+        text.append(static_cast<const char *>(bytes), length);
+        link.send(INPUT, 0, text);
+        while (link.is_full() && !link.carrier.ended()) {
+            std::vector<pollfd> list = link.files();
+            poll(list.data(), list.size(), 20);
+            link.step();
+            reap(children());
+        }
+    }
+
+    void begin_elsewhere() override {
+        open_exchange();
+        traffic.resize(link.engines.size());
+        std::vector<char> piece(PIECE_OF_INPUT);
+        broadcast('a', assumed.data(), assumed.size() * sizeof(Literal));
+        int file = open_input(formula_path);
+        for (ssize_t count; (count = read(file, piece.data(), piece.size())) != 0;) {
+            if (count < 0 && errno != EINTR) refuse("cannot read the formula again: " + error_text());
+            if (count > 0) broadcast('f', piece.data(), size_t(count));
+        }
+        close(file);
+        link.send(INPUT, 0, "");
+    }
+
+    // What the others say.
+
+    bool is_elsewhere(int k) const { return k >= 0 && size_t(k) < teams.size() && !is_here(size_t(k)); }
+
+    void take_end(Child &child, const Ended &end) {
+        child.seconds = end.seconds;
+        child.status = end.status;
+        child.running = !end.ended;
+    }
+
+    void take_facts(const Facts &facts) {
+        if (!is_elsewhere(facts.engine)) return;
+        Part &part = shared->parts[facts.engine];
+        uint64_t mapped = LOAD(part.mapped_round);
+        for (size_t k = 0; k < COUNTS; k++) STORE(part.*COUNTED[k], facts.counts[k]);
+        if (LOAD(part.mapped_round) > mapped) STORE(part.bytes, 0);
+        memcpy(part.cause, facts.cause, sizeof part.cause);
+        part.cause[sizeof part.cause - 1] = 0;
+        STORE(part.unwritten, facts.unwritten);
+        STORE(part.answer, facts.answer);
+        STORE(part.refuted, facts.refuted);
+        take_end(teams[size_t(facts.engine)].engine, facts.of_engine);
+        take_end(teams[size_t(facts.engine)].filter, facts.of_filter);
+    }
+
+    void take_stream(Message &message) {
+        int32_t k = -1;
+        if (!message.take(k) || !is_elsewhere(k)) return;
+        Part &part = shared->parts[k];
+        const char *bytes = message.rest();
+        for (size_t left = message.left(); left > 0;) {
+            ssize_t count = pwrite(teams[size_t(k)].stream, bytes, left, off_t(part.bytes));
+            if (count < 0 && errno != EINTR) refuse("cannot write " + stream_path(size_t(k)) + ": " + error_text());
+            if (count <= 0) continue;
+            bytes += count;
+            left -= size_t(count);
+            STORE(part.bytes, part.bytes + uint64_t(count));
+        }
+    }
+
+    void take_model(Message &message) {
+        int32_t k = -1;
+        uint64_t from = 0, variables = uint64_t(formula.variables);
+        if (!message.take(k) || !message.take(from) || !is_elsewhere(k) || from > variables) return;
+        memcpy(teams[size_t(k)].model + from, message.rest(), std::min<size_t>(message.left(), variables - from));
+    }
+
+    void look_at(Message &message) override {
+        Facts facts;
+        if (message.head.word == FACTS && message.take(facts)) take_facts(facts);
+        if (message.head.word == STREAM) take_stream(message);
+        if (message.head.word == MODEL) take_model(message);
+        if (message.head.word == TRAFFIC) message.take(traffic[size_t(message.head.process)]);
+    }
+
+    // What it says.
+
+    // Differences, with seven bits in a byte, as in the proofs.
+    void say_saved() {
+        std::string text;
+        uint64_t last = 0;
+        for (size_t k = 0; k < saved.old.length; k++) {
+            uint64_t number = saved.old.items[k] - last;
+            last = saved.old.items[k];
+            for (; number > 127; number >>= 7) text += char((number & 127) | 128);
+            text += char(number);
+            if (text.size() < PIECE_OF_INPUT) continue;
+            to_all(SAVED, text);
+            text.clear();
+        }
+        to_all(SAVED, text);
+    }
+
+    Control control() const {
+        Control words = {};
+        words.over = uint64_t(LOAD(shared->over));
+        words.round = LOAD(shared->round);
+        words.ending_round = LOAD(shared->ending_round);
+        words.saved_round = LOAD(shared->saved_round);
+        words.streams = LOAD(shared->streams);
+        words.most_lines = LOAD(shared->most_lines);
+        words.most_literals = LOAD(shared->most_literals);
+        for (size_t k = 0; k < teams.size(); k++) {
+            words.parts[k].stream = LOAD(shared->parts[k].stream);
+            words.parts[k].fed = LOAD(shared->parts[k].fed);
+        }
+        return words;
+    }
+
+    static bool is_news(const Control &one, const Control &other) {
+        for (size_t k = 0; k < MOST_ENGINES; k++)
+            if (one.parts[k].fed > other.parts[k].fed + WINDOW / 8 || one.parts[k].stream != other.parts[k].stream) return true;
+        return memcmp(&one, &other, offsetof(Control, parts)) != 0;
+    }
+
+    void say() {
+        Control words = control();
+        bool is_due = words.saved_round > told_saved && words.saved_round == words.round;    // else no filter elsewhere is left
+        if (is_due) say_saved(), told_saved = words.saved_round;
+        if (!is_news(words, told) && now() - told_at < PULSE) return;
+        Message message;
+        message.put(words);
+        to_all(CONTROL, message.bytes);
+        told = words;
+        told_at = now();
+    }
+
+    void look_elsewhere() override {
+        look_at_link();
+        for (int k = first; k < first + here; k++) exchange.clear(k, LOAD(shared->parts[k].outbox_used));
+        if (link.carrier.ended()) return finish(UNKNOWN_ANSWER, "MPI's process here " + link.carrier.end());
+        if (silent_process() >= 0)
+            return finish(UNKNOWN_ANSWER, format("process %d has said nothing for %.0f seconds", silent_process(), SILENCE));
+        say();
+    }
+
+    // Of lines that cite a clause of another process some would have been derived without it, too.
+    void details() const override {
+        Run::details();
+        for (size_t process = 0, k = 0; process < traffic.size(); process++) {
+            const Traffic &one = process == 0 ? exchange.traffic : traffic[process];
+            uint64_t lines = 0, citing = 0;
+            double each = one.exchanges ? 1e-6 * double(one.nanoseconds) / double(one.exchanges) : 0;
+            for (size_t end = k + size_t(link.engines[process]); k < end; k++) {
+                lines += LOAD(shared->parts[k].lines);
+                citing += LOAD(shared->parts[k].citing_elsewhere);
+            }
+            tell(format("process %zu: %s; clauses: %s sent, %s came, %s beyond the budget, %s late; %s out, %s in; %.1f ms each; "
+                        "%.0f %% of lines cite another process; %s of streams",
+                        process, counted(one.exchanges, "exchange").c_str(), grouped(one.out).c_str(), grouped(one.in).c_str(),
+                        grouped(one.left_out).c_str(), grouped(one.dropped).c_str(), counted(one.bytes_out, "byte").c_str(),
+                        counted(one.bytes_in, "byte").c_str(), each,
+                        lines ? 100.0 * double(citing) / double(lines) : 0, counted(one.bytes_of_streams, "byte").c_str()));
+        }
+    }
+
+    void end_elsewhere() override {
+        to_all(END, "");
+        leave(ended_by || silent_process() >= 0 ? 0 : LEAVING);
+    }
+};
+
+}
+
+Run *make_leader(const Options &options, Link &link) { return new Leader(options, link); }

@@ -1,0 +1,47 @@
+// Unverified, as all of this solver. Outboxes: what goes in, and new identities from round to round.
+#include "shared.h"
+
+#define OF_AN_ODD_ROUND (UINT32_C(1) << 31)     // of an identity; all are far below
+
+// Of all that read this outbox; an engine reads its own, too, but never asks for what is there.
+static uint64_t least_floor(const Shared *shared, int engine, uint64_t end, bool with_own) {
+    uint64_t least = end;
+    for (int k = 0; k < shared->engines; k++) {
+        uint64_t floor = LOAD(shared->parts[k].floors[engine - 1]);
+        if (floor < least && !LOAD(shared->parts[k].gone) && (with_own || k != engine - 1)) least = floor;
+    }
+    return least;
+}
+
+static uint32_t with_round(uint64_t identity, uint64_t round) {
+    return (uint32_t)identity | (round % 2 ? OF_AN_ODD_ROUND : 0);
+}
+
+uint32_t gift_identity(const uint32_t *gift) { return LOAD(gift[1]) & ~OF_AN_ODD_ROUND; }
+
+// After what is staged. False where there is no room: nothing is written over that others may still read, or ask for.
+bool outbox_put(const Shared *shared, uint32_t *outbox, int engine, uint64_t *staged, uint64_t identity, const Literals *literals) {
+    uint64_t size = shared->outbox_words, words = HEAD_OF_A_GIFT + literals->length, begin = *staged;
+    if (begin % size + words > size) begin += size - begin % size;
+    uint64_t end = begin + words, floor = least_floor(shared, engine, *staged, true);
+    if (words > size || (end - floor > size && !without("floor"))) return false;
+    if (begin > *staged) outbox[*staged % size] = TO_THE_BEGINNING;
+    uint32_t *gift = outbox + begin % size;
+    gift[0] = (uint32_t)literals->length;
+    STORE(gift[1], with_round(identity, LOAD(shared->round)));
+    memcpy(gift + HEAD_OF_A_GIFT, literals->items, literals->length * sizeof *literals->items);
+    *staged = end;
+    return true;
+}
+
+// The identities of the next round. One that has its own already is left alone: a filter may have died on its way. One that wasn't
+// saved gets 0.
+void outbox_renew(const Shared *shared, uint32_t *outbox, int engine, const Checkpoint *checkpoint) {
+    uint64_t end = LOAD(shared->parts[engine - 1].outbox_used), round = LOAD(shared->round);
+    uint64_t at = least_floor(shared, engine, end, false);
+    for (uint32_t *gift; (gift = next_gift(shared, outbox, &at, end)) != NULL;) {
+        uint32_t identity = gift_identity(gift);
+        if (LOAD(gift[1]) == with_round(identity, round))
+            STORE(gift[1], with_round(checkpoint_place(checkpoint, identity), round + 1));
+    }
+}

@@ -1,0 +1,273 @@
+// Unverified, as all of this solver. Rounds: a row of lrupd's is made before it reads a line, and doesn't grow. Where it is full all
+// streams end after a whole line, lrupd saves the clauses that are there, and the next one reads them as its formula. Each row is
+// twice the one before, up to what --memory says: a short run gets a small one. The filters do the rest (filtering.c).
+//
+// An answer rests on this: each lrupd but the last one ended with status 3, all its streams whole, and its checkpoint, in a folder
+// that is this process's alone, is the file that the next one read.
+#include <algorithm>
+#include <csignal>
+#include <cstdlib>
+
+#include <unistd.h>
+
+#include "run.h"
+
+namespace {
+
+const uint64_t MOST_WORDS = UINT64_C(1) << 28;      // of a row
+const uint64_t FIRST_WORDS = UINT64_C(1) << 20;     // of the first round's streams; where there are many, of each
+const uint64_t FIRST_OF_EACH = UINT64_C(1) << 18;
+const uint64_t LEAST_WORDS = 64;                    // of a stream
+const uint64_t LEAST_SHARE = 32;                    // a 32nd of the row, that streams have at least
+const uint64_t GROWTH = 2;                          // from round to round
+const uint64_t SHORT_STREAMS = UINT64_C(1) << 20;   // bytes of all streams, that don't want lrupd yet
+const double USUAL_LENGTH = 16;
+const int UNKNOWN_STATUS = 3;                       // of lrupd
+
+uint64_t number_from(const char *word, uint64_t usual) { return word ? strtoull(word, nullptr, 10) : usual; }
+
+std::string name_of_round(uint64_t number) { return "round-" + std::to_string(number); }
+
+// The report says of this number of streams that they ended, and no more.
+bool all_ended(const std::string &report, uint64_t streams) {
+    const std::string verdict = "s UNKNOWN\n", ending = ", ended";
+    size_t begin = 0;
+    for (size_t end; streams > 0 && (end = report.find('\n', begin)) != std::string::npos; begin = end + 1, streams--)
+        if (end - begin < ending.size() || report.compare(end - ending.size(), ending.size(), ending) != 0) return false;
+    return streams == 0 && report.compare(begin, std::string::npos, verdict) == 0;
+}
+
+}
+
+// Sizes.
+
+std::string Run::bytes_of_row() const {
+    return counted(options.memory ? options.memory : default_memory(), "byte") + ": --memory says how large it is";
+}
+
+uint64_t Run::all_words() const { return std::min((options.memory ? options.memory : default_memory()) / 8, MOST_WORDS); }
+
+// The row of the round that comes next: its formula has these clauses and literals, and clauses of its streams that length. False
+// where `least` words aren't left for these. A filter that has no room for one clause gets some.
+bool Run::size_round(uint64_t clauses, uint64_t literals, double length, uint64_t least) {
+    uint64_t all = all_words(), streams = std::max<uint64_t>(1, shared->streams), wanted = 0;
+    formula_words = 1 + clauses + literals;
+    uint64_t left = all > formula_words ? all - formula_words : 0;
+    for (size_t k = 0; k < teams.size(); k++) wanted = std::max(wanted, LOAD(shared->parts[k].wanted));
+    uint64_t words = std::min(left, std::max(words_of_round, streams * (2 * wanted + LEAST_WORDS))) / streams;
+    if (words < LEAST_WORDS || left < least) return false;
+    row = split(words, length);
+    STORE(shared->most_lines, row.lines);
+    STORE(shared->most_literals, row.room);
+    return true;
+}
+
+void Run::first_round() {
+    uint64_t usual = std::max(FIRST_WORDS, FIRST_OF_EACH * teams.size());
+    words_of_round = std::min(number_from(test_word("LRUP_SOLVE_FIRST_WORDS"), usual), MOST_WORDS);
+    round_formula = formula_path;
+    if (!size_round(formula.clauses, formula.literals.length, USUAL_LENGTH, 0))
+        refuse("the formula leaves no room in a row of " + bytes_of_row());
+}
+
+// For what there is.
+Row Run::needed_row() const {
+    Row needed = { 0, 0 };
+    for (size_t k = 0; k < teams.size(); k++) {
+        needed.lines = std::max(needed.lines, LOAD(shared->parts[k].round_lines));
+        needed.room = std::max(needed.room, LOAD(shared->parts[k].round_literals));
+    }
+    return needed;
+}
+
+// Of the clauses of this round.
+double Run::usual_length() const {
+    uint64_t lines = all(&Part::lines) - lines_before, literals = all(&Part::literals) - literals_before;
+    double average = lines > 0 ? double(literals) / double(lines) : USUAL_LENGTH;
+    return std::min(200.0, std::max(2.0, average));
+}
+
+// lrupd.
+
+std::string Run::stream_path(size_t k) const {
+    return std::string(shared->record) + name_of_round(round) + ".stream-" + std::to_string(LOAD(shared->parts[k].stream));
+}
+
+// In the record, or where temporary files go.
+std::string Run::folder_of_rounds() {
+    const char *place = getenv("TMPDIR");
+    if (options.proofs) return private_folder(absolute(options.proofs) + "/.rounds-");
+    return private_folder(std::string(place && place[0] ? place : "/tmp") + "/lrup-solve-");
+}
+
+std::vector<std::string> Run::checker_words(Row sizes) const {
+    std::vector<std::string> words = { "--tries", tries(), "--lines", std::to_string(sizes.lines), "--room", std::to_string(sizes.room) };
+    if (options.assume) words.insert(words.end(), { "--assume", absolute(assume_path) });
+    return words;
+}
+
+static std::string line_of(const std::string &program, const std::vector<std::string> &words) {
+    std::string line = quoted(program);
+    for (const std::string &word : words) line += " " + quoted(word);
+    return line;
+}
+
+// lrupd's, without what it saves.
+std::string Run::command_of_round() const {
+    std::vector<std::string> words = checker_words(row);
+    words.push_back(absolute(round_formula));
+    for (size_t k = 0; k < teams.size(); k++)
+        if (LOAD(shared->parts[k].stream)) words.push_back(stream_path(k));
+    return line_of(checker_program, words);
+}
+
+// Checks all of it once more, from whatever folder it is run.
+std::string Run::command_again() const {
+    if (round == 1) return command_of_round();
+    std::vector<std::string> words = { "--lrupd", checker_program, "--tries", tries() };
+    if (options.assume) words.insert(words.end(), { "--assume", absolute(assume_path) });
+    words.insert(words.end(), { absolute(formula_path), absolute(options.proofs) });
+    return line_of(find_chain(checker_program), words);
+}
+
+void Run::start_checker(Row wanted, bool saves) {
+    row = wanted;
+    std::vector<std::string> words = checker_words(wanted);
+    if (saves) {
+        saved_path = folder_of_rounds() + "/" + name_of_round(round + 1) + ".cnf";
+        words.insert(words.end(), { "--checkpoint", saved_path });
+    }
+    if (options.proofs) {
+        std::string sizes = std::to_string(wanted.lines) + " " + std::to_string(wanted.room) + "\n";
+        std::string unwritten = write_file(shared->record + name_of_round(round) + ".sizes", sizes);
+        if (!unwritten.empty()) refuse(unwritten);
+    }
+    if (options.verbose) words.push_back("--watch");
+    words.push_back(round_formula);
+    std::vector<int> files;
+    for (size_t k = 0; k < teams.size(); k++)
+        if (LOAD(shared->parts[k].stream)) files.push_back(teams[k].stream);
+    checker.start(checker_program, words, copies, files);
+    if (options.verbose) tell(command_of_round());
+}
+
+// The first one starts once streams aren't short any more.
+void Run::look_at_checker() {
+    if (checker.child.ended()) return finish(UNKNOWN_ANSWER, "lrupd " + checker.child.end());
+    uint64_t least = test_word("LRUP_SOLVE_FIRST_WORDS") ? 1 : SHORT_STREAMS;
+    if (!checker.child.pid && all(&Part::bytes) >= least) start_checker(row, true);
+}
+
+// Not while filters come to the next round: their counts are of either.
+void Run::feed() {
+    if (!checker.child.pid || phase == MAPPING || phase == DONE) return;
+    for (size_t k = 0; k < teams.size(); k++) {
+        uint64_t number = LOAD(shared->parts[k].stream);
+        if (number == 0) continue;
+        bool fed = checker.feed(number - 1, teams[k].silent ? 0 : LOAD(shared->parts[k].bytes), !options.proofs);
+        STORE(shared->parts[k].fed, checker.fed(number - 1));
+        if (fed && (phase == CHECKING || phase == SAVING)) checker.end_stream(number - 1);
+    }
+}
+
+// From round to round.
+
+// All filters that are at work have come so far.
+bool Run::have_all(uint64_t Part::*field, uint64_t wanted) const {
+    for (size_t k = 0; k < teams.size(); k++)
+        if (teams[k].filter.running && LOAD(shared->parts[k].*field) != wanted) return false;
+    return true;
+}
+
+void Run::look_at_round() {
+    for (size_t k = 0; k < teams.size() && phase == SOLVING; k++)
+        if (LOAD(shared->parts[k].ended_round) == round) end_round();
+    if (phase == ENDING_ROUND && have_all(&Part::ended_round, round)) {
+        if (!checker.child.pid) start_checker(row, true);
+        phase = SAVING;
+    }
+    if (phase == SAVING && checker.child.ended()) save_round();
+    if (phase == MAPPING && have_all(&Part::mapped_round, round - 1)) go_on();
+    if (phase == SOLVING && round > 1 && access(saved_path.c_str(), F_OK) == 0) unlink(round_formula.c_str());
+}
+
+// One has no room for a line more: all streams end. Those that stand still go on to their ends.
+void Run::end_round() {
+    STORE(shared->ending_round, round);
+    pause_begun = now();
+    phase = ENDING_ROUND;
+    for (Team &team : teams) {
+        if (!team.paused) continue;
+        team.engine.signal(SIGCONT);
+        team.filter.signal(SIGCONT);
+        team.paused = false;
+    }
+}
+
+// A filter that died may have left lines in a record that lrupd wasn't fed, and part of one.
+void Run::cut_streams() {
+    for (size_t k = 0; k < teams.size() && options.proofs; k++) cut_stream(k, teams[k].silent ? 0 : LOAD(shared->parts[k].bytes));
+}
+
+void Run::cut_stream(size_t k, uint64_t bytes) {
+    if (teams[k].stream >= 0 && ftruncate(teams[k].stream, off_t(bytes)) != 0) refuse("cannot cut a stream: " + error_text());
+}
+
+// Engines that were lost are left out.
+void Run::number_streams() {
+    uint64_t count = 0;
+    for (size_t k = 0; k < teams.size(); k++) STORE(shared->parts[k].stream, teams[k].filter.running ? ++count : 0);
+    STORE(shared->streams, count);
+}
+
+// They are empty.
+void Run::open_streams() {
+    for (size_t k = 0; k < teams.size(); k++) {
+        STORE(shared->parts[k].fed, 0);
+        if (!options.proofs) cut_stream(k, 0);
+        if (options.proofs) close_file(teams[k].stream);
+        if (options.proofs && LOAD(shared->parts[k].stream)) teams[k].stream = create_file(stream_path(k));
+    }
+}
+
+// lrupd has ended: the filters take the new identities, and meanwhile the next one begins.
+void Run::save_round() {
+    checker.read_on();
+    tell_lines();
+    if (!checker.child.ended_with(UNKNOWN_STATUS) || !all_ended(checker.report, shared->streams)) return verdict();
+    cut_streams();
+    number_streams();
+    copy_name(shared->checkpoint, saved_path);
+    STORE(shared->saved_round, round);
+    phase = MAPPING;
+    spent += checker.stop();
+    if (round > 1) unlink(round_formula.c_str());
+    checkpoint_read(&saved, saved_path.c_str());
+    round_said = words_of_the_round();
+    if (!test_word("LRUP_SOLVE_SAME_WORDS")) words_of_round = std::min(GROWTH * words_of_round, MOST_WORDS);
+    if (!size_round(saved.old.length, saved.literals, usual_length(), all_words() / LEAST_SHARE))
+        return finish(UNKNOWN_ANSWER, "the clauses that the engines have leave no room in a row of " + bytes_of_row());
+    begin_round();
+}
+
+void Run::begin_round() {
+    round++;
+    round_formula = saved_path;
+    lines_before = all(&Part::lines);
+    literals_before = all(&Part::literals);
+    open_streams();
+    start_checker(row, true);
+}
+
+// Clauses that a filter gave away which has died, or is on another host, may still be taken over.
+void Run::go_on() {
+    for (size_t k = 0; k < teams.size(); k++) {
+        teams[k].silent = LOAD(shared->parts[k].mapped_round) != round - 1;
+        if (teams[k].filter.ended() || !is_here(k)) outbox_renew(shared, outboxes[k], int(k) + 1, &saved);
+    }
+    checkpoint_free(&saved);
+    paused += now() - pause_begun;
+    if (options.verbose) tell(round_said + format("; a pause of %.2f s", now() - pause_begun));
+    phase = SOLVING;
+    STORE(shared->round, round);
+}

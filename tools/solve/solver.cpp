@@ -1,0 +1,165 @@
+// Unverified, as all of this solver. A solver that the user has: a command that the shell runs, in a process group of its own. An
+// engine's process starts it and reads its answer; the proof goes to the filter, as an engine's does.
+#include <algorithm>
+#include <cctype>
+#include <cerrno>
+#include <csignal>
+#include <cstdlib>
+#include <fstream>
+
+#include <fcntl.h>
+#include <sys/prctl.h>
+#include <sys/signalfd.h>
+#include <sys/wait.h>
+#include <unistd.h>
+
+#include "solve.h"
+
+namespace {
+
+const size_t LONGEST_WORD = 64;     // that is looked at
+
+// The lines `s` and `v` of its output. One may be longer than memory should hold, so they are read word by word.
+class Printed {
+public:
+    explicit Printed(const Engine &engine) : variables(engine.formula->variables), model(engine.model) {
+        std::fill(model, model + variables, -1);        // what it leaves out is false
+    }
+
+    void read_from(int &file) {
+        char bytes[4096];
+        ssize_t count;
+        while ((count = read(file, bytes, sizeof bytes)) > 0)
+            for (ssize_t k = 0; k < count; k++) take(bytes[k]);
+        if (count == 0) take('\n'), close_file(file);
+    }
+
+    // 10, 20, or 0 for none. The status counts first; one that the line contradicts, and a 10 without an assignment, are none.
+    int answer(int status) const {
+        bool satisfiable = verdict == "SATISFIABLE", unsatisfiable = verdict == "UNSATISFIABLE";
+        if (status == 10 || (satisfiable && status != 20)) return has_values && !unsatisfiable ? 10 : 0;
+        return (status == 20 && !satisfiable) || unsatisfiable ? 20 : 0;
+    }
+
+private:
+    int variables;
+    signed char *model;
+    std::string word, first, verdict;       // of the line
+    bool has_values = false;
+
+    void take(char letter) {
+        bool ends = isspace(static_cast<unsigned char>(letter));
+        if (!ends && word.size() < LONGEST_WORD) word += letter;
+        if (ends && !word.empty()) take_word();
+        if (letter == '\n') first.clear();
+    }
+
+    void take_word() {
+        if (first.empty()) first = word;
+        else if (first == "s") verdict = word;
+        else if (first == "v") take_value(std::strtol(word.c_str(), nullptr, 10));
+        word.clear();
+    }
+
+    void take_value(long literal) {
+        has_values = true;
+        if (literal != 0 && std::labs(literal) <= variables) model[std::labs(literal) - 1] = literal > 0 ? 1 : -1;
+    }
+};
+
+std::string replaced(std::string text, const std::string &name, const std::string &value) {
+    for (size_t at = 0; (at = text.find(name, at)) != std::string::npos; at += value.size()) text.replace(at, name.size(), value);
+    return text;
+}
+
+[[noreturn]] void run_shell(const std::string &command, const std::vector<int> &files, int out) {
+    setpgid(0, 0);
+    prctl(PR_SET_PDEATHSIG, SIGKILL);
+    sigset_t none;
+    sigemptyset(&none);
+    sigprocmask(SIG_SETMASK, &none, nullptr);
+    signal(SIGINT, SIG_DFL);
+    dup2(open("/dev/null", O_RDONLY), STDIN_FILENO);
+    dup2(out, STDOUT_FILENO);
+    for (int file : files) fcntl(file, F_SETFD, 0);     // it opens them by their numbers
+    execl("/bin/sh", "sh", "-c", command.c_str(), nullptr);
+    _exit(127);
+}
+
+// Signals for the solver come to this process: SIGTERM in the place of SIGKILL, and SIGTSTP in that of SIGSTOP.
+int open_signals() {
+    sigset_t taken;
+    sigemptyset(&taken);
+    for (int number : { SIGTERM, SIGTSTP, SIGCONT, SIGCHLD }) sigaddset(&taken, number);
+    sigprocmask(SIG_BLOCK, &taken, nullptr);
+    prctl(PR_SET_PDEATHSIG, SIGTERM);
+    prctl(PR_SET_CHILD_SUBREAPER, 1);
+    return signalfd(-1, &taken, SFD_CLOEXEC | SFD_NONBLOCK);
+}
+
+// True where the solver is to be ended.
+bool hand_on(int signals, pid_t group) {
+    signalfd_siginfo found;
+    bool ends = false;
+    while (read(signals, &found, sizeof found) == sizeof found) {
+        if (found.ssi_signo == SIGTSTP) kill(-group, SIGSTOP);
+        if (found.ssi_signo == SIGCONT) kill(-group, SIGCONT);
+        ends |= found.ssi_signo == SIGTERM;
+    }
+    return ends;
+}
+
+// Whoever has lost the parent is a child of this process.
+void end_all(pid_t group) {
+    kill(-group, SIGKILL);
+    while (waitpid(-group, nullptr, 0) > 0 || errno == EINTR) {}
+    for (bool any = true; any;) {
+        std::ifstream list("/proc/thread-self/children");
+        any = false;
+        for (pid_t child; list >> child; any = true) kill(child, SIGKILL);
+        if (any) waitpid(-1, nullptr, 0);
+    }
+}
+
+// As wait gives it. What the command has left in the background is ended with it.
+int wait_for_solver(pid_t group, int signals, int out, Printed &printed) {
+    int status = 0;
+    for (bool ended = false; !ended;) {
+        pollfd list[] = { { signals, POLLIN, 0 }, { out, POLLIN, 0 } };
+        poll(list, 2, -1);
+        ended = hand_on(signals, group) || waitpid(group, &status, WNOHANG) == group;
+        if (out >= 0) printed.read_from(out);
+    }
+    end_all(group);
+    return status;
+}
+
+}
+
+std::string solver_command(const std::string &command, const std::string &formula, int proof) {
+    return replaced(replaced(command, "%formula", quoted(formula)), "%proof", "/dev/fd/" + std::to_string(proof));
+}
+
+// The proof is held open until the answer is there.
+void solver_process(const Engine &engine, const std::string &command, const std::vector<int> &files) {
+    Printed printed(engine);
+    int signals = open_signals();
+    Pipe out = make_pipe(0);
+    fcntl(out.read, F_SETFL, O_NONBLOCK);
+    pid_t pid = signals < 0 ? -1 : fork();
+    if (pid == 0) run_shell(command, files, out.write);
+    if (pid < 0) _exit(127);
+    setpgid(pid, pid);
+    STORE(engine.shared->parts[engine.number - 1].group, pid);
+    close_file(out.write);
+    int status = wait_for_solver(pid, signals, out.read, printed);
+    int answer = printed.answer(WIFEXITED(status) ? WEXITSTATUS(status) : 0);
+    if (answer != 0) STORE(engine.shared->parts[engine.number - 1].answer, answer);
+    if (WIFEXITED(status)) _exit(WEXITSTATUS(status));
+    signal(WTERMSIG(status), SIG_DFL);
+    sigset_t none;
+    sigemptyset(&none);
+    sigprocmask(SIG_SETMASK, &none, nullptr);
+    raise(WTERMSIG(status));
+    _exit(127);
+}
