@@ -1,4 +1,4 @@
-# `make help` tells what there is, by the words behind ##. Building needs Rattle's toolchain, the command rt, and Python 3, as rt
+# `make help` lists what there is, by the words behind ##. Building needs Rattle's toolchain, the command rt, and Python 3, as rt
 # itself; make demo and make test also need a C compiler.
 
 RT ?= rt
@@ -10,7 +10,9 @@ EXACT := tools/exact/out/exact
 SOLVE := tools/solve/out/lrup-solve
 SOLVE_FLAGS ?= -O2
 # What of the filter is part of lrup-solve.
-FILTER := $(addprefix tools/exact/,binary.c clauses.c filter.c formula.c hints.c input.c others.c propagation.c words.c write.c)
+FILTER := $(filter-out tools/exact/main.c,$(wildcard tools/exact/*.c))
+# Of one process.
+ALONE := $(filter-out $(wildcard tools/solve/mpi*.cpp),$(wildcard tools/solve/*.cpp))
 # What the tests of programs wait for: 'make examples BUILT= PROGRAM=path' takes another program.
 BUILT ?= build
 FORMULA ?= examples/bmc.cnf
@@ -18,7 +20,7 @@ STREAMS ?= $(addprefix examples/bmc-four.,1 2 3 4)
 OPTIONS ?= --tries 1000000
 
 .PHONY: run build install examples live checkpoints demo solver exact solve solver-test filter-test solve-test neighbours sweep
-.PHONY: leaks instructions audit pages test toolchain c-and-python libcadical
+.PHONY: leaks instructions audit tables pages test toolchain c-and-python libcadical
 .PHONY: help try deb dist quick
 
 help:
@@ -44,30 +46,31 @@ run: build ## try: the same, proved first; both take FORMULA=path STREAMS="path 
 build: toolchain ## build: prove the program, 7 to 30 minutes the first time, and leave it at crates/lrupd/out/lrupd
 	@python3 gate/build.py $(RT)
 
-# The filter's name is lrup-exact; lrup-solve is installed where CaDiCaL's library is there. The manual pages tell the version at their
+# The filter's name is lrup-exact; lrup-solve is installed where CaDiCaL's library is there. The manual pages have the version at their
 # feet.
-install: build exact ## use: install the program, the filter and lrup-solve, with their manual pages, below PREFIX=/usr/local
+install: build exact ## use: install lrupd, lrup-chain, lrup-exact and lrup-solve, with their manual pages, below PREFIX=/usr/local
 	install -d "$(DESTDIR)$(PREFIX)/bin" "$(DESTDIR)$(PREFIX)/share/man/man1"
 	install -m 755 $(PROGRAM) "$(DESTDIR)$(PREFIX)/bin/lrupd"
+	install -m 755 tools/lrup-chain "$(DESTDIR)$(PREFIX)/bin"
 	install -m 755 $(EXACT) "$(DESTDIR)$(PREFIX)/bin/lrup-exact"
-	install -m 644 docs/lrupd.1 docs/lrup-exact.1 "$(DESTDIR)$(PREFIX)/share/man/man1"
+	install -m 644 docs/lrupd.1 docs/lrup-chain.1 docs/lrup-exact.1 "$(DESTDIR)$(PREFIX)/share/man/man1"
 	@if $(MAKE) -s solve; then \
 	install -m 755 $(SOLVE) "$(DESTDIR)$(PREFIX)/bin/lrup-solve" && \
 	install -m 644 docs/lrup-solve.1 "$(DESTDIR)$(PREFIX)/share/man/man1"; else echo "lrup-solve isn't installed"; fi
 	sed -i 's/^\.Os$$/.Os lrupd $(VERSION)/' "$(DESTDIR)$(PREFIX)"/share/man/man1/lrup*.1
 
-# What the program writes on standard output and standard error, and its status, on the examples and on some hundred small runs;
-# two groups of streams, checked apart; and whether README, USING, the manual page and --help say the same.
+# Standard output, standard error and the status are compared, on the examples and on some hundred small runs; two groups of streams
+# are checked apart.
 examples: $(BUILT) c-and-python ## check: compare what the program answers on the examples, and on some hundred small runs
 	@python3 tests/program_answers.py $(PROGRAM)
 	@python3 tests/program_groups.py $(PROGRAM)
-	@python3 tests/program_words.py $(PROGRAM)
 
 live: $(BUILT) c-and-python ## check: four recorded solvers, line by line through pipes, checked while they run
 	@python3 tests/program_live.py $(PROGRAM)
 
-checkpoints: $(BUILT) solver ## check: what --checkpoint saves, and runs of which each goes on with what the one before saved
+checkpoints: $(BUILT) solver ## check: what --checkpoint saves, lrup-chain, and streams that are cut into rounds for it
 	@python3 tests/program_checkpoints.py $(PROGRAM)
+	@python3 tests/lrup_chain.py $(PROGRAM)
 	@python3 tests/example_chain.py $(PROGRAM) $(SOLVER)
 
 demo: build solver ## try: four solvers that share their clauses, and the program beside them
@@ -83,12 +86,17 @@ exact: c-and-python ## build: the filter that makes streams of other solvers' pr
 	@mkdir -p $(dir $(EXACT))
 	@$(CC) -std=c11 -O2 -Wall -Wextra -o $(EXACT) tools/exact/*.c
 
-# Neither verified nor trusted. It looks for lrupd beside it.
+# Neither verified nor trusted. It looks for lrupd and lrup-chain beside it.
 solve: c-and-python libcadical ## build: lrup-solve, from a formula to a proved verdict, at tools/solve/out; wants CaDiCaL's library
 	@mkdir -p $(SOLVE).objects
-	@cd $(SOLVE).objects && $(CC) -std=c11 -D_GNU_SOURCE $(SOLVE_FLAGS) -Wall -Wextra -c $(abspath tools/solve/filtering.c $(FILTER))
-	@$(CXX) -std=c++17 $(SOLVE_FLAGS) -Wall -Wextra -DVERSION='"$(VERSION)"' -o $(SOLVE) tools/solve/*.cpp $(SOLVE).objects/*.o -lcadical
-	@ln -sfr $(PROGRAM) $(dir $(SOLVE))lrupd
+	@cd $(SOLVE).objects && $(CC) -std=c11 -D_GNU_SOURCE $(SOLVE_FLAGS) -Wall -Wextra -c $(abspath $(wildcard tools/solve/*.c) $(FILTER))
+	@$(CXX) -std=c++17 $(SOLVE_FLAGS) -Wall -Wextra -DVERSION='"$(VERSION)"' -o $(SOLVE) $(ALONE) $(SOLVE).objects/*.o -lcadical
+	@ln -sfr $(PROGRAM) $(dir $(SOLVE))lrupd && ln -sfr tools/lrup-chain $(dir $(SOLVE))lrup-chain
+
+# It isn't installed: it goes with the MPI of where it was built.
+solve-mpi: solve mpicxx ## build: lrup-solve-mpi, the same in several processes on one host or more; wants MPI, too
+	@OMPI_CXX="$(CXX)" mpicxx -std=c++17 $(SOLVE_FLAGS) -Wall -Wextra -DVERSION='"$(VERSION)"' -o $(SOLVE)-mpi \
+	$(filter-out tools/solve/alone.cpp,$(wildcard tools/solve/*.cpp)) $(SOLVE).objects/*.o -lcadical
 
 solver-test: $(BUILT) solver ## check: the example solver's streams, of one to eight solvers, and of some that are killed
 	@python3 tests/example_solver.py $(PROGRAM) $(SOLVER)
@@ -96,9 +104,13 @@ solver-test: $(BUILT) solver ## check: the example solver's streams, of one to e
 filter-test: $(BUILT) exact ## check: the filter, with the solvers that are on the PATH, and 10,000 mutated proofs
 	@python3 tests/filter_streams.py $(PROGRAM) && python3 tests/filter_mutants.py $(PROGRAM)
 
-# Without CaDiCaL's library nothing is run.
+# Without CaDiCaL's library nothing is run, and without MPI nothing of lrup-solve-mpi. The gate leaves that out: it takes ten minutes,
+# and its processes race with the clock.
+MPI ?= yes
 solve-test: $(BUILT) c-and-python ## check: lrup-solve, and what may happen to it, with 300 random formulas
-	@python3 tests/lrup_solve.py $(PROGRAM)
+	@python3 tests/lrup_solve.py $(PROGRAM) && python3 tests/lrup_solve_rounds.py $(PROGRAM)
+	@python3 tests/lrup_solve_solvers.py $(PROGRAM)
+	@$(if $(MPI),python3 tests/lrup_solve_mpi.py $(PROGRAM),echo "lrup-solve-mpi: not tested here")
 
 neighbours: $(BUILT) c-and-python ## check: what is said of a good proof beside hostile streams, which never changes
 	@python3 tests/program_neighbours.py $(PROGRAM)
@@ -113,14 +125,20 @@ leaks: $(BUILT) c-and-python ## measure: memory that isn't given back, by valgri
 instructions: $(BUILT) c-and-python ## measure: how many instructions lines take, by valgrind, beside what they took
 	@python3 gate/instructions.py $(PROGRAM)
 
-# What one has to read to believe status 0 and 8, and whole runs.
+# These pages have what one must read to believe status 0 and 8, and whole runs.
 audit: ## check: write docs/AUDIT.md and docs/AUDIT-RUNS.md anew from the sources
 	@python3 gate/audit.py
 
-# Whether the two pages are what the sources give, and DEFINITIONS has their counts; whether the names in backticks in the documents
-# exist; and whether clauses and definitions are within 100 columns, and each lemma stands once.
+# Of docs/interface.txt, and of what --help says.
+tables: ## check: write the tables of options, statuses and faults in README, USING and lrupd.1 anew
+	@python3 gate/tables.py
+
+# Fails unless the two pages and the tables are what the sources give, and DEFINITIONS has their counts; docs/interface.txt has the
+# faults and causes of the definitions; names in backticks and links in the documents lead somewhere; clauses and definitions are
+# within 100 columns, and each lemma stands once.
 pages: c-and-python ## check: the documents, against the sources and each other; needs no prover
 	@python3 gate/audit.py --check
+	@python3 gate/tables.py --check
 	@python3 gate/style.py
 
 # With dpkg-deb and dpkg-dev.
@@ -145,8 +163,8 @@ quick: toolchain c-and-python ## check: after a change of CRATE=name: layout, pr
 TESTS := examples live checkpoints solver-test filter-test solve-test neighbours sweep leaks instructions
 test: SHELL := /bin/bash
 test: toolchain pages solver exact ## check: the gate, 25 to 100 minutes: every proof, edit and test; has to pass before a push
-	@set -o pipefail; log=$$(mktemp); trap 'rm -f "$$log"' EXIT; \
-	$(RT) ci | tee "$$log" && $(MAKE) --no-print-directory BUILT= $(TESTS) && tail -n 1 "$$log"
+	@rm -f $(addprefix $(dir $(SOLVE)),lrupd lrup-chain); set -o pipefail; log=$$(mktemp); trap 'rm -f "$$log"' EXIT; \
+	$(RT) ci | tee "$$log" && $(MAKE) --no-print-directory BUILT= MPI= $(TESTS) && tail -n 1 "$$log"
 
 toolchain:
 	@command -v $(RT) > /dev/null || { echo "lrupd needs Rattle's toolchain: no command '$(RT)' is on the PATH"; exit 1; }
@@ -154,6 +172,10 @@ toolchain:
 c-and-python:
 	@for command in $(firstword $(CC)) python3; do command -v $$command > /dev/null || \
 	{ echo "make demo and make test need a C compiler and Python 3: no command '$$command' is on the PATH"; exit 1; }; done
+
+mpicxx:
+	@command -v mpicxx > /dev/null || \
+	{ echo "make solve-mpi needs MPI: no command 'mpicxx' is on the PATH; in Debian the package libopenmpi-dev"; exit 1; }
 
 libcadical:
 	@command -v $(firstword $(CXX)) > /dev/null || \

@@ -129,17 +129,23 @@ class Lane:
         return status, self.said.read()
 
 
+def left(done):
+    """The share of the seconds that is left, in percent."""
+    return 100 * seconds(*ALL - done) // seconds(*ALL)
+
+
 def tell(done, name, began):
-    """The line of a crate that is proved, with the share of the seconds that is left."""
+    """The line of a crate that is proved."""
     took = int(time.monotonic() - began)
-    left = 100 * seconds(*ALL - done) // seconds(*ALL)
-    print(f"{len(done)} of {len(ALL)}: {name}, {took // 60}:{took % 60:02}" + f"; {left} % left" * bool(left), flush=True)
+    rest = f"; {left(done)} % left" * bool(left(done))
+    print(f"{len(done)} of {len(ALL)}: {name}, {took // 60}:{took % 60:02}{rest}", flush=True)
 
 
-def prove_libraries(rt):
-    """Returns the status and what was printed of one that isn't proved, if there is one."""
-    done = {name for name in ALL - {PROGRAM} if is_young(name)}
+def prove_libraries(rt, done):
+    """Those that aren't done. Returns the status and what was printed of one that isn't proved, if there is one."""
     todo = sorted(ALL - {PROGRAM} - done, key=way, reverse=True)
+    if todo:
+        print(f"{len(done)} of {len(ALL)} were proved before; {left(done)} % left", flush=True)
     running, most = [], lanes_at_once()
     try:
         while todo or running:
@@ -163,12 +169,13 @@ def prove_libraries(rt):
     return 0, ""
 
 
-def prove_program(rt):
+def prove_program(rt, is_told):
+    """Says that it is proved where it wasn't before, and where libraries were told of: their line isn't the last one."""
     began = time.monotonic()
     files = [ROOT / "examples" / f"four-clause.{end}" for end in ("cnf", "lrup")]
     words = [rt, "run", "--jobs", str(JOBS), "--", *files]
     ran = subprocess.run(words, cwd=CRATES / PROGRAM, stdout=subprocess.PIPE, stderr=subprocess.STDOUT, errors="replace")
-    if not ran.returncode and re.search(rf"^crate {PROGRAM}:", ran.stdout, re.M):
+    if not ran.returncode and (is_told or re.search(rf"^crate {PROGRAM}:", ran.stdout, re.M)):
         tell(ALL, PROGRAM, began)
     return ran.returncode, ran.stdout
 
@@ -176,9 +183,10 @@ def prove_program(rt):
 def main():
     signal.signal(signal.SIGTERM, lambda *_: sys.exit(143))
     rt = sys.argv[1]
-    status, said = prove_libraries(rt)
+    young = {name for name in ALL - {PROGRAM} if is_young(name)}
+    status, said = prove_libraries(rt, set(young))
     if not status:
-        status, said = prove_program(rt)
+        status, said = prove_program(rt, young != ALL - {PROGRAM})
     LOG.parent.mkdir(exist_ok=True)
     LOG.write_text(said)
     if status:

@@ -51,8 +51,10 @@ class Counter:
         except subprocess.TimeoutExpired:
             sys.exit(f"{words}: no end in {LIMIT} seconds")
         found = re.search(r"^==\d+== Collected : (\d+)$", done.stderr, re.M)
-        if not found or done.stdout != wanted:
-            sys.exit(f"{words}: status {done.returncode}, and not\n{wanted}\nbut\n{done.stdout}{done.stderr}")
+        if not found:
+            sys.exit(f"{words}: valgrind counted nothing, status {done.returncode}\n{done.stderr}")
+        if done.stdout != wanted:
+            sys.exit(f"{words}: status {done.returncode}, the report: wanted\n{wanted}and not\n{done.stdout}")
         return int(found[1])
 
     def lines(self, words, streams, wanted):
@@ -73,7 +75,7 @@ class Counter:
         return self.lines([EXAMPLES / "four-clause.cnf"], [self.file(text)], wanted)
 
     def assumed(self, literals, lines):
-        """Some additions under so many assumed literals, none of which contradicts them."""
+        """Some additions under a number of assumed literals, none of which contradicts them."""
         formula = self.file(f"p cnf {LITERALS} 2\n1 2 0\n-1 2 0\n")
         cube = self.file("".join(f"{literal} " for literal in range(1, literals + 1)) + "0\n")
         stream = self.file("".join(f"{number} 2 0 1 2 0\n" for number in range(3, 3 + lines)))
@@ -105,8 +107,8 @@ def main():
         if ratio > most:
             wrong += 1
             print(f"{name}: {ratio:.2f} times as many instructions, and not at most {most} times")
-    told = ", ".join(f"{name} {count}" for name, count in counts.items())
-    print(f"instructions: {told}; ratios {many / few:.2f}, {large / small:.2f}; {wrong} wrong; "
+    listed = ", ".join(f"{name} {count}" for name, count in counts.items())
+    print(f"instructions: {listed}; ratios {many / few:.2f}, {large / small:.2f}; {wrong} wrong; "
           f"{time.monotonic() - began:.0f} seconds")
     sys.exit(1 if wrong else 0)
 

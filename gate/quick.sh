@@ -1,10 +1,10 @@
 #!/bin/sh
-# What to run after a change of a crate, in two minutes at most where the rest was checked before:
+# Is for a change of a crate, in two minutes at most where the rest was checked before:
 #
 #     sh gate/quick.sh RT CRATE SECONDS
 #
-# It lays out the files, and says which; checks the proofs; runs the tests, in CRATE_tests, before they are proved, as many as there
-# is time for in SECONDS; and looks at the pages. Of what fails it shows all but what is proved.
+# It lays out the files, and says which; checks the proofs, and that edits can be applied; runs the tests, in CRATE_tests, before
+# they are proved, as many as there is time for in SECONDS; and looks at the pages. Of what fails it shows all but what is proved.
 if [ $# -ne 3 ] || [ ! -d "$(dirname "$0")/../crates/${2%_tests}" ]; then
     echo "usage: make quick CRATE=name, with the name of a folder in crates/" >&2
     exit 2
@@ -13,30 +13,68 @@ cd "$(dirname "$0")/.." || exit 2
 rt=$1
 crate=${2%_tests}
 seconds=$3
+unseen=
 log=$(mktemp) || exit 2
 trap 'rm -f "$log"' EXIT
 
+# Behind a line that ends with a list of bytes, as rt prints them of a comparison that failed, one with their text.
+with_texts() {
+    awk '{ print }
+        match($0, /\[[0-9]+(, [0-9]+)+\]$/) {
+            count = split(substr($0, RSTART + 1, RLENGTH - 2), bytes, ", ")
+            text = ""
+            for (at = 1; at <= count; at++) {
+                if (bytes[at] != 10 && (bytes[at] < 32 || bytes[at] > 126)) next
+                text = text (bytes[at] == 10 ? "\\n" : sprintf("%c", bytes[at] + 0))
+            }
+            printf "%" RSTART - 1 "s\"%s\"\n", "", text
+        }'
+}
+
 # show WHAT: what the log has but for what is proved, and the end.
 show() {
-    grep -v ': proved$\|^statements \|^library \|\.\.\. ok$' "$log"
+    echo
+    grep -v ': proved$\|^statements \|^library \|\.\.\. ok$' "$log" | with_texts
     echo "$1: failed"
     exit 1
 }
 
-# step WHAT FOLDER COMMAND..: runs the command in the folder, and says how long it took.
+# step WHAT FOLDER COMMAND..: says what is begun, runs the command in the folder, and says how long it took.
 step() {
     what=$1
     folder=$2
     shift 2
     began=$(date +%s)
+    printf '%s: ' "$what"
     (cd "$folder" && "$@") > "$log" 2>&1 || show "$what"
+    echo "$(($(date +%s) - began)) s"
     grep '^rt: formatted ' "$log"
-    echo "$what: $(($(date +%s) - began)) s"
+    ! grep '^rt: note: must-fail/' "$log" || { echo "$what: failed"; exit 1; }
 }
 
-# The tests of the crate. One that has no answer within the minute that rt gives it hasn't failed: the machine may be busy.
+# The crates that use this one, directly or by others, but for those of tests.
+crates_above() {
+    awk -F: -v crate="$crate" '
+        { uses[$1] = $2 " " }
+        END {
+            found[crate]
+            do {
+                more = 0
+                for (name in uses) for (below in found)
+                    if (!(name in found) && index(uses[name], " " below " ")) { found[name]; more = 1 }
+            } while (more)
+            delete found[crate]
+            for (name in found) if (name !~ /_tests$/) print name
+        }' crates.txt | sort | paste -sd ' ' -
+}
+
+# The tests of the crate. One that has no answer within the minute that rt gives it hasn't failed: the machine may be busy. Where
+# not one was run, nothing is known, and that fails.
 tests() {
     began=$(date +%s)
+    all=$(grep -rh '^ *#\[test\]' "crates/${crate}_tests/src" | wc -l)
+    printf '%s: ' "${crate}_tests"
+    [ "$all" -gt 0 ] || { echo "has proofs alone, and nothing to run"; return; }
     (cd "crates/${crate}_tests" && timeout "$seconds" "$rt" try --test) > "$log" 2>&1
     status=$?
     read -r passed open wrong << COUNTS
@@ -47,9 +85,11 @@ $(awk '/^test .* \.\.\. ok$/ { passed++ }
 COUNTS
     case $status in 0 | 124) ;; 6) [ "$open" -gt 0 ] || show "${crate}_tests" ;; *) show "${crate}_tests" ;; esac
     [ "$wrong" -eq 0 ] || show "${crate}_tests"
-    echo "${crate}_tests: $passed passed, before they are proved: $(($(date +%s) - began)) s"
+    echo "$passed of $all passed, before they are proved: $(($(date +%s) - began)) s"
     [ "$open" -eq 0 ] || echo "${crate}_tests: $open had no answer within a minute"
     [ $status -ne 124 ] || echo "${crate}_tests: no more were run in $seconds s: LIMIT=900 gives more time"
+    [ $((passed + open)) -gt 0 ] || { echo "${crate}_tests: failed"; exit 1; }
+    [ $((passed + open)) -eq "$all" ] || unseen="$((all - passed - open)) of its tests weren't run, and "
 }
 
 for name in "$crate" "${crate}_tests"; do
@@ -58,4 +98,5 @@ done
 step "$crate: proofs" "crates/$crate" "$rt" check
 [ ! -d "crates/${crate}_tests" ] || tests
 step "pages" . make -s --no-print-directory pages
-echo "$crate: ok; the crates above it and the proofs of its tests weren't looked at"
+above=$(crates_above)
+echo "$crate: ok, but ${unseen}the proofs of tests weren't looked at${above:+, nor the crates above: $above}"

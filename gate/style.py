@@ -1,18 +1,20 @@
 #!/usr/bin/env python3
-"""What neither the prover nor the compiler looks at.
+"""Checks what neither the prover nor the compiler looks at.
 
     python3 gate/style.py
 
 It lists names in backticks, in the documents, that don't exist; lines of clauses and of definitions beyond 100 columns; lemmas
 that are stated twice; names that mean one thing in one crate and another in another; where the picture of the crates isn't what
-crates.txt says; targets of the Makefile that CONTRIBUTING doesn't tell as `make help` does; and whether the logic of README is the
-one of the `rt` on the PATH, if there is one; and whether `lrupd --version` says what the file VERSION does. The last line has the
-counts, and the status is 1 where one of them isn't 0.
+crates.txt says; targets of the Makefile that CONTRIBUTING doesn't list as `make help` does; links in the documents that lead
+nowhere; whether README is longer than it may be; whether the logic of README is the one of the `rt` on the PATH, if there is one;
+and whether `lrupd --version` says what the file VERSION does. The last line has the counts, and the status is 1 where one of them
+isn't 0.
 
 A name in backticks is looked for in the code, the definitions and proofs, the scripts, and the names of files; of `Type::call`
 and `Module.name` the pair. Where several words stand in backticks, a name is one with an underscore, a capital within or `::`, an
 option or a path.
 """
+import functools
 import os
 import re
 import shutil
@@ -21,12 +23,17 @@ import sys
 from collections import defaultdict
 from pathlib import Path
 
+sys.dont_write_bytecode = True
+from audit import slug_of
+
 ROOT = Path(__file__).resolve().parent.parent
 COLUMNS = 100
+MOST_WORDS = 900  # of README
 # What stands in backticks and isn't of this repository: the toolchain's, the system's, other programs', and what a text makes up.
 FOREIGN = set("""
 ANTT.md CONTRACTS.md SHORTER_PROOFS.md BUILD.bazel start_lib start_io proves untested --only
 cadical libcadical-dev yosys -j -v -q --plain --no-binary pv socat ssh madvise
+veth --host oob_tcp_keepalive_time oob_tcp_keepalive_intvl oob_tcp_keepalive_probes plm_rsh_agent
 group1 group2 my_lemma run_ serial_ worker_ XValue OPTIONS=--serial LIMIT=900
 """.split())
 
@@ -197,16 +204,17 @@ def wrong_arrows():
             yield f"{shown(page)}: the picture {what} {crate} --> {name}"
 
 
-# What CONTRIBUTING says of the Makefile.
+# The Makefile's lines in CONTRIBUTING.
 
-UNTOLD = {"help", "toolchain", "c-and-python", "libcadical"}
+UNLISTED = {"help", "toolchain", "c-and-python", "libcadical", "mpicxx"}
 
 
-def untold_targets():
+def unlisted_targets():
     """Those that `make help` leaves out, and its lines that CONTRIBUTING hasn't, or has beyond them."""
-    says = subprocess.run(["make", "-s", "--no-print-directory", "help"], cwd=ROOT, capture_output=True, text=True, check=True).stdout
+    words = ["make", "-s", "--no-print-directory", "help"]
+    says = subprocess.run(words, cwd=ROOT, capture_output=True, text=True, check=True).stdout
     for name in re.findall(r"^([a-z-]+):(?! [A-Z]+ :=)", (ROOT / "Makefile").read_text(), re.M):
-        if name not in UNTOLD and f"  make {name} " not in says:
+        if name not in UNLISTED and f"  make {name} " not in says:
             yield f"Makefile: make help says nothing of {name}: its line lacks ' ## KIND: WHAT IT DOES'"
     page = ROOT / "CONTRIBUTING.md"
     block = re.search(r"^    \$ make help\n((?:    .+\n)*)", page.read_text(), re.M)
@@ -235,7 +243,7 @@ def other_logics():
 
 
 def other_versions():
-    """The version that the program tells, where the file VERSION has another one."""
+    """The version of the program's text, where the file VERSION has another one."""
     page = ROOT / "crates/command_line/src/help.rt"
     has = (ROOT / "VERSION").read_text().strip()
     told = re.search(r'const VERSION: &str = "(.*)";', page.read_text())
@@ -243,14 +251,52 @@ def other_versions():
         yield f"{shown(page)}: VERSION has '{has}'"
 
 
+# Documents.
+
+
+def without_code(path):
+    """A document with blanks for its blocks of code."""
+    blank = lambda block: re.sub(r"[^\n]", " ", block[0])
+    text = re.sub(r"^```.*?^```$", blank, path.read_text(), flags=re.M | re.S)
+    return re.sub(r"(?<=\n\n)(?:    .*\n)+", blank, text)
+
+
+def words_of_readme():
+    """How many have a letter or a digit, but for code and for tables that `make tables` writes."""
+    page = without_code(ROOT / "README.md")
+    text = re.sub(r"^<!-- (\w+): made by .*?^<!-- end of \1 -->$", "", page, flags=re.M | re.S)
+    return sum(re.search(r"\w", word) is not None for word in text.split())
+
+
+def long_readme():
+    if words_of_readme() > MOST_WORDS:
+        yield f"README.md: {words_of_readme()} words, and it may have {MOST_WORDS}"
+
+
+@functools.lru_cache(maxsize=None)
+def anchors(path):
+    """Those of the headings; of several that are alike the later ones have a number."""
+    slugs = [slug_of(title) for title in re.findall(r"^#+ (.*)$", without_code(path), re.M)]
+    counts = [slugs[:at].count(slug) for at, slug in enumerate(slugs)]
+    return {f"{slug}-{count}" if count else slug for slug, count in zip(slugs, counts)}
+
+
+def dead_links():
+    for path in files(r".*\.md"):
+        text = re.sub(r"`[^`]*`", "", without_code(path))
+        for place in re.findall(r"\]\((?!https?:)([^)\s]+)\)", text):
+            name, _, anchor = place.partition("#")
+            target = (path.parent / name).resolve() if name else path
+            if not target.exists() or anchor and anchor not in anchors(target):
+                yield f"{shown(path)}: a link to {place}, which isn't there"
+
+
 # Names in backticks.
 
 
 def spans(path):
-    """What stands in backticks in a document, with the number of the line where it begins; not in blocks of code."""
-    blank = lambda block: re.sub(r"[^\n]", " ", block[0])
-    text = re.sub(r"^```.*?^```$", blank, path.read_text(), flags=re.M | re.S)
-    text = re.sub(r"(?<=\n\n)(?:    .*\n)+", blank, text)
+    """The spans in backticks of a document, but for blocks of code, each with the number of the line where it begins."""
+    text = without_code(path)
     for match in re.finditer(r"`([^`]+)`", text):
         yield text.count("\n", 0, match.start()) + 1, " ".join(match[1].split())
 
@@ -313,7 +359,7 @@ class Sources:
                 or any(re.fullmatch("[A-Z_]+(_tests)?", part) for part in parts))
 
     def has(self, word):
-        """Whether there is something of that name."""
+        """Whether something has that name."""
         if word.startswith("--"):
             return word.split("=")[0] in self.options
         if "/" in word:
@@ -353,14 +399,16 @@ def main():
     checks = [("names in backticks that don't exist", unknown_names), ("lines of clauses too wide", wide_clauses),
               ("lines of definitions too wide", wide_definitions), ("statements of lemmas more than once", repeated_statements),
               ("names with two meanings", names_with_two_meanings), ("arrows that are wrong", wrong_arrows),
-              ("lines of make help told otherwise", untold_targets), ("logics told otherwise", other_logics),
-              ("versions told otherwise", other_versions)]
+              ("targets and lines of make help that differ", unlisted_targets), ("links that lead nowhere", dead_links),
+              ("pages too long", long_readme), ("other logics", other_logics),
+              ("other versions", other_versions)]
     counts = []
     for what, check in checks:
         found = list(check())
         counts.append(f"{len(found)} {what}")
         for line in found:
             print(line)
+    print(f"README.md: {words_of_readme()} of {MOST_WORDS} words")
     print("; ".join(counts))
     sys.exit(0 if all(count.startswith("0 ") for count in counts) else 1)
 

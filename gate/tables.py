@@ -1,0 +1,245 @@
+#!/usr/bin/env python3
+"""Writes the tables of options, statuses and faults in README, USING and the manual page lrupd.1.
+
+    python3 gate/tables.py            writes them
+    python3 gate/tables.py --check    fails where one isn't what the sources give
+
+The sources are docs/interface.txt, and of the options the program's own texts, crates/command_line/src/help.rt. Each table stands
+between a comment that has its name and says what it is made from, and one that says where it ends. It fails where a text of an
+option in docs/interface.txt isn't in the program's, or where faults and causes have other texts there than in the definitions.
+"""
+import re
+import sys
+import textwrap
+from pathlib import Path
+from typing import Callable, Dict, Iterator, List, NamedTuple, Sequence, Set
+
+ROOT = Path(__file__).resolve().parent.parent
+SOURCE = ROOT / "docs" / "interface.txt"
+HELP = ROOT / "crates" / "command_line" / "src" / "help.rt"
+FAULTS = ROOT / "crates" / "stream_check" / "specs" / "Faults.antt"
+CAUSES = [ROOT / "crates" / "command" / "specs" / "Faults.antt", ROOT / "crates" / "lrup_model" / "specs" / "Layout.antt"]
+COLUMNS = 79  # of the manual page
+FIELDS = {"option": ["brief"], "status": ["meaning", "says"], "fault": ["meaning", "cause"]}  # all but the first may be missing
+
+Entry = Dict[str, str]
+
+
+class Option(NamedTuple):
+    """An option with its placeholder, `--tries N`, what stands in tables, and all that the program says of it."""
+    head: str
+    brief: str
+    text: str
+
+    def default(self) -> str:
+        found = re.search(r", default ([\d,]+)\. ", self.text)
+        return found[1] if found else ""
+
+
+# The sources.
+
+
+def entries(kind: str) -> List[Entry]:
+    """The entries of a kind, each with its fields and, under the kind, its head."""
+    found = []
+    lines = [line for line in SOURCE.read_text().splitlines() if not line.startswith("#")]
+    for block in "\n".join(lines).strip().split("\n\n"):
+        pairs = [line.partition(": ") for line in re.sub(r"\n +", " ", block).split("\n")]
+        entry = {key: value for key, _, value in pairs}
+        first = pairs[0][0]
+        fields = FIELDS.get(first, [])
+        if not fields or fields[0] not in entry or len(entry) != len(pairs) or not entry.keys() <= {first, *fields}:
+            sys.exit(f"tables: docs/interface.txt: not an entry:\n{block}")
+        if first == kind:
+            found.append(entry)
+    return found
+
+
+def program_texts() -> Dict[str, str]:
+    """The texts of help.rt, in one line each, by the names of its constants."""
+    found = re.findall(r'^pub const (\w+): &str = "\\?\n?((?:[^"\\]|\\.)*)";$', HELP.read_text(), re.M)
+    return {name: text if name == "EXAMPLE" else " ".join(text.split()) for name, text in found}
+
+
+def options() -> List[Option]:
+    """The options in the order of docs/interface.txt."""
+    texts = program_texts()
+    found = [Option(entry["option"], entry["brief"], texts.get(constant_of(entry["option"]), "")) for entry in entries("option")]
+    if {constant_of(option.head) for option in found} != texts.keys() - {"VERSION", "PROGRAM", "FORMULA", "STREAM", "EXAMPLE"}:
+        sys.exit("tables: docs/interface.txt and help.rt have other options")
+    for option in found:
+        for sentence in option.brief.replace("`", "'").split(". "):
+            if not re.search(rf"(^|\. ){re.escape(sentence)}[.,:] ", option.text + " "):
+                sys.exit(f"tables: {option.head}: help.rt doesn't say '{sentence}'")
+    return found
+
+
+def texts_of(path: Path, identity: str) -> Set[str]:
+    """The texts in a file's definitions `.._text`, with this letter for a number in decimal."""
+    codes = r'codes "[^"]*"'
+    found = re.findall(rf"^\w+_text .* =\s+({codes}(?: \+\+ (?:{codes}|decimal \w+))*)$", path.read_text(), re.M)
+    return {re.sub(r'codes "([^"]*)"', r"\1", re.sub(r"decimal \w+", identity, text).replace(" ++ ", "")) for text in found}
+
+
+def refuse_others(kind: str, path: str, said: Set[str], defined: Set[str], covers: Callable[[str, str], bool]) -> None:
+    """Ends where docs/interface.txt says what no definition has, or the other way round."""
+    unsaid = [text for text in sorted(defined) if not any(covers(one, text) for one in said)]
+    made_up = [one for one in sorted(said) if not any(covers(one, text) for text in defined)]
+    lines = [f"tables: docs/interface.txt lacks the {kind} `{text}`, of {path}" for text in unsaid]
+    lines += [f"tables: docs/interface.txt has the {kind} `{one}`, and {path} hasn't" for one in made_up]
+    if lines:
+        sys.exit("\n".join(lines))
+
+
+def faults() -> List[Entry]:
+    """The faults of a line, in the order of docs/interface.txt."""
+    found = entries("fault")
+    refuse_others("fault", str(FAULTS.relative_to(ROOT)), {entry["fault"] for entry in found}, texts_of(FAULTS, "H"), str.__eq__)
+    return found
+
+
+def causes() -> List[Entry]:
+    """The statuses with which standard error says something."""
+    found = [entry for entry in entries("status") if "says" in entry]
+    said = {span for entry in found for span in re.findall("`([^`]+)`", entry["says"])}
+    defined = {text for path in CAUSES for text in texts_of(path, "S")}
+    refuse_others("cause", " or ".join(str(path.relative_to(ROOT)) for path in CAUSES), said, defined, is_cause)
+    return found
+
+
+def is_cause(span: str, text: str) -> bool:
+    """Whether what stands in backticks is the text, its end after a colon, or with two dots what it begins with."""
+    return text == span or text.endswith(f": {span}") or (span.endswith(" ..") and text.startswith(span[:-2]))
+
+
+def constant_of(head: str) -> str:
+    """The constant of help.rt that has the text of `--tries N`."""
+    return head.split()[0].removeprefix("--").replace("-", "_").upper()
+
+
+def sizes() -> str:
+    """The program's sentence behind the options, on how large all is together."""
+    return " ".join(program_texts()["EXAMPLE"].split("\n\n")[0].split())
+
+
+# Markdown.
+
+
+def table(titles: Sequence[str], rows: Sequence[Sequence[str]]) -> str:
+    shown = ["|" + "".join(f" {cell} |" if cell else " |" for cell in row) for row in [titles, *rows]]
+    return "\n".join([shown[0], "|" + "---|" * len(titles), *shown[1:]])
+
+
+def option_table() -> str:
+    rows = [[f"`{option.head}`", option.default(), option.brief] for option in options()]
+    return table(["Option", "Default", ""], rows) + "\n\n" + textwrap.fill(sizes(), 128)
+
+
+def status_table() -> str:
+    return table(["Status", "Meaning"], [[entry["status"], entry["meaning"]] for entry in entries("status")])
+
+
+def cause_table() -> str:
+    return table(["Status", "Cause"], [[entry["status"], entry["says"]] for entry in causes()])
+
+
+def fault_table() -> str:
+    rows = [[f"`{entry['fault']}`", entry["meaning"], entry.get("cause", "")] for entry in faults()]
+    return table(["Fault", "Meaning", "Usual cause"], rows)
+
+
+# The manual page, in mdoc.
+
+
+def marked(text: str) -> str:
+    """A text of the program with backticks round what it quotes, and round options and placeholders."""
+    return re.sub(r"(?<!\w)'([^']+)'(?!\w)|(?<![\w-])(--[a-z]+|FILE|FORMULA|STREAM)(?!\w)", r"`\1\2`", text)
+
+
+def macro(span: str) -> str:
+    """The macro for what stood in backticks."""
+    if span.startswith("--"):
+        return f".Fl {span[1:]}"
+    return f".Ar {span if len(span) == 1 else span.lower()}" if re.fullmatch("[A-Z]+", span) else f".Ql {span}"
+
+
+def prose(text: str) -> str:
+    """A marked text, each sentence and each macro in lines of their own."""
+    lines: List[str] = []
+    for sentence in re.split(r"(?<=\.) (?=[A-Z0-9`])", text):
+        for at, piece in enumerate(re.split(r"`([^`]+)`", sentence)):
+            if at % 2:
+                lines.append(macro(piece))
+                continue
+            stop = re.match(r"[.,:;]+", piece) if at else None
+            if stop:
+                lines[-1] += f" {stop[0]}"
+                piece = piece[stop.end():]
+            lines += textwrap.wrap(piece.strip(), COLUMNS, break_on_hyphens=False, break_long_words=False)
+    return "\n".join(lines)
+
+
+def heading(head: str) -> str:
+    """A head with its macros: an option and its placeholder, or a fault and its identity."""
+    first, _, placeholder = head.rpartition(" ")
+    if not re.fullmatch("[A-Z]+", placeholder):
+        first, placeholder = head, ""
+    words = macro(first)[1:] if first.startswith("--") else first
+    return words + (" " + macro(placeholder)[1:] if placeholder else "")
+
+
+def items(pairs: Sequence[Sequence[str]]) -> str:
+    return "\n".join(f".It {heading(head)}\n{prose(text)}" for head, text in pairs)
+
+
+def synopsis() -> str:
+    return "\n".join(f".Op {heading(option.head)}" for option in options())
+
+
+# The parts of each document.
+
+Part = Callable[[], str]
+PARTS: Dict[str, Dict[str, Part]] = {
+    "README.md": {"options": option_table, "statuses": status_table},
+    "docs/USING.md": {"faults": fault_table, "causes": cause_table},
+    "docs/lrupd.1": {
+        "synopsis": synopsis,
+        "options": lambda: items([(option.head, marked(option.text)) for option in options()]),
+        "sizes": lambda: prose(sizes()),
+        "faults": lambda: items([(entry["fault"], entry["meaning"]) for entry in faults()]),
+        "statuses": lambda: items([(entry["status"], entry["meaning"]) for entry in entries("status")])},
+}
+
+
+def written_anew(name: str, parts: Dict[str, Part]) -> str:
+    """The document with these parts as the sources have them."""
+    text = (ROOT / name).read_text()
+    opening, closing = ("<!-- ", " -->") if name.endswith(".md") else ('.\\" ', "")
+    apart = "\n\n" if name.endswith(".md") else "\n"
+    for part, made in parts.items():
+        begins = f"{opening}{part}: made by `make tables` from docs/interface.txt{closing}"
+        ends = f"{opening}end of {part}{closing}"
+        if text.count(begins) != 1 or text.count(ends) != 1 or text.index(ends) < text.index(begins):
+            sys.exit(f"tables: {name} has no lines '{begins}' and '{ends}', in this order")
+        before, _, rest = text.partition(begins)
+        text = f"{before}{begins}{apart}{made()}{apart}{ends}{rest.partition(ends)[2]}"
+    return text
+
+
+def differing() -> Iterator[str]:
+    """The documents that have another table than the sources give."""
+    return (name for name, parts in PARTS.items() if written_anew(name, parts) != (ROOT / name).read_text())
+
+
+def main(words: Sequence[str]) -> None:
+    if words not in ([], ["--check"]):
+        sys.exit(__doc__)
+    stale = list(differing())
+    if words and stale:
+        sys.exit("\n".join(f"{name} has other tables than docs/interface.txt and help.rt: run make tables" for name in stale))
+    for name in stale:
+        (ROOT / name).write_text(written_anew(name, PARTS[name]))
+
+
+if __name__ == "__main__":
+    main(sys.argv[1:])
