@@ -10,7 +10,7 @@ EXACT := tools/exact/out/exact
 SOLVE := tools/solve/out/lrup-solve
 SOLVE_FLAGS ?= -O2
 # What of the filter is part of lrup-solve.
-FILTER := $(filter-out tools/exact/main.c,$(wildcard tools/exact/*.c))
+FILTER := $(filter-out tools/exact/main.c tools/exact/chain.c,$(wildcard tools/exact/*.c))
 # Of one process.
 ALONE := $(filter-out $(wildcard tools/solve/mpi*.cpp),$(wildcard tools/solve/*.cpp))
 # What the tests of programs wait for: 'make examples BUILT= PROGRAM=path' takes another program.
