@@ -53,9 +53,12 @@ static void make_files(void) {
     name_file(sizes, "sizes");
     name_file(stream, "stream-1");
     int out = open(sizes, O_WRONLY | O_CREAT | O_EXCL, 0666);
-    if (out < 0 || !write_whole(out, text, (size_t)length) || close(out) != 0) fail("cannot write", sizes);
+    if (out < 0) fail("cannot make", sizes);
+    bool written = write_whole(out, text, (size_t)length);
     is_awaited = 1;
-    if (mkfifo(stream, 0666) != 0) fail("cannot make", stream);
+    if (close(out) == 0 && written && mkfifo(stream, 0666) == 0) return;
+    unlink(sizes);
+    fail("cannot make", stream);
 }
 
 static void remove_files(void) {
