@@ -101,8 +101,9 @@ solve-mpi: solve mpicxx ## build: lrup-solve-mpi, the same in several processes 
 solver-test: $(BUILT) solver ## check: the example solver's streams, of one to eight solvers, and of some that are killed
 	@python3 tests/example_solver.py $(PROGRAM) $(SOLVER)
 
-filter-test: $(BUILT) exact ## check: the filter, with the solvers that are on the PATH, and 10,000 mutated proofs
-	@python3 tests/filter_streams.py $(PROGRAM) && python3 tests/filter_mutants.py $(PROGRAM)
+filter-test: $(BUILT) exact ## check: the filter, in rounds too, with the solvers that are on the PATH, and 10,000 mutated proofs
+	@python3 tests/filter_streams.py $(PROGRAM) && python3 tests/filter_rounds.py $(PROGRAM)
+	@python3 tests/filter_mutants.py $(PROGRAM)
 
 # Without CaDiCaL's library nothing is run, and without MPI nothing of lrup-solve-mpi. The gate leaves that out: it takes ten minutes,
 # and its processes race with the clock.
