@@ -26,9 +26,10 @@ from pathlib import Path
 from typing import IO, Dict, Iterator, List, NamedTuple, Optional, Sequence, Tuple, Union
 
 sys.dont_write_bytecode = True
-from harness import (FILTER, FOUR, LIMIT, LRUP_CHAIN, SANITIZE, SANITIZED, SANITIZING, Failure, Row, Skipped, example, generated,
-                     is_sanitizing, piped, run, run_all, sanitized_filter, started, until, want, words_given, written)
-from proof_forms import FORMS, Clause, Step, read_formula, read_steps
+from harness import (FILTER, FOUR, LIMIT, LRUP_CHAIN, SANITIZE, SANITIZED, SANITIZING, Failure, Row, Skipped, dimacs, example,
+                     generated, is_sanitizing, piped, run, run_all, sanitized_filter, started, until, want, words_given, written)
+from proof_forms import FORMS, Step, read_formula, read_steps
+from solving import in_place_of_lrupd
 
 PROGRAM, = words_given(__doc__)
 Text = Union[str, bytes]
@@ -89,6 +90,11 @@ def chain(formula: Path, proof: Text, words: Sequence[object], work: Path, progr
         return chain_beside(running, formula, work, lrupd)
 
 
+def before_lrupd(body: str, work: Path) -> Path:
+    """A program that does this, and goes on as lrupd."""
+    return in_place_of_lrupd(f'{body}\nexec {shlex.quote(PROGRAM)} "$@"', work)
+
+
 def left(work: Path) -> List[str]:
     return sorted(os.listdir(work / "d"))
 
@@ -144,7 +150,7 @@ EARLY = "cadical -q --reduceint=20 --elimint=10 --probeint=10 --subsumeint=10"
 SOLVED = [("cadical -q", "binary-drat", "random 180 3", "500K", 3, 8), ("cadical -q --no-binary", "", "random 180 3", "600K", 3, 8),
           (EARLY, "binary-drat", "random 170 4", "300K", 3, 50), (EARLY + " --no-binary", "", "pigeons 7", "200K", 3, 50),
           ("cadical -q", "binary-drat", "order 15", "1M", 1, 1), ("cadical -q", "binary-drat", "random 150 1", None, 1, 1),
-          ("cryptominisat5 --verb 0", "", "random 170 4", "900K", 2, 8), ("cryptominisat5 --verb 0", "frat", "order 15", "1M", 1, 1)]
+          ("cryptominisat5 --verb 0", "", "random 170 4", "900K", 2, 8), ("cryptominisat5 --verb 0", "frat", "order 15", "1M", 2, 8)]
 
 
 def solved(command: str, form: str, words: str, memory: Optional[str], least: int, most: int, live: bool, work: Path) -> None:
@@ -171,6 +177,18 @@ def behind(work: Path) -> None:
     chained = chain(formula, proof + "3 0\n", ["--memory", "1K"], work)
     want((chained.status, chained.filter_status, chained.filter_said),
          (0, 1, "exact: line 1003: a variable that the formula doesn't have\n"), "the end of one with a wrong line there")
+
+
+def rows_grow(work: Path) -> None:
+    """The first one is small, and each next one has room for twice as much."""
+    literals = list(range(3, 1003))
+    formula = written(dimacs(1002, [[1, 2], [-1, 2], [1, -2], [-1, -2], literals]), work)
+    text = " ".join(map(str, literals))
+    proof = "".join(f"{number} {text} 0 5 0\n{number} d {number} 0\n" for number in range(6, 3206))
+    lrupd = before_lrupd('echo "$2 $4" >> sizes', work)
+    want_refuted(chain(formula, proof + "3206 2 0 1 2 0\n3207 0 3206 3 4 0\n", [], work, lrupd=lrupd), 3, 3, work)
+    found = [sum(map(int, line.split())) for line in (work / "sizes").read_text().splitlines()]
+    want(found, [1 << 20, 1 << 21, 1 << 22], "lines and room of the rounds")
 
 
 def few_lines(formula: str, proof: str, status: int, said: str, work: Path) -> None:
@@ -287,18 +305,6 @@ USAGE += [(f"--rounds d --memory {word} FORMULA", f"no size, as 500000000, 500M 
 # Either side that ends early: neither waits for the other for ever.
 
 
-def wrapped(round_number: int, body: str, work: Path) -> Path:
-    """lrupd, but in this round the shell does something else; $stream is the stream."""
-    text = f"""#!/bin/sh
-for stream; do :; done
-case $stream in */round-{round_number}.stream-1) {body} ;; esac
-exec {shlex.quote(PROGRAM)} "$@"
-"""
-    path = written(text, work, "lrupd")
-    path.chmod(0o755)
-    return path
-
-
 def gone(number: int) -> str:
     return GONE + f"d/round-{number}.stream-1\n"
 
@@ -306,7 +312,8 @@ def gone(number: int) -> str:
 def chain_ends(number: int, body: str, status: int, said: str, awaited: int, work: Path) -> None:
     """In this round, for a reason of its own. The filter hears of it while it waits at the FIFO of that round or the next one."""
     proof, word, _ = proof_of("bmc.cnf", "bmc.lrup", "binary DRAT")
-    chained = chain(example("bmc.cnf"), proof, ["--memory", "48K", "--format", word], work, lrupd=wrapped(number, body, work))
+    lrupd = before_lrupd(f"for stream; do :; done; case $stream in */round-{number}.stream-1) {body} ;; esac", work)
+    chained = chain(example("bmc.cnf"), proof, ["--memory", "48K", "--format", word], work, lrupd=lrupd)
     found = chained.said.splitlines()[-1:], chained.status, chained.filter_status, len(chained.reports)
     want(found, ([said], status, 1, number - (status != 3)), "the ends")
     if not re.fullmatch("exact: byte [0-9]+: " + gone(awaited), chained.filter_said):
@@ -493,9 +500,9 @@ def rows() -> List[Row]:
             found.append((f"{command}, {words}" + ", live" * live, solved, command, form, words, *rest, live))
     found += [(f"few lines: {name}", few_lines, *rest) for name, *rest in FEW]
     found += [(f"{parts} tenths, {form}", cut, parts, form) for parts in (4, 8) for form in ("LRAT text", "DRAT text", "binary DRAT")]
-    found += [(f"a wrong step, {form}", wrong, form, at) for form, at in (("LRAT text", 2500), ("DRAT text", 3000), ("binary DRAT", 3000))]
-    found += [("behind the empty clause", behind), ("no room", no_room), ("no room for one clause", no_room_for_one),
-              ("an import", imported), ("other files", beside_others), ("no folder", no_folder)]
+    found += [(f"a wrong step, {form}", wrong, form, 2500) for form in ("LRAT text", "DRAT text", "binary DRAT")]
+    found += [("rows grow", rows_grow), ("behind the empty clause", behind), ("no room", no_room),
+              ("no room for one clause", no_room_for_one), ("an import", imported), ("other files", beside_others), ("no folder", no_folder)]
     found += [(f"{name} is there", in_the_way, name)
               for name in ("round-1.stream-1", "round-1.stream-2", "round-1.sizes", "round-2.cnf", "round-7.sizes")]
     found += [(f"exact {words}", usage, words, cause) for words, cause in USAGE]
@@ -505,8 +512,8 @@ def rows() -> List[Row]:
               ("not whole", chain_ends, 3, NOT_WHOLE, 3, NOT_ENDED.format(3)[:-1], 4)]
     found += [("lrup-chain killed", chain_killed, False), ("all of the chain killed", chain_killed, True), ("lrupd killed", lrupd_killed)]
     for by in (signal.SIGTERM, signal.SIGINT, signal.SIGHUP):
-        found += [(f"ended by {by} before it begins", ended_before_it_begins, by), (f"ended by {by} while lrupd waits",
-                  ended_while_lrupd_waits, by)]
+        found += [(f"ended by {by} before it begins", ended_before_it_begins, by),
+                  (f"ended by {by} while lrupd waits", ended_while_lrupd_waits, by)]
     found += [(f"the filter killed by {by}", filter_killed, by) for by in (signal.SIGKILL, signal.SIGTERM)]
     return [*found, ("nobody reads", nobody), ("without a pipe", without_a_pipe), ("a signal that is ignored", ignored)]
 
