@@ -29,7 +29,7 @@ sys.dont_write_bytecode = True
 from harness import (FILTER, FOUR, LIMIT, LRUP_CHAIN, SANITIZE, SANITIZED, SANITIZING, Failure, Row, Skipped, dimacs, example,
                      generated, is_sanitizing, piped, run, run_all, sanitized_filter, started, until, want, words_given, written)
 from proof_forms import FORMS, Step, read_formula, read_steps
-from solving import in_place_of_lrupd
+from solving import in_place_of_lrupd, of_process
 
 PROGRAM, = words_given(__doc__)
 Text = Union[str, bytes]
@@ -371,8 +371,14 @@ def in_a_round(work: Path) -> Iterator[Sides]:
             yield Sides(running, chaining, pipe, proof[half:])
 
 
+def want_told(filter_said: str, can_write: bool) -> None:
+    """Nobody will read the next stream. One whose lrupd was killed can't be written, or was written just before that."""
+    unwritten = "" if can_write else "cannot write the stream: Broken pipe|"
+    if not re.fullmatch(rf"exact: ({unwritten}byte \d+: {GONE}d/round-\d+\.stream-1)\n", filter_said):
+        raise Failure(f"what the filter says: {filter_said}")
+
+
 def chain_killed(lrupd_too: bool, work: Path) -> None:
-    """The filter can't write the stream; or it ends it, and is told that nobody will read the next one."""
     with in_a_round(work) as sides:
         lrupd = sides.lrupd()
         os.kill(sides.chaining.pid, signal.SIGKILL)
@@ -381,7 +387,7 @@ def chain_killed(lrupd_too: bool, work: Path) -> None:
         sides.go_on()
         said, status, filter_said, filter_status = sides.ends()
     want((status, filter_status), (-signal.SIGKILL, 1), f"the statuses, after\n{said}\n{filter_said}")
-    want(("cannot write the stream: " in filter_said, GONE in filter_said), (lrupd_too, not lrupd_too), filter_said)
+    want_told(filter_said, not lrupd_too)
 
 
 def lrupd_killed(work: Path) -> None:
@@ -389,8 +395,8 @@ def lrupd_killed(work: Path) -> None:
         os.kill(sides.lrupd(), signal.SIGKILL)
         sides.go_on()
         said, status, filter_said, filter_status = sides.ends()
-    want((said.endswith(": lrupd ended with status 137"), status), (True, 137), said)
-    want((filter_said, filter_status), ("exact: cannot write the stream: Broken pipe\n", 1), "what the filter says")
+    want((said.endswith(": lrupd ended with status 137"), status, filter_status), (True, 137, 1), f"{said}\n{filter_said}")
+    want_told(filter_said, False)
 
 
 def filter_killed(by: int, work: Path) -> None:
@@ -409,6 +415,12 @@ def ended_before_it_begins(by: int, work: Path) -> None:
         want((end_of(running), left(work)), (("", -by), []), "the end, and what is left")
 
 
+def child_sleeps(pid: int) -> bool:
+    time.sleep(0.05)
+    children = of_process(pid, f"task/{pid}/children").split()
+    return [of_process(int(child), "stat").rsplit(")", 1)[-1].split()[:1] for child in children] == [["S"]]
+
+
 def ended_while_lrupd_waits(by: int, work: Path) -> None:
     """It is at the FIFO, and the filter isn't yet: it gets an empty stream."""
     formula = example("bmc.cnf")
@@ -418,7 +430,7 @@ def ended_while_lrupd_waits(by: int, work: Path) -> None:
         os.kill(running.pid, signal.SIGSTOP)
         with started([LRUP_CHAIN, "--lrupd", PROGRAM, formula, "d"], cwd=work, stdin=subprocess.DEVNULL, stdout=subprocess.PIPE,
                      stderr=subprocess.PIPE, text=True) as chaining:
-            time.sleep(0.5)
+            until("lrupd is at the FIFO", lambda: all(child_sleeps(chaining.pid) for _ in range(6)))
             for number in (by, signal.SIGCONT):
                 os.kill(running.pid, number)
             out, said = chaining.communicate(timeout=LIMIT)
