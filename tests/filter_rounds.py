@@ -514,7 +514,8 @@ def rows() -> List[Row]:
     found += [(f"{parts} tenths, {form}", cut, parts, form) for parts in (4, 8) for form in ("LRAT text", "DRAT text", "binary DRAT")]
     found += [(f"a wrong step, {form}", wrong, form, 2500) for form in ("LRAT text", "DRAT text", "binary DRAT")]
     found += [("rows grow", rows_grow), ("behind the empty clause", behind), ("no room", no_room),
-              ("no room for one clause", no_room_for_one), ("an import", imported), ("other files", beside_others), ("no folder", no_folder)]
+              ("no room for one clause", no_room_for_one), ("an import", imported), ("other files", beside_others),
+              ("no folder", no_folder)]
     found += [(f"{name} is there", in_the_way, name)
               for name in ("round-1.stream-1", "round-1.stream-2", "round-1.sizes", "round-2.cnf", "round-7.sizes")]
     found += [(f"exact {words}", usage, words, cause) for words, cause in USAGE]
