@@ -10,7 +10,7 @@ EXACT := tools/exact/out/exact
 SOLVE := tools/solve/out/lrup-solve
 SOLVE_FLAGS ?= -O2
 # What of the filter is part of lrup-solve.
-FILTER := $(filter-out tools/exact/main.c,$(wildcard tools/exact/*.c))
+FILTER := $(filter-out tools/exact/main.c tools/exact/chain.c,$(wildcard tools/exact/*.c))
 # Of one process.
 ALONE := $(filter-out $(wildcard tools/solve/mpi*.cpp),$(wildcard tools/solve/*.cpp))
 # What the tests of programs wait for: 'make examples BUILT= PROGRAM=path' takes another program.
@@ -101,8 +101,9 @@ solve-mpi: solve mpicxx ## build: lrup-solve-mpi, the same in several processes 
 solver-test: $(BUILT) solver ## check: the example solver's streams, of one to eight solvers, and of some that are killed
 	@python3 tests/example_solver.py $(PROGRAM) $(SOLVER)
 
-filter-test: $(BUILT) exact ## check: the filter, with the solvers that are on the PATH, and 10,000 mutated proofs
-	@python3 tests/filter_streams.py $(PROGRAM) && python3 tests/filter_mutants.py $(PROGRAM)
+filter-test: $(BUILT) exact ## check: the filter, in rounds too, with the solvers that are on the PATH, and 10,000 mutated proofs
+	@python3 tests/filter_streams.py $(PROGRAM) && python3 tests/filter_rounds.py $(PROGRAM)
+	@python3 tests/filter_mutants.py $(PROGRAM)
 
 # Without CaDiCaL's library nothing is run, and without MPI nothing of lrup-solve-mpi. The gate leaves that out: it takes ten minutes,
 # and its processes race with the clock.

@@ -24,15 +24,10 @@ from pathlib import Path
 from typing import Callable, List, Optional, Tuple
 
 sys.dont_write_bytecode = True
-from harness import ROOT, closing, compiled, compiler, example, run, words_given, written
+from harness import FILTER, SANITIZE, SANITIZED, SANITIZING, closing, example, is_sanitizing, run, sanitized_filter, words_given, written
 from proof_forms import FORMS, Clause, Step, read_formula, read_steps, varint
 
-SOURCES = sorted((ROOT / "tools" / "exact").glob("*.c"))
-OUT = ROOT / "tools" / "exact" / "out"
-SANITIZED = OUT / "exact-sanitized"
-KEPT = OUT / "mutants"
-SANITIZE = ["-std=c11", "-O1", "-g", "-fsanitize=address,undefined", "-fno-sanitize-recover=all"]
-OPTIONS = {"ASAN_OPTIONS": "exitcode=99", "UBSAN_OPTIONS": "exitcode=99:print_stacktrace=1"}
+KEPT = FILTER.parent / "mutants"
 SECONDS = 20
 
 # The word of --format, the formula and the steps.
@@ -52,13 +47,6 @@ LINE = re.compile(rb"(?:" + NUMBER + rb" (?:-?" + NUMBER + rb" )*0 (?:" + NUMBER
                   + NUMBER + rb" d (?:" + NUMBER + rb" )*0|" + NUMBER + rb" i (?:-?" + NUMBER + rb" )*0)")
 # The report on a stream that is well spelled, and whose lines are exact.
 ENDS = re.compile(r"c stream \d+: \d+ added, \d+ deleted, (ended|bad line \d+ \((identity|no room|missing \d+)\))")
-
-
-def is_sanitizing() -> bool:
-    """Whether the compiler has the sanitizers."""
-    with tempfile.TemporaryDirectory() as work:
-        source, one = written("int main(void) { return 0; }\n", Path(work), "one.c"), Path(work) / "one"
-        return run([*compiler(*SANITIZE), "-o", one, source]).status == 0 and run([one]).status == 0
 
 
 def in_each_form(name: str, steps_of: Callable[[List[Clause]], List[Step]]) -> List[Base]:
@@ -194,7 +182,7 @@ def report_of(program: str, mutant: Mutant, text: bytes, work: Path) -> Optional
 def fault_of(program: str, mutant: Mutant, work: Path) -> Optional[str]:
     try:
         out, err, status = run([SANITIZED, *mutant.words], mutant.proof if mutant.piped else None, SECONDS,
-                               env={**os.environ, **OPTIONS})
+                               env={**os.environ, **SANITIZING})
     except subprocess.TimeoutExpired:
         return f"no end after {SECONDS} seconds"
     one_line = err.startswith("exact: ") and err.count("\n") == 1 and err.endswith("\n")
@@ -231,8 +219,7 @@ def main() -> int:
     if not is_sanitizing():
         print(f"mutants: skipped, the C compiler doesn't build with {SANITIZE[3]}")
         return closing(0, 0, count)
-    OUT.mkdir(exist_ok=True)
-    compiled(SANITIZED, SOURCES, *SANITIZE)
+    sanitized_filter()
     failed = 0
     with multiprocessing.Pool() as workers:
         jobs = ((program, number) for number in range(first, first + count))

@@ -21,6 +21,8 @@ ROOT = TESTS.parent
 EXAMPLES = ROOT / "examples"
 GENERATOR = EXAMPLES / "solver" / "generate.py"
 LRUP_CHAIN = ROOT / "tools" / "lrup-chain"
+EXACT = ROOT / "tools" / "exact"
+FILTER, SANITIZED = EXACT / "out" / "exact", EXACT / "out" / "exact-sanitized"
 LIMIT = 120  # seconds, after which a run hangs
 FOUR = "p cnf 2 4\n1 2 0\n-1 2 0\n1 -2 0\n-1 -2 0\n"
 VERDICTS = {0: "s UNSATISFIABLE", 3: "s UNKNOWN", 8: "s UNSATISFIABLE UNDER ASSUMPTIONS"}
@@ -161,6 +163,23 @@ def compiler(*flags: str) -> List[str]:
 def compiled(program: Path, sources: Sequence[Path], *flags: str) -> Path:
     subprocess.run([*compiler(*flags), "-o", str(program), *map(str, sources)], check=True)
     return program
+
+
+SANITIZE = ["-std=c11", "-O1", "-g", "-fsanitize=address,undefined", "-fno-sanitize-recover=all"]
+SANITIZING = {"ASAN_OPTIONS": "exitcode=99", "UBSAN_OPTIONS": "exitcode=99:print_stacktrace=1"}     # for the environment
+
+
+def is_sanitizing() -> bool:
+    """Whether the compiler has the sanitizers."""
+    with tempfile.TemporaryDirectory() as work:
+        source, one = written("int main(void) { return 0; }\n", Path(work), "one.c"), Path(work) / "one"
+        return run([*compiler(*SANITIZE), "-o", one, source]).status == 0 and run([one]).status == 0
+
+
+def sanitized_filter() -> None:
+    """The filter, built so that it reports undefined behaviour."""
+    SANITIZED.parent.mkdir(exist_ok=True)
+    compiled(SANITIZED, sorted(EXACT.glob("*.c")), *SANITIZE)
 
 
 def words_given(usage: Optional[str], least: int = 1, most: int = 1) -> List[str]:

@@ -240,7 +240,14 @@ void filter_write_deletion(Filter *filter);                     // of the identi
 
 // rounds.c: from a run of lrupd to the next one.
 void round_delete(Filter *filter, const Identities *kept);
+uint64_t round_clauses(const Filter *filter, uint64_t *literals);
+void round_make_room(const Filter *filter, bool (*has_room)(uint64_t literals), void (*next_round)(uint64_t literals));
 void round_begin(Filter *filter, const Checkpoint *checkpoint, uint64_t stream, uint64_t streams);
+
+// chain.c: a stream for each round of lrup-chain.
+void chain_open(const char *folder);
+void chain_begin(Filter *filter, uint64_t memory);
+void chain_end(void);
 
 Form form_of(Input *input, const Formula *formula);         // detect.c
 

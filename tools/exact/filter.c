@@ -10,11 +10,12 @@ static void make_known(Filter *filter, Place place) {
     if (!filter->frat) clauses_keep_set(&filter->clauses, place);
 }
 
-// With FRAT the formula's clauses have names as the proof tells them, and else by their order. Of the formula two numbers stay.
+// With FRAT the formula's clauses have names as the proof tells them, and else by their order. Of the formula two numbers stay. In
+// rounds gaps between identities would count towards the row's lines.
 void filter_open(Filter *filter, bool frat) {
     Formula *formula = &filter->formula;
     filter->frat = frat;
-    filter->keeps_identities = filter->streams == 1 || filter->others.length > 0;
+    filter->keeps_identities = !filter->hooks && (filter->streams == 1 || filter->others.length > 0);
     propagation_open(&filter->propagation, &filter->clauses, formula->variables);
     hints_open(&filter->hints, &filter->clauses, formula->variables);
     for (size_t k = 0; k < formula->clauses; k++) {

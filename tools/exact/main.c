@@ -2,11 +2,12 @@
 // whose hints are missing, or not exact.
 //
 //     exact [--stream S --streams N] [--other T=STREAM]... [--format FORM] FORMULA [PROOF]
+//     exact --rounds DIR [--memory SIZE] [--format FORM] FORMULA [PROOF]
 //
 // PROOF, or standard input, is LRAT, DRUP, DRAT or FRAT text, or binary LRAT or DRAT. The stream goes to standard output, with
 // the identities of stream S of N (1 of 1). The hints that are given are tried first, in any order. Where they don't do, a chain is
 // looked for by unit propagation among all clauses that the proof has at that point. A clause of another stream has an import in
-// the proof, or is read where it is cited, as --other 2=proof2.
+// the proof, or is read where it is cited, as --other 2=proof2. With --rounds there is a stream for each round of lrup-chain.
 #include <errno.h>
 #include <signal.h>
 #include <stdarg.h>
@@ -64,7 +65,9 @@ void *zeroed(size_t count, size_t bytes) {
 
 static const char usage[] =
     "usage: exact [--stream S --streams N] [--other T=STREAM]... [--format FORM] FORMULA [PROOF]\n"
-    "FORM is lrat, drat, frat, binary-lrat or binary-drat; without it the first bytes of the proof tell the form.\n";
+    "       exact --rounds DIR [--memory SIZE] [--format FORM] FORMULA [PROOF]\n"
+    "FORM is lrat, drat, frat, binary-lrat or binary-drat; without it the first bytes of the proof tell the form.\n"
+    "lrup-chain FORMULA DIR reads what --rounds writes; SIZE is the most that lrupd may take for a round, as 500M or 2G.\n";
 
 static _Noreturn void refuse(const char *cause, const char *word) {
     fprintf(stderr, "%sexact: error: %s %s\n", usage, cause, word);
@@ -87,8 +90,16 @@ static uint64_t number_of(const char *word) {
     return number;
 }
 
+static uint64_t memory_of(const char *word) {
+    uint64_t bytes = memory_read(word);
+    if (bytes == 0) refuse("no size, as 500000000, 500M or 2G:", word);
+    if (bytes > MOST_MEMORY) refuse("more than 2147483648 bytes:", word);
+    return bytes;
+}
+
 typedef struct {
-    uint64_t stream, streams;
+    uint64_t stream, streams, memory;
+    const char *rounds;         // a folder, or NULL
     Form form;
     char **others;              // ends with NULL
     size_t others_length;
@@ -115,9 +126,20 @@ static void read_word(CommandLine *given, char ***words) {
     else if ((value = value_of(words, "--streams")) != NULL) given->streams = number_of(value);
     else if ((value = value_of(words, "--other")) != NULL) given->others[given->others_length++] = value;
     else if ((value = value_of(words, "--format")) != NULL) given->form = form_named(value);
+    else if ((value = value_of(words, "--rounds")) != NULL) given->rounds = value;
+    else if ((value = value_of(words, "--memory")) != NULL) given->memory = memory_of(value);
     else if (***words == '-') refuse("no such option:", **words);
     else if (given->files_length == 2) refuse("one word too many:", **words);
     else given->files[given->files_length++] = **words;
+}
+
+static void check(const CommandLine *given) {
+    if (given->files_length == 0) refuse("no", "FORMULA");
+    if (given->memory && !given->rounds) refuse("--memory without", "--rounds");
+    if (given->rounds && given->rounds[0] == 0) refuse("no folder after", "--rounds");
+    if (given->rounds && given->others_length > 0) refuse("--rounds takes one stream, and no", "--other");
+    if (given->rounds && (given->stream != 1 || given->streams != 1)) refuse("--rounds takes", "one stream");
+    if (given->stream < 1 || given->stream > given->streams) fail("the streams are 1 to", "N");
 }
 
 static void run(Filter *filter, Input *input, Form form) {
@@ -139,15 +161,17 @@ int main(int count, char **words) {
     CommandLine given = { .stream = 1, .streams = 1, .form = UNKNOWN_FORM };
     given.others = zeroed((size_t)count + 1, sizeof *given.others);
     for (char **word = words + 1; word < words + count; word++) read_word(&given, &word);
-    if (given.files_length == 0) refuse("no", "FORMULA");
-    if (given.stream < 1 || given.stream > given.streams) fail("the streams are 1 to", "N");
+    check(&given);
     signal(SIGPIPE, SIG_IGN);       // a reader that went away is told as a write that failed
+    if (given.rounds) chain_open(given.rounds);
     input_open(&input, given.files[1]);
     formula_read(&filter.formula, given.files[0]);
     for (size_t k = 0; k < given.others_length; k++) others_open(&filter.others, given.others[k], filter.formula.variables);
     filter.stream = given.stream;
     filter.streams = given.streams;
+    if (given.rounds) chain_begin(&filter, given.memory);
     run(&filter, &input, given.form);
+    if (given.rounds) chain_end();
     if (close(STDOUT_FILENO) != 0) fail("cannot write the stream:", strerror(errno));
     free(given.others);
     return 0;

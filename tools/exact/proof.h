@@ -1,4 +1,4 @@
-// Unverified: the forms of a proof, and checkpoints; for the filter and for tools/solve.
+// Unverified: the forms of a proof, checkpoints, and the sizes of rows; for the filter and for tools/solve.
 #ifndef PROOF_H
 #define PROOF_H
 
@@ -21,6 +21,33 @@ typedef struct {
 void checkpoint_read(Checkpoint *checkpoint, const char *path);
 uint64_t checkpoint_place(const Checkpoint *checkpoint, uint64_t identity);     // 0: it isn't there
 void checkpoint_free(Checkpoint *checkpoint);
+
+// row.c: the rows of a chain's runs.
+typedef struct { uint64_t lines, room; } Row;       // what each stream has, or has used
+
+typedef struct {
+    uint64_t memory;            // bytes of the largest row
+    uint64_t words;             // for all streams together, as far as there are so many
+    uint64_t least;             // that have to be left for them
+    uint64_t formula;           // words that the round's formula takes
+    Row row;                    // of the round
+} Rows;
+
+#define MOST_WORDS (UINT64_C(1) << 28)          // of a row
+#define MOST_MEMORY (8 * MOST_WORDS)
+
+uint64_t memory_read(const char *word);         // 2000000000, 2000M or 2G; 0: no such word, and above MOST_MEMORY: too much
+void rows_open(Rows *rows, uint64_t memory, uint64_t streams);  // 0 bytes: by the machine's memory
+void rows_grow(Rows *rows);                     // from a round to the next one
+
+// The row of a round whose formula has these clauses and literals. Clauses will have the length of those that all streams used in
+// the round before; one had so many literals that a stream had no room for it, or 0. False where the formula leaves too little.
+bool rows_size(Rows *rows, uint64_t streams, uint64_t clauses, uint64_t literals, Row used, uint64_t wanted);
+
+// Whether there is room for another clause.
+static inline bool row_holds(Row row, Row used, uint64_t literals) {
+    return used.lines < row.lines && used.room + literals <= row.room;
+}
 
 #ifdef __cplusplus
 }

@@ -82,6 +82,24 @@ void round_delete(Filter *filter, const Identities *kept) {
     filter_write_deletion(filter);
 }
 
+// What a run saves where the stream ends behind these deletions, and nothing was kept beside what the filter holds.
+uint64_t round_clauses(const Filter *filter, uint64_t *literals) {
+    uint64_t count = 0;
+    *literals = 0;
+    for (Place place = 0; (place = clauses_after(&filter->clauses, place)) != 0; count++)
+        *literals += clause_at(&filter->clauses, place)->length;
+    return count;
+}
+
+// Before a line: the row has room for it, or the stream ends here, since lrupd would refuse the line.
+void round_make_room(const Filter *filter, bool (*has_room)(uint64_t literals), void (*next_round)(uint64_t literals)) {
+    size_t length = filter->literals.length;
+    for (int tries = 0; !has_room(length); tries++) {
+        if (tries == 2) stop("a clause of %zu literals has no room in the row: --memory says how large it is", length);
+        next_round(length);
+    }
+}
+
 // Goes on with what was saved, as another stream. Names of the proof that were identities aren't any more.
 void round_begin(Filter *filter, const Checkpoint *checkpoint, uint64_t stream, uint64_t streams) {
     for (Place place = 0; (place = clauses_after(&filter->clauses, place)) != 0;) {

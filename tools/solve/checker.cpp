@@ -1,4 +1,4 @@
-// Unverified, as all of this solver. lrupd: where it is, its words, what it reads and says, and the sizes of its row.
+// Unverified, as all of this solver. lrupd: where it is, its words, what it reads and says.
 #include <algorithm>
 #include <cerrno>
 #include <csignal>
@@ -14,7 +14,6 @@
 
 namespace {
 
-const uint64_t USUAL_MEMORY = UINT64_C(1) << 29, LEAST_MEMORY = UINT64_C(1) << 26;
 const int STREAM_PIPE = 1 << 20, PIECE = 1 << 16;
 const uint64_t DROPPED = UINT64_C(1) << 22, PAGE = 4096;    // bytes that are given back at once
 const char TRIES[] = "1000000";     // a stream waits for another one's line up to a minute
@@ -86,19 +85,6 @@ std::string find_chain(const std::string &checker) {
 std::string tries() {
     const char *given = test_word("LRUP_SOLVE_TRIES");
     return given ? given : TRIES;
-}
-
-// An eighth of the machine's, up to half a gigabyte: at its start lrupd takes twice the row.
-uint64_t default_memory() {
-    long pages = sysconf(_SC_PHYS_PAGES), bytes = sysconf(_SC_PAGESIZE);
-    uint64_t all = pages > 0 && bytes > 0 ? uint64_t(pages) * uint64_t(bytes) : 0;
-    return std::min(USUAL_MEMORY, std::max(all / 8, LEAST_MEMORY));
-}
-
-// A clause takes a word, and each of its literals one. Clauses are cheap, so there is room for many that are only half as long.
-Row split(uint64_t words, double literals_of_a_clause) {
-    uint64_t lines = uint64_t(double(words) / (1 + literals_of_a_clause / 2));
-    return { lines, words - lines };
 }
 
 void Checker::start(const std::string &program, std::vector<std::string> words, std::vector<int> kept,

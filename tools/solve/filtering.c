@@ -166,20 +166,17 @@ static bool ends(void) {
     return refuted || LOAD(own->shared->over);
 }
 
-static bool has_room(size_t literals) {
-    return part->round_lines < LOAD(own->shared->most_lines) &&
-           part->round_literals + literals <= LOAD(own->shared->most_literals);
+static bool has_room(uint64_t literals) {
+    Row row = { LOAD(own->shared->most_lines), LOAD(own->shared->most_literals) };
+    return row_holds(row, (Row){ part->round_lines, part->round_literals }, literals);
 }
 
-// The row has room for another line, or the stream ends here: lrupd would refuse the line.
-static void derives(const Filter *one) {
-    for (int tries = 0; !has_room(one->literals.length); tries++) {
-        size_t length = one->literals.length;
-        if (tries == 2) stop("a clause of %zu literals has no room in the row: --memory says how large it is", length);
-        STORE(part->wanted, length);
-        next_round();
-    }
+static void next_round_for(uint64_t literals) {
+    STORE(part->wanted, literals);
+    next_round();
 }
+
+static void derives(const Filter *one) { round_make_room(one, has_room, next_round_for); }
 
 // Giving away.
 
@@ -260,7 +257,6 @@ static Form form_found(const Formula *formula) {
 static void read_proof(const Formula *formula) {
     bool is_unknown = own->form == UNKNOWN_FORM;
     filter_open(&filter, is_unknown || own->form == FRAT);
-    filter.keeps_identities = false;        // gaps would count towards the row's lines
     Form form = is_unknown ? form_found(formula) : own->form;
     if (form == FRAT) frat_run(&filter, &input);
     else if (form >= BINARY_LRAT) binary_run(&filter, &input, form);

@@ -9,8 +9,6 @@
 
 namespace {
 
-const uint64_t MOST_MEMORY = UINT64_C(1) << 31;     // bytes of lrupd's largest row
-
 const char summary[] =
     "\n"
     "Solves a formula in DIMACS CNF, standard input where none or - is named, with several engines of CaDiCaL that\n"
@@ -93,22 +91,11 @@ double seconds(const char *name, const char *value) {
     return found;
 }
 
-// With K, M, G or T, for powers of 1,000.
 uint64_t bytes(const char *name, const char *value) {
-    std::string digits = value;
-    uint64_t unit = 1;
-    const std::string units = "KMGT";
-    size_t place = digits.empty() ? std::string::npos : units.find(digits.back());
-    if (place != std::string::npos) {
-        digits.pop_back();
-        for (size_t k = 0; k <= place; k++) unit *= 1000;
-    }
-    const char *form = "bytes, as 2000000000, 2000M or 2G";
-    if (digits.empty() || digits.find_first_not_of("0123456789") != std::string::npos) bad_value(name, form, value);
-    uint64_t found = strtoull(digits.c_str(), nullptr, 10);
-    if (found == 0) bad_value(name, form, value);
-    if (digits.size() > 15 || found > MOST_MEMORY / unit) bad_value(name, "at most 2147483648 bytes", value);
-    return found * unit;
+    uint64_t found = memory_read(value);
+    if (found == 0) bad_value(name, "bytes, as 2000000000, 2000M or 2G", value);
+    if (found > MOST_MEMORY) bad_value(name, "at most 2147483648 bytes", value);
+    return found;
 }
 
 const char *name_of_file(const char *name, const char *what, const char *value) {

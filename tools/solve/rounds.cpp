@@ -1,6 +1,6 @@
 // Unverified, as all of this solver. Rounds: a row of lrupd's is made before it reads a line, and doesn't grow. Where it is full all
-// streams end after a whole line, lrupd saves the clauses that are there, and the next one reads them as its formula. Each row is
-// twice the one before, up to what --memory says: a short run gets a small one. The filters do the rest (filtering.c).
+// streams end after a whole line, lrupd saves the clauses that are there, and the next one reads them as its formula.
+// tools/exact/row.c has the sizes of rows; the filters do the rest (filtering.c).
 //
 // An answer rests on this: each lrupd but the last one ended with status 3, all its streams whole, and its checkpoint, in a folder
 // that is this process's alone, is the file that the next one read.
@@ -14,14 +14,7 @@
 
 namespace {
 
-const uint64_t MOST_WORDS = UINT64_C(1) << 28;      // of a row
-const uint64_t FIRST_WORDS = UINT64_C(1) << 20;     // of the first round's streams; where there are many, of each
-const uint64_t FIRST_OF_EACH = UINT64_C(1) << 18;
-const uint64_t LEAST_WORDS = 64;                    // of a stream
-const uint64_t LEAST_SHARE = 32;                    // a 32nd of the row, that streams have at least
-const uint64_t GROWTH = 2;                          // from round to round
 const uint64_t SHORT_STREAMS = UINT64_C(1) << 20;   // bytes of all streams, that don't want lrupd yet
-const double USUAL_LENGTH = 16;
 const int UNKNOWN_STATUS = 3;                       // of lrupd
 
 uint64_t number_from(const char *word, uint64_t usual) { return word ? strtoull(word, nullptr, 10) : usual; }
@@ -41,33 +34,24 @@ bool all_ended(const std::string &report, uint64_t streams) {
 
 // Sizes.
 
-std::string Run::bytes_of_row() const {
-    return counted(options.memory ? options.memory : default_memory(), "byte") + ": --memory says how large it is";
-}
+std::string Run::bytes_of_row() const { return counted(rows.memory, "byte") + ": --memory says how large it is"; }
 
-uint64_t Run::all_words() const { return std::min((options.memory ? options.memory : default_memory()) / 8, MOST_WORDS); }
-
-// The row of the round that comes next: its formula has these clauses and literals, and clauses of its streams that length. False
-// where `least` words aren't left for these. A filter that has no room for one clause gets some.
-bool Run::size_round(uint64_t clauses, uint64_t literals, double length, uint64_t least) {
-    uint64_t all = all_words(), streams = std::max<uint64_t>(1, shared->streams), wanted = 0;
-    formula_words = 1 + clauses + literals;
-    uint64_t left = all > formula_words ? all - formula_words : 0;
+// The row of the round that comes next. A filter that has no room for one clause gets some.
+bool Run::size_round(uint64_t clauses, uint64_t literals) {
+    uint64_t streams = std::max<uint64_t>(1, shared->streams), wanted = 0;
     for (size_t k = 0; k < teams.size(); k++) wanted = std::max(wanted, LOAD(shared->parts[k].wanted));
-    uint64_t words = std::min(left, std::max(words_of_round, streams * (2 * wanted + LEAST_WORDS))) / streams;
-    if (words < LEAST_WORDS || left < least) return false;
-    row = split(words, length);
-    STORE(shared->most_lines, row.lines);
-    STORE(shared->most_literals, row.room);
+    Row used = { all(&Part::lines) - lines_before, all(&Part::literals) - literals_before };
+    if (!rows_size(&rows, streams, clauses, literals, used, wanted)) return false;
+    STORE(shared->most_lines, rows.row.lines);
+    STORE(shared->most_literals, rows.row.room);
     return true;
 }
 
 void Run::first_round() {
-    uint64_t usual = std::max(FIRST_WORDS, FIRST_OF_EACH * teams.size());
-    words_of_round = std::min(number_from(test_word("LRUP_SOLVE_FIRST_WORDS"), usual), MOST_WORDS);
+    rows_open(&rows, options.memory, teams.size());
+    rows.words = std::min(number_from(test_word("LRUP_SOLVE_FIRST_WORDS"), rows.words), MOST_WORDS);
     round_formula = formula_path;
-    if (!size_round(formula.clauses, formula.literals.length, USUAL_LENGTH, 0))
-        refuse("the formula leaves no room in a row of " + bytes_of_row());
+    if (!size_round(formula.clauses, formula.literals.length)) refuse("the formula leaves no room in a row of " + bytes_of_row());
 }
 
 // For what there is.
@@ -78,13 +62,6 @@ Row Run::needed_row() const {
         needed.room = std::max(needed.room, LOAD(shared->parts[k].round_literals));
     }
     return needed;
-}
-
-// Of the clauses of this round.
-double Run::usual_length() const {
-    uint64_t lines = all(&Part::lines) - lines_before, literals = all(&Part::literals) - literals_before;
-    double average = lines > 0 ? double(literals) / double(lines) : USUAL_LENGTH;
-    return std::min(200.0, std::max(2.0, average));
 }
 
 // lrupd.
@@ -114,7 +91,7 @@ static std::string line_of(const std::string &program, const std::vector<std::st
 
 // lrupd's, without what it saves.
 std::string Run::command_of_round() const {
-    std::vector<std::string> words = checker_words(row);
+    std::vector<std::string> words = checker_words(rows.row);
     words.push_back(absolute(round_formula));
     for (size_t k = 0; k < teams.size(); k++)
         if (LOAD(shared->parts[k].stream)) words.push_back(stream_path(k));
@@ -131,7 +108,7 @@ std::string Run::command_again() const {
 }
 
 void Run::start_checker(Row wanted, bool saves) {
-    row = wanted;
+    rows.row = wanted;
     std::vector<std::string> words = checker_words(wanted);
     if (saves) {
         saved_path = folder_of_rounds() + "/" + name_of_round(round + 1) + ".cnf";
@@ -155,7 +132,7 @@ void Run::start_checker(Row wanted, bool saves) {
 void Run::look_at_checker() {
     if (checker.child.ended()) return finish(UNKNOWN_ANSWER, "lrupd " + checker.child.end());
     uint64_t least = test_word("LRUP_SOLVE_FIRST_WORDS") ? 1 : SHORT_STREAMS;
-    if (!checker.child.pid && all(&Part::bytes) >= least) start_checker(row, true);
+    if (!checker.child.pid && all(&Part::bytes) >= least) start_checker(rows.row, true);
 }
 
 // Not while filters come to the next round: their counts are of either.
@@ -183,7 +160,7 @@ void Run::look_at_round() {
     for (size_t k = 0; k < teams.size() && phase == SOLVING; k++)
         if (LOAD(shared->parts[k].ended_round) == round) end_round();
     if (phase == ENDING_ROUND && have_all(&Part::ended_round, round)) {
-        if (!checker.child.pid) start_checker(row, true);
+        if (!checker.child.pid) start_checker(rows.row, true);
         phase = SAVING;
     }
     if (phase == SAVING && checker.child.ended()) save_round();
@@ -244,8 +221,10 @@ void Run::save_round() {
     if (round > 1) unlink(round_formula.c_str());
     checkpoint_read(&saved, saved_path.c_str());
     round_said = words_of_the_round();
-    if (!test_word("LRUP_SOLVE_SAME_WORDS")) words_of_round = std::min(GROWTH * words_of_round, MOST_WORDS);
-    if (!size_round(saved.old.length, saved.literals, usual_length(), all_words() / LEAST_SHARE))
+    uint64_t words = rows.words;
+    rows_grow(&rows);
+    if (test_word("LRUP_SOLVE_SAME_WORDS")) rows.words = words;
+    if (!size_round(saved.old.length, saved.literals))
         return finish(UNKNOWN_ANSWER, "the clauses that the engines have leave no room in a row of " + bytes_of_row());
     begin_round();
 }
@@ -256,7 +235,7 @@ void Run::begin_round() {
     lines_before = all(&Part::lines);
     literals_before = all(&Part::literals);
     open_streams();
-    start_checker(row, true);
+    start_checker(rows.row, true);
 }
 
 // Clauses that a filter gave away which has died, or is on another host, may still be taken over.

@@ -50,8 +50,7 @@ protected:
     // Of the round.
     uint64_t round = 1;
     std::string round_formula, saved_path;      // what lrupd reads, and where it saves
-    uint64_t formula_words = 0, words_of_round = 0;     // that the formula takes, and those for all streams
-    Row row = { 0, 0 };
+    Rows rows = {};
     uint64_t lines_before = 0, literals_before = 0;     // of the rounds before
     double pause_begun = 0, paused = 0;         // seconds in all
     Checkpoint saved = {};
@@ -92,8 +91,7 @@ protected:
     void verdict();
 
     // Rounds, and lrupd (rounds.cpp).
-    uint64_t all_words() const;
-    bool size_round(uint64_t clauses, uint64_t literals, double length, uint64_t least);
+    bool size_round(uint64_t clauses, uint64_t literals);
     void first_round();
     void look_at_checker();
     void look_at_round();
@@ -110,7 +108,6 @@ protected:
     std::string folder_of_rounds();
     std::string stream_path(size_t k) const;
     Row needed_row() const;
-    double usual_length() const;
     std::vector<std::string> checker_words(Row sizes) const;
     std::string command_of_round() const;
     std::string command_again() const;

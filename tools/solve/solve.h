@@ -105,9 +105,7 @@ const char *engine_version();
 std::string solver_command(const std::string &command, const std::string &formula, int proof);
 [[noreturn]] void solver_process(const Engine &engine, const std::string &command, const std::vector<int> &files);
 
-// checker.cpp: lrupd, its words, and the sizes of its row.
-struct Row { uint64_t lines, room; };       // of each stream
-
+// checker.cpp: lrupd, and its words.
 class Checker {
 public:
     Child child;
@@ -138,7 +136,5 @@ private:
 std::string find_checker(const char *given);                    // refuses where there is none
 std::string find_chain(const std::string &checker);             // the script that goes on from round to round
 std::string tries();
-uint64_t default_memory();
-Row split(uint64_t words, double literals_of_a_clause);         // of one stream
 
 #endif

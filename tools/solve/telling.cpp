@@ -62,7 +62,7 @@ static size_t terminal_columns() {
 // Once it is saved.
 std::string Run::words_of_the_round() const {
     uint64_t lines = all(&Part::lines) - lines_before, literals = all(&Part::literals) - literals_before;
-    uint64_t words = formula_words + shared->streams * (row.lines + row.room);
+    uint64_t words = rows.formula + shared->streams * (rows.row.lines + rows.row.room);
     return format("round %llu: %s with %s, in a row of %s; %s carried over", (unsigned long long)round,
                   counted(lines, "clause").c_str(), counted(literals, "literal").c_str(), counted(words, "word").c_str(),
                   grouped(saved.old.length).c_str());
@@ -78,8 +78,8 @@ void Run::show_progress() {
     double share = bytes > 0 ? std::min(1.0, double(read) / double(bytes)) : 0, fullest = 0;
     for (size_t k = 0; k < teams.size(); k++) {
         const Part &part = shared->parts[k];
-        fullest = std::max(fullest, double(LOAD(part.round_lines)) / double(std::max<uint64_t>(1, row.lines)));
-        fullest = std::max(fullest, double(LOAD(part.round_literals)) / double(std::max<uint64_t>(1, row.room)));
+        fullest = std::max(fullest, double(LOAD(part.round_lines)) / double(std::max<uint64_t>(1, rows.row.lines)));
+        fullest = std::max(fullest, double(LOAD(part.round_literals)) / double(std::max<uint64_t>(1, rows.row.room)));
     }
     double rate = double(all(&Part::conflicts)) / (time - started);
     std::string line = format("%.1f s, %s conflicts/s, %s checked, %s kB behind, round %llu at %.0f %%", time - started,

@@ -1,0 +1,534 @@
+#!/usr/bin/env python3
+"""Runs the filter with --rounds and lrup-chain beside it, with rows that are so small that proofs take many rounds.
+
+    filter_rounds.py PROGRAM
+
+Recorded proofs in each form, and those of CaDiCaL and CryptoMiniSat where they are on the PATH: each chain has to end with status 0,
+with as many additions as the proof has, and leave nothing. Then proofs that are cut, that have a wrong line, or go on behind the
+empty clause; formulas without clauses, or with no room in a row; folders that aren't empty; and either side killed at any time.
+Neither may wait for the other for ever. The filter is also built with -fsanitize=address,undefined, where the compiler can. It shows
+what is off; the last line is 'N passed, M failed', and ', K skipped' where something isn't there. The status is 1 where a run
+failed.
+"""
+import contextlib
+import fcntl
+import os
+import re
+import shlex
+import shutil
+import signal
+import subprocess
+import sys
+import termios
+import threading
+import time
+from pathlib import Path
+from typing import IO, Dict, Iterator, List, NamedTuple, Optional, Sequence, Tuple, Union
+
+sys.dont_write_bytecode = True
+from harness import (FILTER, FOUR, LIMIT, LRUP_CHAIN, SANITIZE, SANITIZED, SANITIZING, Failure, Row, Skipped, dimacs, example,
+                     generated, is_sanitizing, piped, run, run_all, sanitized_filter, started, until, want, words_given, written)
+from proof_forms import FORMS, Step, read_formula, read_steps
+from solving import in_place_of_lrupd, of_process
+
+PROGRAM, = words_given(__doc__)
+Text = Union[str, bytes]
+NO_ROOM = "the clauses that the solver has leave no room in a row of {} bytes: --memory says how large it is"
+GONE = "the reader of standard output, which runs lrup-chain, has ended before it read "
+NOT_ENDED = "lrup-chain: round {}: not all streams ended\n"
+
+
+class Chained(NamedTuple):
+    """The reports of a chain's rounds, what it said beside them, its status; and what the filter said, with its status."""
+    reports: List[List[str]]
+    said: str
+    status: Optional[int]
+    filter_said: str
+    filter_status: Optional[int]
+
+    def added(self) -> int:
+        return sum(int(found) for report in self.reports for found in re.findall(r": (\d+) added", report[0]))
+
+    def ends(self) -> List[str]:
+        return [report[0].split(" deleted, ")[1] for report in self.reports]
+
+    def verdicts(self) -> List[str]:
+        return [report[-1] for report in self.reports]
+
+
+@contextlib.contextmanager
+def filtering(words: Sequence[object], work: Path, given: object = subprocess.DEVNULL,
+              program: Path = FILTER) -> "Iterator[subprocess.Popen[bytes]]":
+    """The filter, of the folder d, with pipes for its outputs."""
+    with started([program, "--rounds", "d", *words], cwd=work, stdin=given, stdout=subprocess.PIPE, stderr=subprocess.PIPE, bufsize=0,
+                 env={**os.environ, **SANITIZING}) as running:
+        yield running
+
+
+def end_of(running: "subprocess.Popen[bytes]") -> Tuple[str, Optional[int]]:
+    """What the filter says, and its status, when nobody reads its standard output any more."""
+    assert running.stdout and running.stderr
+    running.stdout.close()
+    status = running.wait(LIMIT)
+    return running.stderr.read().decode(), status
+
+
+def chain_beside(running: "subprocess.Popen[bytes]", formula: Path, work: Path, lrupd: object = PROGRAM) -> Chained:
+    """The chain begins when the filter says that it may, and has the filter's standard output, which ends with it."""
+    assert running.stdout
+    ready = running.stdout.readline()
+    if not ready:
+        return Chained([], "", None, *end_of(running))
+    want(ready, b"d/round-1.stream-1\n", "the line that the filter writes")
+    done = run([LRUP_CHAIN, "--lrupd", lrupd, formula, "d"], cwd=work, stdin=running.stdout)
+    reports = re.split(r"^c round \d+\n", done.out, flags=re.M)[1:]
+    return Chained([report.splitlines() for report in reports], done.err, done.status, *end_of(running))
+
+
+def chain(formula: Path, proof: Text, words: Sequence[object], work: Path, program: Path = FILTER, lrupd: object = PROGRAM) -> Chained:
+    with open(written(proof, work, "a proof"), "rb") as file, filtering([*words, formula], work, file, program) as running:
+        return chain_beside(running, formula, work, lrupd)
+
+
+def before_lrupd(body: str, work: Path) -> Path:
+    """A program that does this, and goes on as lrupd."""
+    return in_place_of_lrupd(f'{body}\nexec {shlex.quote(PROGRAM)} "$@"', work)
+
+
+def left(work: Path) -> List[str]:
+    return sorted(os.listdir(work / "d"))
+
+
+def want_refuted(chained: Chained, least: int, most: int, work: Path) -> None:
+    """In so many rounds, and nothing is left."""
+    count = len(chained.reports)
+    found = chained.verdicts(), set(chained.ends()), chained[1:]
+    want(found, (["s UNKNOWN"] * (count - 1) + ["s UNSATISFIABLE"], {"ended"}, ("", 0, "", 0)), "the verdicts, and what is said")
+    want((least <= count <= most, left(work)), (True, []), f"{count} rounds, from {least} to {most}, and what is left")
+
+
+# Proofs that refute.
+
+
+def tidied(steps: Sequence[Step]) -> List[Step]:
+    """Each clause is deleted once it is cited no more, so that little is carried from round to round."""
+    additions = [step for step in steps if step.kind == "a"]
+    last: Dict[int, int] = {}
+    for place, step in enumerate(additions):
+        last.update({hint: place for hint in step.hints})
+        last.setdefault(step.identity, place)
+    found: List[Step] = []
+    for place, step in enumerate(additions):
+        unused = sorted(identity for identity, use in last.items() if use == place)
+        found += [step, Step("d", step.identity, [], unused)] if unused and step.literals else [step]
+    return found
+
+
+RECORDED = [("four-clause.cnf", "four-clause.lrup", "1K", 1, 1), ("pigeonhole.cnf", "pigeonhole.lrup", "3K", 5, 15),
+            ("pigeonhole.cnf", "pigeonhole.lrup", "4K", 3, 10), ("bmc.cnf", "bmc.lrup", "48K", 10, 50)]
+
+
+def proof_of(formula: str, stream: str, form: str) -> Tuple[bytes, str, int]:
+    """The proof, the word for its form, and how many additions it has."""
+    word, make = FORMS[form]
+    steps = tidied(read_steps(example(stream)))
+    return b"".join(make(read_formula(example(formula)), steps)), word, sum(step.kind == "a" for step in steps)
+
+
+def recorded(name: str, stream: str, memory: str, least: int, most: int, form: str, told: bool, program: Path, work: Path) -> None:
+    proof, word, count = proof_of(name, stream, form)
+    words = ["--memory", memory, *(["--format", word] if told else [])]
+    chained = chain(example(name), proof, words, work, program)
+    if not told and form.startswith("binary") and "--format" in chained.filter_said:
+        return want((chained.filter_status, chained.status, chained.added()), (1, 3, 0), "the end, where the form isn't clear")
+    want_refuted(chained, least, most, work)
+    want(chained.added(), count, "additions of all rounds")
+
+
+# A solver's command, the form where it has to be said, what is generated, the memory, and the rounds.
+EARLY = "cadical -q --reduceint=20 --elimint=10 --probeint=10 --subsumeint=10"
+SOLVED = [("cadical -q", "binary-drat", "random 180 3", "500K", 3, 8), ("cadical -q --no-binary", "", "random 180 3", "600K", 3, 8),
+          (EARLY, "binary-drat", "random 170 4", "300K", 3, 50), (EARLY + " --no-binary", "", "pigeons 7", "200K", 3, 50),
+          ("cadical -q", "binary-drat", "order 15", "1M", 1, 1), ("cadical -q", "binary-drat", "random 150 1", None, 1, 1),
+          ("cryptominisat5 --verb 0", "", "random 170 4", "900K", 2, 8), ("cryptominisat5 --verb 0", "frat", "order 15", "1M", 2, 8)]
+
+
+def solved(command: str, form: str, words: str, memory: Optional[str], least: int, most: int, live: bool, work: Path) -> None:
+    """The proof comes through a pipe while the solver writes it, or from a file."""
+    solver = shlex.split(command)
+    if not shutil.which(solver[0]):
+        raise Skipped(f"there is no {solver[0]} on the PATH")
+    formula = generated(words, work)
+    proof = piped(work / "proof") if live else work / "proof"
+    given = [*(["--memory", memory] if memory else []), *(["--format", form] if form else []), formula, proof]
+    with started([*solver, formula, proof], stdout=subprocess.DEVNULL, stderr=subprocess.DEVNULL) as solving:
+        if not live:
+            want(solving.wait(LIMIT), 20, "the solver's status")
+        with filtering(given, work) as running:
+            want_refuted(chain_beside(running, formula, work), least, most, work)
+        want(solving.wait(LIMIT), 20, "the solver's status")
+
+
+def behind(work: Path) -> None:
+    """What comes behind the empty clause needs no round, and is looked at."""
+    formula = written(FOUR, work)
+    proof = "2 0\n0\n" + "1 2 0\n" * 1000
+    want_refuted(chain(formula, proof, ["--memory", "1K"], work), 1, 1, work)
+    chained = chain(formula, proof + "3 0\n", ["--memory", "1K"], work)
+    want((chained.status, chained.filter_status, chained.filter_said),
+         (0, 1, "exact: line 1003: a variable that the formula doesn't have\n"), "the end of one with a wrong line there")
+
+
+def rows_grow(work: Path) -> None:
+    """The first one is small, and each next one has room for twice as much."""
+    literals = list(range(3, 1003))
+    formula = written(dimacs(1002, [[1, 2], [-1, 2], [1, -2], [-1, -2], literals]), work)
+    text = " ".join(map(str, literals))
+    proof = "".join(f"{number} {text} 0 5 0\n{number} d {number} 0\n" for number in range(6, 3206))
+    lrupd = before_lrupd('echo "$2 $4" >> sizes', work)
+    want_refuted(chain(formula, proof + "3206 2 0 1 2 0\n3207 0 3206 3 4 0\n", [], work, lrupd=lrupd), 3, 3, work)
+    found = [sum(map(int, line.split())) for line in (work / "sizes").read_text().splitlines()]
+    want(found, [1 << 20, 1 << 21, 1 << 22], "lines and room of the rounds")
+
+
+def few_lines(formula: str, proof: str, status: int, said: str, work: Path) -> None:
+    chained = chain(written(formula, work), proof, [], work)
+    want((chained.verdicts(), chained.status, chained.filter_said), (["s UNSATISFIABLE" if status == 0 else "s UNKNOWN"], status, said),
+         "the answer")
+    want(left(work), [] if status == 0 else ["round-2.cnf"], "what is left")
+
+
+# Proofs that don't.
+
+
+def cut(parts: int, form: str, work: Path) -> None:
+    """All that is whole is checked; the last round has status 3."""
+    proof, word, count = proof_of("bmc.cnf", "bmc.lrup", form)
+    whole = proof[:len(proof) * parts // 10]
+    chained = chain(example("bmc.cnf"), whole, ["--memory", "48K", "--format", word], work)
+    rounds = len(chained.reports)
+    want((set(chained.verdicts()), set(chained.ends()), chained.said, chained.status), ({"s UNKNOWN"}, {"ended"}, "", 3), "the end")
+    want((1 < rounds < 50, 0 < chained.added() < count, left(work)), (True, True, [f"round-{rounds + 1}.cnf"]),
+         f"{rounds} rounds, {chained.added()} additions, and what is left")
+    if chained.filter_said:
+        want((chained.filter_status, "the proof ends within a step" in chained.filter_said), (1, True), chained.filter_said)
+
+
+def wrong(form: str, at: int, work: Path) -> None:
+    """A step in the middle that doesn't follow: the filter tells its place in the whole proof."""
+    word, make = FORMS[form]
+    formula, steps = read_formula(example("bmc.cnf")), tidied(read_steps(example("bmc.lrup")))
+    before = make(formula, steps[:at])
+    place = f"byte {len(b''.join(before)) + 1}" if form.startswith("binary") else f"line {len(before) + 1}"
+    steps[at:at] = [Step("a", steps[at].identity, [1], [])]
+    chained = chain(example("bmc.cnf"), b"".join(make(formula, steps)), ["--memory", "48K", "--format", word], work)
+    want((chained.status, set(chained.ends()), chained.filter_status), (3, {"ended"}, 1), "the end")
+    count = sum(step.kind == "a" for step in steps[:at])
+    want((chained.added(), len(chained.reports) > 2), (count, True), "additions before it, in more than two rounds")
+    if not chained.filter_said.startswith(f"exact: {place}: no conflict"):
+        raise Failure(f"wanted a word on {place}, and not\n{chained.filter_said}")
+
+
+def no_room(work: Path) -> None:
+    """At the beginning, for what is carried over, and for one clause."""
+    chained = chain(example("bmc.cnf"), "", ["--memory", "2K"], work)
+    said = "exact: the formula leaves no room in a row of 2000 bytes: --memory says how large it is\n"
+    want((chained, left(work)), (Chained([], "", None, said, 1), []), "the end")
+    proof = "".join(line for line in example("bmc.lrup").read_text().splitlines(True) if " d " not in line)
+    chained = chain(example("bmc.cnf"), proof, ["--memory", "32K"], work)
+    found = re.fullmatch(r"exact: line (\d+): " + NO_ROOM.format(32000) + "\n", chained.filter_said)
+    want((chained.status, chained.filter_status, found and int(found[1])), (3, 1, chained.added() + 1), chained.filter_said)
+
+
+def no_room_for_one(work: Path) -> None:
+    literals = " ".join(map(str, range(1, 201)))
+    formula = written(f"p cnf 201 2\n{literals} 201 0\n-201 0\n", work)
+    chained = chain(formula, f"{literals} 0\n", ["--memory", "3K"], work)
+    said = "exact: line 1: a clause of 200 literals has no room in the row: --memory says how large it is\n"
+    want((chained.status, chained.filter_status, chained.filter_said), (3, 1, said), "the end")
+    shutil.rmtree(work / "d")
+    want_fits = chain(formula, f"{literals} 0\n", ["--memory", "5K"], work)
+    want((want_fits.added(), want_fits[1:]), (1, ("", 3, "", 0)), "with more memory")
+
+
+def imported(work: Path) -> None:
+    """As for lrup-solve, of a solver that is alone."""
+    chained = chain(written(FOUR, work), "1 i 1 2 0\n", [], work)
+    want((chained.status, chained.filter_said), (3, "exact: line 1: an import, of a solver that shares nothing\n"), "the end")
+
+
+# The folder, and words.
+
+
+def in_the_way(name: str, work: Path) -> None:
+    """Nothing is touched."""
+    (work / "d").mkdir()
+    path = written("mine", work / "d", name)
+    chained = chain(written(FOUR, work), "0\n", [], work)
+    said = f"exact: --rounds takes a folder without files of rounds; there is d/{name}\n"
+    want((chained, path.read_text(), left(work)), (Chained([], "", None, said, 1), "mine", [name]), "the end, and the file")
+
+
+def beside_others(work: Path) -> None:
+    """A folder that is there, with other files, one of them the formula."""
+    (work / "d").mkdir()
+    formula = written(FOUR, work / "d", "formula of round-1")
+    chained = chain(formula, "2 0\n0\n", [], work)
+    want((chained[1:], left(work)), (("", 0, "", 0), ["formula of round-1"]), "the end, and what is left")
+
+
+def no_folder(work: Path) -> None:
+    formula = written(FOUR, work, "d")
+    want(chain(formula, "0\n", [], work)[3:], ("exact: cannot read the folder d\n", 1), "where a file has the name")
+    done = run([FILTER, "--rounds", "a/b", formula], cwd=work)
+    want(done[:], ("", "exact: cannot make the folder a/b\n", 1), "where the folder above isn't there")
+
+
+def usage(words: str, cause: str, work: Path) -> None:
+    formula = written(FOUR, work)
+    done = run([FILTER, *(formula if word == "FORMULA" else word for word in words.split())], cwd=work)
+    want((done.out, done.err.splitlines()[-1], done.status), ("", f"exact: error: {cause}", 2), "what is said")
+    want((done.err[:7], (work / "d").exists()), ("usage: ", False), "what it begins with, and whether there is a folder")
+
+
+USAGE = [("--rounds", "no value after --rounds"), ("--rounds= FORMULA", "no folder after --rounds"), ("--rounds d", "no FORMULA"),
+         ("--rounds d --stream 1 --streams 2 FORMULA", "--rounds takes one stream"),
+         ("--rounds=d --stream 2 --streams 2 FORMULA", "--rounds takes one stream"),
+         ("--rounds d --other 2=x FORMULA", "--rounds takes one stream, and no --other"),
+         ("--memory 1G FORMULA", "--memory without --rounds"), ("--rounds d FORMULA --memory", "no value after --memory"),
+         ("--rounds d --memory 3G FORMULA", "more than 2147483648 bytes: 3G"),
+         ("--rounds d --memory 99999999999999999999999 FORMULA", "more than 2147483648 bytes: 99999999999999999999999")]
+USAGE += [(f"--rounds d --memory {word} FORMULA", f"no size, as 500000000, 500M or 2G: {word}")
+          for word in ("0", "0G", "x", "1x", "1GB", "G", "-1", "1.5G", "+1")]
+
+
+# Either side that ends early: neither waits for the other for ever.
+
+
+def gone(number: int) -> str:
+    return GONE + f"d/round-{number}.stream-1\n"
+
+
+def chain_ends(number: int, body: str, status: int, said: str, awaited: int, work: Path) -> None:
+    """In this round, for a reason of its own. The filter hears of it while it waits at the FIFO of that round or the next one."""
+    proof, word, _ = proof_of("bmc.cnf", "bmc.lrup", "binary DRAT")
+    lrupd = before_lrupd(f"for stream; do :; done; case $stream in */round-{number}.stream-1) {body} ;; esac", work)
+    chained = chain(example("bmc.cnf"), proof, ["--memory", "48K", "--format", word], work, lrupd=lrupd)
+    found = chained.said.splitlines()[-1:], chained.status, chained.filter_status, len(chained.reports)
+    want(found, ([said], status, 1, number - (status != 3)), "the ends")
+    if not re.fullmatch("exact: byte [0-9]+: " + gone(awaited), chained.filter_said):
+        raise Failure(f"wanted '{gone(awaited)}', and not\n{chained.filter_said}")
+    want([name for name in left(work) if not name.endswith(".cnf")], [], "files that are left")
+
+
+class Sides(NamedTuple):
+    """The filter at a pipe that stays open, in the middle of a round, and lrup-chain beside it."""
+    running: "subprocess.Popen[bytes]"
+    chaining: "subprocess.Popen[str]"
+    pipe: IO[bytes]
+    rest: bytes
+
+    def lrupd(self) -> int:
+        return int(Path(f"/proc/{self.chaining.pid}/task/{self.chaining.pid}/children").read_text())
+
+    def go_on(self) -> None:
+        """The rest of the proof, as far as anybody reads it."""
+        def write() -> None:
+            with contextlib.suppress(OSError):
+                self.pipe.write(self.rest)
+        threading.Thread(target=write, daemon=True).start()
+
+    def ends(self) -> Tuple[str, Optional[int], str, Optional[int]]:
+        """What the chain says last, its status, what the filter says, and its status."""
+        _, said = self.chaining.communicate(timeout=LIMIT)
+        return (said.splitlines() or [""])[-1], self.chaining.returncode, *end_of(self.running)
+
+
+def waiting_in(pipe: IO[bytes]) -> int:
+    return int.from_bytes(fcntl.ioctl(pipe, termios.FIONREAD, bytes(4)), sys.byteorder)
+
+
+def is_on(pipe: IO[bytes], work: Path) -> bool:
+    """All is read, and the third round or a later one hasn't ended."""
+    time.sleep(0.05)
+    names = left(work)
+    return waiting_in(pipe) == 0 and "round-2.cnf" not in names and all(name.endswith(".cnf") for name in names)
+
+
+@contextlib.contextmanager
+def in_a_round(work: Path) -> Iterator[Sides]:
+    """The filter has read half a proof, and waits for more; some rounds are over."""
+    proof, word, _ = proof_of("bmc.cnf", "bmc.lrup", "binary DRAT")
+    path, half = piped(work / "proof"), len(proof) // 2
+    with filtering(["--memory", "48K", "--format", word, example("bmc.cnf"), path], work) as running, \
+            open(path, "wb", buffering=0) as pipe:
+        assert running.stdout
+        want(running.stdout.readline(), b"d/round-1.stream-1\n", "the line that the filter writes")
+        with started([LRUP_CHAIN, "--lrupd", PROGRAM, example("bmc.cnf"), "d"], cwd=work, stdin=running.stdout,
+                     stdout=subprocess.DEVNULL, stderr=subprocess.PIPE, text=True) as chaining:
+            pipe.write(proof[:half])
+            until("a round is on", lambda: all(is_on(pipe, work) for _ in range(5)))
+            yield Sides(running, chaining, pipe, proof[half:])
+
+
+def want_told(filter_said: str, can_write: bool) -> None:
+    """Nobody will read the next stream. One whose lrupd was killed can't be written, or was written just before that."""
+    unwritten = "" if can_write else "cannot write the stream: Broken pipe|"
+    if not re.fullmatch(rf"exact: ({unwritten}byte \d+: {GONE}d/round-\d+\.stream-1)\n", filter_said):
+        raise Failure(f"what the filter says: {filter_said}")
+
+
+def chain_killed(lrupd_too: bool, work: Path) -> None:
+    with in_a_round(work) as sides:
+        lrupd = sides.lrupd()
+        os.kill(sides.chaining.pid, signal.SIGKILL)
+        if lrupd_too:
+            os.kill(lrupd, signal.SIGKILL)
+        sides.go_on()
+        said, status, filter_said, filter_status = sides.ends()
+    want((status, filter_status), (-signal.SIGKILL, 1), f"the statuses, after\n{said}\n{filter_said}")
+    want_told(filter_said, not lrupd_too)
+
+
+def lrupd_killed(work: Path) -> None:
+    with in_a_round(work) as sides:
+        os.kill(sides.lrupd(), signal.SIGKILL)
+        sides.go_on()
+        said, status, filter_said, filter_status = sides.ends()
+    want((said.endswith(": lrupd ended with status 137"), status, filter_status), (True, 137, 1), f"{said}\n{filter_said}")
+    want_told(filter_said, False)
+
+
+def filter_killed(by: int, work: Path) -> None:
+    with in_a_round(work) as sides:
+        os.kill(sides.running.pid, by)
+        want(sides.ends(), ("", 3, "", -by), "the ends")
+
+
+def ended_before_it_begins(by: int, work: Path) -> None:
+    """While the filter waits for the first lrupd."""
+    with filtering([example("bmc.cnf"), "/dev/null"], work) as running:
+        assert running.stdout
+        running.stdout.readline()
+        want(left(work), ["round-1.sizes", "round-1.stream-1"], "the first files")
+        os.kill(running.pid, by)
+        want((end_of(running), left(work)), (("", -by), []), "the end, and what is left")
+
+
+def child_sleeps(pid: int) -> bool:
+    time.sleep(0.05)
+    children = of_process(pid, f"task/{pid}/children").split()
+    return [of_process(int(child), "stat").rsplit(")", 1)[-1].split()[:1] for child in children] == [["S"]]
+
+
+def ended_while_lrupd_waits(by: int, work: Path) -> None:
+    """It is at the FIFO, and the filter isn't yet: it gets an empty stream."""
+    formula = example("bmc.cnf")
+    with filtering([formula, "/dev/null"], work) as running:
+        assert running.stdout
+        running.stdout.readline()
+        os.kill(running.pid, signal.SIGSTOP)
+        with started([LRUP_CHAIN, "--lrupd", PROGRAM, formula, "d"], cwd=work, stdin=subprocess.DEVNULL, stdout=subprocess.PIPE,
+                     stderr=subprocess.PIPE, text=True) as chaining:
+            until("lrupd is at the FIFO", lambda: all(child_sleeps(chaining.pid) for _ in range(6)))
+            for number in (by, signal.SIGCONT):
+                os.kill(running.pid, number)
+            out, said = chaining.communicate(timeout=LIMIT)
+        want((out, said, chaining.returncode), ("c round 1\nc stream 1: 0 added, 0 deleted, ended\ns UNKNOWN\n", "", 3), "the chain")
+        want((end_of(running), left(work)), (("", -by), ["round-2.cnf"]), "the end, and what is left")
+
+
+def nobody(work: Path) -> None:
+    """Who read standard output goes away before there is a chain."""
+    with filtering([example("bmc.cnf"), "/dev/null"], work) as running:
+        assert running.stdout
+        running.stdout.readline()
+        time.sleep(0.2)
+        want(running.poll(), None, "whether it has ended before")
+        want((end_of(running), left(work)), (("exact: " + gone(1), 1), []), "the end, and what is left")
+
+
+def without_a_pipe(work: Path) -> None:
+    """Standard output is a file: the chain begins once the first stream is there."""
+    formula, proof = example("pigeonhole.cnf"), written(proof_of("pigeonhole.cnf", "pigeonhole.lrup", "LRAT text")[0], work, "proof")
+    with open(work / "out", "wb") as out, started([FILTER, "--rounds=d", "--memory=3K", formula, proof], cwd=work, stdout=out) as running:
+        until("the first stream", lambda: (work / "d" / "round-1.stream-1").exists())
+        done = run([LRUP_CHAIN, "--lrupd", PROGRAM, formula, "d"], cwd=work)
+        want((done.status, done.err, running.wait(LIMIT), left(work)), (0, "", 0, []), "the ends, and what is left")
+    want((work / "out").read_text(), "d/round-1.stream-1\n", "standard output")
+
+
+def ignored(work: Path) -> None:
+    """A signal that is ignored where the filter begins stays so."""
+    def ignore() -> None:
+        signal.signal(signal.SIGHUP, signal.SIG_IGN)
+    with started([FILTER, "--rounds", "d", example("bmc.cnf"), "/dev/null"], cwd=work, stdout=subprocess.DEVNULL,
+                 preexec_fn=ignore) as running:
+        until("the first stream", lambda: (work / "d" / "round-1.stream-1").exists())
+        os.kill(running.pid, signal.SIGHUP)
+        time.sleep(0.2)
+        want(running.poll(), None, "whether it has ended")
+
+
+# The tests.
+
+
+def rows_of_recorded() -> Iterator[Row]:
+    for name, stream, memory, least, most in RECORDED:
+        for form in FORMS:
+            for told in (True, False):
+                yield (f"{stream} in {memory}, {form}" + ", the form found out" * (not told), recorded, name, stream, memory, least,
+                       most, form, told, FILTER)
+
+
+def rows_sanitized() -> Iterator[Row]:
+    if not is_sanitizing():
+        yield "the filter, sanitized", skipped, f"the C compiler doesn't build with {SANITIZE[3]}"
+        return
+    sanitized_filter()
+    for form in FORMS:
+        yield f"{form}, sanitized", recorded, "pigeonhole.cnf", "pigeonhole.lrup", "3K", 5, 15, form, True, SANITIZED
+    yield "bmc.lrup, sanitized", recorded, "bmc.cnf", "bmc.lrup", "48K", 10, 50, "binary DRAT", True, SANITIZED
+
+
+def skipped(why: str, work: Path) -> None:
+    raise Skipped(why)
+
+
+EMPTY = "p cnf 2 2\n1 2 0\n0\n"
+FEW = [("no clauses", "p cnf 0 0\n", "", 3, ""), ("no clauses, and a step", "p cnf 1 0\n", "1 0\n", 3,
+        "exact: line 1: no conflict by unit propagation: a RAT step, which lrupd doesn't check, or a clause that doesn't follow\n"),
+       ("an empty clause, and no step", EMPTY, "", 3, ""), ("an empty clause", EMPTY, "0\n", 0, ""),
+       ("the empty clause alone", "p cnf 0 1\n0\n", "0\n", 0, ""), ("four clauses", FOUR, "2 0\n0\n", 0, ""),
+       ("no step", FOUR, "", 3, ""), ("one step", FOUR, "2 0\n", 3, "")]
+NINE = "cat $stream > /dev/null; exit 9"
+NOT_WHOLE = "cat $stream > /dev/null; echo 'c stream 1: 1 added, 0 deleted, bad line 2 (no conflict)'; echo s UNKNOWN; exit 3"
+
+
+def rows() -> List[Row]:
+    found: List[Row] = [*rows_of_recorded(), *rows_sanitized()]
+    for command, form, words, *rest in SOLVED:
+        for live in (False, True):
+            found.append((f"{command}, {words}" + ", live" * live, solved, command, form, words, *rest, live))
+    found += [(f"few lines: {name}", few_lines, *rest) for name, *rest in FEW]
+    found += [(f"{parts} tenths, {form}", cut, parts, form) for parts in (4, 8) for form in ("LRAT text", "DRAT text", "binary DRAT")]
+    found += [(f"a wrong step, {form}", wrong, form, 2500) for form in ("LRAT text", "DRAT text", "binary DRAT")]
+    found += [("rows grow", rows_grow), ("behind the empty clause", behind), ("no room", no_room),
+              ("no room for one clause", no_room_for_one), ("an import", imported), ("other files", beside_others),
+              ("no folder", no_folder)]
+    found += [(f"{name} is there", in_the_way, name)
+              for name in ("round-1.stream-1", "round-1.stream-2", "round-1.sizes", "round-2.cnf", "round-7.sizes")]
+    found += [(f"exact {words}", usage, words, cause) for words, cause in USAGE]
+    ended = "lrup-chain: round {}: lrupd ended with status {}"
+    found += [("status 9", chain_ends, 3, NINE, 9, ended.format(3, 9), 4),
+              ("not opened", chain_ends, 3, "exit 6", 6, ended.format(3, 6), 3),
+              ("not whole", chain_ends, 3, NOT_WHOLE, 3, NOT_ENDED.format(3)[:-1], 4)]
+    found += [("lrup-chain killed", chain_killed, False), ("all of the chain killed", chain_killed, True), ("lrupd killed", lrupd_killed)]
+    for by in (signal.SIGTERM, signal.SIGINT, signal.SIGHUP):
+        found += [(f"ended by {by} before it begins", ended_before_it_begins, by),
+                  (f"ended by {by} while lrupd waits", ended_while_lrupd_waits, by)]
+    found += [(f"the filter killed by {by}", filter_killed, by) for by in (signal.SIGKILL, signal.SIGTERM)]
+    return [*found, ("nobody reads", nobody), ("without a pipe", without_a_pipe), ("a signal that is ignored", ignored)]
+
+
+sys.exit(run_all(rows()))

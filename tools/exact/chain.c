@@ -1,0 +1,178 @@
+// Unverified, as all of this filter. --rounds: a stream for each round of lrup-chain, through FIFOs. That of the next round is there
+// before a stream ends, since lrup-chain looks for it then. Once lrupd has opened it, nothing looks for its name or its sizes again,
+// and both are removed. So the folder has files of a round that isn't over only while lrupd is awaited.
+#define _POSIX_C_SOURCE 200809L
+#include <dirent.h>
+#include <errno.h>
+#include <fcntl.h>
+#include <poll.h>
+#include <signal.h>
+#include <stdio.h>
+#include <string.h>
+#include <sys/stat.h>
+#include <unistd.h>
+
+#include "exact.h"
+
+enum { LONGEST_PATH = 4096, LONGEST_NAME = 64, PAUSE = 5 };     // milliseconds
+#define OF_A_ROUND "round-"
+
+static const char *folder;
+static Filter *filter;
+static Rows rows;
+static Row used;                            // of this round's row
+static uint64_t round_number;               // from 1
+static char sizes[LONGEST_PATH], stream[LONGEST_PATH];      // paths
+static volatile sig_atomic_t is_awaited;    // lrupd, at the FIFO
+static int file;
+static bool refuted, over;
+
+// The folder. Any file of a round is in the way: lrup-chain would take it, or lrupd not write over it.
+void chain_open(const char *path) {
+    folder = path;
+    if (strlen(folder) > LONGEST_PATH - LONGEST_NAME) fail("too long a name:", folder);
+    if (mkdir(folder, 0777) != 0 && errno != EEXIST) fail("cannot make the folder", folder);
+    DIR *list = opendir(folder);
+    if (list == NULL) fail("cannot read the folder", folder);
+    for (const struct dirent *entry; (entry = readdir(list)) != NULL;) {
+        if (strncmp(entry->d_name, OF_A_ROUND, strlen(OF_A_ROUND)) != 0) continue;
+        snprintf(stream, sizeof stream, "%s/%s", folder, entry->d_name);
+        fail("--rounds takes a folder without files of rounds; there is", stream);
+    }
+    closedir(list);
+}
+
+static void name_file(char path[LONGEST_PATH], const char *what) {
+    snprintf(path, LONGEST_PATH, "%s/" OF_A_ROUND "%llu.%s", folder, (unsigned long long)round_number, what);
+}
+
+// The sizes come first: lrup-chain takes them as soon as there is a stream.
+static void make_files(void) {
+    char text[LONGEST_NAME];
+    int length = snprintf(text, sizeof text, "%llu %llu\n", (unsigned long long)rows.row.lines, (unsigned long long)rows.row.room);
+    name_file(sizes, "sizes");
+    name_file(stream, "stream-1");
+    int out = open(sizes, O_WRONLY | O_CREAT | O_EXCL, 0666);
+    if (out < 0) fail("cannot make", sizes);
+    bool written = write_whole(out, text, (size_t)length);
+    is_awaited = 1;
+    if (close(out) == 0 && written && mkfifo(stream, 0666) == 0) return;
+    unlink(sizes);
+    fail("cannot make", stream);
+}
+
+static void remove_files(void) {
+    unlink(stream);
+    unlink(sizes);
+    is_awaited = 0;
+}
+
+// Where lrupd waits at the FIFO, or is about to, it gets an empty stream, or none.
+static void end_by_signal(int number) {
+    if (is_awaited) {
+        open(stream, O_RDWR | O_NONBLOCK);      // until this process has ended
+        remove_files();
+    }
+    signal(number, SIG_DFL);
+    raise(number);
+}
+
+static void take_signals(void) {
+    static const int numbers[] = { SIGHUP, SIGINT, SIGTERM };
+    for (size_t k = 0; k < sizeof numbers / sizeof *numbers; k++)
+        if (signal(numbers[k], end_by_signal) == SIG_IGN) signal(numbers[k], SIG_IGN);
+}
+
+// Waits until lrupd opens it, too. Where standard output is a pipe whose reader, which runs lrup-chain, has ended, it never will.
+static void open_stream(void) {
+    struct pollfd reader = { .fd = STDOUT_FILENO };
+    while ((file = open(stream, O_WRONLY | O_NONBLOCK)) < 0) {
+        if (errno != ENXIO && errno != EINTR) fail("cannot open", stream);
+        if (poll(&reader, 1, PAUSE) <= 0) continue;
+        if (reader.revents & POLLERR) {
+            remove_files();
+            stop("the reader of standard output, which runs lrup-chain, has ended before it read %s", stream);
+        }
+        reader.fd = -1;
+    }
+    fcntl(file, F_SETFL, 0);
+    remove_files();
+}
+
+static void close_stream(void) {
+    write_flush();
+    if (close(file) != 0) fail("cannot write the stream:", strerror(errno));
+}
+
+static void to_stream(const char *bytes, size_t length) {
+    if (!over && !write_whole(file, bytes, length)) fail("cannot write the stream:", strerror(errno));
+}
+
+static void take_checkpoint(void) {
+    char path[LONGEST_PATH];
+    Checkpoint checkpoint;
+    name_file(path, "cnf");
+    checkpoint_read(&checkpoint, path);
+    round_begin(filter, &checkpoint, 1, 1);
+    checkpoint_free(&checkpoint);
+}
+
+static void size_round(uint64_t clauses, uint64_t literals, uint64_t wanted, const char *holds) {
+    if (!rows_size(&rows, 1, clauses, literals, used, wanted))
+        stop("%s no room in a row of %llu bytes: --memory says how large it is", holds, (unsigned long long)rows.memory);
+    used = (Row){0};
+    round_number++;
+    make_files();
+}
+
+static void next_round(uint64_t wanted) {
+    static const Identities none;
+    uint64_t literals;
+    round_delete(filter, &none);
+    uint64_t clauses = round_clauses(filter, &literals);
+    rows_grow(&rows);
+    size_round(clauses, literals, wanted, "the clauses that the solver has leave");
+    close_stream();
+    open_stream();
+    take_checkpoint();
+}
+
+// What comes behind the empty clause needs no round more.
+static bool has_room(uint64_t literals) {
+    if (over || row_holds(rows.row, used, literals)) return true;
+    if (!refuted) return false;
+    close_stream();
+    over = true;
+    return true;
+}
+
+static void derives(const Filter *one) { round_make_room(one, has_room, next_round); }
+
+static void derived(const Filter *one) {
+    used.lines++;
+    used.room += one->literals.length;
+    refuted |= one->literals.length == 0;
+}
+
+static bool never_ends(void) { return false; }
+
+// After the formula is read. Standard output says when lrup-chain may begin.
+void chain_begin(Filter *one, uint64_t memory) {
+    static const Hooks hooks = { .ends = never_ends, .derives = derives, .derived = derived };
+    filter = one;
+    filter->hooks = &hooks;
+    filter->keeps_clauses = true;
+    write_to(to_stream);
+    take_signals();
+    rows_open(&rows, memory, 1);
+    size_round(filter->formula.clauses, filter->formula.literals.length, 0, "the formula leaves");
+    if (!write_whole(STDOUT_FILENO, stream, strlen(stream)) || !write_whole(STDOUT_FILENO, "\n", 1)) {
+        remove_files();
+        fail("cannot write to standard output:", strerror(errno));
+    }
+    open_stream();
+}
+
+void chain_end(void) {
+    if (!over) close_stream();
+}

@@ -1,0 +1,70 @@
+// Unverified, as all of this filter. The sizes of lrupd's rows in a chain of runs. A row is made before a line is read, and doesn't
+// grow. So each one is twice the one before, up to what --memory says: a short run gets a small one.
+#include <string.h>
+#include <unistd.h>
+
+#include "proof.h"
+
+#define USUAL_MEMORY (UINT64_C(1) << 29)
+#define LEAST_MEMORY (UINT64_C(1) << 26)
+#define FIRST_WORDS (UINT64_C(1) << 20)         // of the first round's streams; where there are many, of each
+#define FIRST_OF_EACH (UINT64_C(1) << 18)
+
+enum { LEAST_WORDS = 64 };                      // of a stream
+enum { LEAST_SHARE = 32 };                      // a 32nd of the row, that streams have at least
+enum { GROWTH = 2 };                            // from round to round
+
+static const double USUAL_LENGTH = 16, LEAST_LENGTH = 2, MOST_LENGTH = 200;
+
+static uint64_t lesser(uint64_t one, uint64_t other) { return one < other ? one : other; }
+static uint64_t greater(uint64_t one, uint64_t other) { return one > other ? one : other; }
+
+uint64_t memory_read(const char *word) {
+    static const char units[] = "KMGT";
+    uint64_t bytes = 0;
+    const char *at = word;
+    for (; *at >= '0' && *at <= '9'; at++) bytes = lesser(10 * bytes + (uint64_t)(*at - '0'), MOST_MEMORY + 1);
+    if (at == word) return 0;
+    if (*at == 0) return bytes;
+    const char *unit = strchr(units, *at);
+    if (unit == NULL || at[1] != 0) return 0;
+    for (const char *one = units; one <= unit; one++) bytes = lesser(1000 * bytes, MOST_MEMORY + 1);
+    return bytes;
+}
+
+// An eighth of the machine's, up to half a gigabyte: at its start lrupd takes twice the row.
+static uint64_t default_memory(void) {
+    long pages = sysconf(_SC_PHYS_PAGES), bytes = sysconf(_SC_PAGESIZE);
+    uint64_t all = pages > 0 && bytes > 0 ? (uint64_t)pages * (uint64_t)bytes : 0;
+    return lesser(USUAL_MEMORY, greater(all / 8, LEAST_MEMORY));
+}
+
+void rows_open(Rows *rows, uint64_t memory, uint64_t streams) {
+    *rows = (Rows){ .memory = memory ? memory : default_memory(), .words = greater(FIRST_WORDS, FIRST_OF_EACH * streams) };
+}
+
+void rows_grow(Rows *rows) {
+    rows->words = lesser(GROWTH * rows->words, MOST_WORDS);
+    rows->least = rows->memory / 8 / LEAST_SHARE;
+}
+
+static double length_of(Row used) {
+    double length = used.lines > 0 ? (double)used.room / (double)used.lines : USUAL_LENGTH;
+    return length < LEAST_LENGTH ? LEAST_LENGTH : length > MOST_LENGTH ? MOST_LENGTH : length;
+}
+
+// A clause takes a word, and each of its literals one. Clauses are cheap, so there is room for many that are only half as long.
+static Row split(uint64_t words, double length) {
+    uint64_t lines = (uint64_t)((double)words / (1 + length / 2));
+    return (Row){ lines, words - lines };
+}
+
+bool rows_size(Rows *rows, uint64_t streams, uint64_t clauses, uint64_t literals, Row used, uint64_t wanted) {
+    uint64_t all = rows->memory / 8;
+    rows->formula = 1 + clauses + literals;
+    uint64_t left = all > rows->formula ? all - rows->formula : 0;
+    uint64_t words = lesser(left, greater(rows->words, streams * (2 * wanted + LEAST_WORDS))) / streams;
+    if (words < LEAST_WORDS || left < rows->least) return false;
+    rows->row = split(words, length_of(used));
+    return true;
+}
