@@ -33,7 +33,7 @@ SANITIZED = OUT / "exact-sanitized"
 KEPT = OUT / "mutants"
 SANITIZE = ["-std=c11", "-O1", "-g", "-fsanitize=address,undefined", "-fno-sanitize-recover=all"]
 OPTIONS = {"ASAN_OPTIONS": "exitcode=99", "UBSAN_OPTIONS": "exitcode=99:print_stacktrace=1"}
-SECONDS = 20
+SECONDS = 120
 
 # The word of --format, the formula and the steps.
 Base = Tuple[str, bytes, List[bytes]]

@@ -21,7 +21,7 @@ ROOT = TESTS.parent
 EXAMPLES = ROOT / "examples"
 GENERATOR = EXAMPLES / "solver" / "generate.py"
 LRUP_CHAIN = ROOT / "tools" / "lrup-chain"
-LIMIT = 120  # seconds, after which a run hangs
+LIMIT = 300  # seconds, after which a run hangs, also on a slow machine that does other work
 FOUR = "p cnf 2 4\n1 2 0\n-1 2 0\n1 -2 0\n-1 -2 0\n"
 VERDICTS = {0: "s UNSATISFIABLE", 3: "s UNKNOWN", 8: "s UNSATISFIABLE UNDER ASSUMPTIONS"}
 
@@ -81,7 +81,7 @@ def started(words: Words, **how: Any) -> Iterator["subprocess.Popen[Any]"]:
             process.kill()
 
 
-def until(what: str, condition: Callable[[], bool], seconds: float = 20) -> None:
+def until(what: str, condition: Callable[[], bool], seconds: float = LIMIT) -> None:
     end = time.monotonic() + seconds
     while not condition():
         if time.monotonic() > end:
@@ -222,12 +222,12 @@ def with_memory(function: Callable[..., None], *arguments: Any) -> None:
 def outcome(row: Row) -> Optional[Exception]:
     """The failure, or why the row is skipped; nothing where it passed."""
     _, function, *arguments = row
-    with tempfile.TemporaryDirectory() as work:
-        try:
+    try:
+        with tempfile.TemporaryDirectory() as work:
             function(*arguments, Path(work))
-            return None
-        except (Failure, Skipped, OSError, ValueError, subprocess.SubprocessError) as found:
-            return found
+    except (Failure, Skipped, OSError, LookupError, ValueError, subprocess.SubprocessError) as found:
+        return found
+    return None
 
 
 def closing(passed: int, failed: int, skipped: int = 0, title: str = "") -> int:
