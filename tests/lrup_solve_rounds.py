@@ -283,10 +283,10 @@ def no_folder(work: Path) -> None:
 
 
 def full(work: Path) -> None:
-    """A disk that has no room for what is saved: files of 200,000 bytes at most. The streams of a round have room."""
+    """A disk that has no room for what is saved: files of 500,000 bytes at most. The streams of a round have room."""
     clauses = random_clauses(random.Random(3), 2000, 30000, (6,))
     formula = written(dimacs(2000, clauses + read(generated("pigeons 11", work))), work)
-    limit = lambda: resource.setrlimit(resource.RLIMIT_FSIZE, (200000, 200000))
+    limit = lambda: resource.setrlimit(resource.RLIMIT_FSIZE, (500000, 500000))
     answer = solve(["-j", "2", formula], tested={**SMALL, "FIRST_WORDS": 20000}, preexec_fn=limit)
     want_answer(answer, 0)
     want_cause(answer, "^lrupd: checkpoint not written")

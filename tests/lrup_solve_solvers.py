@@ -117,12 +117,12 @@ def gaps(work: Path) -> None:
 
 
 def goes_on_sharing(work: Path) -> None:
-    """Engines beside a solver, which reads no outbox: more goes through a small one than it holds."""
+    """Engines beside a solver, which reads no outbox: more goes through a small one than it holds, three words or more each."""
     answer = solve(["-v", "-j", "2", *by(["sleep 1000 # %formula %proof"]), given("random 200 3", work)],
                    tested={"OUTBOX": 1000, "SLICE": 100})
     want_answer(answer, 20)
     given_away = [int(found.replace(",", "")) for found in re.findall(r"([\d,]+) given away", answer.out)]
-    want(sum(given_away) > 1000, True, f"clauses given away, in\n{answer.out[-3000:]}: whether they are more than 1,000")
+    want(min(given_away[:2]) > 1000 // 3, True, f"clauses given away, in\n{answer.out[-3000:]}: whether of each are more than 333")
 
 
 def renamed(words: List[str], names: Mapping[str, str]) -> List[str]:
