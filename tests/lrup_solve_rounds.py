@@ -140,7 +140,8 @@ def no_room_for_one_clause(work: Path) -> None:
 
 class Running:
     """One that has come to a round: lrupd of that round, or of a later one, is to save round-N.cnf. With `pause` it has come to the
-    pause at the end of that round, which lasts until `go_on`; slices are long, so that much isn't taken over before."""
+    pause at the end of that round, which lasts until `go_on`; slices are long, so that much isn't taken over before. What hasn't
+    ended when the block is left is killed."""
 
     def __init__(self, words: Sequence[object], number: int, work: Path, pause: bool = False, **tested: object) -> None:
         self.number, self.work, self.pause, self.folder = number, work, pause, work / "folder"
@@ -153,11 +154,17 @@ class Running:
         self.process = subprocess.Popen(command(words, hooks), stdout=subprocess.PIPE, stderr=subprocess.PIPE, text=True,
                                         env=in_environment(hooks, more), start_new_session=True)
         self.children: Dict[str, int] = {}
+
+    def __enter__(self) -> "Running":
         try:
-            until(f"round {number}, or the end", self.has_come)
+            until(f"round {self.number}, or the end", self.has_come)
         except Failure:
-            end_group(self.process)
+            self.__exit__()
             raise
+        return self
+
+    def __exit__(self, *_: object) -> None:
+        end_group(self.process)
 
     def last_saved(self) -> int:
         """The number of the last file that lrupd has created."""
@@ -174,11 +181,7 @@ class Running:
 
     def end(self, limit: float = LIMIT) -> Answer:
         """What it said; no child of it is left, and no file."""
-        try:
-            out, said = self.process.communicate(timeout=limit)
-        except subprocess.TimeoutExpired:
-            end_group(self.process)
-            raise
+        out, said = self.process.communicate(timeout=limit)
         until("its children end", lambda: not any(map(is_alive, self.children.values())))
         until("its files are removed", lambda: not os.listdir(self.folder))
         return Answer(Ran(out, said, self.process.returncode))
@@ -222,15 +225,15 @@ def kill(words: Sequence[object], number: int, pause: bool, first_words: int, na
     formula = generated("random 220 5", work) if status else generated("pigeons 11", work)
     said = []
     for _ in range(TRIES):
-        running = Running([*words, "-j", "3", formula], number, work, pause, FIRST_WORDS=first_words)
-        try:
-            kill_some(running, names)
-            answer = running.end(LIMIT / 2)
-        except (KeyError, ProcessLookupError, subprocess.TimeoutExpired) as error:
-            said.append(repr(error))
-            end_group(running.process)
-            running.end()
-            continue
+        with Running([*words, "-j", "3", formula], number, work, pause, FIRST_WORDS=first_words) as running:
+            try:
+                kill_some(running, names)
+                answer = running.end(LIMIT / 2)
+            except (KeyError, ProcessLookupError, subprocess.TimeoutExpired) as error:
+                said.append(repr(error))
+                end_group(running.process)
+                running.end()
+                continue
         want_answer(answer, status, formula)
         if says(answer, cause):
             return
@@ -251,12 +254,12 @@ def killed_in_a_pause(names: List[str], status: int, cause: str, work: Path) -> 
 
 def ended_by(number: int, round_number: int, pause: bool, work: Path) -> None:
     """In a round, or in the pause after it. SIGKILL goes to all processes at once."""
-    running = Running(["-j", "2", generated("pigeons 11", work)], round_number, work, pause, FIRST_WORDS=50000)
-    if number == signal.SIGKILL:
-        os.killpg(running.process.pid, number)
-    else:
-        running.process.send_signal(number)
-    answer = running.end()
+    with Running(["-j", "2", generated("pigeons 11", work)], round_number, work, pause, FIRST_WORDS=50000) as running:
+        if number == signal.SIGKILL:
+            os.killpg(running.process.pid, number)
+        else:
+            running.process.send_signal(number)
+        answer = running.end()
     want(answer.status, -number, "the end")
     if number != signal.SIGKILL:
         want(answer.answers, ["s UNKNOWN"], "the answer")
@@ -264,11 +267,11 @@ def ended_by(number: int, round_number: int, pause: bool, work: Path) -> None:
 
 def folder_removed(work: Path) -> None:
     """Checkpoints can't be created any more."""
-    running = Running(["-j", "2", generated("pigeons 11", work)], 2, work, FIRST_WORDS=50000)
-    for folder in running.folder.iterdir():
-        while folder.exists():
-            shutil.rmtree(folder, ignore_errors=True)
-    answer = running.end()
+    with Running(["-j", "2", generated("pigeons 11", work)], 2, work, FIRST_WORDS=50000) as running:
+        for folder in running.folder.iterdir():
+            while folder.exists():
+                shutil.rmtree(folder, ignore_errors=True)
+        answer = running.end()
     if answer.status == 1:      # what was saved was gone before it was read
         return want((answer.answers, "cannot open" in answer.said), ([], True), f"what is said: {answer.said}")
     want_answer(answer, 0)
@@ -331,15 +334,15 @@ def in_files(pid: int) -> int:
 def stays_small(work: Path) -> None:
     """From round 10 to round 60, of some 500 KB of streams each, with clauses that the engines soon delete."""
     tested = {"FIRST_WORDS": 100000, "SET": "reduceint=20 reducetarget=95"}
-    running = Running(["-j", "2", generated("random 300 5", work)], 10, work, **tested)
-    sizes = lambda: {"files": in_files(running.process.pid), "first": resident(running.process.pid),
-                     **{name: resident(pid) for name, pid in running.children.items() if name.startswith(("filter", "engine"))}}
-    before = sizes()
-    running.number = 60
-    until("round 60", running.has_come)
-    after = sizes()
-    running.process.terminate()
-    running.end()
+    with Running(["-j", "2", generated("random 300 5", work)], 10, work, **tested) as running:
+        sizes = lambda: {"files": in_files(running.process.pid), "first": resident(running.process.pid),
+                         **{name: resident(pid) for name, pid in running.children.items() if name.startswith(("filter", "engine"))}}
+        before = sizes()
+        running.number = 60
+        until("round 60", running.has_come)
+        after = sizes()
+        running.process.terminate()
+        running.end()
     for name, size in after.items():
         want(size < 1.3 * before[name] + 6000, True, f"kilobytes of {name}, {before[name]} and then {size}")
 
