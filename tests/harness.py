@@ -25,8 +25,11 @@ LIMIT = 300  # seconds, after which a run hangs, also on a slow machine that doe
 FOUR = "p cnf 2 4\n1 2 0\n-1 2 0\n1 -2 0\n-1 -2 0\n"
 VERDICTS = {0: "s UNSATISFIABLE", 3: "s UNKNOWN", 8: "s UNSATISFIABLE UNDER ASSUMPTIONS"}
 
-# A shell starts what is in the background with this one ignored, and then programs under test would ignore it, too.
+# A shell starts what is in the background with the one ignored, and nohup with the other, and then programs under test would
+# ignore them, too. A handler isn't theirs.
 signal.signal(signal.SIGINT, signal.default_int_handler)
+if signal.getsignal(signal.SIGHUP) == signal.SIG_IGN:
+    signal.signal(signal.SIGHUP, lambda *_: None)
 
 Words = Iterable[object]
 Row = Tuple[Any, ...]
