@@ -36,7 +36,7 @@ from solving import (EARLY, ELIMINATING, OUT, PROGRAM, SOLVE, Answer, before_lru
 words_given(__doc__, most=2)
 MITERS = EXAMPLES / "miter"
 TRIES = 10      # of runs that may be over before something happens to them
-SOON = 60       # seconds, far below those that the formula takes
+SOON = 9        # seconds, fewer than a filter has for its last line
 PROGRESS = re.compile(rb"\r([^\r\n\x1b]* conflicts[^\r\n\x1b]*)\x1b\[K")
 
 
