@@ -31,7 +31,7 @@ from harness import (EXAMPLES, FOUR, LIMIT, ROOT, Failure, Ran, Row, Skipped, di
                      started, until, want, words_given, written)
 from proof_forms import read_formula
 from solving import (EARLY, ELIMINATING, OUT, PROGRAM, SOLVE, Answer, before_lrupd, check_again, children_of, command, end_group,
-                     goes_on, in_environment, in_place_of_lrupd, is_alive, random_formula, run_built, solve, want_answer)
+                     goes_on, in_environment, in_place_of_lrupd, is_alive, kill_children, random_formula, run_built, solve, want_answer)
 
 words_given(__doc__, most=2)
 MITERS = EXAMPLES / "miter"
@@ -320,22 +320,15 @@ class Running:
         return Answer(Ran(out, said, self.process.returncode))
 
 
-def kill_some(running: Running, names: List[str], number: int) -> bool:
-    """False where one has ended before."""
-    for name in names:
-        if not is_alive(running.children.get(name, 0)):
-            return False
-        os.kill(running.children[name], number)
-    return True
-
-
 def killed(names: List[str], number: int, status: int, cause: str, work: Path) -> None:
     """Children are killed: the others go on, or the answer is 'unknown'. A run that was over before is tried again."""
     formula = generated("random 220 5", work) if status else generated("pigeons 11", work)
     said = ""
     for _ in range(TRIES):
         with Running(formula, work) as running:
-            if not kill_some(running, names, number):
+            try:
+                kill_children(running.children, names, number)
+            except ProcessLookupError:
                 continue
             answer = running.end()
         want_answer(answer, status, formula)

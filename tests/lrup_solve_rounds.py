@@ -23,7 +23,7 @@ from typing import Any, Dict, List, Mapping, Sequence
 sys.dont_write_bytecode = True
 from harness import (LIMIT, Failure, Ran, Row, dimacs, example, generated, random_clauses, run, until, want, words_given, written)
 from solving import (EARLY, PROGRAM, Answer, before_lrupd, check_again, children_of, command, end_group, in_environment,
-                     in_place_of_lrupd, is_alive, of_process, random_formula, run_built, solve, want_answer)
+                     in_place_of_lrupd, is_alive, kill_children, of_process, random_formula, run_built, solve, want_answer)
 
 words_given(__doc__, most=2)
 SMALL = {"SAME_WORDS": 1, "SLICE": 40}      # rows that don't grow
@@ -209,16 +209,6 @@ def want_cause(answer: Answer, cause: str) -> None:
         raise Failure(f"wanted a word on '{cause}', and not\n{answer.out}")
 
 
-def kill_some(running: Running, names: List[str]) -> None:
-    """ProcessLookupError where one has ended before. In a pause they have ended before it goes on."""
-    for name in names:
-        if not is_alive(running.children[name]):
-            raise ProcessLookupError(f"{name} has ended")
-        os.kill(running.children[name], signal.SIGKILL)
-    until("they have ended", lambda: not any(is_alive(running.children[name]) for name in names))
-    running.go_on()
-
-
 def kill(words: Sequence[object], number: int, pause: bool, first_words: int, names: List[str], status: int, cause: str,
          work: Path) -> None:
     """Children of a run that has come to that round are killed. Where one had ended before, the run is tried again."""
@@ -227,9 +217,11 @@ def kill(words: Sequence[object], number: int, pause: bool, first_words: int, na
     for _ in range(TRIES):
         with Running([*words, "-j", "3", formula], number, work, pause, FIRST_WORDS=first_words) as running:
             try:
-                kill_some(running, names)
+                kill_children(running.children, names)
+                until("they have ended", lambda: not any(is_alive(running.children[name]) for name in names))
+                running.go_on()
                 answer = running.end(LIMIT / 2)
-            except (KeyError, ProcessLookupError, subprocess.TimeoutExpired) as error:
+            except (ProcessLookupError, subprocess.TimeoutExpired) as error:
                 said.append(repr(error))
                 end_group(running.process)
                 running.end()

@@ -142,6 +142,15 @@ def is_alive(pid: int) -> bool:
     return bool(state) and state[0] not in "ZX"
 
 
+def kill_children(children: Mapping[str, int], names: Sequence[str], number: int = signal.SIGKILL) -> None:
+    """ProcessLookupError where one has ended before."""
+    for name in names:
+        pid = children.get(name, 0)
+        if not is_alive(pid):
+            raise ProcessLookupError(f"{name} has ended")
+        os.kill(pid, number)
+
+
 # The builds.
 
 
