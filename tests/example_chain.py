@@ -71,11 +71,12 @@ def solved(program: str, solver: str, words: str, streams: int, share: int, coun
 
 
 def too_much_for_one_run(program: str, place: int, fault: str, count: int, work: Path) -> None:
-    """With the sizes that the rounds have the chain goes through, and one run with the largest of them stops."""
+    """With the sizes that the rounds have the chain goes through, and one run with the largest of them stops: by turns, so that no
+    stream is given up before one is full."""
     formula, streams = example("bmc.cnf"), list(map(example, FOUR_SOLVERS))
     want_refuted(chain(program, count, formula, streams, TRIES, work), count)
     sizes = [path.read_text().split()[place] for path in (work / "rounds").glob("*.sizes")]
-    whole = run([program, "--tries", "1000", ("--lines", "--room")[place], max(sizes, key=int), formula, *streams])
+    whole = run([program, "--serial", ("--lines", "--room")[place], max(sizes, key=int), formula, *streams])
     want((len(sizes), whole.status, fault in whole.out), (count, 3, True), f"{whole.out}the run in one piece")
 
 

@@ -11,14 +11,16 @@ last line is 'N passed, M failed', and the status is 1 where a run failed.
 """
 import os
 import re
+import select
 import subprocess
 import sys
 import time
 from pathlib import Path
-from typing import List, Optional, Tuple
+from typing import IO, List, Optional, Tuple
 
 sys.dont_write_bytecode = True
-from harness import VERDICTS, Failure, Row, generated, piped, run, run_all, started, want, words_given, written
+from harness import (LIMIT, VERDICTS, Failure, Row, generated, held, piped, run, run_all, started, until, want, words_given,
+                     written)
 
 OPTIONS = ["--tries", "1000000"]
 LARGE = OPTIONS + ["--lines", "1000000", "--room", "10000000"]
@@ -74,22 +76,22 @@ def judge_solver(said: str, status: Optional[int], answer: int, path: Path) -> T
 
 
 def checked(program: str, options: List[str], path: Path, streams: List[Path], wanted: Tuple[str, int]) -> None:
-    out, err, status = run([program, *options, path, *streams], limit=300)
+    out, err, status = run([program, *options, path, *streams])
     want((out, status), wanted, f"{err}the report of {program} " + " ".join(options))
 
 
 def live(program: str, solver: List[str], words: str, answer: int, streams: int, work: Path) -> None:
     path, pipes = generated(words, work), make_pipes(work, streams)
     with started([*solver, path, *pipes], stdout=subprocess.PIPE, text=True) as solvers:
-        found = run([program, *OPTIONS, path, *pipes], limit=300)
-        said, _ = solvers.communicate(timeout=60)
+        found = run([program, *OPTIONS, path, *pipes])
+        said, _ = solvers.communicate(timeout=LIMIT)
     want((found.out, found.status), judge_solver(said, solvers.returncode, answer, path), "the report")
 
 
 def record(solver: List[str], words: str, answer: int, streams: int, work: Path) -> Tuple[Path, List[Path], str, Tuple[str, int]]:
     """The formula, the streams' files, what the solver says, and the wanted report and status."""
     path, files = generated(words, work), [work / f"stream{number}" for number in range(1, streams + 1)]
-    out, _, status = run([*solver, path, *files], limit=300)
+    out, _, status = run([*solver, path, *files])
     return path, files, out, judge_solver(out, status, answer, path)
 
 
@@ -108,12 +110,17 @@ def garbled(line: str) -> str:
 
 
 def imported(program: str, solver: List[str], words: str, answer: int, streams: int, work: Path) -> None:
-    """Files, beside a stream of all their imports; and of one more, which is garbled."""
-    path, files, said, (ended, status) = record([*solver, "--streams", str(streams + 1)], words, answer, streams, work)
+    """Files, beside a stream of all their imports; and of one more, which is garbled. Where one thread had the answer before the
+    others began there are none, and another seed is taken."""
+    for seed in [*solver[-1:], *range(101, 120)]:
+        command = [*solver[:-1], str(seed), "--streams", str(streams + 1)]
+        path, files, said, (ended, status) = record(command, words, answer, streams, work)
+        imports = [line for file in files for line in file.read_text().splitlines() if " i " in line]
+        want(f"c {len(imports)} imports" in said.splitlines(), True, f"whether {len(imports)} imports are told in\n{said}")
+        if imports:
+            break
+    want(len(imports) > 0, True, "whether there are imports")
     *reports, verdict = ended.splitlines()
-    imports = [line for file in files for line in file.read_text().splitlines() if " i " in line]
-    if not imports or f"c {len(imports)} imports" not in said.splitlines():
-        raise Failure(f"there are {len(imports)} imports, and the solver says\n{said}")
     bad = imports[len(imports) // 2]
     differs = f"bad line {len(imports) + 1} (differs {bad.split()[0]})"
     for lines, ending in ((imports, "ended"), ([*imports, garbled(bad)], differs)):
@@ -122,18 +129,25 @@ def imported(program: str, solver: List[str], words: str, answer: int, streams: 
         checked(program, OPTIONS, path, [*files, others], (wanted, status))
 
 
+def has_bytes(pipe: IO[bytes]) -> bool:
+    return bool(select.select([pipe], [], [], 0)[0])
+
+
 def killed(program: str, solver: List[str], words: str, streams: int, seconds: float, work: Path) -> None:
-    path, pipes = generated(words, work), make_pipes(work, streams)
-    with started([*solver, path, *pipes], stdout=subprocess.DEVNULL) as solvers, \
-            started([program, *LARGE, path, *pipes], stdout=subprocess.PIPE, text=True) as checker:
-        held = [os.open(pipe, os.O_WRONLY) for pipe in pipes]   # so that the program has a writer for each, in any case
-        time.sleep(seconds)
-        solvers.kill()
-        for pipe in held:
-            os.close(pipe)
-        out, _ = checker.communicate(timeout=300)
+    """The program begins when all streams have lines."""
+    path, pipes = generated(words, work), [work / f"pipe{number}" for number in range(1, streams + 1)]
+    ends = list(map(held, pipes))   # so that the program has a writer for each, in any case
+    with started([*solver, path, *pipes], stdout=subprocess.DEVNULL) as solvers:
+        until("all streams have lines", lambda: all(map(has_bytes, ends)) or solvers.poll() is not None)
+        with started([program, *LARGE, path, *pipes], stdout=subprocess.PIPE, text=True) as checker:
+            time.sleep(seconds)
+            solvers.kill()
+            until("the program has opened them", lambda: not any(map(has_bytes, ends)) or checker.poll() is not None)
+            for end in ends:
+                end.close()
+            out, _ = checker.communicate(timeout=LIMIT)
     *lines, verdict = out.splitlines()
-    pattern = r"c stream \d+: \d+ added, \d+ deleted, (ended|bad line \d+ \(truncated\))"
+    pattern = r"c stream \d+: [1-9]\d* added, \d+ deleted, (ended|bad line \d+ \(truncated\))"
     if len(lines) != streams or not all(re.fullmatch(pattern, line) for line in lines) or verdict != VERDICTS[3]:
         raise Failure(f"a solver was killed, and the report is\n{out}")
 
@@ -142,7 +156,7 @@ def rows(program: str, solver: str) -> List[Row]:
     found: List[Row] = []
     for table, imports in ((ROWS, False), (IMPORTS, True)):
         for seed, (words, answer, streams, share) in enumerate(table, 1):
-            command = [solver, *["--imports"] * imports, "--seed", str(seed), "--share", str(share)]
+            command = [solver, *["--imports"] * imports, "--share", str(share), "--seed", str(seed)]
             name = f"{words}, {streams} streams, shared up to {share}" + ", imports" * imports
             found.append((name, live, program, command, words, answer, streams))
             if imports:

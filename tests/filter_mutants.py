@@ -28,7 +28,7 @@ from harness import FILTER, SANITIZE, SANITIZED, SANITIZING, closing, example, i
 from proof_forms import FORMS, Clause, Step, read_formula, read_steps, varint
 
 KEPT = FILTER.parent / "mutants"
-SECONDS = 20
+SECONDS = 120
 
 # The word of --format, the formula and the steps.
 Base = Tuple[str, bytes, List[bytes]]

@@ -22,8 +22,8 @@ from pathlib import Path
 from typing import IO, Any, Callable, Dict, Iterable, List, Sequence, Tuple, Union
 
 sys.dont_write_bytecode = True
-from harness import (FILTER, FOUR, LRUP_CHAIN, ROOT, TESTS, Failure, Ran, Row, Skipped, example, generated, piped, report, run,
-                     run_all, started, want, words_given, written)
+from harness import (FILTER, FOUR, LIMIT, LRUP_CHAIN, ROOT, TESTS, Failure, Ran, Row, Skipped, example, generated, piped, report,
+                     run, run_all, started, want, words_given, written)
 from proof_forms import FORMS, Step, code, codes, read_formula, read_steps, varint
 
 USING = ROOT / "docs" / "USING.md"
@@ -34,12 +34,12 @@ FIRST = "5 2 0 1 2 0\n"
 
 def exact(words: Sequence[object], given: Text = b"") -> Ran:
     """The filter's standard output, standard error and status."""
-    return run([FILTER, *words], given, limit=300)
+    return run([FILTER, *words], given)
 
 
 def check(program: str, formula: Path, streams: Sequence[Tuple[object, int]]) -> None:
     """Each stream has to end, with the additions wanted of it; the formula to be refuted."""
-    done = run([program, "--tries", "1000000", formula, *(path for path, _ in streams)], limit=300)
+    done = run([program, "--tries", "1000000", formula, *(path for path, _ in streams)])
     *lines, verdict = done.out.splitlines() or [""]
     want((len(lines), verdict, done.status), (len(streams), "s UNSATISFIABLE", 0), f"{done.err}the verdict")
     for number, (line, (_, wanted)) in enumerate(zip(lines, streams), 1):
@@ -183,7 +183,7 @@ def comes_out_with(program: str, formula: str, proof: Text, lines: str, words: L
     streams = [path for path, _ in at_place((written(text, work, "exact"), 0), stream, count)]
     deleted = text.count(" d ")
     added = len(text.splitlines()) - deleted
-    found = run([program, path, *streams], limit=300).out
+    found = run([program, path, *streams]).out
     want(found.splitlines()[stream - 1], f"c stream {stream}: {added} added, {deleted} deleted, ended", "the report")
 
 
@@ -393,7 +393,7 @@ def one_line(program: str, form: str, formula: Path, proof: Text, line: str, fit
 
 
 def check_report(program: str, formula: Path, text: str, said: str, work: Path) -> None:
-    found = run([program, formula, written(text, work, "exact")], limit=300).out
+    found = run([program, formula, written(text, work, "exact")]).out
     want(found.splitlines()[:1], report([said], 3).splitlines()[:1], "the report")
 
 
@@ -485,8 +485,8 @@ def cut(form: str, work: Path) -> None:
 
 
 def read_line(file: IO[bytes]) -> str:
-    """One that comes soon."""
-    ready, _, _ = select.select([file], [], [], 20)
+    """One that comes while the pipe is open."""
+    ready, _, _ = select.select([file], [], [], LIMIT)
     if not ready:
         raise Failure("no line came while the pipe was open")
     return file.readline().decode()
@@ -504,12 +504,12 @@ def live(form: str, options: List[str], work: Path) -> None:
             want(sorted_hints(read_line(running.stdout)), sorted_hints(line), "a live line")
         running.stdin.write(rest)
         running.stdin.close()
-        want((running.stdout.read(), running.wait(20)), (b"", 0), "the end")
+        want((running.stdout.read(), running.wait(LIMIT)), (b"", 0), "the end")
 
 
 def fails(proof: str, out: Any, work: Path) -> None:
     """A stream that can't be written: one line, and status 1."""
-    done = run([FILTER, written(FOUR, work)], proof, limit=60, stdout=out)
+    done = run([FILTER, written(FOUR, work)], proof, stdout=out)
     want((done.status, done.err.count("\n"), done.err[:7]), (1, 1, "exact: "), "the status and the lines")
 
 
@@ -633,7 +633,7 @@ def in_bash(program: str, commands: str, work: Path) -> Ran:
     with subprocess.Popen(["bash", "-c", commands], cwd=work, env={**os.environ, "PATH": path}, stdout=subprocess.PIPE,
                           stderr=subprocess.PIPE, text=True, start_new_session=True) as running:
         try:
-            out, err = running.communicate(timeout=120)
+            out, err = running.communicate(timeout=LIMIT)
             return Ran(out, err, running.returncode)
         finally:
             if running.returncode is None:

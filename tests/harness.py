@@ -23,12 +23,15 @@ GENERATOR = EXAMPLES / "solver" / "generate.py"
 LRUP_CHAIN = ROOT / "tools" / "lrup-chain"
 EXACT = ROOT / "tools" / "exact"
 FILTER, SANITIZED = EXACT / "out" / "exact", EXACT / "out" / "exact-sanitized"
-LIMIT = 120  # seconds, after which a run hangs
+LIMIT = 300  # seconds, after which a run hangs, also on a slow machine that does other work
 FOUR = "p cnf 2 4\n1 2 0\n-1 2 0\n1 -2 0\n-1 -2 0\n"
 VERDICTS = {0: "s UNSATISFIABLE", 3: "s UNKNOWN", 8: "s UNSATISFIABLE UNDER ASSUMPTIONS"}
 
-# A shell starts what is in the background with this one ignored, and then programs under test would ignore it, too.
+# A shell starts what is in the background with the one ignored, and nohup with the other, and then programs under test would
+# ignore them, too. A handler isn't theirs.
 signal.signal(signal.SIGINT, signal.default_int_handler)
+if signal.getsignal(signal.SIGHUP) == signal.SIG_IGN:
+    signal.signal(signal.SIGHUP, lambda *_: None)
 
 Words = Iterable[object]
 Row = Tuple[Any, ...]
@@ -83,7 +86,7 @@ def started(words: Words, **how: Any) -> Iterator["subprocess.Popen[Any]"]:
             process.kill()
 
 
-def until(what: str, condition: Callable[[], bool], seconds: float = 20) -> None:
+def until(what: str, condition: Callable[[], bool], seconds: float = LIMIT) -> None:
     end = time.monotonic() + seconds
     while not condition():
         if time.monotonic() > end:
@@ -241,12 +244,12 @@ def with_memory(function: Callable[..., None], *arguments: Any) -> None:
 def outcome(row: Row) -> Optional[Exception]:
     """The failure, or why the row is skipped; nothing where it passed."""
     _, function, *arguments = row
-    with tempfile.TemporaryDirectory() as work:
-        try:
+    try:
+        with tempfile.TemporaryDirectory() as work:
             function(*arguments, Path(work))
-            return None
-        except (Failure, Skipped, OSError, ValueError, subprocess.SubprocessError) as found:
-            return found
+    except (Failure, Skipped, OSError, LookupError, ValueError, subprocess.SubprocessError) as found:
+        return found
+    return None
 
 
 def closing(passed: int, failed: int, skipped: int = 0, title: str = "") -> int:

@@ -20,6 +20,7 @@ import signal
 import struct
 import subprocess
 import sys
+import tempfile
 import termios
 import time
 from pathlib import Path
@@ -29,11 +30,14 @@ sys.dont_write_bytecode = True
 from harness import (EXAMPLES, FOUR, LIMIT, ROOT, Failure, Ran, Row, Skipped, dimacs, example, generated, piped, random_clauses, run,
                      started, until, want, words_given, written)
 from proof_forms import read_formula
-from solving import (EARLY, ELIMINATING, OUT, PROGRAM, SOLVE, Answer, before_lrupd, check_again, children_of, in_place_of_lrupd,
-                     is_alive, random_formula, run_built, solve, want_answer)
+from solving import (EARLY, ELIMINATING, OUT, PROGRAM, SOLVE, Answer, before_lrupd, check_again, children_of, command, end_group,
+                     goes_on, in_environment, in_place_of_lrupd, is_alive, kill_children, random_formula, run_built, solve, want_answer)
 
 words_given(__doc__, most=2)
 MITERS = EXAMPLES / "miter"
+TRIES = 10      # of runs that may be over before something happens to them
+SOON = 9        # seconds, fewer than a filter has for its last line
+PROGRESS = re.compile(rb"\r([^\r\n\x1b]* conflicts[^\r\n\x1b]*)\x1b\[K")
 
 
 def in_shell(command: str, *words: object, **how: Any) -> Ran:
@@ -137,8 +141,13 @@ def earlier_run(work: Path) -> None:
     want(sorted(os.listdir(kept)), sorted([*others, "command", "formula.cnf", "report", *one, "round-1.stream-2"]), "what is there")
     want((kept / "formula.cnf").read_text(), example("bmc.cnf").read_text(), "the formula")
     check_again(kept)
-    one_round = {"FIRST_WORDS": 1 << 62}      # no machine fills its row within a second
-    want_answer(solve(["-j", "1", "--time", "1", "--proofs", kept, generated("pigeons 11", work)], tested=one_round), 0)
+    one_round = {"FIRST_WORDS": 1 << 24}      # no machine fills its row before it is ended
+    with started(command(["-j", "1", "--proofs", kept, generated("pigeons 11", work)], one_round), env=in_environment(one_round),
+                 stdout=subprocess.PIPE, text=True) as running:
+        until("lrupd is there", lambda: "lrupd" in children_of(running.pid) or running.poll() is not None)
+        running.terminate()
+        out = running.communicate(timeout=LIMIT)[0]
+    want((out.splitlines()[-1], running.returncode), ("s UNKNOWN", -signal.SIGTERM), "the answer of a run that was ended")
     want(sorted(os.listdir(kept)), sorted([*others, *one]), "what is there after 's UNKNOWN'")
 
 
@@ -195,7 +204,7 @@ def standard_input(words: List[str], work: Path) -> None:
 
 def from_fifo(work: Path) -> None:
     fifo = piped(work / "fifo")
-    with subprocess.Popen(["cp", str(example("bmc.cnf")), str(fifo)]):
+    with started(["cp", example("bmc.cnf"), fifo]):
         want_answer(solve([fifo]), 20)
 
 
@@ -274,19 +283,30 @@ def impostor(body: str, cause: str, work: Path) -> None:
 
 
 class Running:
-    """One that is at work: both engines, their filters and lrupd are there."""
+    """One that is at work: both engines, their filters and lrupd are there. What hasn't ended when the block is left is killed. A
+    build for tests starts lrupd with the first line, and not when a fast machine may be done."""
+    HOOKS = {"FIRST_WORDS": 1 << 22}
 
     def __init__(self, formula: Path, work: Path, ignored: Sequence[int] = ()) -> None:
         def ignore() -> None:
             for number in ignored:
                 signal.signal(number, signal.SIG_IGN)
-        self.folder = work / "folder"
-        self.folder.mkdir()
-        self.process = subprocess.Popen([str(SOLVE), "--lrupd", PROGRAM, "-v", "-j", "2", str(formula)], cwd=self.folder,
-                                        stdout=subprocess.PIPE, stderr=subprocess.PIPE, text=True,
-                                        env={**os.environ, "TMPDIR": str(self.folder)}, preexec_fn=ignore)
+        self.folder = Path(tempfile.mkdtemp(dir=work))
+        self.process = subprocess.Popen(command(["-v", "-j", "2", formula], self.HOOKS), cwd=self.folder, text=True,
+                                        stdout=subprocess.PIPE, stderr=subprocess.PIPE, preexec_fn=ignore, start_new_session=True,
+                                        env=in_environment(self.HOOKS, {"TMPDIR": str(self.folder)}))
         self.children: Dict[str, int] = {}
-        until("five children", self.has_all)
+
+    def __enter__(self) -> "Running":
+        try:
+            until("five children, or the end", lambda: self.process.poll() is not None or self.has_all())
+        except Failure:
+            self.__exit__()
+            raise
+        return self
+
+    def __exit__(self, *_: object) -> None:
+        end_group(self.process)
 
     def has_all(self) -> bool:
         self.children = children_of(self.process.pid)
@@ -294,61 +314,63 @@ class Running:
 
     def end(self) -> Answer:
         """What it said; no child of it is left, and no file."""
-        try:
-            out, said = self.process.communicate(timeout=LIMIT)
-        finally:
-            self.process.kill()
+        out, said = self.process.communicate(timeout=LIMIT)
         until("its children end", lambda: not any(map(is_alive, self.children.values())))
-        want(os.listdir(self.folder), [], "files that are left")
+        until("its files are removed", lambda: not os.listdir(self.folder))
         return Answer(Ran(out, said, self.process.returncode))
 
 
 def killed(names: List[str], number: int, status: int, cause: str, work: Path) -> None:
-    """Children are killed: the others go on, or the answer is 'unknown'."""
+    """Children are killed: the others go on, or the answer is 'unknown'. A run that was over before is tried again."""
     formula = generated("random 220 5", work) if status else generated("pigeons 11", work)
-    running = Running(formula, work)
-    for name in names:
-        os.kill(running.children[name], number)
-    answer = running.end()
-    want_answer(answer, status, formula)
-    if not any(cause in line for line in answer.comments):
-        raise Failure(f"wanted a word on '{cause}', and not\n{answer.out}")
+    said = ""
+    for _ in range(TRIES):
+        with Running(formula, work) as running:
+            try:
+                kill_children(running.children, names, number)
+            except ProcessLookupError:
+                continue
+            answer = running.end()
+        want_answer(answer, status, formula)
+        if any(cause in line for line in answer.comments):
+            return
+        said = answer.out
+    raise Failure(f"wanted a word on '{cause}', and not\n{said}")
 
 
 def ended_by(number: int, work: Path) -> None:
-    running = Running(generated("pigeons 11", work), work)
-    begin = time.monotonic()
-    running.process.send_signal(number)
-    answer = running.end()
+    with Running(generated("pigeons 11", work), work) as running:
+        begin = time.monotonic()
+        running.process.send_signal(number)
+        answer = running.end()
     want((answer.answers, answer.status), (["s UNKNOWN"], -number), "the end")
-    if time.monotonic() - begin > 5:
-        raise Failure("it took more than five seconds")
+    want(time.monotonic() - begin < SOON, True, "whether it ended soon")
 
 
 def ignored(number: int, work: Path) -> None:
     """One that was ignored at the start stays so, as under nohup."""
-    running = Running(generated("pigeons 11", work), work, ignored=[number, signal.SIGCHLD])
-    running.process.send_signal(number)
-    time.sleep(0.5)
-    want(running.process.poll(), None, "the status after a signal that is ignored")
-    running.process.send_signal(signal.SIGTERM)
-    answer = running.end()
+    with Running(generated("pigeons 11", work), work, ignored=[number, signal.SIGCHLD]) as running:
+        running.process.send_signal(number)
+        goes_on(running.process)
+        want(running.process.poll(), None, "the status after a signal that is ignored")
+        running.process.send_signal(signal.SIGTERM)
+        answer = running.end()
     want((answer.answers, answer.status), (["s UNKNOWN"], -signal.SIGTERM), "the end")
     want("ended by a signal: Terminated" in answer.comments, True, f"a word on the other signal in\n{answer.out}")
 
 
 def left_alone(work: Path) -> None:
     """Where the first process is killed the others end, too."""
-    running = Running(generated("pigeons 11", work), work)
-    running.process.kill()
-    running.end()
+    with Running(generated("pigeons 11", work), work) as running:
+        running.process.kill()
+        want(running.end().status, -signal.SIGKILL, "the end")
 
 
 def time_is_up(work: Path) -> None:
-    begin = time.monotonic()
-    answer = solve(["--time", "0.7", generated("pigeons 11", work)])
+    formula, begin = generated("pigeons 11", work), time.monotonic()
+    answer = solve(["--time", "0.7", formula])
     want_answer(answer, 0)
-    want((answer.comments[0], time.monotonic() - begin < 10), ("time is up", True), "what is said")
+    want(("time is up" in answer.comments, 0.7 <= time.monotonic() - begin < SOON), (True, True), f"what is said\n{answer.out}")
 
 
 def row_is_full(work: Path) -> None:
@@ -382,34 +404,50 @@ def reader_left(work: Path) -> None:
     want((answer.status, answer.said.count("\n")), (1, 1), f"what is said: {answer.said}")
 
 
-def shown_on_terminal(words: List[str], columns: int, work: Path) -> Tuple[bytes, str]:
-    """And what comes on standard output."""
-    leader, terminal = pty.openpty()
-    fcntl.ioctl(terminal, termios.TIOCSWINSZ, struct.pack("HHHH", 24, columns, 0, 0))
-    with started([SOLVE, "--lrupd", PROGRAM, "-j", "2", "--time", "1.5", *words, generated("pigeons 11", work)],
-                 stdout=subprocess.PIPE, stderr=terminal, text=True) as running:
-        os.close(terminal)
-        out = running.communicate(timeout=LIMIT)[0]
-    fcntl.fcntl(leader, fcntl.F_SETFL, os.O_NONBLOCK)
+def read_terminal(leader: int) -> bytes:
+    """What is there by now."""
     seen = b""
     try:
         while chunk := os.read(leader, 65536):
             seen += chunk
-    except OSError:
+    except OSError:     # nothing more, or nobody who writes
         pass
+    return seen
+
+
+def shown_on_terminal(words: List[str], count: int, columns: int, work: Path) -> Tuple[bytes, str]:
+    """Until it has as many lines of progress, or for some turns of the program's loop; and what comes on standard output."""
+    leader, terminal = pty.openpty()
+    fcntl.ioctl(terminal, termios.TIOCSWINSZ, struct.pack("HHHH", 24, columns, 0, 0))
+    fcntl.fcntl(leader, fcntl.F_SETFL, os.O_NONBLOCK)
+    seen = bytearray()
+
+    def has_shown() -> bool:
+        seen.extend(read_terminal(leader))
+        return len(PROGRESS.findall(seen)) >= count
+
+    with started(command(["-j", "2", *words, generated("pigeons 11", work)]), stdout=subprocess.PIPE, stderr=terminal,
+                 text=True) as running:
+        os.close(terminal)
+        until("an engine is there", lambda: "engine 1" in children_of(running.pid) or running.poll() is not None)
+        goes_on(running)
+        until(f"{count} lines of progress", lambda: has_shown() or running.poll() is not None)
+        running.terminate()
+        out = running.communicate(timeout=LIMIT)[0]
+    seen.extend(read_terminal(leader))
     os.close(leader)
-    return seen, out
+    return bytes(seen), out
 
 
 def progress(words: List[str], wanted: bool, columns: int, work: Path) -> None:
     """One line that is written over and over, and taken away, on a terminal alone, and within its columns."""
-    seen, out = shown_on_terminal(words, columns, work)
+    seen, out = shown_on_terminal(words, 3 * wanted, columns, work)
     want(out.splitlines()[-1], "s UNKNOWN", "the answer")
-    shown = re.findall(rb"\r([^\r\n\x1b]* conflicts[^\r\n\x1b]*)\x1b\[K", seen)
-    found = len(shown) > 2, b"\n" in seen, not shown or seen.endswith(b"\r\x1b[K")
-    want(found, (wanted, False, True), f"on the terminal: {seen[:300]!r}")
-    within = [line for line in shown if len(line) < (columns or 80) and (columns == 30 or line.endswith(b" %"))]
-    want(within, shown, "lines within the columns")
+    shown, width = PROGRESS.findall(seen), (columns or 80) - 1
+    found = min(len(shown), 3), b"\n" in seen, not shown or seen.endswith(b"\r\x1b[K")
+    want(found, (3 * wanted, False, True), f"on the terminal: {seen[:300]!r}")
+    whole = [line for line in shown if len(line) == width or len(line) < width and columns != 30 and line.endswith(b" %")]
+    want(whole, shown, "lines within the columns")
     hidden, lines = seen.count(b"\r\x1b[K"), sum(line.startswith("c ") for line in out.splitlines())
     want(hidden <= lines + 1, True, f"{hidden} times the line was hidden, for {lines} lines")
 
@@ -448,15 +486,15 @@ def options_told(work: Path) -> None:
 
 
 def rests_on(what: str, count: int, found: str, variables: Tuple[int, int], early: str, work: Path) -> None:
-    """So many formulas, with it and without; more where none of them broke, which is a matter of time. A stream waits a second, and
-    not a minute, for a clause that doesn't come."""
+    """So many formulas, with it and without; more where none of them broke, which is a matter of time. Without it a stream waits a
+    second, and not a minute, for a clause that doesn't come."""
     seen = {True: 0, False: 0}
     for seed in range(10 * count):
         numbers = random.Random(seed)
         size = numbers.randrange(*variables)
         formula = written(dimacs(size, random_clauses(numbers, size, round(numbers.uniform(4, 4.9) * size))), work)
         for left_out in (True, False):
-            tested: Dict[str, object] = {"SET": early, "SLICE": 30, "TRIES": 20000, **({"WITHOUT": what} if left_out else {})}
+            tested: Dict[str, object] = {"SET": early, "SLICE": 30, **({"WITHOUT": what, "TRIES": 20000} if left_out else {})}
             answer = solve(["-v", "--memory", "64M", "--time", "20", "-j", "3", formula], tested=tested)
             seen[left_out] += any(re.search(found, line) for line in answer.comments)
             if not left_out and "time is up" not in answer.comments:       # short slices hardly come to an end
@@ -472,8 +510,8 @@ def published_late(work: Path) -> None:
     for seed in range(120):
         formula = generated(f"random 150 {seed}", work)
         for left_out in (True, False):
-            tested: Dict[str, object] = {"SLICE": 30, "TRIES": 20000, "LAST_GIFT": 40 + 7 * seed}
-            tested.update({"WITHOUT": "flush"} if left_out else {})
+            tested: Dict[str, object] = {"SLICE": 30, "LAST_GIFT": 40 + 7 * seed}
+            tested.update({"WITHOUT": "flush", "TRIES": 20000} if left_out else {})
             answer = solve(["-v", "--memory", "64M", "--time", "20", "-j", "3", formula], tested=tested)
             if left_out:
                 broke += any("missing" in line for line in answer.comments)
@@ -529,7 +567,8 @@ def words_and_files() -> List[Row]:
     runs += [(f"an own {name}", own_files, name) for name in ("formula.cnf", "assumptions", "report", "command")]
     runs += [(" ".join(["over", *words]), writes_over, words) for words in
              (["formula.cnf"], ["formula.cnf", "{path}"], ["round-1.stream-1", "{path}"], ["round-12.stream-64", "{path}"],
-              ["report", "{work}/link"], ["command", "{work}/other"], ["round-1.stream-2", "/dev/stdin"], ["round-3.sizes", "{path}"], ["x", "--assume", "{cube}", "{path}"])]
+              ["report", "{work}/link"], ["command", "{work}/other"], ["round-1.stream-2", "/dev/stdin"],
+              ["round-3.sizes", "{path}"], ["x", "--assume", "{cube}", "{path}"])]
     return runs
 
 

@@ -123,7 +123,7 @@ def rests_on(what: str, found: str, tested: Mapping[str, object], work: Path) ->
     for seed in range(12):
         formula = generated(f"random 170 {seed}", work)
         for left_out in (True, False):
-            words = {**SMALL, **tested, "TRIES": 20000, **({"WITHOUT": what} if left_out else {})}
+            words = {**SMALL, **tested, **({"WITHOUT": what, "TRIES": 20000} if left_out else {})}
             answer = solve(3, ["-v", "--time", "20", "-j", "1", formula], words)
             seen[left_out] += any(re.search(found, line) for line in answer.comments)
         if seen[True] and seed > 1:

@@ -7,7 +7,7 @@ One to four engines, with and without sharing, each answer; the record, which lr
 round or in the pause after one, checkpoints that can't be written, signals; that nothing grows from round to round. What sharing
 rests on there is left out, one thing at a time. The flags, and what is shown, are as of lrup_solve.py.
 """
-import contextlib
+import glob
 import os
 import random
 import re
@@ -18,12 +18,12 @@ import signal
 import subprocess
 import sys
 from pathlib import Path
-from typing import Any, Callable, Dict, List, Mapping, Optional, Sequence
+from typing import Any, Dict, List, Mapping, Sequence
 
 sys.dont_write_bytecode = True
 from harness import (LIMIT, Failure, Ran, Row, dimacs, example, generated, random_clauses, run, until, want, words_given, written)
-from solving import (EARLY, PROGRAM, TESTED, Answer, before_lrupd, check_again, children_of, in_place_of_lrupd, is_alive,
-                     of_process, random_formula, run_built, solve, want_answer)
+from solving import (EARLY, PROGRAM, Answer, before_lrupd, check_again, children_of, command, end_group, in_environment,
+                     in_place_of_lrupd, is_alive, kill_children, of_process, random_formula, run_built, solve, want_answer)
 
 words_given(__doc__, most=2)
 SMALL = {"SAME_WORDS": 1, "SLICE": 40}      # rows that don't grow
@@ -139,43 +139,65 @@ def no_room_for_one_clause(work: Path) -> None:
 
 
 class Running:
-    """One that has come to a round: lrupd of that round is to save round-N.cnf."""
+    """One that has come to a round: lrupd of that round, or of a later one, is to save round-N.cnf. With `pause` it has come to the
+    pause at the end of that round, which lasts until `go_on`; slices are long, so that much isn't taken over before. What hasn't
+    ended when the block is left is killed."""
 
-    def __init__(self, words: Sequence[object], number: int, work: Path, **tested: object) -> None:
-        self.folder = work / "folder"
+    def __init__(self, words: Sequence[object], number: int, work: Path, pause: bool = False, **tested: object) -> None:
+        self.number, self.work, self.pause, self.folder = number, work, pause, work / "folder"
         self.folder.mkdir(exist_ok=True)
-        environment = {**os.environ, "TMPDIR": str(self.folder), "LRUP_SOLVE_SLICE": "40", "LRUP_SOLVE_SAME_WORDS": "1",
-                       "ASAN_OPTIONS": "quarantine_size_mb=1"}      # what is freed would be kept
-        environment.update({f"LRUP_SOLVE_{name}": str(word) for name, word in tested.items()})
-        words = [TESTED, *([] if "--lrupd" in words else ["--lrupd", PROGRAM]), "-v", *words]
-        self.process = subprocess.Popen([*map(str, words)], stdout=subprocess.PIPE, stderr=subprocess.PIPE, text=True,
-                                        env=environment, start_new_session=True)
-        self.saved = f"round-{number + 1}.cnf"
+        for name in ("paused", "go"):
+            (work / name).unlink(missing_ok=True)
+        hooks = {"SLICE": 5000 if pause else 40, "SAME_WORDS": 1, **tested}
+        more = {"TMPDIR": str(self.folder), "ASAN_OPTIONS": "quarantine_size_mb=1"}      # what is freed would be kept
+        words = [*(["--lrupd", waiting_lrupd(number, work)] if pause else []), "-v", *words]
+        self.process = subprocess.Popen(command(words, hooks), stdout=subprocess.PIPE, stderr=subprocess.PIPE, text=True,
+                                        env=in_environment(hooks, more), start_new_session=True)
         self.children: Dict[str, int] = {}
+
+    def __enter__(self) -> "Running":
         try:
-            until(f"round {number}", self.has_come)
+            until(f"round {self.number}, or the end", self.has_come)
         except Failure:
-            self.process.kill()
+            self.__exit__()
             raise
+        return self
+
+    def __exit__(self, *_: object) -> None:
+        end_group(self.process)
+
+    def last_saved(self) -> int:
+        """The number of the last file that lrupd has created."""
+        names = [name for place in (".rounds-*", "lrup-solve-*") for name in glob.glob(f"{self.work}/*/{place}/round-*.cnf")]
+        return max((int(re.findall(r"\d+", name)[-1]) for name in names), default=0)
 
     def has_come(self) -> bool:
         self.children = {**self.children, **children_of(self.process.pid)}
-        return bool(list(self.folder.parent.glob(f"*/*/{self.saved}"))) or self.process.poll() is not None
+        there = (self.work / "paused").exists() if self.pause else self.last_saved() > self.number
+        return there or self.process.poll() is not None
+
+    def go_on(self) -> None:
+        (self.work / "go").touch()
 
     def end(self, limit: float = LIMIT) -> Answer:
         """What it said; no child of it is left, and no file."""
-        try:
-            out, said = self.process.communicate(timeout=limit)
-        except subprocess.TimeoutExpired:
-            self.end_all()
-            raise
+        out, said = self.process.communicate(timeout=limit)
         until("its children end", lambda: not any(map(is_alive, self.children.values())))
         until("its files are removed", lambda: not os.listdir(self.folder))
         return Answer(Ran(out, said, self.process.returncode))
 
-    def end_all(self) -> None:
-        with contextlib.suppress(ProcessLookupError):
-            os.killpg(self.process.pid, signal.SIGKILL)
+
+def waiting_lrupd(number: int, work: Path) -> Path:
+    """In that round it reads the streams to their ends, which is when all filters wait for what it saves; then it waits itself."""
+    return before_lrupd(f"""case "$*" in */round-{number + 2}.cnf*) ;; */round-{number + 1}.cnf*)
+    for word in "$@"; do
+        case $word in /dev/fd/*) cat "$word" > '{work}'/"${{word##*/}}"; word='{work}'/${{word##*/}} ;; esac
+        shift
+        set -- "$@" "$word"
+    done
+    : > '{work}/paused'
+    until [ -e '{work}/go' ]; do sleep 0.01; done ;;
+esac""", work)
 
 
 def says(answer: Answer, cause: str) -> bool:
@@ -187,21 +209,23 @@ def want_cause(answer: Answer, cause: str) -> None:
         raise Failure(f"wanted a word on '{cause}', and not\n{answer.out}")
 
 
-def kill(words: Sequence[object], number: int, first_words: int, names: List[str], status: int, cause: str, work: Path) -> None:
+def kill(words: Sequence[object], number: int, pause: bool, first_words: int, names: List[str], status: int, cause: str,
+         work: Path) -> None:
     """Children of a run that has come to that round are killed. Where one had ended before, the run is tried again."""
     formula = generated("random 220 5", work) if status else generated("pigeons 11", work)
     said = []
     for _ in range(TRIES):
-        running = Running([*words, "-j", "3", formula], number, work, FIRST_WORDS=first_words)
-        try:
-            for name in names:
-                os.kill(running.children[name], signal.SIGKILL)
-            answer = running.end(LIMIT / 2)
-        except (KeyError, ProcessLookupError, subprocess.TimeoutExpired) as error:
-            said.append(repr(error))
-            running.end_all()
-            running.end()
-            continue
+        with Running([*words, "-j", "3", formula], number, work, pause, FIRST_WORDS=first_words) as running:
+            try:
+                kill_children(running.children, names)
+                until("they have ended", lambda: not any(is_alive(running.children[name]) for name in names))
+                running.go_on()
+                answer = running.end(LIMIT / 2)
+            except (ProcessLookupError, subprocess.TimeoutExpired) as error:
+                said.append(repr(error))
+                end_group(running.process)
+                running.end()
+                continue
         want_answer(answer, status, formula)
         if says(answer, cause):
             return
@@ -210,31 +234,24 @@ def kill(words: Sequence[object], number: int, first_words: int, names: List[str
 
 
 def killed(names: List[str], status: int, cause: str, work: Path) -> None:
-    kill(["--proofs", work / "kept"], 4, 40000, names, status, cause, work)
+    kill(["--proofs", work / "kept"], 4, False, 40000, names, status, cause, work)
     if status == 20:
         check_again(work / "kept")
 
 
-def late_lrupd(work: Path, rounds: str = "*") -> Path:
-    """It begins a second late, in all rounds or in these, and so the pause before its round's end is as long."""
-    return before_lrupd(f"case \"$*\" in {rounds}) sleep 1 ;; esac", work)
-
-
 def killed_in_a_pause(names: List[str], status: int, cause: str, work: Path) -> None:
     """A filter that dies as it waits for what lrupd saves: what it gave away others may still take over."""
-    in_the_first = "*round-3.cnf*) ;; *round-2.cnf*"
-    kill(["--lrupd", late_lrupd(work, in_the_first)], 1, 150000, names, status, cause, work)
+    kill([], 1, True, 150000, names, status, cause, work)
 
 
 def ended_by(number: int, round_number: int, pause: bool, work: Path) -> None:
     """In a round, or in the pause after it. SIGKILL goes to all processes at once."""
-    words: List[object] = ["--lrupd", late_lrupd(work)] if pause else []
-    running = Running([*words, "-j", "2", generated("pigeons 11", work)], round_number, work, FIRST_WORDS=50000)
-    if number == signal.SIGKILL:
-        os.killpg(running.process.pid, number)
-    else:
-        running.process.send_signal(number)
-    answer = running.end()
+    with Running(["-j", "2", generated("pigeons 11", work)], round_number, work, pause, FIRST_WORDS=50000) as running:
+        if number == signal.SIGKILL:
+            os.killpg(running.process.pid, number)
+        else:
+            running.process.send_signal(number)
+        answer = running.end()
     want(answer.status, -number, "the end")
     if number != signal.SIGKILL:
         want(answer.answers, ["s UNKNOWN"], "the answer")
@@ -242,15 +259,15 @@ def ended_by(number: int, round_number: int, pause: bool, work: Path) -> None:
 
 def folder_removed(work: Path) -> None:
     """Checkpoints can't be created any more."""
-    running = Running(["-j", "2", generated("pigeons 11", work)], 2, work, FIRST_WORDS=50000)
-    for folder in running.folder.iterdir():
-        while folder.exists():
-            shutil.rmtree(folder, ignore_errors=True)
-    answer = running.end()
+    with Running(["-j", "2", generated("pigeons 11", work)], 2, work, FIRST_WORDS=50000) as running:
+        for folder in running.folder.iterdir():
+            while folder.exists():
+                shutil.rmtree(folder, ignore_errors=True)
+        answer = running.end()
     if answer.status == 1:      # what was saved was gone before it was read
         return want((answer.answers, "cannot open" in answer.said), ([], True), f"what is said: {answer.said}")
     want_answer(answer, 0)
-    want_cause(answer, "^lrupd ended with status [459]$")
+    want_cause(answer, r"^lrupd ended with status [459]$|^engine \d is lost: its filter stopped: cannot open ")
 
 
 def no_folder(work: Path) -> None:
@@ -261,10 +278,10 @@ def no_folder(work: Path) -> None:
 
 
 def full(work: Path) -> None:
-    """A disk that has no room for what is saved: files of 200,000 bytes at most. The streams of a round have room."""
+    """A disk that has no room for what is saved: files of 500,000 bytes at most. The streams of a round have room."""
     clauses = random_clauses(random.Random(3), 2000, 30000, (6,))
     formula = written(dimacs(2000, clauses + read(generated("pigeons 11", work))), work)
-    limit = lambda: resource.setrlimit(resource.RLIMIT_FSIZE, (200000, 200000))
+    limit = lambda: resource.setrlimit(resource.RLIMIT_FSIZE, (500000, 500000))
     answer = solve(["-j", "2", formula], tested={**SMALL, "FIRST_WORDS": 20000}, preexec_fn=limit)
     want_answer(answer, 0)
     want_cause(answer, "^lrupd: checkpoint not written")
@@ -309,15 +326,15 @@ def in_files(pid: int) -> int:
 def stays_small(work: Path) -> None:
     """From round 10 to round 60, of some 500 KB of streams each, with clauses that the engines soon delete."""
     tested = {"FIRST_WORDS": 100000, "SET": "reduceint=20 reducetarget=95"}
-    running = Running(["-j", "2", generated("random 300 5", work)], 10, work, **tested)
-    sizes = lambda: {"files": in_files(running.process.pid), "first": resident(running.process.pid),
-                     **{name: resident(pid) for name, pid in running.children.items() if name.startswith(("filter", "engine"))}}
-    before = sizes()
-    running.saved = "round-61.cnf"
-    until("round 60", running.has_come, 60)
-    after = sizes()
-    running.process.terminate()
-    running.end()
+    with Running(["-j", "2", generated("random 300 5", work)], 10, work, **tested) as running:
+        sizes = lambda: {"files": in_files(running.process.pid), "first": resident(running.process.pid),
+                         **{name: resident(pid) for name, pid in running.children.items() if name.startswith(("filter", "engine"))}}
+        before = sizes()
+        running.number = 60
+        until("round 60", running.has_come)
+        after = sizes()
+        running.process.terminate()
+        running.end()
     for name, size in after.items():
         want(size < 1.3 * before[name] + 6000, True, f"kilobytes of {name}, {before[name]} and then {size}")
 
@@ -330,7 +347,7 @@ def rests_on(what: str, found: str, tested: Mapping[str, object], work: Path) ->
     for seed in range(100):
         formula = generated(f"random {random.Random(seed).randrange(120, 180)} {seed}", work)
         for left_out in (True, False):
-            words = {**SMALL, **tested, "TRIES": 20000, **({"WITHOUT": what} if left_out else {})}
+            words = {**SMALL, **tested, **({"WITHOUT": what, "TRIES": 20000} if left_out else {})}
             answer = solve(["-v", "--time", "20", "-j", "3", formula], tested=words)
             seen[left_out] += any(re.search(found, line) for line in answer.comments)
             if not left_out and "time is up" not in answer.comments:

@@ -17,19 +17,18 @@ import shutil
 import signal
 import subprocess
 import sys
-import time
 from pathlib import Path
 from typing import Dict, List, Mapping, Sequence
 
 sys.dont_write_bytecode = True
-from harness import (EXAMPLES, FOUR, LIMIT, ROOT, Row, Skipped, compiled, dimacs, example, generated, started, until, want,
+from harness import (EXAMPLES, FOUR, LIMIT, ROOT, Row, Skipped, compiled, dimacs, example, generated, run, started, until, want,
                      words_given, written)
 from solving import PROGRAM, SOLVE, check_again, is_alive, of_process, random_formula, run_built, solve, want_answer
 
 words_given(__doc__, most=2)
 CADICAL, AS_TEXT = "cadical -q %formula %proof", "cadical -q --no-binary %formula %proof"
 CRYPTOMINISAT = "cryptominisat5 --verb 0 %formula %proof"
-EARLY = "cadical -q --elimint=10 --probeint=10 --subsumeint=10 --reduceint=20 --seed={seed} %formula %proof"
+EARLY = ["--elimint=10", "--probeint=10", "--subsumeint=10", "--reduceint=20"]
 COMMANDS = [[CADICAL], [AS_TEXT], [CRYPTOMINISAT], [CADICAL, CRYPTOMINISAT],
             [CADICAL, CADICAL + " --seed=2", AS_TEXT + " --seed=3"]]
 FORMULAS = [("four clauses", FOUR, 20), ("no clauses", "p cnf 3 0\n", 10), ("nothing", "p cnf 0 0\n", 10),
@@ -42,9 +41,8 @@ MANY_ROUNDS = {"FIRST_WORDS": 4000, "SAME_WORDS": 1}
 
 
 def by(commands: Sequence[str]) -> List[str]:
-    for command in commands:
-        name = command.split()[0]
-        if name in ("cadical", "cryptominisat5") and not shutil.which(name):
+    for name in ("cadical", "cryptominisat5"):
+        if any(name in command.split() for command in commands) and not shutil.which(name):
             raise Skipped(f"there is no {name} on the PATH")
     return [word for command in commands for word in ("--solver", command)]
 
@@ -105,7 +103,7 @@ def late(form: str, work: Path) -> None:
 
 def with_gaps(formula: Path, work: Path) -> str:
     """A solver that writes LRAT, in which two identities are left out after each clause."""
-    want_answer(solve(["--proofs", work / "exact", *by([CADICAL]), formula]), 20)
+    want_answer(solve(["--proofs", work / "exact", *by([CADICAL]), formula], tested={"FIRST_WORDS": 1 << 24}), 20)
     lines = (work / "exact" / "round-1.stream-1").read_text().splitlines()
     first = int(lines[0].split()[0])
     gaps = {str(first + number): str(first + 3 * number) for number in range(len(lines))}
@@ -119,12 +117,12 @@ def gaps(work: Path) -> None:
 
 
 def goes_on_sharing(work: Path) -> None:
-    """Engines beside a solver, which reads no outbox: more goes through a small one than it holds."""
+    """Engines beside a solver, which reads no outbox: more goes through a small one than it holds, three words or more each."""
     answer = solve(["-v", "-j", "2", *by(["sleep 1000 # %formula %proof"]), given("random 200 3", work)],
                    tested={"OUTBOX": 1000, "SLICE": 100})
     want_answer(answer, 20)
     given_away = [int(found.replace(",", "")) for found in re.findall(r"([\d,]+) given away", answer.out)]
-    want(sum(given_away) > 1000, True, f"clauses given away, in\n{answer.out[-3000:]}: whether they are more than 1,000")
+    want(min(given_away[:2]) > 1000 // 3, True, f"clauses given away, in\n{answer.out[-3000:]}: whether of each are more than 333")
 
 
 def renamed(words: List[str], names: Mapping[str, str]) -> List[str]:
@@ -137,10 +135,17 @@ def by_example(name: str, status: int, work: Path) -> None:
     answers_of(name, status, [example_solver(work)], [], work)
 
 
+def early(seed: int) -> str:
+    """Inprocessing soon, by what this CaDiCaL has of these options."""
+    has = run(["cadical", "--help"]).out if shutil.which("cadical") else ""
+    options = [option for option in EARLY if option.split("=")[0] + "=" in has]
+    return " ".join(["cadical -q", *options, f"--seed={seed} %formula %proof"])
+
+
 def randomly(seed: int, work: Path) -> None:
     numbers = random.Random(f"{seed} solvers")
     formula, kept = written(random_formula(seed), work), work / "kept"
-    commands = [EARLY.format(seed=seed), AS_TEXT, CRYPTOMINISAT, CRYPTOMINISAT + f" --random {seed}"]
+    commands = [early(seed), AS_TEXT, CRYPTOMINISAT, CRYPTOMINISAT + f" --random {seed}"]
     chosen = numbers.sample(commands, numbers.randint(1, 3))
     words = ["-j", "2"] * numbers.randint(0, 1) + ["--proofs", kept] * (seed % 5 == 0)
     tested = {"SLICE": 50, "FIRST_WORDS": numbers.choice((2000, 1 << 20))}
@@ -238,14 +243,13 @@ def none_left(mark: str) -> None:
 
 
 def standing(command: str, work: Path) -> None:
-    """It neither reads nor answers. Alone time is up; beside a good one that answers. It is ended, with what it has started."""
+    """It neither reads nor answers, for longer than a run may last. Alone time is up; beside a good one that answers. It is ended,
+    with what it has started."""
     mark, formula = marked(work), given("random 120 5", work)
     answer = solve(["--time", "1", *by([command]), formula])
     want((answer.answers, answer.comments[0], answer.status), (["s UNKNOWN"], "time is up", 0), "the answer")
     none_left(mark)
-    begin = time.monotonic()
-    answer = solve([*by([command, CADICAL]), formula])
-    want((answer.answers, time.monotonic() - begin < 20), (["s UNSATISFIABLE"], True), "the answer, in time")
+    want_answer(solve([*by([command, CADICAL]), formula]), 20)
     none_left(mark)
 
 

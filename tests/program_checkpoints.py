@@ -189,8 +189,8 @@ def torn(program: str, way: List[str], limit: Optional[int], work: Path) -> None
     if limit is None:
         path = work / "disk" / "saved"
         path.parent.mkdir()
-        mounted = run(["mount", "-t", "tmpfs", "-o", "size=4096", "none", path.parent])
-        if mounted.status:
+        mount = ["mount", "-t", "tmpfs", "-o", "size=4096", "none", path.parent]
+        if not shutil.which("mount") or run(mount).status:
             raise Skipped("no file system can be mounted")
         words[-3] = str(path)
     try:
@@ -244,6 +244,8 @@ def refused(fault: str, count: int, program: str, work: Path) -> None:
     """The most clauses that a formula has, and one more."""
     clauses = 16_777_215
     formula = work / "formula"
+    if shutil.disk_usage(work).free < 200_000_000:
+        raise Skipped("less than 200 MB are free for files")
     with open(formula, "w") as file:
         file.write(f"p cnf 1 {clauses}\n")
         for _ in range(15):

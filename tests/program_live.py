@@ -18,7 +18,7 @@ from typing import Iterator, Union
 
 sys.dont_write_bytecode = True
 from checkpoints import live, printed, variables_of, want_checkpoint
-from harness import Failure, Ran, example, feed, held, piped, run, started, until, want, words_given, written
+from harness import LIMIT, Failure, Ran, example, feed, held, piped, run, started, until, want, words_given, written
 
 PAUSE = 0.004  # seconds, after each of some 750 lines
 BAD = "lrupd: stream 1: 0 added, 0 deleted, bad line 1 (spelling)\n"
@@ -47,11 +47,11 @@ def reported_while_open(program: str, work: Path) -> None:
             started(words, stdout=subprocess.PIPE, stderr=err, text=True) as checker:
         bad.write(b"no line\n")
         print("one stream is bad, both are open", flush=True)
-        until(f"standard error has {BAD}", lambda: errors.read_text() == BAD, 10)
+        until(f"standard error has {BAD}", lambda: errors.read_text() == BAD)
         print(BAD, end="", flush=True)
         bad.close()
         end.close()
-        out, _ = checker.communicate(timeout=10)
+        out, _ = checker.communicate(timeout=LIMIT)
         status = checker.returncode
     print(out, end="")
     ends = BAD + "lrupd: stream 2: 0 added, 0 deleted, ended\n"
@@ -68,11 +68,11 @@ def checkpoint_at_the_end(program: str, work: Path) -> None:
     with started(words, stdout=subprocess.PIPE, text=True) as checker:
         for half, end in zip(halves, ends):
             end.write(half.read_bytes())
-        until("the checkpoint is created", saved.exists, 10)
+        until("the checkpoint is created", saved.exists)
         want((checker.poll(), saved.read_text()), (None, ""), "the status and the checkpoint while the pipes are open")
         for end in ends:
             end.close()
-        out, _ = checker.communicate(timeout=10)
+        out, _ = checker.communicate(timeout=LIMIT)
     want((out.count(" 370 added, 0 deleted, ended\n"), checker.returncode), (4, 3), f"{out}the streams that ended, and the status")
     want_checkpoint(saved, printed(variables_of(formula), live(formula, halves)))
     print("a checkpoint of four solvers' first lines is there")

@@ -2,16 +2,19 @@
 
 Their command line is PROGRAM [FLAGS]. `make` builds both, with the compilers' flags where they are said.
 """
+import contextlib
 import os
 import random
 import re
 import shlex
+import signal
 import stat
+import subprocess
 import sys
 from pathlib import Path
 from typing import Any, Dict, List, Mapping, Optional, Sequence, Tuple
 
-from harness import ROOT, VERDICTS, Failure, Ran, Row, closing, dimacs, random_clauses, run, run_all, want, written
+from harness import ROOT, VERDICTS, Failure, Ran, Row, closing, dimacs, random_clauses, run, run_all, until, want, written
 from proof_forms import read_formula
 
 PROGRAM = os.path.abspath(sys.argv[1]) if len(sys.argv) > 1 else ""
@@ -38,11 +41,18 @@ class Answer:
         return [line for line in self.comments if " is lost: " in line]
 
 
+def command(words: Sequence[object], tested: Optional[Mapping[str, object]] = None) -> List[str]:
+    """With `tested`, of a build for tests, and `in_environment` has the words for it."""
+    return [str(word) for word in (TESTED if tested is not None else SOLVE, "--lrupd", PROGRAM, *words)]
+
+
+def in_environment(tested: Optional[Mapping[str, object]] = None, more: Optional[Mapping[str, str]] = None) -> Dict[str, str]:
+    return {**os.environ, **(more or {}), **{f"LRUP_SOLVE_{name}": str(word) for name, word in (tested or {}).items()}}
+
+
 def solve(words: Sequence[object], tested: Optional[Mapping[str, object]] = None, env_more: Optional[Mapping[str, str]] = None,
           **how: Any) -> Answer:
-    """With `tested`, a build for tests, and words in its environment."""
-    environment = {**os.environ, **(env_more or {}), **{f"LRUP_SOLVE_{name}": str(word) for name, word in (tested or {}).items()}}
-    return Answer(run([TESTED if tested is not None else SOLVE, "--lrupd", PROGRAM, *words], env=environment, **how))
+    return Answer(run(command(words, tested), env=in_environment(tested, env_more), **how))
 
 
 def want_answer(answer: Answer, status: Optional[int], formula: Optional[Path] = None, verdict: Optional[str] = None) -> None:
@@ -108,9 +118,37 @@ def children_of(pid: int) -> Dict[str, int]:
     return found
 
 
+def end_group(process: "subprocess.Popen[Any]") -> None:
+    """It began a session of its own: whatever it has left is ended, too."""
+    with contextlib.suppress(ProcessLookupError):
+        os.killpg(process.pid, signal.SIGKILL)
+    process.wait()
+
+
+def waits_of(pid: int) -> int:
+    """How often it has waited for something."""
+    found = re.search(r"^voluntary_ctxt_switches:\s+(\d+)", of_process(pid, "status"), re.M)
+    return int(found[1]) if found else 0
+
+
+def goes_on(process: "subprocess.Popen[Any]") -> None:
+    """Until it has come back to its loop several times, each of which waits, or has ended."""
+    before = waits_of(process.pid)
+    until("the program goes on", lambda: process.poll() is not None or waits_of(process.pid) > before + 10)
+
+
 def is_alive(pid: int) -> bool:
     state = of_process(pid, "stat").rsplit(")", 1)[-1].split()
     return bool(state) and state[0] not in "ZX"
+
+
+def kill_children(children: Mapping[str, int], names: Sequence[str], number: int = signal.SIGKILL) -> None:
+    """ProcessLookupError where one has ended before."""
+    for name in names:
+        pid = children.get(name, 0)
+        if not is_alive(pid):
+            raise ProcessLookupError(f"{name} has ended")
+        os.kill(pid, number)
 
 
 # The builds.
