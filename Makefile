@@ -135,7 +135,7 @@ tables: ## check: write the tables of options, statuses and faults in README, US
 
 # Fails unless the two pages and the tables are what the sources give, and DEFINITIONS has their counts; docs/interface.txt has the
 # faults and causes of the definitions; names in backticks and links in the documents lead somewhere; clauses and definitions are
-# within 100 columns, and each lemma stands once.
+# within 100 columns, proofs within 140, and each lemma stands once.
 pages: c-and-python ## check: the documents, against the sources and each other; needs no prover
 	@python3 gate/audit.py --check
 	@python3 gate/tables.py --check

@@ -3,12 +3,12 @@
 
     python3 gate/style.py
 
-It lists names in backticks, in the documents, that don't exist; lines of clauses and of definitions beyond 100 columns; lemmas
-that are stated twice; names that mean one thing in one crate and another in another; where the picture of the crates isn't what
-crates.txt says; targets of the Makefile that CONTRIBUTING doesn't list as `make help` does; links in the documents that lead
-nowhere; whether README is longer than it may be; whether the logic of README is the one of the `rt` on the PATH, if there is one;
-and whether `lrupd --version` says what the file VERSION does. The last line has the counts, and the status is 1 where one of them
-isn't 0.
+It lists names in backticks, in the documents, that don't exist; lines of clauses and of definitions beyond 100 columns, and of
+proofs beyond 140; lemmas that are stated twice; names that mean one thing in one crate and another in another; where the picture of
+the crates isn't what crates.txt says; targets of the Makefile that CONTRIBUTING doesn't list as `make help` does; links in the
+documents that lead nowhere; whether README is longer than it may be; whether the logic of README is the one of the `rt` on the
+PATH, if there is one; and whether `lrupd --version` says what the file VERSION does. The last line has the counts, and the status
+is 1 where one of them isn't 0.
 
 A name in backticks is looked for in the code, the definitions and proofs, the scripts, and the names of files; of `Type::call`
 and `Module.name` the pair. Where several words stand in backticks, a name is one with an underscore, a capital within or `::`, an
@@ -27,7 +27,8 @@ sys.dont_write_bytecode = True
 from audit import slug_of
 
 ROOT = Path(__file__).resolve().parent.parent
-COLUMNS = 100
+COLUMNS = 100  # of clauses and definitions
+PROOF_COLUMNS = 140
 MOST_WORDS = 900  # of README
 # What stands in backticks and isn't of this repository: the toolchain's, the system's, other programs', and what a text makes up.
 FOREIGN = set("""
@@ -80,6 +81,13 @@ def wide_definitions():
                 first, _, rest = line.partition(" ")
                 skipped = first in ("use", "--") or line.startswith("pub use ") or first in lemmas and not rest.startswith(": ")
             if len(line) > COLUMNS and not skipped:
+                yield f"{shown(path)}:{number}: a line has {len(line)} columns"
+
+
+def wide_proofs():
+    for path in files(r"crates/\w+/proofs/.*\.antt"):
+        for number, line in enumerate(path.read_text().splitlines(), 1):
+            if len(line) > PROOF_COLUMNS:
                 yield f"{shown(path)}:{number}: a line has {len(line)} columns"
 
 
@@ -397,8 +405,9 @@ def main():
     if sys.argv[1:]:
         sys.exit(__doc__)
     checks = [("names in backticks that don't exist", unknown_names), ("lines of clauses too wide", wide_clauses),
-              ("lines of definitions too wide", wide_definitions), ("statements of lemmas more than once", repeated_statements),
-              ("names with two meanings", names_with_two_meanings), ("arrows that are wrong", wrong_arrows),
+              ("lines of definitions too wide", wide_definitions), ("lines of proofs too wide", wide_proofs),
+              ("statements of lemmas more than once", repeated_statements), ("names with two meanings", names_with_two_meanings),
+              ("arrows that are wrong", wrong_arrows),
               ("targets and lines of make help that differ", unlisted_targets), ("links that lead nowhere", dead_links),
               ("pages too long", long_readme), ("other logics", other_logics),
               ("other versions", other_versions)]

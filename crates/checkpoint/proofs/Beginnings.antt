@@ -1,5 +1,6 @@
 -- A text of a formula has a token `0` for each clause, and a beginning of a printed text has fewer than its header says.
-use Rattle.std.proofs.Common.{◌≡◌, ◌≢◌, ◌≤◌, ◌<◌, ◌+◌, ◌-◌, ◌^◌, ◌++◌, ◌⊎◌, ℕ, zero, suc, ℤ, pos, negsuc, List, [], ◌∷◌, length, length-append, map, min, get_or, true, false, not, cond, refl, sym, ap, subst, ◌∙◌, inl, inr, arith}
+use Rattle.std.proofs.Common.{◌≡◌, ◌≢◌, ◌≤◌, ◌<◌, ◌+◌, ◌-◌, ◌^◌, ◌++◌, ◌⊎◌, ℕ, zero, suc, ℤ, pos, negsuc, List, [], ◌∷◌, length}
+use Rattle.std.proofs.Common.{length-append, map, min, get_or, true, false, not, cond, refl, sym, ap, subst, ◌∙◌, inl, inr, arith}
 use Rattle.std.specs.Prelude.{codes, flat_map, ◌==◌, filter}
 use Rattle.std.specs.Fmt.{decimal, signed_decimal}
 use Rattle.std.specs.List.{AllByRecursion}
@@ -18,7 +19,9 @@ use Rattle.dimacs.specs.Numerals.{is_zero}
 use Rattle.checkpoint.specs.Live.{Entry, clauses_of}
 use Rattle.checkpoint.specs.Printing.{ABeginningIsNoText, clause_line, entries_text, entry_text, formula_text, header_line, note}
 use Rattle.checkpoint.proofs.PrintLemmas.{note_none}
-use Rattle.checkpoint.proofs.ReadBack.{IsRun, clause_ends, clause_front, clause_front-cons, clause_is, entry_read, header_front, header_is, header_plain, header_read, note_ends, note_front, note_is, note_read, runs_last, runs_more, token_decimal, token_literal, token_run}
+use Rattle.checkpoint.proofs.ReadBack.{IsRun, clause_ends, clause_front, clause_front-cons, clause_is, entry_read, header_front, header_is}
+use Rattle.checkpoint.proofs.ReadBack.{header_plain, header_read, note_ends, note_front, note_is, note_read, runs_last, runs_more}
+use Rattle.checkpoint.proofs.ReadBack.{token_decimal, token_literal, token_run}
 
 -- ## a list that is cut in two
 
@@ -43,7 +46,8 @@ cut (x ∷ xs) ys (f ∷ front) back is =
     let rest : xs ++ ys ≡ front ++ back = cc in
     elim (cut xs ys front back rest) [
       | inl behind ↦ inl (record { between = behind.between; front_is = cc (behind.front_is, first); back_is = behind.back_is })
-      | inr within ↦ inr (record { between = within.between; some = within.some; front_is = cc (within.front_is, first); back_is = within.back_is })
+      | inr within ↦
+          inr (record { between = within.between; some = within.some; front_is = cc (within.front_is, first); back_is = within.back_is })
     ]
 
 -- a last element that isn't in the front
@@ -55,7 +59,8 @@ before_last xs x front back is some =
       | inr within ↦ (within.between, within.front_is, ap length within.back_is ∙ length-append within.between (x ∷ []))
     ]
   where
-    at_end : (between : List ℕ) → front ≡ xs ++ between → x ∷ [] ≡ between ++ back → (rest : List ℕ) × (xs ≡ front ++ rest) × (length back ≡ length rest + 1)
+    at_end : (between : List ℕ) → front ≡ xs ++ between → x ∷ [] ≡ between ++ back
+        → (rest : List ℕ) × (xs ≡ front ++ rest) × (length back ≡ length rest + 1)
     at_end [] front_is back_is = ([], sym (append-nil front ∙ front_is ∙ append-nil xs), sym (ap length back_is))
     at_end (b ∷ bs) front_is back_is = absurd (omega (arith, some, length-append (b ∷ bs) back, ap length back_is))
 
@@ -98,7 +103,8 @@ clause_zeros : (vars : ℕ) (few : vars ≤ max_variable) (c rest : List ℤ) �
 unfolding zeros
 clause_zeros vars few [] rest all = ap (λ t. zeros (t ∷ map signed_decimal rest)) (decimal_digit 0 (omega arith))
 clause_zeros vars few (l ∷ c) rest all =
-    zeros_skip (signed_decimal l) (map signed_decimal (c ++ pos 0 ∷ rest)) (first_byte vars l few all.0) ∙ clause_zeros vars few c rest all.1
+    zeros_skip (signed_decimal l) (map signed_decimal (c ++ pos 0 ∷ rest)) (first_byte vars l few all.0)
+    ∙ clause_zeros vars few c rest all.1
 
 written_zeros : (vars : ℕ) (few : vars ≤ max_variable) (cs : List (List ℤ)) → AllByRecursion (AllByRecursion (IsLiteral vars)) cs
     → zeros (map signed_decimal (flat_map (λ clause. clause ++ pos 0 ∷ []) cs)) ≡ length cs
@@ -107,7 +113,8 @@ written_zeros vars few [] all = refl
 written_zeros vars few (c ∷ cs) all =
     let rest = written_zeros vars few cs all.1 in
     let this = clause_zeros vars few c (flat_map (λ clause. clause ++ pos 0 ∷ []) cs) all.0 in
-    let whole = ap (λ (zs : List ℤ). zeros (map signed_decimal zs)) (append_assoc c (pos 0 ∷ []) (flat_map (λ clause. clause ++ pos 0 ∷ []) cs)) in
+    let whole =
+    ap (λ (zs : List ℤ). zeros (map signed_decimal zs)) (append_assoc c (pos 0 ∷ []) (flat_map (λ clause. clause ++ pos 0 ∷ []) cs)) in
     omega (arith, whole, this, rest)
 
 -- ## one line
@@ -116,16 +123,19 @@ NoEnd : List ℕ → Type 0
 NoEnd line = AllByRecursion (λ b. (b == 10) ≡ false) line
 
 lines_alone : (line : List ℕ) → AllByRecursion (λ b. (b == 10) ≡ false) line
-    → token_lines line ≡ filter (λ (tokens : List (List ℕ)). not (is_empty tokens)) (map runs (filter (λ (l : List ℕ). not (is_comment l)) (line ∷ [])))
+    → token_lines line
+    ≡ filter (λ (tokens : List (List ℕ)). not (is_empty tokens)) (map runs (filter (λ (l : List ℕ). not (is_comment l)) (line ∷ [])))
 lines_alone line end =
-    ap (λ (lines : List (List ℕ)). filter (λ (tokens : List (List ℕ)). not (is_empty tokens)) (map runs (filter (λ (l : List ℕ). not (is_comment l)) lines)))
+    ap (λ (lines : List (List ℕ)). filter (λ (tokens : List (List ℕ)). not (is_empty tokens))
+    (map runs (filter (λ (l : List ℕ). not (is_comment l)) lines)))
     (slice_split_none (λ b. b == 10) line (All-from_recursion (λ b. (b == 10) ≡ false) line end))
 
 -- a comment has no tokens
 comment_alone : (line : List ℕ) → AllByRecursion (λ b. (b == 10) ≡ false) line → is_comment line ≡ true → token_lines line ≡ []
 comment_alone line end comment = lines_alone line end ∙ tokens line comment
   where
-    tokens : (l : List ℕ) → is_comment l ≡ true → filter (λ (tokens : List (List ℕ)). not (is_empty tokens)) (map runs (filter (λ (l : List ℕ). not (is_comment l)) (l ∷ []))) ≡ []
+    tokens : (l : List ℕ) → is_comment l ≡ true
+        → filter (λ (tokens : List (List ℕ)). not (is_empty tokens)) (map runs (filter (λ (l : List ℕ). not (is_comment l)) (l ∷ []))) ≡ []
     tokens l is = rw is refl
 
 one_line : (line : List ℕ) → AllByRecursion (λ b. (b == 10) ≡ false) line → (token_lines line ≡ []) ⊎ (token_lines line ≡ runs line ∷ [])
@@ -145,7 +155,9 @@ one_line_zeros : (line : List ℕ) → AllByRecursion (λ b. (b == 10) ≡ false
 unfolding line_zeros zeros
 one_line_zeros line end = elim (one_line line end) [
   | inl none ↦ rw none (omega arith)
-  | inr some ↦ let same = ap (λ (ls : List (List (List ℕ))). zeros (flat_map (λ (line : List (List ℕ)). line) ls)) some ∙ ap zeros (append-nil (runs line)) in omega (arith, same)
+  | inr some ↦
+      let same = ap (λ (ls : List (List (List ℕ))). zeros (flat_map (λ (line : List (List ℕ)). line) ls)) some
+      ∙ ap zeros (append-nil (runs line)) in omega (arith, same)
 ]
 
 -- ## a line that is cut
@@ -171,7 +183,8 @@ part_runs t [] between run is = inl refl
 part_runs t (b ∷ bs) between run is =
     inr (runs_last (b ∷ bs) (record {
       some = omega arith;
-      separators = All-front (λ x. is_separator x ≡ false) (b ∷ bs) between (subst (AllByRecursion (λ x. is_separator x ≡ false)) is run.separators);
+      separators =
+          All-front (λ x. is_separator x ≡ false) (b ∷ bs) between (subst (AllByRecursion (λ x. is_separator x ≡ false)) is run.separators);
     }))
 
 part_zeros : (t front between : List ℕ) → IsRun t → get_or t 0 0 ≢ 48 → t ≡ front ++ between → zeros (runs front) ≡ 0
@@ -189,13 +202,15 @@ unfolding note_front
 note_first id b bs rest is = let same : 99 ≡ b = cc in subst (λ x. (x == 99) ≡ true) same refl
 
 module _ (vars : ℕ) (few : vars ≤ max_variable) where
-  front_part : (c : Clause) (front back : List ℕ) → AllByRecursion (IsLiteral vars) c → clause_front c ≡ front ++ back → zeros (runs front) + min 1 (length back) ≤ 1
+  front_part : (c : Clause) (front back : List ℕ) → AllByRecursion (IsLiteral vars) c → clause_front c ≡ front ++ back
+      → zeros (runs front) + min 1 (length back) ≤ 1
   unfolding clause_front zeros
   front_part [] front back all is = digit front is
     where
       digit : (w : List ℕ) → 48 ∷ [] ≡ w ++ back → zeros (runs w) + min 1 (length back) ≤ 1
       digit [] e = omega arith
-      digit (b ∷ []) e = let zero_is : 48 ≡ b = cc in let none = ap length e in subst (λ x. zeros (runs (x ∷ [])) + min 1 (length back) ≤ 1) zero_is (omega (arith, none))
+      digit (b ∷ []) e = let zero_is : 48 ≡ b = cc in let none = ap length e in
+          subst (λ x. zeros (runs (x ∷ [])) + min 1 (length back) ≤ 1) zero_is (omega (arith, none))
       digit (b ∷ d ∷ bs) e = absurd (omega (arith, length-append (b ∷ d ∷ bs) back, ap length e))
   front_part (l ∷ c) front back all is =
       let run = token_run (signed_decimal l) (token_literal vars few l all.0) in
@@ -204,7 +219,8 @@ module _ (vars : ℕ) (few : vars ≤ max_variable) where
         | inl (between, inside) ↦ let none = part_zeros (signed_decimal l) front between run first inside in omega (arith, none)
         | inr (later, front_is, back_is) ↦
             let rest = front_part c later back all.1 back_is in
-            let same = ap (λ (t : List ℕ). zeros (runs t)) front_is ∙ ap zeros (runs_more (signed_decimal l) later run) ∙ zeros_skip (signed_decimal l) (runs later) first in
+            let same = ap (λ (t : List ℕ). zeros (runs t)) front_is ∙ ap zeros (runs_more (signed_decimal l) later run)
+            ∙ zeros_skip (signed_decimal l) (runs later) first in
             omega (arith, rest, same)
       ]
 
@@ -213,7 +229,8 @@ module _ (vars : ℕ) (few : vars ≤ max_variable) where
   line_part c front back all is some =
       let line : clause_line c ≡ clause_front c ++ 10 ∷ [] = sym (append-nil (clause_line c)) ∙ clause_is c [] in
       let last = before_last (clause_front c) 10 front back (sym line ∙ is) some in
-      let end = All-front (λ b. (b == 10) ≡ false) front last.0 (subst (AllByRecursion (λ b. (b == 10) ≡ false)) last.1 (clause_ends vars few c all)) in
+      let end = All-front (λ b. (b == 10) ≡ false) front last.0
+      (subst (AllByRecursion (λ b. (b == 10) ≡ false)) last.1 (clause_ends vars few c all)) in
       omega (arith, one_line_zeros front end, front_part c front last.0 all last.1, last.2)
 
   -- a note that is cut has no tokens
@@ -223,16 +240,18 @@ module _ (vars : ℕ) (few : vars ≤ max_variable) where
     | inl same ↦ absurd (omega (arith, some, length-append front back, ap length (sym (note_none id place (eqb-true id place same)) ∙ is)))
     | inr other ↦
         let last = before_last (note_front id) 10 front back (sym (note_is id place other) ∙ is) some in
-        none front last.0 last.1 (All-front (λ b. (b == 10) ≡ false) front last.0 (subst (AllByRecursion (λ b. (b == 10) ≡ false)) last.1 (note_ends id)))
+        none front last.0 last.1
+        (All-front (λ b. (b == 10) ≡ false) front last.0 (subst (AllByRecursion (λ b. (b == 10) ≡ false)) last.1 (note_ends id)))
   ]
     where
       none : (w rest : List ℕ) → note_front id ≡ w ++ rest → AllByRecursion (λ b. (b == 10) ≡ false) w → line_zeros w ≡ 0
       none [] rest e end = refl
       none (b ∷ bs) rest e end =
-          ap (λ (ls : List (List (List ℕ))). zeros (flat_map (λ (line : List (List ℕ)). line) ls)) (comment_alone (b ∷ bs) end (note_first id b bs rest e))
+          ap (λ (ls : List (List (List ℕ))). zeros (flat_map (λ (line : List (List ℕ)). line) ls))
+          (comment_alone (b ∷ bs) end (note_first id b bs rest e))
 
-  entry_part : (place : ℕ) (e : Entry) (front back : List ℕ) → AllByRecursion (IsLiteral vars) e.clause → entry_text place e ≡ front ++ back → 0 < length back
-      → line_zeros front + min 1 (length back - 1) ≤ 1
+  entry_part : (place : ℕ) (e : Entry) (front back : List ℕ) → AllByRecursion (IsLiteral vars) e.clause → entry_text place e ≡ front ++ back
+      → 0 < length back → line_zeros front + min 1 (length back - 1) ≤ 1
   unfolding line_zeros
   entry_part place e front back all is some = elim (cut (note e.id place) (clause_line e.clause) front back is) [
     | inl behind ↦
@@ -251,7 +270,8 @@ module _ (vars : ℕ) (few : vars ≤ max_variable) where
     | inl behind ↦
         let tokens = ap token_lines behind.front_is ∙ entry_read vars few place e behind.between all.0 in
         let same = ap (λ (ls : List (List (List ℕ))). zeros (flat_map (λ (line : List (List ℕ)). line) ls)) tokens
-        ∙ zeros-append (map signed_decimal (e.clause ++ pos 0 ∷ [])) (flat_map (λ (line : List (List ℕ)). line) (token_lines behind.between)) in
+        ∙ zeros-append (map signed_decimal (e.clause ++ pos 0 ∷ [])) (flat_map (λ (line : List (List ℕ)). line)
+        (token_lines behind.between)) in
         let one = clause_zeros vars few e.clause [] all.0 in
         let rest = entries_part (place + 1) es behind.between back all.1 behind.back_is long in
         omega (arith, same, one, rest)
@@ -274,8 +294,8 @@ run_cnf : IsRun (codes "cnf")
 run_cnf = record { some = omega arith; separators = (refl, (refl, (refl, tt))) }
 
 -- a line of more than one token goes on behind the first
-goes_on : (t more front back one : List ℕ) (tokens : List (List ℕ)) → IsRun t → t ++ 32 ∷ more ≡ front ++ back → runs front ≡ one ∷ tokens → 0 < length tokens
-    → (later : List ℕ) × (runs later ≡ tokens) × (more ≡ later ++ back)
+goes_on : (t more front back one : List ℕ) (tokens : List (List ℕ)) → IsRun t → t ++ 32 ∷ more ≡ front ++ back → runs front ≡ one ∷ tokens
+    → 0 < length tokens → (later : List ℕ) × (runs later ≡ tokens) × (more ≡ later ++ back)
 goes_on t more front back one tokens run is found some = elim (token_cut t more front back is) [
   | inl (between, inside) ↦ elim (part_runs t front between run inside) [
     | inl none ↦ absurd (omega (arith, some, ap length (sym none ∙ found)))
@@ -301,27 +321,33 @@ module _ (vars count : ℕ) (few_vars : vars < 2 ^ 64) (few : count < 2 ^ 64) wh
       let line : header_line vars count ≡ header_front vars count few_vars few ++ 10 ∷ [] =
       sym (append-nil (header_line vars count)) ∙ header_is vars count few_vars few [] in
       let last = before_last (header_front vars count few_vars few) 10 front back (sym line ∙ is) some in
-      let end = All-front (λ b. (b == 10) ≡ false) front last.0 (subst (AllByRecursion (λ b. (b == 10) ≡ false)) last.1 (header_plain vars count few_vars few).end) in
+      let end = All-front (λ b. (b == 10) ≡ false) front last.0
+      (subst (AllByRecursion (λ b. (b == 10) ≡ false)) last.1 (header_plain vars count few_vars few).end) in
       elim (one_line front end) [
         | inl none ↦ cc (none, found)
         | inr single ↦
             let same : runs front ∷ [] ≡ (codes "p" ∷ codes "cnf" ∷ decimal v ∷ decimal n ∷ []) ∷ lines = sym single ∙ found in
             let tokens : runs front ≡ codes "p" ∷ codes "cnf" ∷ decimal v ∷ decimal n ∷ [] = cc (same) in
-            let one = goes_on (codes "p") (codes "cnf" ++ 32 ∷ (decimal vars ++ 32 ∷ decimal count)) front last.0 (codes "p") (codes "cnf" ∷ decimal v ∷ decimal n ∷ []) run_p last.1 tokens (omega arith) in
-            let two = goes_on (codes "cnf") (decimal vars ++ 32 ∷ decimal count) one.0 last.0 (codes "cnf") (decimal v ∷ decimal n ∷ []) run_cnf one.2 one.1 (omega arith) in
-            let three = goes_on (decimal vars) (decimal count) two.0 last.0 (decimal v) (decimal n ∷ []) (token_run (decimal vars) (token_decimal vars few_vars)) two.2 two.1 (omega arith) in
+            let one = goes_on (codes "p") (codes "cnf" ++ 32 ∷ (decimal vars ++ 32 ∷ decimal count)) front last.0 (codes "p")
+            (codes "cnf" ∷ decimal v ∷ decimal n ∷ []) run_p last.1 tokens (omega arith) in
+            let two = goes_on (codes "cnf") (decimal vars ++ 32 ∷ decimal count) one.0 last.0 (codes "cnf")
+            (decimal v ∷ decimal n ∷ []) run_cnf one.2 one.1 (omega arith) in
+            let three = goes_on (decimal vars) (decimal count) two.0 last.0 (decimal v) (decimal n ∷ [])
+            (token_run (decimal vars) (token_decimal vars few_vars)) two.2 two.1 (omega arith) in
             (cc (same), λ zero_is. at_zero last.0 three.0 last.2 three.1 three.2 zero_is)
       ]
     where
-      at_zero : (rest w : List ℕ) → length back ≡ length rest + 1 → runs w ≡ decimal n ∷ [] → decimal count ≡ w ++ rest → n ≡ 0 → (count ≡ 0) × (length back ≡ 1)
-      at_zero rest w sum tokens whole zero_is = elim (part_runs (decimal count) w rest (token_run (decimal count) (token_decimal count few)) whole) [
-        | inl none ↦ cc (none, tokens)
-        | inr single ↦
-            let number : w ≡ decimal n = cc (single, tokens) in
-            let digit : w ≡ 48 ∷ [] = number ∙ ap decimal zero_is ∙ decimal_digit 0 (omega arith) in
-            let alone = zero_alone count rest few (whole ∙ ap (λ (t : List ℕ). t ++ rest) digit) in
-            (alone.0, omega (arith, sum, ap length alone.1))
-      ]
+      at_zero : (rest w : List ℕ) → length back ≡ length rest + 1 → runs w ≡ decimal n ∷ [] → decimal count ≡ w ++ rest → n ≡ 0
+          → (count ≡ 0) × (length back ≡ 1)
+      at_zero rest w sum tokens whole zero_is =
+          elim (part_runs (decimal count) w rest (token_run (decimal count) (token_decimal count few)) whole) [
+            | inl none ↦ cc (none, tokens)
+            | inr single ↦
+                let number : w ≡ decimal n = cc (single, tokens) in
+                let digit : w ≡ 48 ∷ [] = number ∙ ap decimal zero_is ∙ decimal_digit 0 (omega arith) in
+                let alone = zero_alone count rest few (whole ∙ ap (λ (t : List ℕ). t ++ rest) digit) in
+                (alone.0, omega (arith, sum, ap length alone.1))
+          ]
 
 pub a_beginning_is_no_text : ABeginningIsNoText
 unfolding formula_text line_zeros zeros
@@ -329,7 +355,8 @@ a_beginning_is_no_text vars entries is front back whole long f text =
     let count : length (clauses_of entries) ≡ length entries = length-map entries (λ e. e.clause) in
     let few_vars : vars < 2 ^ 64 = omega (arith, is.vars) in
     let few : length entries < 2 ^ 64 = omega (arith, is.count) in
-    let literals = All-map (IsFormulaClause vars) (AllByRecursion (IsLiteral vars)) (λ c clause. clause.0.literals) (clauses_of entries) is.clauses in
+    let literals =
+    All-map (IsFormulaClause vars) (AllByRecursion (IsLiteral vars)) (λ c clause. clause.0.literals) (clauses_of entries) is.clauses in
     let read = ap zeros text.tokens ∙ written_zeros f.vars text.few_variables text.written text.literals in
     let size : length f.clauses ≡ length text.written = ap length text.clauses ∙ length-map text.written distinct in
     elim (cut (header_line vars (length entries)) (entries_text 1 entries) front back whole) [
@@ -337,12 +364,14 @@ a_beginning_is_no_text vars entries is front back whole long f text =
           let lines = sym (ap token_lines behind.front_is ∙ header_read vars (length entries) few_vars few behind.between) ∙ text.header in
           let said : decimal (length entries) ≡ decimal (length f.clauses) = cc (lines) in
           let later : token_lines behind.between ≡ text.lines = cc (lines) in
-          let same : length entries ≡ length f.clauses = decimal_injective (length entries) (length f.clauses) few (omega (arith, text.few_clauses)) said in
+          let same : length entries ≡ length f.clauses =
+          decimal_injective (length entries) (length f.clauses) few (omega (arith, text.few_clauses)) said in
           let less = entries_part vars is.vars 1 entries behind.between back literals behind.back_is long in
           let zeros_are = ap (λ (ls : List (List (List ℕ))). zeros (flat_map (λ (line : List (List ℕ)). line) ls)) later in
           omega (arith, less, zeros_are, read, size, same)
       | inr within ↦
-          let alone = header_part vars (length entries) few_vars few front within.between within.front_is within.some f.vars (length f.clauses) text.lines text.header in
+          let alone = header_part vars (length entries) few_vars few front within.between within.front_is within.some f.vars
+          (length f.clauses) text.lines text.header in
           let none = ap (λ (ls : List (List (List ℕ))). zeros (flat_map (λ (line : List (List ℕ)). line) ls)) alone.0 in
           let ends = alone.1 (omega (arith, none, read, size)) in
           at_end entries ends.0 (omega (arith, ap length within.back_is ∙ length-append within.between (entries_text 1 entries), ends.1))

@@ -8,12 +8,14 @@ use Rattle.lrup_model.specs.ListLemmas.{All-map}
 use Rattle.checkpoint.specs.Entails.{EntailsItself, EntailsOnward, RefutesBack, RefutesBackUnder, ChainRefutes, ChainRefutesUnder}
 
 -- what satisfies a formula satisfies clauses that follow from it
-all_satisfied : (f : Cnf) (a : Assignment) (cs : List Clause) → AllByRecursion (Follows f) cs → SatisfiesAll a f → AllByRecursion (Satisfies a) cs
+all_satisfied : (f : Cnf) (a : Assignment) (cs : List Clause) → AllByRecursion (Follows f) cs → SatisfiesAll a f
+    → AllByRecursion (Satisfies a) cs
 all_satisfied f a [] follow sat = tt
 all_satisfied f a (c ∷ cs) follow sat = (follow.0.holds a sat, all_satisfied f a cs follow.1 sat)
 
 -- clauses all of which are satisfied with a formula follow from it
-all_follow : (f : Cnf) (cs : List Clause) → ((a : Assignment) → SatisfiesAll a f → AllByRecursion (Satisfies a) cs) → AllByRecursion (Follows f) cs
+all_follow : (f : Cnf) (cs : List Clause) → ((a : Assignment) → SatisfiesAll a f → AllByRecursion (Satisfies a) cs)
+    → AllByRecursion (Follows f) cs
 all_follow f [] sat = tt
 all_follow f (c ∷ cs) sat = (record { holds = λ a all. (sat a all).0 }, all_follow f cs (λ a all. (sat a all).1))
 
@@ -23,7 +25,9 @@ entails_itself f = record { vars = refl; each = all_follow f f.clauses (λ a all
 pub entails_onward : EntailsOnward
 entails_onward f g h first second = record {
   vars = second.vars ∙ first.vars;
-  each = All-map (Follows g) (Follows f) (λ c follows. record { holds = λ a sat. follows.holds a (all_satisfied f a g.clauses first.each sat) })
+  each = All-map (Follows g) (Follows f) (λ c follows. record {
+    holds = λ a sat. follows.holds a (all_satisfied f a g.clauses first.each sat);
+  })
       h.clauses second.each;
 }
 

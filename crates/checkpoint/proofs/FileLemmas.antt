@@ -12,7 +12,8 @@ files_refute one bytes (next ∷ more) chain refuted =
     let last = files_refute one next more chain.1 refuted in
     let f : Cnf = chain.0.0 in
     let checkpoint = chain.0.2 in
-    let unsatisfiable : IsUnsatisfiable checkpoint.formula = subst (λ (g : Cnf). IsUnsatisfiable g) (one next last.0 checkpoint.formula last.1 checkpoint.text) last.2 in
+    let unsatisfiable : IsUnsatisfiable checkpoint.formula =
+    subst (λ (g : Cnf). IsUnsatisfiable g) (one next last.0 checkpoint.formula last.1 checkpoint.text) last.2 in
     (f, chain.0.1, refutes_back f checkpoint.formula checkpoint.entails unsatisfiable)
 
 pub files_refute_under : OneFormula → FilesRefuteUnder
@@ -21,5 +22,6 @@ files_refute_under one cube bytes (next ∷ more) chain refuted =
     let last = files_refute_under one cube next more chain.1 refuted in
     let f : Cnf = chain.0.0 in
     let checkpoint = chain.0.2 in
-    let unsatisfiable : IsUnsatisfiableUnder checkpoint.formula cube = subst (λ (g : Cnf). IsUnsatisfiableUnder g cube) (one next last.0 checkpoint.formula last.1 checkpoint.text) last.2 in
+    let unsatisfiable : IsUnsatisfiableUnder checkpoint.formula cube =
+    subst (λ (g : Cnf). IsUnsatisfiableUnder g cube) (one next last.0 checkpoint.formula last.1 checkpoint.text) last.2 in
     (f, chain.0.1, refutes_back_under f checkpoint.formula cube checkpoint.entails unsatisfiable)

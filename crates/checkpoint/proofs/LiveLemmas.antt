@@ -1,5 +1,6 @@
 -- What was fetched so far, one identity after the other.
-use Rattle.std.proofs.Common.{◌≡◌, ℕ, Bool, true, false, cond, ◌+◌, ◌-◌, ◌≤◌, List, [], ◌∷◌, ◌++◌, map, length, length-append, take, refl, sym, ap, subst, ◌∙◌, ◌⊎◌, inl, inr, arith}
+use Rattle.std.proofs.Common.{◌≡◌, ℕ, Bool, true, false, cond, ◌+◌, ◌-◌, ◌≤◌, List, [], ◌∷◌, ◌++◌, map, length, length-append, take, refl}
+use Rattle.std.proofs.Common.{sym, ap, subst, ◌∙◌, ◌⊎◌, inl, inr, arith}
 use Rattle.std.specs.List.{AllByRecursion}
 use Rattle.std.specs.Prelude.{slice_index_or}
 use Rattle.std.proofs.lemmas.Bool.{cases_lt}
@@ -17,7 +18,8 @@ use Rattle.lrup_model.specs.declared.clause_map.Fetched.{Fetched}
 use Rattle.lrup_model.specs.declared.clause_map.Fetched.TheVariants as fetched
 use Rattle.checkpoint.specs.Live.{Entry, clauses_of, entries_of, entry_of, fetches, wanted_of, wanted_clauses}
 
-fetches-push : (s id : ℕ) (replies : List Reply) (r : Reply) → fetches s id (replies ++ r ∷ []) ≡ fetches s id replies ++ fetch s (id + length replies) r ∷ []
+fetches-push : (s id : ℕ) (replies : List Reply) (r : Reply)
+    → fetches s id (replies ++ r ∷ []) ≡ fetches s id replies ++ fetch s (id + length replies) r ∷ []
 fetches-push s id [] r = let same : id ≡ id + 0 = omega arith in ap (λ n. fetch s n r ∷ []) same
 fetches-push s id (q ∷ replies) r =
     let same : id + 1 + length replies ≡ id + length (q ∷ replies) = omega arith in
@@ -28,9 +30,11 @@ cond-append : (b : Bool) (e : Entry) (xs ys : List Entry) → cond b (e ∷ (xs 
 cond-append true e xs ys = refl
 cond-append false e xs ys = refl
 
-wanted_of-append : (wants : ℕ → Bool) (id : ℕ) (xs ys : List Reply) → wanted_of wants id (xs ++ ys) ≡ wanted_of wants id xs ++ wanted_of wants (id + length xs) ys
+wanted_of-append : (wants : ℕ → Bool) (id : ℕ) (xs ys : List Reply)
+    → wanted_of wants id (xs ++ ys) ≡ wanted_of wants id xs ++ wanted_of wants (id + length xs) ys
 wanted_of-append wants id [] ys = let same : id ≡ id + 0 = omega arith in ap (λ n. wanted_of wants n ys) same
-wanted_of-append wants id (x ∷ xs) ys = at x (wanted_of-append wants (id + 1) xs ys ∙ ap (λ n. wanted_of wants (id + 1) xs ++ wanted_of wants n ys) same)
+wanted_of-append wants id (x ∷ xs) ys =
+    at x (wanted_of-append wants (id + 1) xs ys ∙ ap (λ n. wanted_of wants (id + 1) xs ++ wanted_of wants n ys) same)
   where
     same : id + 1 + length xs ≡ id + length (x ∷ xs)
     same = omega arith
@@ -44,17 +48,20 @@ wanted_of-append wants id (x ∷ xs) ys = at x (wanted_of-append wants (id + 1) 
     at retired after = after
 
 -- clips that are known stay so, with their clauses
-stay_known : (a b : Place) (es : History) (clips : List ClipValue) → Tells a b es → AllByRecursion (IsKnown a) clips → AllByRecursion (IsKnown b) clips
+stay_known : (a b : Place) (es : History) (clips : List ClipValue) → Tells a b es → AllByRecursion (IsKnown a) clips
+    → AllByRecursion (IsKnown b) clips
 stay_known a b es clips tells known = All-map (IsKnown a) (IsKnown b) (λ clip is. (known_stays a b es clip tells is).0) clips known
 
-stay_same : (a b : Place) (es : History) (clips : List ClipValue) → Tells a b es → AllByRecursion (IsKnown a) clips → entries_of b clips ≡ entries_of a clips
+stay_same : (a b : Place) (es : History) (clips : List ClipValue) → Tells a b es → AllByRecursion (IsKnown a) clips
+    → entries_of b clips ≡ entries_of a clips
 stay_same a b es [] tells known = refl
 stay_same a b es (clip ∷ clips) tells known =
     ap (λ (c : Clause). record { id = clip.id; clause = c } ∷ entries_of b clips) (known_stays a b es clip tells known.0).1
     ∙ ap (λ (cs : List Entry). entry_of a clip ∷ cs) (stay_same a b es clips tells known.1)
 
 -- known clauses follow
-all_follow : (p : Place) (clips : List ClipValue) → AllFollow p → AllByRecursion (IsKnown p) clips → AllByRecursion (IsDerived p.caller.formula) (clauses_of (entries_of p clips))
+all_follow : (p : Place) (clips : List ClipValue) → AllFollow p → AllByRecursion (IsKnown p) clips
+    → AllByRecursion (IsDerived p.caller.formula) (clauses_of (entries_of p clips))
 all_follow p [] follow known = tt
 all_follow p (clip ∷ clips) follow known = (known_follows p clip follow known.0, all_follow p clips follow known.1)
 
@@ -70,10 +77,12 @@ first_next f count last replies r all answer first =
     elim (cases_lt last count) [
       | inl within ↦
           let next : last + 1 - 1 ≡ last = omega arith in
-          let clause : r ≡ live (slice_index_or f.clauses last []) = answer (omega arith) ∙ ap (λ n. live (slice_index_or f.clauses n [])) next in
+          let clause : r ≡ live (slice_index_or f.clauses last []) = answer (omega arith)
+          ∙ ap (λ n. live (slice_index_or f.clauses n [])) next in
           record {
             more = [];
-            is = ap (λ (rs : List Reply). rs ++ r ∷ []) (first.is ∙ ap (λ (rs : List Reply). map live (take last f.clauses) ++ rs) (first.none (omega arith)) ∙ append-nil (map live (take last f.clauses)))
+            is = ap (λ (rs : List Reply). rs ++ r ∷ []) (first.is ∙ ap (λ (rs : List Reply). map live (take last f.clauses) ++ rs)
+                (first.none (omega arith)) ∙ append-nil (map live (take last f.clauses)))
                 ∙ ap (λ (q : Reply). map live (take last f.clauses) ++ q ∷ []) clause
                 ∙ sym (map_more live f.clauses last [] (omega arith))
                 ∙ sym (append-nil (map live (take (last + 1) f.clauses)));
@@ -92,8 +101,8 @@ first_next f count last replies r all answer first =
     ]
 
 -- all of them are, in the end
-pub first_whole : (wants : ℕ → Bool) (f : Cnf) (count last : ℕ) (replies : List Reply) → count ≡ length f.clauses → count ≤ last → First f count last replies
-    → (more : List Entry) × (wanted_of wants 1 replies ≡ wanted_clauses wants f.clauses ++ more)
+pub first_whole : (wants : ℕ → Bool) (f : Cnf) (count last : ℕ) (replies : List Reply) → count ≡ length f.clauses → count ≤ last
+    → First f count last replies → (more : List Entry) × (wanted_of wants 1 replies ≡ wanted_clauses wants f.clauses ++ more)
 first_whole wants f count last replies all within first = (
   wanted_of wants (1 + length (map live f.clauses)) first.more,
   ap (wanted_of wants 1) (first.is ∙ ap (λ (cs : List Clause). map live cs ++ first.more) (take_all last f.clauses (omega arith)))
@@ -125,7 +134,8 @@ found_none wants a moves none = record {
 }
 
 -- the next identity, under which these clips were kept
-pub found_next : (wants : ℕ → Bool) (a b c : Place) (before after : History → Type 0) (count : ℕ) (clips fresh all : List ClipValue) (r : Reply)
+pub found_next : (wants : ℕ → Bool) (a b c : Place) (before after : History → Type 0) (count : ℕ)
+    (clips fresh all : List ClipValue) (r : Reply)
     → Found wants a b before count clips
     → ((es : History) → before es → after (es ++ fetch b.caller.stream (count + 1) r ∷ []))
     → Tells b c (fetch b.caller.stream (count + 1) r ∷ [])
@@ -135,20 +145,24 @@ pub found_next : (wants : ℕ → Bool) (a b c : Place) (before after : History 
 found_next wants a b c before after count clips fresh all r found then tells formula follow known entries is =
     let caller : c.caller ≡ a.caller = tells.caller ∙ found.caller in
     let at : 1 + length found.replies ≡ count + 1 = omega (arith, found.count) in
-    let events = fetches-push a.caller.stream 1 found.replies r ∙ ap (λ n. fetches a.caller.stream 1 found.replies ++ fetch a.caller.stream n r ∷ []) at
+    let events = fetches-push a.caller.stream 1 found.replies r
+    ∙ ap (λ n. fetches a.caller.stream 1 found.replies ++ fetch a.caller.stream n r ∷ []) at
     ∙ ap (λ (k : Caller). fetches a.caller.stream 1 found.replies ++ fetch k.stream (count + 1) r ∷ []) (sym found.caller) in
     let all_known : AllByRecursion (IsKnown c) all =
-    subst (AllByRecursion (IsKnown c)) (sym is) (All-append (IsKnown c) clips fresh (stay_known b c (fetch b.caller.stream (count + 1) r ∷ []) clips tells found.known) known) in
+    subst (AllByRecursion (IsKnown c)) (sym is)
+    (All-append (IsKnown c) clips fresh (stay_known b c (fetch b.caller.stream (count + 1) r ∷ []) clips tells found.known) known) in
     record {
       replies = found.replies ++ r ∷ [];
       moved = subst after (sym events) (then (fetches a.caller.stream 1 found.replies) found.moved);
       count = omega (arith, length-append found.replies (r ∷ []), found.count);
       entries = ap (entries_of c) is ∙ map-append (entry_of c) clips fresh
-          ∙ ap (λ (es : List Entry). es ++ entries_of c fresh) (stay_same b c (fetch b.caller.stream (count + 1) r ∷ []) clips tells found.known ∙ found.entries)
+          ∙ ap (λ (es : List Entry). es ++ entries_of c fresh)
+          (stay_same b c (fetch b.caller.stream (count + 1) r ∷ []) clips tells found.known ∙ found.entries)
           ∙ ap (λ (es : List Entry). wanted_of wants 1 found.replies ++ es) (entries ∙ ap (λ n. wanted_of wants n (r ∷ [])) (sym at))
           ∙ sym (wanted_of-append wants 1 found.replies (r ∷ []));
       known = all_known;
-      follow = subst (λ (k : Caller). AllByRecursion (IsDerived k.formula) (clauses_of (entries_of c all))) caller (all_follow c all follow all_known);
+      follow = subst (λ (k : Caller). AllByRecursion (IsDerived k.formula) (clauses_of (entries_of c all))) caller
+          (all_follow c all follow all_known);
       caller = caller;
       first = λ count_is. first_next a.caller.formula a.caller.layout.clauses count found.replies r count_is
           (λ within. subst (λ (k : Caller). r ≡ live (clause_at k.formula (count + 1))) found.caller
@@ -167,7 +181,8 @@ pub kept_unwanted : (wants : ℕ → Bool) (p : Place) (id : ℕ) (clip : ClipVa
 kept_unwanted wants p id clip unwanted = rw unwanted refl
 
 -- nothing is kept where nothing is live
-pub kept_none : (wants : ℕ → Bool) (p : Place) (id : ℕ) (r : Fetched) → (r ≡ fetched.Vacant) ⊎ (r ≡ fetched.Retired) → wanted_of wants id (reply_of p r ∷ []) ≡ []
+pub kept_none : (wants : ℕ → Bool) (p : Place) (id : ℕ) (r : Fetched) → (r ≡ fetched.Vacant) ⊎ (r ≡ fetched.Retired)
+    → wanted_of wants id (reply_of p r ∷ []) ≡ []
 kept_none wants p id r (inl vacant_is) = rw vacant_is refl
 kept_none wants p id r (inr retired_is) = rw retired_is refl
 

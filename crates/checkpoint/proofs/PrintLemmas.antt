@@ -1,10 +1,12 @@
 -- A formula's text by the parts that are written one after the other.
-use Rattle.std.proofs.Common.{◌≡◌, ◌≤◌, ◌<◌, ◌≢◌, ◌+◌, ◌*◌, ◌++◌, ◌∷◌, ℕ, ℤ, List, [], length, map, take, drop, get_or, Option, Some, inl, inr, refl, sym, ap, subst, ◌∙◌, add-one, arith}
+use Rattle.std.proofs.Common.{◌≡◌, ◌≤◌, ◌<◌, ◌≢◌, ◌+◌, ◌*◌, ◌++◌, ◌∷◌, ℕ, ℤ, List, [], length, map, take, drop, get_or, Option, Some, inl}
+use Rattle.std.proofs.Common.{inr, refl, sym, ap, subst, ◌∙◌, add-one, arith}
 use Rattle.std.specs.Prelude.{codes, flat_map, slice_get, Result}
 use Rattle.std.specs.Fmt.{decimal, signed_decimal}
 use Rattle.std.proofs.lemmas.Grind.{flat_map-append}
 use Rattle.std.proofs.lemmas.Option.{slice_get_cases}
-use Rattle.std.proofs.lemmas.List.{append_assoc, append-nil, flat_map_more, map_more, map-append, take_all, take-append-drop, length-map, length-take}
+use Rattle.std.proofs.lemmas.List.{append_assoc, append-nil, flat_map_more, map_more, map-append, take_all, take-append-drop, length-map}
+use Rattle.std.proofs.lemmas.List.{length-take}
 use Rattle.std.proofs.lemmas.Bool.{eq-eqb, ne_eqb}
 use Rattle.lrup_model.specs.Clause.{Clause}
 use Rattle.lrup_model.specs.ClauseLemmas.{take-next}
@@ -25,7 +27,8 @@ module _ (c : Clause) (k : ℕ) where
   literals_next l at =
       ap literals_text (ap (λ n. take n c) (add-one k) ∙ take-next c k l at) ∙ sym (flat_map_more literal_text [] (take k c) l)
 
-  pub literals_split : (l : ℤ) → slice_get c k ≡ Some l → clause_line c ≡ (literals_text (take k c) ++ literal_text l) ++ (literals_text (drop (k + 1) c) ++ codes "0\n")
+  pub literals_split : (l : ℤ) → slice_get c k ≡ Some l
+      → clause_line c ≡ (literals_text (take k c) ++ literal_text l) ++ (literals_text (drop (k + 1) c) ++ codes "0\n")
   unfolding clause_line
   literals_split l at =
       ap (λ t. t ++ codes "0\n")
@@ -49,13 +52,19 @@ module _ (c : Clause) (i : ℕ) (first : ℤ) (at : slice_get c (2 * i) ≡ Some
       ap (λ n. literals_text (take n c)) next ∙ literals_next c (2 * i + 1) second at' ∙ ap (λ t. t ++ literal_text second) pair_first
 
   pub pair_split : (second : ℤ) → slice_get c (2 * i + 1) ≡ Some second
-      → clause_line c ≡ ((literals_text (take (2 * i) c) ++ literal_text first) ++ literal_text second) ++ (literals_text (drop (2 * i + 1 + 1) c) ++ codes "0\n")
+      → clause_line c ≡ ((literals_text (take (2 * i) c) ++ literal_text first) ++ literal_text second)
+      ++ (literals_text (drop (2 * i + 1 + 1) c) ++ codes "0\n")
   pair_split second at' =
-      literals_split c (2 * i + 1) second at' ∙ ap (λ t. (t ++ literal_text second) ++ (literals_text (drop (2 * i + 1 + 1) c) ++ codes "0\n")) pair_first
+      literals_split c (2 * i + 1) second at'
+      ∙ ap (λ t. (t ++ literal_text second) ++ (literals_text (drop (2 * i + 1 + 1) c) ++ codes "0\n")) pair_first
 
-  pub pair_alone : ((l : ℤ) → ¬ (slice_get c (2 * i + 1) ≡ Some l)) → literals_text (take (2 * (i + 1)) c) ≡ literals_text (take (2 * i) c) ++ literal_text first
+  pub pair_alone : ((l : ℤ) → ¬ (slice_get c (2 * i + 1) ≡ Some l))
+      → literals_text (take (2 * (i + 1)) c) ≡ literals_text (take (2 * i) c) ++ literal_text first
   pair_alone none =
-      let short : length c ≤ 2 * i + 1 = elim (slice_get_cases c (2 * i + 1)).1 [ inl found ↦ absurd (none found.0 found.2) | inr short ↦ short.0 ] in
+      let short : length c ≤ 2 * i + 1 = elim (slice_get_cases c (2 * i + 1)).1 [
+        | inl found ↦ absurd (none found.0 found.2)
+        | inr short ↦ short.0
+      ] in
       ap literals_text (take_all (2 * (i + 1)) c (omega (arith, short)) ∙ sym (take_all (2 * i + 1) c short)) ∙ pair_first
 
 -- a note, where there is one
@@ -68,11 +77,13 @@ unfolding note
 note_some id place other = rw (ne_eqb id place other) refl
 
 -- the texts of two lists, one after the other
-entries_text-append : (place : ℕ) (xs ys : List Entry) → entries_text place (xs ++ ys) ≡ entries_text place xs ++ entries_text (place + length xs) ys
+entries_text-append : (place : ℕ) (xs ys : List Entry)
+    → entries_text place (xs ++ ys) ≡ entries_text place xs ++ entries_text (place + length xs) ys
 entries_text-append place [] ys = let same : place ≡ place + 0 = omega arith in ap (λ n. entries_text n ys) same
 entries_text-append place (x ∷ xs) ys =
     let same : place + 1 + length xs ≡ place + length (x ∷ xs) = omega arith in
-    ap (λ t. entry_text place x ++ t) (entries_text-append (place + 1) xs ys ∙ ap (λ n. entries_text (place + 1) xs ++ entries_text n ys) same)
+    ap (λ t. entry_text place x ++ t)
+    (entries_text-append (place + 1) xs ys ∙ ap (λ n. entries_text (place + 1) xs ++ entries_text n ys) same)
     ∙ sym (append_assoc (entry_text place x) (entries_text (place + 1) xs) (entries_text (place + length (x ∷ xs)) ys))
 
 -- the header and the texts of the first clauses
@@ -88,7 +99,8 @@ module _ (vars : ℕ) (entry : ClipValue → Entry) (clips : List ClipValue) whe
   unfolding formula_text
   header_first = ap (λ n. header_line vars n ++ entries_text 1 (map entry clips)) (length-map clips entry)
 
-  pub entries_next : (k : ℕ) (d : ClipValue) → k < length clips → header_entries vars entry clips (k + 1) ≡ header_entries vars entry clips k ++ entry_text (k + 1) (entry (get_or clips k d))
+  pub entries_next : (k : ℕ) (d : ClipValue) → k < length clips
+      → header_entries vars entry clips (k + 1) ≡ header_entries vars entry clips k ++ entry_text (k + 1) (entry (get_or clips k d))
   entries_next k d inside =
       let at : 1 + length (map entry (take k clips)) ≡ k + 1 = omega (arith, length-map (take k clips) entry, length-take k clips) in
       let this : Entry = entry (get_or clips k d) in
@@ -99,7 +111,8 @@ module _ (vars : ℕ) (entry : ClipValue → Entry) (clips : List ClipValue) whe
       ∙ sym (append_assoc (header_line vars (length clips)) (entries_text 1 (map entry (take k clips))) (entry_text (k + 1) this))
 
   -- all of it, cut after the first clauses
-  entries_cut : (k : ℕ) → k ≤ length clips → formula_text vars (map entry clips) ≡ header_entries vars entry clips k ++ later_entries entry clips k
+  entries_cut : (k : ℕ) → k ≤ length clips
+      → formula_text vars (map entry clips) ≡ header_entries vars entry clips k ++ later_entries entry clips k
   entries_cut k inside =
       let at : 1 + length (map entry (take k clips)) ≡ 1 + k = omega (arith, length-map (take k clips) entry, length-take k clips) in
       header_first
@@ -111,14 +124,17 @@ module _ (vars : ℕ) (entry : ClipValue → Entry) (clips : List ClipValue) whe
       ∙ sym (append_assoc (header_line vars (length clips)) (entries_text 1 (map entry (take k clips))) (later_entries entry clips k))
 
   pub entries_split : (k : ℕ) (d : ClipValue) → k < length clips
-      → formula_text vars (map entry clips) ≡ (header_entries vars entry clips k ++ entry_text (k + 1) (entry (get_or clips k d))) ++ later_entries entry clips (k + 1)
+      → formula_text vars (map entry clips) ≡ (header_entries vars entry clips k ++ entry_text (k + 1) (entry (get_or clips k d)))
+      ++ later_entries entry clips (k + 1)
   entries_split k d inside = entries_cut (k + 1) (omega arith) ∙ ap (λ t. t ++ later_entries entry clips (k + 1)) (entries_next k d inside)
 
   pub entries_all : (k : ℕ) → length clips ≤ k → formula_text vars (map entry clips) ≡ header_entries vars entry clips k
-  entries_all k all = header_first ∙ ap (λ (cs : List ClipValue). header_line vars (length clips) ++ entries_text 1 (map entry cs)) (sym (take_all k clips all))
+  entries_all k all = header_first
+      ∙ ap (λ (cs : List ClipValue). header_line vars (length clips) ++ entries_text 1 (map entry cs)) (sym (take_all k clips all))
 
 -- a text that is equal to what was put
-pub puts_all_as : {E : Type 0} (r : Result (Unit {0}) E) (a b : Option (List ℕ)) (h i : List ℕ) {x z : List ℕ} → PutsAll r a b h i x → z ≡ x → PutsAll r a b h i z
+pub puts_all_as : {E : Type 0} (r : Result (Unit {0}) E) (a b : Option (List ℕ)) (h i : List ℕ) {x z : List ℕ} → PutsAll r a b h i x → z ≡ x
+    → PutsAll r a b h i z
 puts_all_as r a b h i {x} {z} puts is = subst (λ t. PutsAll r a b h i t) (sym is) puts
 
 pub puts_as : {a b : Option (List ℕ)} {h i x z : List ℕ} → Puts a b h i x → z ≡ x → Puts a b h i z

@@ -1,5 +1,6 @@
 -- The printed text of a formula is a text of it: its lines, its tokens, its clauses.
-use Rattle.std.proofs.Common.{◌≡◌, ◌≤◌, ◌<◌, ◌+◌, ◌/◌, ◌%◌, ◌^◌, ◌++◌, ℕ, zero, suc, ℤ, pos, negsuc, nat_abs, List, [], ◌∷◌, length, map, true, false, not, refl, sym, ap, ◌∙◌, inl, inr, arith}
+use Rattle.std.proofs.Common.{◌≡◌, ◌≤◌, ◌<◌, ◌+◌, ◌/◌, ◌%◌, ◌^◌, ◌++◌, ℕ, zero, suc, ℤ, pos, negsuc, nat_abs, List, [], ◌∷◌, length, map}
+use Rattle.std.proofs.Common.{true, false, not, refl, sym, ap, ◌∙◌, inl, inr, arith}
 use Rattle.std.specs.Prelude.{codes, flat_map, ◌==◌, filter}
 use Rattle.std.specs.Fmt.{decimal, digit_glyph, digits, digits_onto, signed_decimal}
 use Rattle.std.specs.List.{AllByRecursion, slice_split}
@@ -50,7 +51,8 @@ plain_glyph n =
 plain_onto : (k n : ℕ) (ds : List ℕ) → AllByRecursion IsPlain ds → AllByRecursion IsPlain (digits_onto k 10 false n ds)
 plain_onto zero n ds all = all
 plain_onto (suc k) n ds all =
-    cond_both (n / 10 == 0) (digit_glyph false (n % 10) ∷ ds) (digits_onto k 10 false (n / 10) (digit_glyph false (n % 10) ∷ ds)) (AllByRecursion IsPlain)
+    cond_both (n / 10 == 0) (digit_glyph false (n % 10) ∷ ds) (digits_onto k 10 false (n / 10) (digit_glyph false (n % 10) ∷ ds))
+    (AllByRecursion IsPlain)
     (λ _. (plain_glyph n, all)) (λ _. plain_onto k (n / 10) (digit_glyph false (n % 10) ∷ ds) (plain_glyph n, all))
 
 pub plain_decimal : (n : ℕ) → AllByRecursion IsPlain (decimal n)
@@ -75,7 +77,10 @@ pub record IsRun (t : List ℕ) : Type 0 where
   pub separators : AllByRecursion (λ b. is_separator b ≡ false) t
 
 pub token_run : (t : List ℕ) → IsToken t → IsRun t
-token_run t token = record { some = token.some; separators = All-map IsPlain (λ b. is_separator b ≡ false) (λ b plain. plain.separator) t token.plain }
+token_run t token = record {
+  some = token.some;
+  separators = All-map IsPlain (λ b. is_separator b ≡ false) (λ b plain. plain.separator) t token.plain;
+}
 
 pub runs_last : (t : List ℕ) → IsRun t → runs t ≡ t ∷ []
 runs_last [] run = absurd (omega (arith, run.some))
@@ -104,18 +109,22 @@ tokens_first line lines t ts comment tokens = rw (comment, tokens) refl
 line_first : (line rest : List ℕ) (t : List ℕ) (ts : List (List ℕ)) → IsPlainLine line → runs line ≡ t ∷ ts
     → token_lines (line ++ 10 ∷ rest) ≡ (t ∷ ts) ∷ token_lines rest
 line_first line rest t ts plain tokens =
-    ap (λ (lines : List (List ℕ)). filter (λ (tokens : List (List ℕ)). not (is_empty tokens)) (map runs (filter (λ (l : List ℕ). not (is_comment l)) lines)))
+    ap (λ (lines : List (List ℕ)). filter (λ (tokens : List (List ℕ)). not (is_empty tokens))
+    (map runs (filter (λ (l : List ℕ). not (is_comment l)) lines)))
     (slice_split_at (λ b. b == 10) line 10 rest (All-from_recursion (λ b. (b == 10) ≡ false) line plain.end) refl)
     ∙ tokens_first line (slice_split (λ b. b == 10) rest) t ts plain.comment tokens
 
 -- a comment is passed over
-comment_first : (line rest : List ℕ) → AllByRecursion (λ b. (b == 10) ≡ false) line → is_comment line ≡ true → token_lines (line ++ 10 ∷ rest) ≡ token_lines rest
+comment_first : (line rest : List ℕ) → AllByRecursion (λ b. (b == 10) ≡ false) line → is_comment line ≡ true
+    → token_lines (line ++ 10 ∷ rest) ≡ token_lines rest
 comment_first line rest end comment =
-    ap (λ (lines : List (List ℕ)). filter (λ (tokens : List (List ℕ)). not (is_empty tokens)) (map runs (filter (λ (l : List ℕ). not (is_comment l)) lines)))
+    ap (λ (lines : List (List ℕ)). filter (λ (tokens : List (List ℕ)). not (is_empty tokens))
+    (map runs (filter (λ (l : List ℕ). not (is_comment l)) lines)))
     (slice_split_at (λ b. b == 10) line 10 rest (All-from_recursion (λ b. (b == 10) ≡ false) line end) refl)
     ∙ passed (slice_split (λ b. b == 10) rest)
   where
-    passed : (lines : List (List ℕ)) → filter (λ (tokens : List (List ℕ)). not (is_empty tokens)) (map runs (filter (λ (l : List ℕ). not (is_comment l)) (line ∷ lines)))
+    passed : (lines : List (List ℕ))
+        → filter (λ (tokens : List (List ℕ)). not (is_empty tokens)) (map runs (filter (λ (l : List ℕ). not (is_comment l)) (line ∷ lines)))
         ≡ filter (λ (tokens : List (List ℕ)). not (is_empty tokens)) (map runs (filter (λ (l : List ℕ). not (is_comment l)) lines))
     passed lines = rw comment refl
 
@@ -141,18 +150,23 @@ module _ (vars count : ℕ) (few_vars : vars < 2 ^ 64) (few : count < 2 ^ 64) wh
   unfolding header_front
   header_runs =
       ap (λ (ts : List (List ℕ)). codes "p" ∷ codes "cnf" ∷ ts)
-      (runs_more (decimal vars) (decimal count) (token_run (decimal vars) (token_decimal vars few_vars)) ∙ ap (λ (ts : List (List ℕ)). decimal vars ∷ ts) (runs_last (decimal count) (token_run (decimal count) (token_decimal count few))))
+      (runs_more (decimal vars) (decimal count) (token_run (decimal vars) (token_decimal vars few_vars))
+      ∙ ap (λ (ts : List (List ℕ)). decimal vars ∷ ts) (runs_last (decimal count) (token_run (decimal count) (token_decimal count few))))
 
   pub header_plain : IsPlainLine header_front
   unfolding header_front
   header_plain = record {
-    end = All-append (λ b. (b == 10) ≡ false) (codes "p cnf ") (decimal vars ++ 32 ∷ decimal count) (refl, (refl, (refl, (refl, (refl, (refl, tt))))))
-        (All-append (λ b. (b == 10) ≡ false) (decimal vars) (32 ∷ decimal count) (token_ends (decimal vars) (token_decimal vars few_vars)) (refl, token_ends (decimal count) (token_decimal count few)));
+    end = All-append (λ b. (b == 10) ≡ false) (codes "p cnf ") (decimal vars ++ 32 ∷ decimal count)
+        (refl, (refl, (refl, (refl, (refl, (refl, tt))))))
+        (All-append (λ b. (b == 10) ≡ false) (decimal vars) (32 ∷ decimal count) (token_ends (decimal vars) (token_decimal vars few_vars))
+        (refl, token_ends (decimal count) (token_decimal count few)));
     comment = refl;
   }
 
-  pub header_read : (rest : List ℕ) → token_lines (header_line vars count ++ rest) ≡ (codes "p" ∷ codes "cnf" ∷ decimal vars ∷ decimal count ∷ []) ∷ token_lines rest
-  header_read rest = ap token_lines (header_is rest) ∙ line_first header_front rest (codes "p") (codes "cnf" ∷ decimal vars ∷ decimal count ∷ []) header_plain header_runs
+  pub header_read : (rest : List ℕ)
+      → token_lines (header_line vars count ++ rest) ≡ (codes "p" ∷ codes "cnf" ∷ decimal vars ∷ decimal count ∷ []) ∷ token_lines rest
+  header_read rest = ap token_lines (header_is rest)
+      ∙ line_first header_front rest (codes "p") (codes "cnf" ∷ decimal vars ∷ decimal count ∷ []) header_plain header_runs
 
 -- ## a note
 
@@ -218,17 +232,20 @@ module _ (vars : ℕ) (few : vars ≤ max_variable) where
   clause_ends [] all = (refl, tt)
   clause_ends (l ∷ c) all =
       rw (clause_front-cons l c)
-      (All-append (λ b. (b == 10) ≡ false) (signed_decimal l) (32 ∷ clause_front c) (token_ends (signed_decimal l) (token_literal l all.0)) (refl, clause_ends c all.1))
+      (All-append (λ b. (b == 10) ≡ false) (signed_decimal l) (32 ∷ clause_front c) (token_ends (signed_decimal l) (token_literal l all.0))
+      (refl, clause_ends c all.1))
 
   clause_begins : (c : Clause) → AllByRecursion (IsLiteral vars) c → is_comment (clause_front c) ≡ false
   unfolding clause_front
   clause_begins [] all = refl
   clause_begins (l ∷ c) all = rw (clause_front-cons l c) (token_begins (signed_decimal l) (32 ∷ clause_front c) (token_literal l all.0))
 
-  clause_read : (c : Clause) (rest : List ℕ) → AllByRecursion (IsLiteral vars) c → token_lines (clause_line c ++ rest) ≡ map signed_decimal (c ++ pos 0 ∷ []) ∷ token_lines rest
+  clause_read : (c : Clause) (rest : List ℕ) → AllByRecursion (IsLiteral vars) c
+      → token_lines (clause_line c ++ rest) ≡ map signed_decimal (c ++ pos 0 ∷ []) ∷ token_lines rest
   clause_read [] rest all =
       ap token_lines (clause_is [] rest)
-      ∙ line_first (clause_front []) rest (signed_decimal (pos 0)) [] (record { end = clause_ends [] all; comment = clause_begins [] all }) (clause_runs [] all)
+      ∙ line_first (clause_front []) rest (signed_decimal (pos 0)) [] (record { end = clause_ends [] all; comment = clause_begins [] all })
+      (clause_runs [] all)
   clause_read (l ∷ c) rest all =
       ap token_lines (clause_is (l ∷ c) rest)
       ∙ line_first (clause_front (l ∷ c)) rest (signed_decimal l) (map signed_decimal (c ++ pos 0 ∷ []))
@@ -248,7 +265,8 @@ module _ (vars : ℕ) (few : vars ≤ max_variable) where
       ∙ ap (λ (ls : List (List (List ℕ))). map signed_decimal (e.clause ++ pos 0 ∷ []) ∷ ls) (entries_read (place + 1) es all.1)
 
 -- the tokens of the lines
-all_tokens : (cs : List Clause) → flat_map (λ (line : List (List ℕ)). line) (map (λ c. map signed_decimal (c ++ pos 0 ∷ [])) cs) ≡ map signed_decimal (flat_map (λ c. c ++ pos 0 ∷ []) cs)
+all_tokens : (cs : List Clause) → flat_map (λ (line : List (List ℕ)). line) (map (λ c. map signed_decimal (c ++ pos 0 ∷ [])) cs)
+    ≡ map signed_decimal (flat_map (λ c. c ++ pos 0 ∷ []) cs)
 all_tokens [] = refl
 all_tokens (c ∷ cs) =
     ap (λ (ts : List (List ℕ)). map signed_decimal (c ++ pos 0 ∷ []) ++ ts) (all_tokens cs)
@@ -271,7 +289,8 @@ distinct_once (x ∷ c) once =
 
 distinct_all : (vars : ℕ) (cs : List Clause) → AllByRecursion (IsFormulaClause vars) cs → cs ≡ map distinct cs
 distinct_all vars [] all = refl
-distinct_all vars (c ∷ cs) all = ap (λ d. d ∷ cs) (distinct_once c all.0.0.each_once) ∙ ap (λ ds. distinct c ∷ ds) (distinct_all vars cs all.1)
+distinct_all vars (c ∷ cs) all = ap (λ d. d ∷ cs) (distinct_once c all.0.0.each_once)
+    ∙ ap (λ ds. distinct c ∷ ds) (distinct_all vars cs all.1)
 
 pub printed_is_read : PrintedIsRead
 unfolding formula_text
@@ -282,8 +301,10 @@ printed_is_read vars entries is =
     record {
       lines = map (λ c. map signed_decimal (c ++ pos 0 ∷ [])) clauses;
       header = header_read vars (length entries) (omega (arith, is.vars)) (omega (arith, is.count)) (entries_text 1 entries)
-          ∙ ap (λ (ls : List (List (List ℕ))). (codes "p" ∷ codes "cnf" ∷ decimal vars ∷ decimal (length entries) ∷ []) ∷ ls) (entries_read vars is.vars 1 entries literals)
-          ∙ ap (λ n. (codes "p" ∷ codes "cnf" ∷ decimal vars ∷ decimal n ∷ []) ∷ map (λ c. map signed_decimal (c ++ pos 0 ∷ [])) clauses) (sym count);
+          ∙ ap (λ (ls : List (List (List ℕ))). (codes "p" ∷ codes "cnf" ∷ decimal vars ∷ decimal (length entries) ∷ []) ∷ ls)
+          (entries_read vars is.vars 1 entries literals)
+          ∙ ap (λ n. (codes "p" ∷ codes "cnf" ∷ decimal vars ∷ decimal n ∷ []) ∷ map (λ c. map signed_decimal (c ++ pos 0 ∷ [])) clauses)
+          (sym count);
       written = clauses;
       tokens = all_tokens clauses;
       literals = literals;

@@ -9,6 +9,7 @@ pub All-replicate : {X : Type 0} (P : X → Type 0) (n : ℕ) (x : X) → P x �
 All-replicate P zero x is = tt
 All-replicate P (suc n) x is = (is, All-replicate P n x is)
 
-pub All-clauses : (p : Place) (P : Clause → Type 0) (n : ℕ) (clip : ClipValue) → P (clip_clause p clip) → AllByRecursion P (clauses_of (entries_of p (replicate n clip)))
+pub All-clauses : (p : Place) (P : Clause → Type 0) (n : ℕ) (clip : ClipValue) → P (clip_clause p clip)
+    → AllByRecursion P (clauses_of (entries_of p (replicate n clip)))
 All-clauses p P zero clip is = tt
 All-clauses p P (suc n) clip is = (is, All-clauses p P n clip is)

@@ -1,5 +1,6 @@
 -- Lemmas on the literals of a clip that is known at a pass.
-use Rattle.std.proofs.Common.{◌≡◌, ℕ, ℤ, ◌+◌, ◌*◌, ◌/◌, ◌%◌, ◌<◌, zero, suc, [], ◌∷◌, length, Option, None, Some, slice_get, refl, sym, ap, subst, ◌∙◌, arith}
+use Rattle.std.proofs.Common.{◌≡◌, ℕ, ℤ, ◌+◌, ◌*◌, ◌/◌, ◌%◌, ◌<◌, zero, suc, [], ◌∷◌, length, Option, None, Some, slice_get, refl, sym, ap}
+use Rattle.std.proofs.Common.{subst, ◌∙◌, arith}
 use Rattle.std.specs.List.{AllByRecursion}
 use Rattle.lrup_model.specs.Literal.{IsLiteral, IsCode, code_of, max_variable}
 use Rattle.lrup_model.specs.LiteralLaws.{IsCode-code_of, code_of-injective}
@@ -15,22 +16,24 @@ use Rattle.idwords.specs.Steps.{IsText}
 use Rattle.clause_store.specs.Passes.{PassValue, IsAtRest, pass_value}
 
 -- the start that the word of a clause shows is a place of the row
-start_shown : (v : View) (id word : ℕ) (o : Option Kept) → kept_in v.spelt id ≡ o → ShowsKept o word → 0 < word_state word → LieWithin (row_words v.caller.layout) v.spelt → IsFair v
-    → start_of word < 4294967296
+start_shown : (v : View) (id word : ℕ) (o : Option Kept) → kept_in v.spelt id ≡ o → ShowsKept o word → 0 < word_state word
+    → LieWithin (row_words v.caller.layout) v.spelt → IsFair v → start_of word < 4294967296
 start_shown v id word None here shows some within fair = absurd (omega arith)
 start_shown v id word (Some kept) here shows some within fair = omega (arith, within id kept here, shows.3, fair.caller.layout.row)
 
-pub start_read : (v : View) (id word : ℕ) → ShowsKept (kept_in v.spelt id) word → 0 < word_state word → LieWithin (row_words v.caller.layout) v.spelt → IsFair v
-    → start_of word < 4294967296
+pub start_read : (v : View) (id word : ℕ) → ShowsKept (kept_in v.spelt id) word → 0 < word_state word
+    → LieWithin (row_words v.caller.layout) v.spelt → IsFair v → start_of word < 4294967296
 start_read v id word shows some within fair = start_shown v id word (kept_in v.spelt id) refl shows some within fair
 
 -- a place inside a clause has a literal
-literal_at : (vars : ℕ) (c : Clause) (k : ℕ) → k < length c → AllByRecursion (IsLiteral vars) c → (l : ℤ) × (slice_get c k ≡ Some l) × IsLiteral vars l
+literal_at : (vars : ℕ) (c : Clause) (k : ℕ) → k < length c → AllByRecursion (IsLiteral vars) c
+    → (l : ℤ) × (slice_get c k ≡ Some l) × IsLiteral vars l
 literal_at vars [] k below all = absurd (omega arith)
 literal_at vars (x ∷ c) zero below all = (x, refl, all.0)
 literal_at vars (x ∷ c) (suc k) below all = literal_at vars c k (omega arith) all.1
 
-module _ (v : View) (clip : ClipValue) (k place : ℕ) (known : IsKnown (pass_place v) clip) (below : k < clip.len) (lies : place ≡ clip.start + k / 2) where
+module _ (v : View) (clip : ClipValue) (k place : ℕ) (known : IsKnown (pass_place v) clip) (below : k < clip.len)
+    (lies : place ≡ clip.start + k / 2) where
   abbrev kept : Kept
   kept = record { start = clip.start; literals = clip_clause (pass_place v) clip }
 
@@ -40,7 +43,8 @@ module _ (v : View) (clip : ClipValue) (k place : ℕ) (known : IsKnown (pass_pl
 
   -- the literal, and its half of the word there is its code
   literal_of : IsFair v → (word : ℕ) → IsText v.spelt place word
-      → (l : ℤ) × (slice_get (clip_clause (pass_place v) clip) k ≡ Some l) × (half_of (k % 2) word ≡ code_of l) × IsCode max_variable (half_of (k % 2) word)
+      → (l : ℤ) × (slice_get (clip_clause (pass_place v) clip) k ≡ Some l) × (half_of (k % 2) word ≡ code_of l)
+      × IsCode max_variable (half_of (k % 2) word)
   literal_of fair word text =
       let derived = (fair_follows v fair).each clip.id kept known.kept in
       let at = literal_at v.caller.formula.vars (clip_clause (pass_place v) clip) k (omega (arith, known.len)) derived.0.literals in
@@ -49,13 +53,15 @@ module _ (v : View) (clip : ClipValue) (k place : ℕ) (known : IsKnown (pass_pl
       (at.0, at.1, is, (omega (arith, code.0), omega (arith, code.1)))
 
   -- the literal that has the code in that half is that one
-  literal_is : IsFair v → (word : ℕ) (l : ℤ) → IsText v.spelt place word → code_of l ≡ half_of (k % 2) word → slice_get (clip_clause (pass_place v) clip) k ≡ Some l
+  literal_is : IsFair v → (word : ℕ) (l : ℤ) → IsText v.spelt place word → code_of l ≡ half_of (k % 2) word
+      → slice_get (clip_clause (pass_place v) clip) k ≡ Some l
   literal_is fair word l text code =
       let one = literal_of fair word text in
       one.1 ∙ ap Some (code_of-injective one.0 l (sym one.2 ∙ sym code))
 
 -- the same of a pass, whose seat is at rest: as `Store::literal` reads them
-module _ (seat : SeatValue) (stream : ℕ) (p : PassValue) (clip : ClipValue) (k place : ℕ) (rests : IsAtRest seat stream) (same : pass_value seat ≡ p)
+module _ (seat : SeatValue) (stream : ℕ) (p : PassValue) (clip : ClipValue) (k place : ℕ) (rests : IsAtRest seat stream)
+    (same : pass_value seat ≡ p)
     (known : IsKnown (pass_place p.view) clip) (lies : place ≡ clip.start + k / 2) (below : k < clip.len) where
   abbrev here : seat.view ≡ p.view
   here = ap (λ (q : PassValue). q.view) same
@@ -69,13 +75,15 @@ module _ (seat : SeatValue) (stream : ℕ) (p : PassValue) (clip : ClipValue) (k
   pub code_read : (word : ℕ) → IsText seat.view.spelt place word → IsCode max_variable (half_of (k % 2) word)
   code_read word text = (literal_of seat.view clip k place known_here below lies rests.fair word text).3
 
-  pub literal_read : (word : ℕ) (l : ℤ) → IsText seat.view.spelt place word → code_of l ≡ half_of (k % 2) word → slice_get (clip_clause (pass_place p.view) clip) k ≡ Some l
+  pub literal_read : (word : ℕ) (l : ℤ) → IsText seat.view.spelt place word → code_of l ≡ half_of (k % 2) word
+      → slice_get (clip_clause (pass_place p.view) clip) k ≡ Some l
   literal_read word l text code =
       subst (λ (v : View). slice_get (clip_clause (pass_place v) clip) k ≡ Some l) here
       (literal_is seat.view clip k place known_here below lies rests.fair word l text code)
 
 -- the same by pairs, as `Store::pair` reads them: literal `2 * i + half` is in that half of word `i`
-module _ (seat : SeatValue) (stream : ℕ) (p : PassValue) (clip : ClipValue) (i half place : ℕ) (rests : IsAtRest seat stream) (same : pass_value seat ≡ p)
+module _ (seat : SeatValue) (stream : ℕ) (p : PassValue) (clip : ClipValue) (i half place : ℕ) (rests : IsAtRest seat stream)
+    (same : pass_value seat ≡ p)
     (known : IsKnown (pass_place p.view) clip) (lies : place ≡ clip.start + i) (is_half : half < 2) (below : 2 * i + half < clip.len) where
   abbrev in_word : place ≡ clip.start + (2 * i + half) / 2
   in_word = omega (arith, lies, is_half)
@@ -88,8 +96,11 @@ module _ (seat : SeatValue) (stream : ℕ) (p : PassValue) (clip : ClipValue) (i
 
   pub pair_code : (word : ℕ) → IsText seat.view.spelt place word → IsCode max_variable (half_of half word)
   pair_code word text =
-      subst (λ h. IsCode max_variable (half_of h word)) in_half (code_read seat stream p clip (2 * i + half) place rests same known in_word below word text)
+      subst (λ h. IsCode max_variable (half_of h word)) in_half
+      (code_read seat stream p clip (2 * i + half) place rests same known in_word below word text)
 
-  pub pair_literal : (word : ℕ) (l : ℤ) → IsText seat.view.spelt place word → code_of l ≡ half_of half word → slice_get (clip_clause (pass_place p.view) clip) (2 * i + half) ≡ Some l
+  pub pair_literal : (word : ℕ) (l : ℤ) → IsText seat.view.spelt place word → code_of l ≡ half_of half word
+      → slice_get (clip_clause (pass_place p.view) clip) (2 * i + half) ≡ Some l
   pair_literal word l text code =
-      literal_read seat stream p clip (2 * i + half) place rests same known in_word below word l text (subst (λ h. code_of l ≡ half_of h word) (sym in_half) code)
+      literal_read seat stream p clip (2 * i + half) place rests same known in_word below word l text
+      (subst (λ h. code_of l ≡ half_of h word) (sym in_half) code)

@@ -8,6 +8,11 @@ use Rattle.idwords.specs.Spelling.{LieWithin}
 use Rattle.clause_store.specs.Passes.{IsAtRest}
 
 -- after a step that left no draft the seat is at rest again
-pub rests : (old new : SeatValue) (stream : ℕ) → stream ≡ old.view.caller.stream → new.view.caller ≡ old.view.caller → IsFair new.view → new.draft ≡ []
-    → LieWithin (row_words new.view.caller.layout) new.view.spelt → IsAtRest new stream
-rests old new stream own caller fair none within = record { fair = fair; stream_is = own ∙ ap (λ (c : Caller). c.stream) (sym caller); draft = none; within = within }
+pub rests : (old new : SeatValue) (stream : ℕ) → stream ≡ old.view.caller.stream → new.view.caller ≡ old.view.caller → IsFair new.view
+    → new.draft ≡ [] → LieWithin (row_words new.view.caller.layout) new.view.spelt → IsAtRest new stream
+rests old new stream own caller fair none within = record {
+  fair = fair;
+  stream_is = own ∙ ap (λ (c : Caller). c.stream) (sym caller);
+  draft = none;
+  within = within;
+}

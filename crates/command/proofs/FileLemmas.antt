@@ -16,16 +16,17 @@ use Rattle.command.specs.declared.files.OpenFault.{OpenFault}
 use Rattle.command.specs.declared.files.OpenFault.TheVariants as opens
 
 -- why a file wasn't opened, or not read to its end
-pub opening_cause : (files : FilesView) (before : files.State) (path : Text) (fault : OpenFault) → (fault ≡ opens.NotOpened → IsTrue (files.may_refuse path))
-    → IsFileCause files before path (of_open fault)
+pub opening_cause : (files : FilesView) (before : files.State) (path : Text) (fault : OpenFault)
+    → (fault ≡ opens.NotOpened → IsTrue (files.may_refuse path)) → IsFileCause files before path (of_open fault)
 opening_cause files before path opens.NotOpened refused = inl (refused refl)
 opening_cause files before path opens.Memory refused = tt
 
-pub reading_cause : (files : FilesView) (before : files.State) (path : Text) (reader : files.Reader) (after : files.State) → files.opens before path reader after
-    → files.reading.left reader ≡ files.tells path
+pub reading_cause : (files : FilesView) (before : files.State) (path : Text) (reader : files.Reader) (after : files.State)
+    → files.opens before path reader after → files.reading.left reader ≡ files.tells path
     → (fault : CommandFault) → IsFailedRead files.reading reader fault → IsFileCause files before path fault
 reading_cause files before path reader after opened left (faults.Usage text) cause = absurd cause
-reading_cause files before path reader after opened left faults.Unread cause = inr (record { reader = reader; after = after; opened = opened; left = left; broken = cause })
+reading_cause files before path reader after opened left faults.Unread cause =
+    inr (record { reader = reader; after = after; opened = opened; left = left; broken = cause })
 reading_cause files before path reader after opened left (faults.Refused fault) cause = absurd cause
 reading_cause files before path reader after opened left faults.CubeUnread cause = absurd cause
 reading_cause files before path reader after opened left (faults.CubeRefused fault) cause = absurd cause
@@ -39,16 +40,19 @@ reading_cause files before path reader after opened left faults.NotCreated cause
 reading_cause files before path reader after opened left (faults.NotSaved fault) cause = absurd cause
 
 -- what was read of a file that was opened
-pub was_read : (files : FilesView) (before : files.State) (path : Text) (reader : files.Reader) (after : files.State) {T E : Type 0} (items : T → List ℕ) (read : Result T E)
+pub was_read : (files : FilesView) (before : files.State) (path : Text) (reader : files.Reader) (after : files.State) {T E : Type 0}
+    (items : T → List ℕ) (read : Result T E)
     → files.opens before path reader after → files.reading.left reader ≡ files.tells path
-    → IfOk read (λ bytes. GaveAll files.Reader files.reading.reads reader (items bytes)) → IfOk read (λ bytes. ForSome (files.reading.left reader) (λ all. all ≡ items bytes))
+    → IfOk read (λ bytes. GaveAll files.Reader files.reading.reads reader (items bytes))
+    → IfOk read (λ bytes. ForSome (files.reading.left reader) (λ all. all ≡ items bytes))
     → IfOk read (λ bytes. WasReadIn files before path (items bytes) after)
 was_read files before path reader after items (Ok bytes) opened left gave all =
     record { reader = reader; opened = opened; gave = gave; told = λ whole told. all whole (left ∙ told) }
 was_read files before path reader after items (Err fault) opened left gave all = tt
 
 -- so of the formula's file, and of that of the assumed literals
-pub formula_file_cause : (files : FilesView) (path : Text) (fault : CommandFault) → IsFileCause files files.first path fault → IsReadCause files path fault
+pub formula_file_cause : (files : FilesView) (path : Text) (fault : CommandFault) → IsFileCause files files.first path fault
+    → IsReadCause files path fault
 formula_file_cause files path (faults.Usage text) cause = absurd cause
 formula_file_cause files path faults.Unread cause = cause
 formula_file_cause files path (faults.Refused fault) cause = absurd cause
@@ -63,8 +67,8 @@ formula_file_cause files path faults.Unwritten cause = absurd cause
 formula_file_cause files path faults.NotCreated cause = absurd cause
 formula_file_cause files path (faults.NotSaved fault) cause = absurd cause
 
-pub cube_file_cause : (files : FilesView) (vars : ℕ) (before : files.State) (path : Text) (fault : CommandFault) → IsFileCause files before path fault
-    → IsAssumeCause files vars before (Some path) (of_cube_file fault)
+pub cube_file_cause : (files : FilesView) (vars : ℕ) (before : files.State) (path : Text) (fault : CommandFault)
+    → IsFileCause files before path fault → IsAssumeCause files vars before (Some path) (of_cube_file fault)
 cube_file_cause files vars before path (faults.Usage text) cause = absurd cause
 cube_file_cause files vars before path faults.Unread cause = cause
 cube_file_cause files vars before path (faults.Refused fault) cause = absurd cause
@@ -92,7 +96,8 @@ text_cause files path bytes after was (formulas.TooMany line) is = (λ e. cc, (b
 text_cause files path bytes after was formulas.Limit is = (λ e. cc, (bytes, after, was, is (λ e. cc)))
 text_cause files path bytes after was formulas.Memory is = tt
 
-pub cube_text_cause : (files : FilesView) (vars : ℕ) (before : files.State) (path : Text) (bytes : List ℕ) (after : files.State) → WasReadIn files before path bytes after
+pub cube_text_cause : (files : FilesView) (vars : ℕ) (before : files.State) (path : Text) (bytes : List ℕ) (after : files.State)
+    → WasReadIn files before path bytes after
     → (fault : CubeFault) → IsCubeFault vars bytes fault → IsAssumeCause files vars before (Some path) (of_cube fault)
 cube_text_cause files vars before path bytes after was cubes.Spelling is = (λ e. cc, (bytes, after, was, is))
 cube_text_cause files vars before path bytes after was cubes.TooLong is = (λ e. cc, (bytes, after, was, is))
@@ -104,11 +109,14 @@ module _ (files : FilesView) (first : files.State) where
   abbrev later : FilesView
   later = record files { first = first }
 
-  moved_unread : (before : files.State) (path : Text) → IsTrue (files.may_refuse path) ⊎ WasUnread later before path → IsTrue (files.may_refuse path) ⊎ WasUnread files before path
+  moved_unread : (before : files.State) (path : Text) → IsTrue (files.may_refuse path) ⊎ WasUnread later before path
+      → IsTrue (files.may_refuse path) ⊎ WasUnread files before path
   moved_unread before path (inl may) = inl may
-  moved_unread before path (inr was) = inr (record { reader = was.reader; after = was.after; opened = was.opened; left = was.left; broken = was.broken })
+  moved_unread before path (inr was) =
+      inr (record { reader = was.reader; after = was.after; opened = was.opened; left = was.left; broken = was.broken })
 
-  pub moved_cause : (vars : ℕ) (before : files.State) (path : Option Text) (fault : CommandFault) → IsAssumeCause later vars before path fault → IsAssumeCause files vars before path fault
+  pub moved_cause : (vars : ℕ) (before : files.State) (path : Option Text) (fault : CommandFault)
+      → IsAssumeCause later vars before path fault → IsAssumeCause files vars before path fault
   moved_cause vars before None fault cause = absurd cause
   moved_cause vars before (Some path) (faults.Usage text) cause = absurd cause
   moved_cause vars before (Some path) faults.Unread cause = absurd cause

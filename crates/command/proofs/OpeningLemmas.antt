@@ -1,5 +1,6 @@
 -- Files that are opened one after the other.
-use Rattle.std.proofs.Common.{Bool, IsTrue, Some, slice_get, option_map, subst, ◌≡◌, ◌∙◌, ◌<◌, ◌+◌, ◌++◌, ℕ, List, [], ◌∷◌, map, take, length, get_or, refl, sym, ap}
+use Rattle.std.proofs.Common.{Bool, IsTrue, Some, slice_get, option_map, subst, ◌≡◌, ◌∙◌, ◌<◌, ◌+◌, ◌++◌, ℕ, List, [], ◌∷◌, map, take}
+use Rattle.std.proofs.Common.{length, get_or, refl, sym, ap}
 use Rattle.std.proofs.lemmas.List.{map-append, take-map}
 use Rattle.std.proofs.lemmas.List.{take_more}
 use Rattle.std.proofs.lemmas.Option.{slice_get-get_or, slice_get-map}
@@ -7,7 +8,8 @@ use Rattle.command.specs.Commands.{AreOpened, IsOpenCause, Text}
 use Rattle.command.specs.declared.fault.CommandFault.TheVariants as faults
 
 -- what is told of the readers is what the files at the paths so far tell, and so with one more
-pub opened_more : {R B T : Type 0} {L : Type 0} (left : R → L) (tells later : T → L) (text : B → T) (before after : List R) (reader : R) (paths : List B) (k : ℕ) (d : B)
+pub opened_more : {R B T : Type 0} {L : Type 0} (left : R → L) (tells later : T → L) (text : B → T) (before after : List R) (reader : R)
+    (paths : List B) (k : ℕ) (d : B)
     → k < length paths → after ≡ before ++ reader ∷ [] → map left before ≡ map tells (take k (map text paths))
     → later ≡ tells → left reader ≡ later (text (get_or paths k d)) → map left after ≡ map tells (take (k + 1) (map text paths))
 opened_more left tells later text before after reader paths k d inside is told stays one =
@@ -29,14 +31,18 @@ one_path_more text paths k d inside =
     ∙ ap (λ ts. ts ++ text (get_or paths k d) ∷ []) (sym (take-map text k paths))
 
 -- the files so far were opened as these readers, and so with the next one
-push_opened : {F R : Type 0} (opens : F → Text → R → F → Type 0) (first : F) (paths : List Text) (readers : List R) (before : F) (path : Text) (reader : R) (after : F)
-    → AreOpened opens first paths readers before → opens before path reader after → AreOpened opens first (paths ++ path ∷ []) (readers ++ reader ∷ []) after
+push_opened : {F R : Type 0} (opens : F → Text → R → F → Type 0) (first : F) (paths : List Text) (readers : List R) (before : F)
+    (path : Text) (reader : R) (after : F)
+    → AreOpened opens first paths readers before → opens before path reader after
+    → AreOpened opens first (paths ++ path ∷ []) (readers ++ reader ∷ []) after
 push_opened opens first [] [] before path reader after all one = (after, subst (λ f. opens f path reader after) all one, refl)
-push_opened opens first (p ∷ ps) (r ∷ rs) before path reader after all one = (all.0, all.1, push_opened opens all.0 ps rs before path reader after all.2 one)
+push_opened opens first (p ∷ ps) (r ∷ rs) before path reader after all one =
+    (all.0, all.1, push_opened opens all.0 ps rs before path reader after all.2 one)
 push_opened opens first [] (r ∷ rs) before path reader after all one = absurd all
 push_opened opens first (p ∷ ps) [] before path reader after all one = absurd all
 
-pub all_opened_more : {F R B : Type 0} (opens : F → Text → R → F → Type 0) (text : B → Text) (first : F) (so_far all_now : List R) (reader : R) (paths : List B) (k : ℕ) (d : B)
+pub all_opened_more : {F R B : Type 0} (opens : F → Text → R → F → Type 0) (text : B → Text) (first : F) (so_far all_now : List R)
+    (reader : R) (paths : List B) (k : ℕ) (d : B)
     (before after : F) → k < length paths → all_now ≡ so_far ++ reader ∷ [] → AreOpened opens first (take k (map text paths)) so_far before
     → opens before (text (get_or paths k d)) reader after → AreOpened opens first (take (k + 1) (map text paths)) all_now after
 all_opened_more opens text first so_far all_now reader paths k d before after inside is all one =
@@ -45,13 +51,15 @@ all_opened_more opens text first so_far all_now reader paths k d before after in
     (push_opened opens first (take k (map text paths)) so_far before (text (get_or paths k d)) reader after all one))
 
 -- the text of an element of a list, in the list of the texts
-pub read_at : {B T : Type 0} (text : B → T) (paths : List B) (k : ℕ) (d : B) → k < length paths → slice_get (map text paths) k ≡ Some (text (get_or paths k d))
+pub read_at : {B T : Type 0} (text : B → T) (paths : List B) (k : ℕ) (d : B) → k < length paths
+    → slice_get (map text paths) k ≡ Some (text (get_or paths k d))
 read_at text paths k d inside = slice_get-map text paths k ∙ ap (option_map text) (slice_get-get_or paths k d inside)
 
 -- the path that was refused, after those before it were opened
-pub refused_at : {F R B : Type 0} (opens : F → Text → R → F → Type 0) (text : B → Text) (may later : Text → Bool) (first : F) (paths : List B) (readers : List R) (after : F) (k count : ℕ) (d : B)
-    → k < length paths → count ≡ k → AreOpened opens first (take k (map text paths)) readers after → later ≡ may → IsTrue (later (text (get_or paths k d)))
-    → IsOpenCause opens may first (map text paths) (faults.NotOpened (count + 1))
+pub refused_at : {F R B : Type 0} (opens : F → Text → R → F → Type 0) (text : B → Text) (may later : Text → Bool) (first : F)
+    (paths : List B) (readers : List R) (after : F) (k count : ℕ) (d : B)
+    → k < length paths → count ≡ k → AreOpened opens first (take k (map text paths)) readers after → later ≡ may
+    → IsTrue (later (text (get_or paths k d))) → IsOpenCause opens may first (map text paths) (faults.NotOpened (count + 1))
 refused_at opens text may later first paths readers after k count d inside count_is opened stays refused = (
   k,
   text (get_or paths k d),

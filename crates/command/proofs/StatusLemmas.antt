@@ -8,7 +8,8 @@ use Rattle.portfolio.specs.declared.outcome.Verdict.TheVariants.{Unsatisfiable, 
 use Rattle.checkpoint.specs.Checkpoints.{IsCheckpoint}
 use Rattle.checkpoint.specs.declared.saving.SaveFault.{SaveFault}
 use Rattle.command_line.specs.CommandLine.{AskToSave}
-use Rattle.command.specs.Commands.{EndsWithFault, EndsWithReport, FilesView, IsAssumeCause, IsCause, SinkChange, Text, assumed_at, checkpoint_at, report_status}
+use Rattle.command.specs.Commands.{EndsWithFault, EndsWithReport, FilesView, IsAssumeCause, IsCause, SinkChange, Text, assumed_at}
+use Rattle.command.specs.Commands.{checkpoint_at, report_status}
 use Rattle.command.specs.Commands.{LeavesCheckpoint, NameCheckpoint, WasLeftEmpty, WasReadIn, WasSavedIn}
 use Rattle.command.specs.Faults.{status_of}
 use Rattle.command.specs.declared.fault.CommandFault.{CommandFault}
@@ -16,14 +17,16 @@ use Rattle.command.specs.declared.fault.CommandFault.TheVariants as faults
 use Rattle.command.proofs.CheckingLemmas.{ask_for}
 
 -- the verdict of a report with this status
-pub zero_is : (failed : Bool) (unsaved : Option SaveFault) (verdict : Verdict) → report_status failed unsaved verdict ≡ 0 → verdict ≡ Unsatisfiable
+pub zero_is : (failed : Bool) (unsaved : Option SaveFault) (verdict : Verdict) → report_status failed unsaved verdict ≡ 0
+    → verdict ≡ Unsatisfiable
 zero_is true unsaved verdict is = absurd (let no : Path ℕ 7 0 = is in cc)
 zero_is false (Some fault) verdict is = absurd (let no : Path ℕ 9 0 = is in cc)
 zero_is false None Unsatisfiable is = refl
 zero_is false None UnsatisfiableUnder is = absurd (let no : Path ℕ 8 0 = is in cc)
 zero_is false None Unknown is = absurd (let no : Path ℕ 3 0 = is in cc)
 
-pub eight_is : (failed : Bool) (unsaved : Option SaveFault) (verdict : Verdict) → report_status failed unsaved verdict ≡ 8 → verdict ≡ UnsatisfiableUnder
+pub eight_is : (failed : Bool) (unsaved : Option SaveFault) (verdict : Verdict) → report_status failed unsaved verdict ≡ 8
+    → verdict ≡ UnsatisfiableUnder
 eight_is true unsaved verdict is = absurd (let no : Path ℕ 7 8 = is in cc)
 eight_is false (Some fault) verdict is = absurd (let no : Path ℕ 9 8 = is in cc)
 eight_is false None Unsatisfiable is = absurd (let no : Path ℕ 0 8 = is in cc)
@@ -112,7 +115,8 @@ no_fault (faults.NotSaved fault) is = neither 9 (λ e. cc) (λ e. cc) is
 
 module _ (files : FilesView) where
   leaves_saved : (failed : Bool) (unsaved : Option SaveFault) (verdict : Verdict) (path : Text) (f : Cnf) (before after : files.State)
-      → (report_status failed unsaved verdict ≡ 3) ⊎ (report_status failed unsaved verdict ≡ 8) → LeavesCheckpoint files (Some path) f verdict unsaved before after
+      → (report_status failed unsaved verdict ≡ 3) ⊎ (report_status failed unsaved verdict ≡ 8)
+      → LeavesCheckpoint files (Some path) f verdict unsaved before after
       → (bytes : List ℕ) × WasSavedIn files before path bytes after × IsCheckpoint f bytes
   leaves_saved true unsaved verdict path f before after is leaves = absurd (neither 7 (λ e. cc) (λ e. cc) is)
   leaves_saved false (Some fault) verdict path f before after is leaves = absurd (neither 9 (λ e. cc) (λ e. cc) is)
@@ -122,16 +126,32 @@ module _ (files : FilesView) where
 
   pub ends_saved : (words : List Text) (after : files.State) (out err : SinkChange) (status : ℕ)
       → EndsWithReport files words after out err status ⊎ EndsWithFault files words out err status
-      → (path : Text) → AskToSave words path → (status ≡ 3) ⊎ (status ≡ 8) → NameCheckpoint (WasReadIn files) (WasSavedIn files) files.first words path after
+      → (path : Text) → AskToSave words path → (status ≡ 3) ⊎ (status ≡ 8)
+      → NameCheckpoint (WasReadIn files) (WasSavedIn files) files.first words path after
   ends_saved words after out err status (inl report) path ask is =
       let outcome = report.outcome in
       let given = outcome.given in
       let asked : checkpoint_at given ≡ Some path = outcome.command_line.said.checkpoint ∙ ask.path_is in
-      let leaves = subst (λ (o : Option Text). LeavesCheckpoint files o outcome.formula report.verdict report.unsaved outcome.last after) asked report.checkpoint in
+      let leaves = subst (λ (o : Option Text). LeavesCheckpoint files o outcome.formula report.verdict report.unsaved outcome.last after)
+      asked report.checkpoint in
       let statuses = subst (λ (n : ℕ). (n ≡ 3) ⊎ (n ≡ 8)) report.status_is is in
       let saved = leaves_saved out.failed report.unsaved report.verdict path outcome.formula outcome.last after statuses leaves in
-      let read = outcome.is_formula in
-      (read.0, saved.0, (given.formula.now, assumed_at given, outcome.formula, outcome.next, outcome.last, ask_for words given outcome.command_line, read.1, read.2, saved.1, saved.2))
+      let read = outcome.is_formula in (
+        read.0,
+        saved.0,
+        (
+          given.formula.now,
+          assumed_at given,
+          outcome.formula,
+          outcome.next,
+          outcome.last,
+          ask_for words given outcome.command_line,
+          read.1,
+          read.2,
+          saved.1,
+          saved.2,
+        ),
+      )
   ends_saved words after out err status (inr fault) path ask is =
       absurd (no_fault fault.fault (subst (λ (n : ℕ). (n ≡ 3) ⊎ (n ≡ 8)) fault.status_is is))
 
@@ -162,8 +182,10 @@ ends_empty files words after out err status (inl report) path ask is =
     let outcome = report.outcome in
     let asked : checkpoint_at outcome.given ≡ Some path = outcome.command_line.said.checkpoint ∙ ask.path_is in
     let refuted = zero_is out.failed report.unsaved report.verdict (sym report.status_is ∙ is) in
-    let leaves = subst (λ (o : Option Text). LeavesCheckpoint files o outcome.formula report.verdict report.unsaved outcome.last after) asked report.checkpoint in
-    let created = subst (λ (verdict : Verdict). LeavesCheckpoint files (Some path) outcome.formula verdict report.unsaved outcome.last after) refuted leaves in
+    let leaves = subst (λ (o : Option Text). LeavesCheckpoint files o outcome.formula report.verdict report.unsaved outcome.last after)
+    asked report.checkpoint in
+    let created = subst
+    (λ (verdict : Verdict). LeavesCheckpoint files (Some path) outcome.formula verdict report.unsaved outcome.last after) refuted leaves in
     let left = created.1 in
     (outcome.last, left.0, left.1, left.2)
 ends_empty files words after out err status (inr fault) path ask is = absurd (no_zero fault.fault (sym fault.status_is ∙ is))

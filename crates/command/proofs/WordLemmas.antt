@@ -8,7 +8,8 @@ pub read_more : {W A T : Type 0} (word_text : W → T) (text : A → T) (before 
     → word_text word ≡ text (get_or arguments k d) → map word_text after ≡ map text (take (k + 1) arguments)
 read_more word_text text before after word arguments k d inside is read one =
     let argument = get_or arguments k d in
-    let words : map word_text after ≡ map word_text before ++ word_text word ∷ [] = ap (map word_text) is ∙ map-append word_text before (word ∷ []) in
+    let words : map word_text after ≡ map word_text before ++ word_text word ∷ [] = ap (map word_text) is
+    ∙ map-append word_text before (word ∷ []) in
     let taken : map text (take (k + 1) arguments) ≡ map text (take k arguments) ++ text argument ∷ [] =
     ap (map text) (take_more arguments k d inside) ∙ map-append text (take k arguments) (argument ∷ []) in
     words ∙ ap (λ ts. ts ++ word_text word ∷ []) read ∙ ap (λ t. map text (take k arguments) ++ t ∷ []) one ∙ sym taken

@@ -19,25 +19,35 @@ after_nothing (Some xs) None c text keeps appends = absurd keeps
 after_nothing (Some xs) (Some ys) None text keeps appends = absurd appends
 after_nothing (Some xs) (Some ys) (Some zs) text keeps appends = appends ∙ ap (λ l. l ++ text) keeps
 
-took_after_nothing : (failed : Bool) (a b c : Option (List ℕ)) (text : List ℕ) → Keeps a b → TakesUnlessFailed failed b c text → TakesUnlessFailed failed a c text
+took_after_nothing : (failed : Bool) (a b c : Option (List ℕ)) (text : List ℕ) → Keeps a b → TakesUnlessFailed failed b c text
+    → TakesUnlessFailed failed a c text
 took_after_nothing false a b c text keeps took = after_nothing a b c text keeps took
 took_after_nothing true a b c text keeps took = (took.0, took.1, took.2, after_nothing a b c took.0 keeps took.3)
 
-took_after_text : (failed : Bool) (a b c : Option (List ℕ)) (first text : List ℕ) → Appends a b first → TakesUnlessFailed failed b c text → TakesUnlessFailed failed a c (first ++ text)
+took_after_text : (failed : Bool) (a b c : Option (List ℕ)) (first text : List ℕ) → Appends a b first → TakesUnlessFailed failed b c text
+    → TakesUnlessFailed failed a c (first ++ text)
 took_after_text false a b c first text one took = Appends-trans a b c first text one took
-took_after_text true a b c first text one took =
-    (first ++ took.0, took.1, ap (λ t. first ++ t) took.2 ∙ sym (append_assoc first took.0 took.1), Appends-trans a b c first took.0 one took.3)
+took_after_text true a b c first text one took = (
+  first ++ took.0,
+  took.1,
+  ap (λ t. first ++ t) took.2 ∙ sym (append_assoc first took.0 took.1),
+  Appends-trans a b c first took.0 one took.3,
+)
 
 -- A line on the report follows what was said of the checkpoint, if that went out whole.
-pub says_both : (a b c : Option (List ℕ)) (broken failed : Bool) (unsaved : Option SaveFault) → SaysOfReport false unsaved (change a b broken)
+pub says_both : (a b c : Option (List ℕ)) (broken failed : Bool) (unsaved : Option SaveFault)
+    → SaysOfReport false unsaved (change a b broken)
     → (broken ≡ true → (c ≡ b) × (failed ≡ true)) → (broken ≡ false → SinkTook (change b c failed) (error_text faults.Unwritten))
     → SaysOfReport true unsaved (change a c failed)
-says_both a b c broken failed None said stays goes = took_after_nothing failed a b c (error_text faults.Unwritten) said.written (goes said.failed)
-says_both a b c false failed (Some fault) said stays goes = took_after_text failed a b c (error_text (faults.NotSaved fault)) (error_text faults.Unwritten) said (goes refl)
+says_both a b c broken failed None said stays goes =
+    took_after_nothing failed a b c (error_text faults.Unwritten) said.written (goes said.failed)
+says_both a b c false failed (Some fault) said stays goes =
+    took_after_text failed a b c (error_text (faults.NotSaved fault)) (error_text faults.Unwritten) said (goes refl)
 says_both a b c true failed (Some fault) said stays goes =
     let same = stays refl in
     let text = error_text (faults.NotSaved fault) ++ error_text faults.Unwritten in
     let rest = said.1 ++ error_text faults.Unwritten in
-    let is : text ≡ said.0 ++ rest = ap (λ t. t ++ error_text faults.Unwritten) said.2 ∙ append_assoc said.0 said.1 (error_text faults.Unwritten) in
+    let is : text ≡ said.0 ++ rest = ap (λ t. t ++ error_text faults.Unwritten) said.2
+    ∙ append_assoc said.0 said.1 (error_text faults.Unwritten) in
     subst (λ (f : Bool). TakesUnlessFailed f a c text) (sym same.1)
     (said.0, rest, is, subst (λ (o : Option (List ℕ)). Appends a o said.0) (sym same.0) said.3)

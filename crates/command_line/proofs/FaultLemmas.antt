@@ -23,7 +23,8 @@ rest_empty [] b e = e
 rest_empty (k ∷ ks) b e = cc
 
 -- where nothing is missing, what is required is given
-both_given : (formula stream has : Bool) → check_kinds (not has && (false && true)) (not has && false) (not (false && has) && (not formula || (not stream || false))) ≡ []
+both_given : (formula stream has : Bool)
+    → check_kinds (not has && (false && true)) (not has && false) (not (false && has) && (not formula || (not stream || false))) ≡ []
     → (formula ≡ true) × (stream ≡ true)
 both_given true true has e = (refl, refl)
 both_given true false true e = cc
@@ -36,8 +37,8 @@ checked : (rows : List Row) (has : Bool) → check_fault (built lrupd).top rows 
 checked rows has e = both_given (is_given (codes "FORMULA") rows) (is_given (codes "STREAM") rows) has e
 
 -- a level without a fault passes its last checks
-last_checks : (s : Shape) (names : Names) (h : Held) (words : List Text) (has : Bool) (below : Kinds) → level_fault s names h words has below ≡ []
-    → check_fault s (finished s.rules (walk s.rules names h words).held) has ≡ []
+last_checks : (s : Shape) (names : Names) (h : Held) (words : List Text) (has : Bool) (below : Kinds)
+    → level_fault s names h words has below ≡ [] → check_fault s (finished s.rules (walk s.rules names h words).held) has ≡ []
 last_checks s names h words has below e =
     let end = (walk s.rules names h words).held in
     let checks = check_fault s (finished s.rules end) has in

@@ -1,5 +1,6 @@
 -- What is found in words without a fault, by what `clap` says of each entry.
-use Rattle.std.proofs.Common.{◌≡◌, ◌∙◌, ◌⊎◌, ◌<◌, ◌||◌, ap, sym, subst, refl, inl, inr, arith, ℕ, Bool, true, false, List, [], ◌∷◌, length, Option, Some, None, is_some, codes, Result, Ok, Err, IfOk}
+use Rattle.std.proofs.Common.{◌≡◌, ◌∙◌, ◌⊎◌, ◌<◌, ◌||◌, ap, sym, subst, refl, inl, inr, arith, ℕ, Bool, true, false, List, [], ◌∷◌, length}
+use Rattle.std.proofs.Common.{Option, Some, None, is_some, codes, Result, Ok, Err, IfOk}
 use Rattle.std.specs.Prelude.{IsErrAnd, find, option_map, slice_get, unwrap_or}
 use Rattle.std.specs.List.{All, slice_index_or}
 use Rattle.std.specs.Option.{option_map_or}
@@ -7,9 +8,12 @@ use Rattle.std.proofs.lemmas.List.{length-map}
 use Rattle.std.specs.Borrow.{Bor}
 use Rattle.std.specs.Str.{bytes_eq}
 use Rattle.std.proofs.lemmas.Slice.Eq.{bytes_eq-Decides}
-use Rattle.clap.specs.Words.{App, Accepts, BuildsOrBreaks, BuildsTo, FailsBy, HasMatchesOf, IsParsed, has_subcommand, kind_of, Row, Rule, Text, app_of, args_of, fault_of, first_value, found_of, groups_of, is_broken, is_simple_and_free, matched_of, matches_of, one_of, one_text, raw_values, read_as, reading_of, rows_of}
+use Rattle.clap.specs.Words.{App, Accepts, BuildsOrBreaks, BuildsTo, FailsBy, HasMatchesOf, IsParsed, has_subcommand, kind_of, Row, Rule}
+use Rattle.clap.specs.Words.{Text, app_of, args_of, fault_of, first_value, found_of, groups_of, is_broken, is_simple_and_free, matched_of}
+use Rattle.clap.specs.Words.{matches_of, one_of, one_text, raw_values, read_as, reading_of, rows_of}
 use Rattle.clap.specs.Walk.{row_of}
-use Rattle.clap.specs.Facts.{explicit_source, least_values, Entry, EntryPasses, HasReading, IsCountArg, AllowsNone, PassesArg, ValuesPass, parser_of, parser_of_value, unwrap_or_range}
+use Rattle.clap.specs.Facts.{explicit_source, least_values, Entry, EntryPasses, HasReading, IsCountArg, AllowsNone, PassesArg, ValuesPass}
+use Rattle.clap.specs.Facts.{parser_of, parser_of_value, unwrap_or_range}
 use Rattle.clap.specs.Takes.{is_given}
 use Rattle.clap.specs.declared.builder.action.ArgAction.TheVariants.{Count, Set}
 use Rattle.clap.specs.declared.builder.arg.Arg.{Arg}
@@ -37,7 +41,8 @@ record Holds (d : Command) (id : Text) (x : MatchedArg) : Type 0 where
   reading : HasReading d id x.reading
   filled : (0 < length x.vals.items) ⊎ (IsCountArg d id ⊎ AllowsNone d id)
 
-entry_holds : (d : Command) (f : Found) (id : Text) (x : MatchedArg) → ValuesPass d f → groups_of d ≡ [] → (id ≡ [] → ⊥) → matched_of f id ≡ Some x → Holds d id x
+entry_holds : (d : Command) (f : Found) (id : Text) (x : MatchedArg) → ValuesPass d f → groups_of d ≡ [] → (id ≡ [] → ⊥)
+    → matched_of f id ≡ Some x → Holds d id x
 entry_holds d f id x pass no_groups named found =
     let got = entry_by_id (EntryPasses d) f.entries.items id x pass found in
     let key : got.0.0.now ≡ id = (bytes_eq-Decides _ _).0 got.2 in
@@ -66,11 +71,12 @@ abbrev Parses : Text → ValueParser → Type 0
 Parses id q = EachArgument (HasParser id q)
 
 -- the text that is read of an argument passed its parser, where that reads what is written
-text_passed : (d : Command) (f : Found) (id : Text) (q : ValueParser) → IsProgram d → ValuesPass d f → (id ≡ [] → ⊥) → Parses id q → reading_of q ≡ AsWritten
-    → (text : Text) → one_of id (rows_of f) ≡ Some text → (ignore_case : Bool) × Accepts ignore_case q text
+text_passed : (d : Command) (f : Found) (id : Text) (q : ValueParser) → IsProgram d → ValuesPass d f → (id ≡ [] → ⊥) → Parses id q
+    → reading_of q ≡ AsWritten → (text : Text) → one_of id (rows_of f) ≡ Some text → (ignore_case : Bool) × Accepts ignore_case q text
 text_passed d f id q is pass named parses plain text found = go (matched_of f id) refl (one_text-rows f id ∙ found)
   where
-    parser_is : (k : ℕ) (a : Arg) → k < length (args_of d) → slice_index_or (args_of d) k a ≡ a → bytes_eq a.id.now id ≡ true → parser_of a ≡ q
+    parser_is : (k : ℕ) (a : Arg) → k < length (args_of d) → slice_index_or (args_of d) k a ≡ a → bytes_eq a.id.now id ≡ true
+        → parser_of a ≡ q
     parser_is k a lt at same = argument_has (HasParser id q) d is parses k a lt at same
 
     passed : (v : Bor Text) → PassesArg d id v.now → (ignore_case : Bool) × Accepts ignore_case q v.now
@@ -102,31 +108,50 @@ other : {A : Type 0} → false ≡ true → A
 other e = cc
 
 tries_parses : Parses (codes "tries") (parser.Unsigned 0 1000000)
-tries_parses = ((λ _. refl, (other, (other, (other, (other, (other, (other, (other, (other, tt))))))))), (λ _. refl, (other, (other, (other, (other, (other, (other, (other, (other, (other, (other, tt))))))))))))
+tries_parses = (
+  (λ _. refl, (other, (other, (other, (other, (other, (other, (other, (other, tt))))))))),
+  (λ _. refl, (other, (other, (other, (other, (other, (other, (other, (other, (other, (other, tt))))))))))),
+)
 
 lines_parses : Parses (codes "lines") (parser.Unsigned 0 268435456)
-lines_parses = ((other, (λ _. refl, (other, (other, (other, (other, (other, (other, (other, tt))))))))), (other, (λ _. refl, (other, (other, (other, (other, (other, (other, (other, (other, (other, tt))))))))))))
+lines_parses = (
+  (other, (λ _. refl, (other, (other, (other, (other, (other, (other, (other, tt))))))))),
+  (other, (λ _. refl, (other, (other, (other, (other, (other, (other, (other, (other, (other, tt))))))))))),
+)
 
 room_parses : Parses (codes "room") (parser.Unsigned 0 268435456)
-room_parses = ((other, (other, (λ _. refl, (other, (other, (other, (other, (other, (other, tt))))))))), (other, (other, (λ _. refl, (other, (other, (other, (other, (other, (other, (other, (other, tt))))))))))))
+room_parses = (
+  (other, (other, (λ _. refl, (other, (other, (other, (other, (other, (other, tt))))))))),
+  (other, (other, (λ _. refl, (other, (other, (other, (other, (other, (other, (other, (other, tt))))))))))),
+)
 
 serial_parses : Parses (codes "serial") parser.Bool
-serial_parses = ((other, (other, (other, (other, (other, (λ _. refl, (other, (other, (other, tt))))))))), (other, (other, (other, (other, (other, (λ _. refl, (other, (other, (other, (other, (other, tt))))))))))))
+serial_parses = (
+  (other, (other, (other, (other, (other, (λ _. refl, (other, (other, (other, tt))))))))),
+  (other, (other, (other, (other, (other, (λ _. refl, (other, (other, (other, (other, (other, tt))))))))))),
+)
 
 watch_parses : Parses (codes "watch") parser.Bool
-watch_parses = ((other, (other, (other, (other, (other, (other, (λ _. refl, (other, (other, tt))))))))), (other, (other, (other, (other, (other, (other, (λ _. refl, (other, (other, (other, (other, tt))))))))))))
+watch_parses = (
+  (other, (other, (other, (other, (other, (other, (λ _. refl, (other, (other, tt))))))))),
+  (other, (other, (other, (other, (other, (other, (λ _. refl, (other, (other, (other, (other, tt))))))))))),
+)
 
-up_to : (d : Command) (f : Found) (name : Text) (most : ℕ) → IsProgram d → ValuesPass d f → (name ≡ [] → ⊥) → Parses name (parser.Unsigned 0 most) → HasUpTo most name (rows_of f)
+up_to : (d : Command) (f : Found) (name : Text) (most : ℕ) → IsProgram d → ValuesPass d f → (name ≡ [] → ⊥)
+    → Parses name (parser.Unsigned 0 most) → HasUpTo most name (rows_of f)
 up_to d f name most is pass named parses text found = (text_passed d f name (parser.Unsigned 0 most) is pass named parses refl text found).1
 
-is_truth : (text : Text) → (bytes_eq text (codes "true") || bytes_eq text (codes "false")) ≡ true → (text ≡ codes "true") ⊎ (text ≡ codes "false")
+is_truth : (text : Text) → (bytes_eq text (codes "true") || bytes_eq text (codes "false")) ≡ true
+    → (text ≡ codes "true") ⊎ (text ≡ codes "false")
 is_truth text e = go (bytes_eq text (codes "true")) refl e
   where
-    go : (b : Bool) → bytes_eq text (codes "true") ≡ b → (b || bytes_eq text (codes "false")) ≡ true → (text ≡ codes "true") ⊎ (text ≡ codes "false")
+    go : (b : Bool) → bytes_eq text (codes "true") ≡ b → (b || bytes_eq text (codes "false")) ≡ true
+        → (text ≡ codes "true") ⊎ (text ≡ codes "false")
     go true same e = inl ((bytes_eq-Decides text (codes "true")).0 same)
     go false same e = inr ((bytes_eq-Decides text (codes "false")).0 e)
 
-truth : (d : Command) (f : Found) (name : Text) → IsProgram d → ValuesPass d f → (name ≡ [] → ⊥) → Parses name parser.Bool → HasTruth name (rows_of f)
+truth : (d : Command) (f : Found) (name : Text) → IsProgram d → ValuesPass d f → (name ≡ [] → ⊥) → Parses name parser.Bool
+    → HasTruth name (rows_of f)
 truth d f name is pass named parses text found = is_truth text (text_passed d f name parser.Bool is pass named parses refl text found).1
 
 -- ---- the arguments that are required
@@ -156,7 +181,8 @@ filled d f id is pass named takes_one used =
           other bad
     ]
 
-    go : (o : Option Entry) → find (λ e. bytes_eq e.0.now id) f.entries.items ≡ o → option_map_or (λ r. explicit_source r.source) (option_map row_of (find (λ e. bytes_eq e.0.now id) f.entries.items)) false ≡ true
+    go : (o : Option Entry) → find (λ e. bytes_eq e.0.now id) f.entries.items ≡ o
+        → option_map_or (λ r. explicit_source r.source) (option_map row_of (find (λ e. bytes_eq e.0.now id) f.entries.items)) false ≡ true
         → (x : MatchedArg) × (matched_of f id ≡ Some x) × (0 < length x.vals.items)
     go None e g =
         let bad : false ≡ true = rw e at g in
@@ -167,20 +193,28 @@ filled d f id is pass named takes_one used =
         (entry.1, found, elim held.filled [ inl lt ↦ lt | inr or ↦ absurd (none or) ])
 
 formula_takes : EachArgument (TakesOne (codes "FORMULA"))
-formula_takes = ((other, (other, (other, (other, (other, (other, (other, (λ _. (λ e. cc, λ e. absurd (omega arith)), (other, tt))))))))), (other, (other, (other, (other, (other, (other, (other, (λ _. (λ e. cc, λ e. absurd (omega arith)), (other, (other, (other, tt))))))))))))
+formula_takes = (
+  (other, (other, (other, (other, (other, (other, (other, (λ _. (λ e. cc, λ e. absurd (omega arith)), (other, tt))))))))),
+  (other, (other, (other, (other, (other, (other, (other, (λ _. (λ e. cc, λ e. absurd (omega arith)), (other, (other, (other, tt))))))))))),
+)
 
 stream_takes : EachArgument (TakesOne (codes "STREAM"))
-stream_takes = ((other, (other, (other, (other, (other, (other, (other, (other, (λ _. (λ e. cc, λ e. absurd (omega arith)), tt))))))))), (other, (other, (other, (other, (other, (other, (other, (other, (λ _. (λ e. cc, λ e. absurd (omega arith)), (other, (other, tt))))))))))))
+stream_takes = (
+  (other, (other, (other, (other, (other, (other, (other, (other, (λ _. (λ e. cc, λ e. absurd (omega arith)), tt))))))))),
+  (other, (other, (other, (other, (other, (other, (other, (other, (λ _. (λ e. cc, λ e. absurd (omega arith)), (other, (other, tt))))))))))),
+)
 
 -- ---- all of it
 
-are_found : (words : List Text) (c d : Command) (f : Found) → app_of c ≡ lrupd → BuildsOrBreaks c d → (is_broken d ≡ true → ⊥) → ValuesPass d f
-    → fault_of lrupd words ≡ [] → rows_of f ≡ matches_of lrupd words → AreRowsOf words (rows_of f)
+are_found : (words : List Text) (c d : Command) (f : Found) → app_of c ≡ lrupd → BuildsOrBreaks c d → (is_broken d ≡ true → ⊥)
+    → ValuesPass d f → fault_of lrupd words ≡ [] → rows_of f ≡ matches_of lrupd words → AreRowsOf words (rows_of f)
 are_found words c d f is after whole pass good found =
     let program = is_program c d is after whole in
     let both = given words good in
-    let formula = filled d f (codes "FORMULA") program pass (named _ _) formula_takes (subst (λ (rows : List Row). is_given (codes "FORMULA") rows ≡ true) (sym found) both.0) in
-    let stream = filled d f (codes "STREAM") program pass (named _ _) stream_takes (subst (λ (rows : List Row). is_given (codes "STREAM") rows ≡ true) (sym found) both.1) in
+    let formula = filled d f (codes "FORMULA") program pass (named _ _) formula_takes
+    (subst (λ (rows : List Row). is_given (codes "FORMULA") rows ≡ true) (sym found) both.0) in
+    let stream = filled d f (codes "STREAM") program pass (named _ _) stream_takes
+    (subst (λ (rows : List Row). is_given (codes "STREAM") rows ≡ true) (sym found) both.1) in
     record {
       good = good;
       found = found;
@@ -203,7 +237,8 @@ are_found words c d f is after whole pass good found =
     first_some [] lt = absurd (omega arith)
     first_some (v ∷ vs) lt = refl
 
-    has_first : (f : Found) (id : Text) (x : MatchedArg) → matched_of f id ≡ Some x → 0 < length x.vals.items → is_some (first_value f id) ≡ true
+    has_first : (f : Found) (id : Text) (x : MatchedArg) → matched_of f id ≡ Some x → 0 < length x.vals.items
+        → is_some (first_value f id) ≡ true
     has_first f id x e lt = rw e (first_some x.vals.items lt)
 
 -- a parse of `lrupd` fails by the words' fault
@@ -215,7 +250,8 @@ fails_by words c r is kinds =
 -- and finds what there is in words that have none
 pub finds : (words : List Text) (c d : Command) (r : Result ArgMatches Error) → app_of c ≡ lrupd → BuildsOrBreaks c d
     → (is_broken d ≡ true → IsErrAnd r (λ e. kind_of e ≡ OutOfMemory))
-    → IfOk r (λ m. BuildsTo c d × ((out-Command d).has_globals ≡ false → IsParsed d (found_of m) (has_subcommand m)) × HasMatchesOf (app_of c) words m)
+    → IfOk r (λ m. BuildsTo c d × ((out-Command d).has_globals ≡ false → IsParsed d (found_of m) (has_subcommand m))
+    × HasMatchesOf (app_of c) words m)
     → FailsBy (fault_of lrupd words) r → IfOk r (λ m. AreRowsOf words (rows_of (found_of m)))
 finds words c d (Err e) is after fails ok kinds = tt
 finds words c d (Ok m) is after fails ok kinds =

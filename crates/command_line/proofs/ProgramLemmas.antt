@@ -41,7 +41,8 @@ abbrev pub EachRule : (Rule → Type 0) → List Rule → Type 0
 EachRule P [] = Unit {0}
 EachRule P (r ∷ rs) = P r × EachRule P rs
 
-rule_at : (P : Rule → Type 0) (xs : List Arg) (k : ℕ) (x : Arg) → EachRule P (map rule_of xs) → k < length xs → slice_index_or xs k x ≡ x → P (rule_of x)
+rule_at : (P : Rule → Type 0) (xs : List Arg) (k : ℕ) (x : Arg) → EachRule P (map rule_of xs) → k < length xs
+    → slice_index_or xs k x ≡ x → P (rule_of x)
 rule_at P [] k x each lt at = absurd (omega arith)
 rule_at P (y ∷ ys) zero x each lt at = subst (λ z. P (rule_of z)) at each.0
 rule_at P (y ∷ ys) (suc k) x each lt at = rule_at P ys k x each.1 (omega arith) at
@@ -50,7 +51,8 @@ rule_at P (y ∷ ys) (suc k) x each lt at = rule_at P ys k x each.1 (omega arith
 abbrev pub EachArgument : (Rule → Type 0) → Type 0
 EachArgument P = EachRule P lrupd.top.rules × EachRule P (built lrupd).top.rules
 
-pub argument_has : (P : Rule → Type 0) (d : Command) → IsProgram d → EachArgument P → (k : ℕ) (x : Arg) → k < length (args_of d) → slice_index_or (args_of d) k x ≡ x → P (rule_of x)
+pub argument_has : (P : Rule → Type 0) (d : Command) → IsProgram d → EachArgument P → (k : ℕ) (x : Arg) → k < length (args_of d)
+    → slice_index_or (args_of d) k x ≡ x → P (rule_of x)
 argument_has P d is holds k x lt at = rule_at P (args_of d) k x (each is) lt at
   where
     each : IsProgram d → EachRule P (map rule_of (args_of d))

@@ -1,5 +1,6 @@
 -- What is read of the rows by clap's getters.
-use Rattle.std.proofs.Common.{◌≡◌, ◌∙◌, ◌⊎◌, ◌≤◌, ◌<◌, refl, sym, ap, subst, inl, inr, codes, ℕ, Bool, true, false, List, [], length, Option, Some, None, Result, Ok, Err}
+use Rattle.std.proofs.Common.{◌≡◌, ◌∙◌, ◌⊎◌, ◌≤◌, ◌<◌, refl, sym, ap, subst, inl, inr, codes, ℕ, Bool, true, false, List, [], length}
+use Rattle.std.proofs.Common.{Option, Some, None, Result, Ok, Err}
 use Rattle.std.specs.Str.{bytes_eq}
 use Rattle.std.specs.Prelude.{unwrap_or}
 use Rattle.std.specs.Option.{ForSome, option_map_or}
@@ -10,8 +11,8 @@ use Rattle.command_line.specs.Matches.{HasNumber, HasUpTo, IsNumber}
 
 -- a text that is a number of 64 bits reads as this number, and none as the default
 pub number_read : (E : Type 0) (G : Text → Result ℕ E → Type 0) → ((t : Text) (r : Result ℕ E) → G t r → ParsesUnsigned 64 10 t r)
-    → (found : Option Text) (read : Option ℕ) (default : ℕ) → (found ≡ None → read ≡ None) → ((t : Text) → found ≡ Some t → ReadsOne G t read)
-    → ForSome found IsNumber
+    → (found : Option Text) (read : Option ℕ) (default : ℕ) → (found ≡ None → read ≡ None)
+    → ((t : Text) → found ≡ Some t → ReadsOne G t read) → ForSome found IsNumber
     → unwrap_or read default ≡ option_map_or (λ t. digits_value 10 (without_leading_plus t)) found default
 number_read E G only None read default none some number = rw (none refl) refl
 number_read E G only (Some t) None default none some number =
@@ -24,16 +25,18 @@ pub up_to_is_number : (most : ℕ) (name : Text) (rows : List Row) → HasUpTo m
 up_to_is_number most name rows up_to text is = ((up_to text is).0, (up_to text is).1)
 
 -- the number of an option is at most `most`, as its default is
-pub number_within : (most : ℕ) (name : Text) (default : ℕ) (rows : List Row) → HasUpTo most name rows → default ≤ most → option_number name default rows ≤ most
+pub number_within : (most : ℕ) (name : Text) (default : ℕ) (rows : List Row) → HasUpTo most name rows → default ≤ most
+    → option_number name default rows ≤ most
 number_within most name default rows up_to small = go (one_of name rows) up_to
   where
-    go : (found : Option Text) → ForSome found (IsUnsignedIn 0 most) → option_map_or (λ t. digits_value 10 (without_leading_plus t)) found default ≤ most
+    go : (found : Option Text) → ForSome found (IsUnsignedIn 0 most)
+        → option_map_or (λ t. digits_value 10 (without_leading_plus t)) found default ≤ most
     go None h = small
     go (Some t) h = (h t refl).3
 
 -- a flag whose text is `true` or `false` reads as that, and none as false
-pub flag_read : (found : Option Text) (read : Bool) → (found ≡ None → read ≡ false) → (found ≡ Some (codes "true") → read ≡ true) → (found ≡ Some (codes "false") → read ≡ false)
-    → ForSome found (λ t. (t ≡ codes "true") ⊎ (t ≡ codes "false"))
+pub flag_read : (found : Option Text) (read : Bool) → (found ≡ None → read ≡ false) → (found ≡ Some (codes "true") → read ≡ true)
+    → (found ≡ Some (codes "false") → read ≡ false) → ForSome found (λ t. (t ≡ codes "true") ⊎ (t ≡ codes "false"))
     → read ≡ option_map_or (λ t. bytes_eq t (codes "true")) found false
 flag_read None read none on off truth = none refl
 flag_read (Some t) read none on off truth = elim (truth t refl) [

@@ -1,5 +1,6 @@
 -- What was made of the tokens so far, token by token, and the faults that stand at the next one.
-use Rattle.std.proofs.Common.{◌≡◌, ◌+◌, ◌<◌, ◌≤◌, ℕ, ℤ, pos, nat_abs, List, [], ◌∷◌, ◌++◌, map, flat_map, length, Option, Some, None, refl, sym, ap, ◌∙◌, inl, inr, ⊎_elim, subst, arith, length-append}
+use Rattle.std.proofs.Common.{◌≡◌, ◌+◌, ◌<◌, ◌≤◌, ℕ, ℤ, pos, nat_abs, List, [], ◌∷◌, ◌++◌, map, flat_map, length, Option, Some, None, refl}
+use Rattle.std.proofs.Common.{sym, ap, ◌∙◌, inl, inr, ⊎_elim, subst, arith, length-append}
 use Rattle.std.proofs.lemmas.List.{append-nil, append_assoc, map-append, flat_map_more, nil_from_length}
 use Rattle.std.proofs.Math.Nat.{eq-zero-or-pos}
 use Rattle.lrup_model.specs.Literal.{IsLiteral}
@@ -25,7 +26,8 @@ somes numbers = map (λ (z : ℤ). Some z) numbers
 
 -- ## the tokens read so far
 
-numbers_push : (tokens : List Token) (t : Token) (numbers : List ℤ) (z : ℤ) → numbers_of tokens ≡ somes numbers → number_of t.text ≡ Some z → numbers_of (tokens ++ t ∷ []) ≡ somes (numbers ++ z ∷ [])
+numbers_push : (tokens : List Token) (t : Token) (numbers : List ℤ) (z : ℤ) → numbers_of tokens ≡ somes numbers → number_of t.text ≡ Some z
+    → numbers_of (tokens ++ t ∷ []) ≡ somes (numbers ++ z ∷ [])
 numbers_push tokens t numbers z before new =
     map-append (λ (u : Token). number_of u.text) tokens (t ∷ [])
     ∙ ap (λ (x : List (Option ℤ)). x ++ number_of t.text ∷ []) before
@@ -41,9 +43,12 @@ read_none vars count = record {
   begun_count = λ some. absurd (omega arith);
 }
 
-read_literal : (vars count : ℕ) (tokens : List Token) (t : Token) (closed : List (List ℤ)) (begun : List ℤ) (l : ℤ) → TokensSpell vars count tokens closed begun → number_of t.text ≡ Some l → IsLiteral vars l → length begun < max_clause_literals → length closed < count → TokensSpell vars count (tokens ++ t ∷ []) closed (begun ++ l ∷ [])
+read_literal : (vars count : ℕ) (tokens : List Token) (t : Token) (closed : List (List ℤ)) (begun : List ℤ) (l : ℤ)
+    → TokensSpell vars count tokens closed begun → number_of t.text ≡ Some l → IsLiteral vars l → length begun < max_clause_literals
+    → length closed < count → TokensSpell vars count (tokens ++ t ∷ []) closed (begun ++ l ∷ [])
 read_literal vars count tokens t closed begun l read is literal short room = record {
-  numbers = numbers_push tokens t (flat_map ended closed ++ begun) l read.numbers is ∙ ap somes (append_assoc (flat_map ended closed) begun (l ∷ []));
+  numbers = numbers_push tokens t (flat_map ended closed ++ begun) l read.numbers is
+      ∙ ap somes (append_assoc (flat_map ended closed) begun (l ∷ []));
   closed_within = read.closed_within;
   begun_within = record {
     within = All-push (IsLiteral vars) begun l read.begun_within.within literal;
@@ -53,11 +58,14 @@ read_literal vars count tokens t closed begun l read is literal short room = rec
   begun_count = λ some. room;
 }
 
-read_end : (vars count : ℕ) (tokens : List Token) (t : Token) (closed : List (List ℤ)) (begun : List ℤ) → TokensSpell vars count tokens closed begun → number_of t.text ≡ Some (pos 0) → length closed < count → TokensSpell vars count (tokens ++ t ∷ []) (closed ++ begun ∷ []) []
+read_end : (vars count : ℕ) (tokens : List Token) (t : Token) (closed : List (List ℤ)) (begun : List ℤ)
+    → TokensSpell vars count tokens closed begun → number_of t.text ≡ Some (pos 0) → length closed < count
+    → TokensSpell vars count (tokens ++ t ∷ []) (closed ++ begun ∷ []) []
 read_end vars count tokens t closed begun read is room = record {
   numbers =
       numbers_push tokens t (flat_map ended closed ++ begun) (pos 0) read.numbers is
-      ∙ ap somes (append_assoc (flat_map ended closed) begun (pos 0 ∷ []) ∙ flat_map_more ended [] closed begun ∙ sym (append-nil (flat_map ended (closed ++ begun ∷ []))));
+      ∙ ap somes (append_assoc (flat_map ended closed) begun (pos 0 ∷ []) ∙ flat_map_more ended [] closed begun
+      ∙ sym (append-nil (flat_map ended (closed ++ begun ∷ []))));
   closed_within = All-push (IsWritten vars) closed begun read.closed_within read.begun_within;
   begun_within = record { within = tt; size = omega arith };
   closed_count = omega (arith, length-append closed (begun ∷ []));
@@ -70,7 +78,8 @@ length-sets [] (c ∷ clauses) h = absurd h
 length-sets (w ∷ written) [] h = absurd h
 length-sets (w ∷ written) (c ∷ clauses) h = let below = length-sets written clauses h.1 in omega (arith, below)
 
-sets_push : (written : List (List ℤ)) (clauses : List Clause) (w : List ℤ) (c : Clause) → AreSetsOf written clauses → IsSetOf w c → AreSetsOf (written ++ w ∷ []) (clauses ++ c ∷ [])
+sets_push : (written : List (List ℤ)) (clauses : List Clause) (w : List ℤ) (c : Clause) → AreSetsOf written clauses → IsSetOf w c
+    → AreSetsOf (written ++ w ∷ []) (clauses ++ c ∷ [])
 sets_push [] [] w c h one = (one, tt)
 sets_push [] (d ∷ clauses) w c h one = absurd h
 sets_push (v ∷ written) [] w c h one = absurd h
@@ -119,7 +128,8 @@ reads_none header all f is = record {
 pub reads_literal : {header : Header} {all old new : List Token} {t : Token} {b c : Builder} {l : ℤ} → Reads header all old b
     → old ≡ t ∷ new → number_of t.text ≡ Some l → IsLiteral header.vars l → 0 < b.left → b.written < max_clause_literals
     → AddsLiteral b.clause c.clause l → c.written ≡ b.written + 1 → c.formula ≡ b.formula → c.left ≡ b.left → Reads header all new c
-reads_literal {header = header} {new = new} {t = t} {b = b} {c = c} {l = l} h taken is literal room short added written same_formula same_left =
+reads_literal {header = header} {new = new} {t = t} {b = b} {c = c} {l = l} h taken is literal room short added written
+    same_formula same_left =
     let built = h.built in
     let closed_is = length-sets built.closed b.formula.clauses built.sets in record {
       before = h.before ++ t ∷ [];
@@ -159,7 +169,8 @@ reads_end {header = header} {new = new} {t = t} {b = b} {c = c} h taken is room 
       left_is = omega (arith, h.left_is, one_less, ap length added.1, length-append b.formula.clauses (b.clause ∷ []));
     }
 
-pub ends_clause : {header : Header} {all left : List Token} {b : Builder} → Reads header all left b → IsFormulaClause b.formula.vars b.clause
+pub ends_clause : {header : Header} {all left : List Token} {b : Builder} → Reads header all left b
+    → IsFormulaClause b.formula.vars b.clause
 ends_clause {header = header} {b = b} h =
     let built = h.built in
     let within = built.read.begun_within.within in
@@ -247,7 +258,8 @@ large_variable {t = t} {z = z} h next is large = record {
 }
 
 pub more_clauses : {header : Header} {all left later : List Token} {b : Builder} {t : Token} {z : ℤ} → Reads header all left b
-    → left ≡ t ∷ later → number_of t.text ≡ Some z → nat_abs z ≤ header.vars → b.left ≡ 0 → HasMoreClauses t.line header.vars header.clauses all
+    → left ≡ t ∷ later → number_of t.text ≡ Some z → nat_abs z ≤ header.vars → b.left ≡ 0
+    → HasMoreClauses t.line header.vars header.clauses all
 more_clauses {header = header} {all = all} {b = b} {t = t} {z = z} h next is within none =
     let built = h.built in
     let full : length built.closed ≡ header.clauses = omega (arith, h.left_is, length-sets built.closed b.formula.clauses built.sets) in

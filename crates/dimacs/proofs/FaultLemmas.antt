@@ -39,7 +39,9 @@ end_fault h none which =
 
 -- ## the whole file
 
-pub in_body : (P : ℕ → ℕ → List Token → Type 0) (bytes : List ℕ) (tokens : List (List ℕ)) (rest : List ℕ) (n m vars count : ℕ) → lines_of bytes ≡ record { number = n; tokens = tokens } ∷ lines_at m rest → IsSmallHeader tokens vars count → P vars count (tokens_at m rest) → InBodyOf (lines_of bytes) P
+pub in_body : (P : ℕ → ℕ → List Token → Type 0) (bytes : List ℕ) (tokens : List (List ℕ)) (rest : List ℕ) (n m vars count : ℕ)
+    → lines_of bytes ≡ record { number = n; tokens = tokens } ∷ lines_at m rest → IsSmallHeader tokens vars count
+    → P vars count (tokens_at m rest) → InBodyOf (lines_of bytes) P
 unfolding tokens_at
 in_body P bytes tokens rest n m vars count lines header later =
     rw lines (record {

@@ -1,11 +1,13 @@
 -- A text of a formula has no fault, and a file has one fault at most.
-use Rattle.std.proofs.Common.{◌≡◌, ◌⊎◌, ◌<◌, ◌≤◌, ℕ, ℤ, pos, nat_abs, List, [], ◌∷◌, ◌++◌, map, flat_map, length, Option, Some, refl, sym, ap, ◌∙◌, ⊎_elim, arith}
+use Rattle.std.proofs.Common.{◌≡◌, ◌⊎◌, ◌<◌, ◌≤◌, ℕ, ℤ, pos, nat_abs, List, [], ◌∷◌, ◌++◌, map, flat_map, length, Option, Some, refl, sym}
+use Rattle.std.proofs.Common.{ap, ◌∙◌, ⊎_elim, arith}
 use Rattle.std.specs.List.{AllByRecursion}
 use Rattle.std.proofs.lemmas.List.{map-append}
 use Rattle.lrup_model.specs.Literal.{IsLiteral, max_variable}
 use Rattle.lrup_model.specs.Formula.{Cnf, max_clauses, max_clause_literals}
 use Rattle.dimacs.specs.declared.fault.DimacsFault.{DimacsFault}
-use Rattle.dimacs.specs.declared.fault.DimacsFault.TheVariants.{NoHeader, BadHeader, BadNumber, VariableRange, OpenClause, TooFew, TooMany, Limit, Memory}
+use Rattle.dimacs.specs.declared.fault.DimacsFault.TheVariants.{NoHeader, BadHeader, BadNumber, VariableRange, OpenClause, TooFew, TooMany}
+use Rattle.dimacs.specs.declared.fault.DimacsFault.TheVariants.{Limit, Memory}
 use Rattle.dimacs.specs.Lines.{Line, Token, lines_of, all_tokens}
 use Rattle.dimacs.specs.Numerals.{number_of}
 use Rattle.dimacs.specs.FormulaTokens.{IsHeader, InBodyOf, IsWritten, TokensSpell, AreClauses, ended}
@@ -38,22 +40,31 @@ cut_numbers (z ∷ all) (y ∷ before) at after e =
     let tail : somes all ≡ somes before ++ at ∷ after = cc in
     let head : z ≡ y = cc in
     let below = cut_numbers all before at after tail in
-    record { number = below.number; rest = below.rest; at_is = below.at_is; whole = let h : z ∷ all ≡ y ∷ (before ++ below.number ∷ below.rest) = cc (below.whole) in h }
+    record {
+      number = below.number;
+      rest = below.rest;
+      at_is = below.at_is;
+      whole = let h : z ∷ all ≡ y ∷ (before ++ below.number ∷ below.rest) = cc (below.whole) in h;
+    }
 
 within_literals : (vars : ℕ) (c : List ℤ) → AllByRecursion (IsLiteral vars) c → AllByRecursion (λ (z : ℤ). nat_abs z ≤ vars) c
 within_literals vars [] all = tt
 within_literals vars (z ∷ c) all = (all.0.1, within_literals vars c all.1)
 
-within_append : (vars : ℕ) (xs ys : List ℤ) → AllByRecursion (λ (z : ℤ). nat_abs z ≤ vars) xs → AllByRecursion (λ (z : ℤ). nat_abs z ≤ vars) ys → AllByRecursion (λ (z : ℤ). nat_abs z ≤ vars) (xs ++ ys)
+within_append : (vars : ℕ) (xs ys : List ℤ) → AllByRecursion (λ (z : ℤ). nat_abs z ≤ vars) xs
+    → AllByRecursion (λ (z : ℤ). nat_abs z ≤ vars) ys → AllByRecursion (λ (z : ℤ). nat_abs z ≤ vars) (xs ++ ys)
 within_append vars [] ys all more = more
 within_append vars (x ∷ xs) ys all more = (all.0, within_append vars xs ys all.1 more)
 
-within_clauses : (vars : ℕ) (closed : List (List ℤ)) → AllByRecursion (IsWritten vars) closed → AllByRecursion (λ (z : ℤ). nat_abs z ≤ vars) (flat_map ended closed)
+within_clauses : (vars : ℕ) (closed : List (List ℤ)) → AllByRecursion (IsWritten vars) closed
+    → AllByRecursion (λ (z : ℤ). nat_abs z ≤ vars) (flat_map ended closed)
 within_clauses vars [] all = tt
 within_clauses vars (c ∷ closed) all =
-    within_append vars (c ++ pos 0 ∷ []) (flat_map ended closed) (within_append vars c (pos 0 ∷ []) (within_literals vars c all.0.within) (omega arith, tt)) (within_clauses vars closed all.1)
+    within_append vars (c ++ pos 0 ∷ []) (flat_map ended closed)
+    (within_append vars c (pos 0 ∷ []) (within_literals vars c all.0.within) (omega arith, tt)) (within_clauses vars closed all.1)
 
-within_at : (vars : ℕ) (before : List ℤ) (z : ℤ) (rest : List ℤ) → AllByRecursion (λ (y : ℤ). nat_abs y ≤ vars) (before ++ z ∷ rest) → nat_abs z ≤ vars
+within_at : (vars : ℕ) (before : List ℤ) (z : ℤ) (rest : List ℤ) → AllByRecursion (λ (y : ℤ). nat_abs y ≤ vars) (before ++ z ∷ rest)
+    → nat_abs z ≤ vars
 within_at vars [] z rest all = all.0
 within_at vars (y ∷ before) z rest all = within_at vars before z rest all.1
 
@@ -65,16 +76,21 @@ pub record IsFine (vars count : ℕ) (token : Token) (closed : List (List ℤ)) 
   pub room : length closed ≡ count → ⊥
   pub short : 0 < nat_abs number → length begun < max_clause_literals
 
-pub fine : (vars count : ℕ) (all : List Token) (closed' : List (List ℤ)) (begun' : List ℤ) (t : Token) (before after : List Token) (closed : List (List ℤ)) (begun : List ℤ) → TokensSpell vars count all closed' begun' → all ≡ before ++ t ∷ after → TokensSpell vars count before closed begun → IsFine vars count t closed begun
+pub fine : (vars count : ℕ) (all : List Token) (closed' : List (List ℤ)) (begun' : List ℤ) (t : Token) (before after : List Token)
+    (closed : List (List ℤ)) (begun : List ℤ) → TokensSpell vars count all closed' begun' → all ≡ before ++ t ∷ after
+    → TokensSpell vars count before closed begun → IsFine vars count t closed begun
 fine vars count all closed' begun' t before after closed begun whole split read =
     let e : somes (numbers closed' begun') ≡ somes (numbers closed begun) ++ number_of t.text ∷ numbers_of after =
-    sym whole.numbers ∙ ap numbers_of split ∙ map-append (λ (u : Token). number_of u.text) before (t ∷ after) ∙ ap (λ (x : List (Option ℤ)). x ++ number_of t.text ∷ numbers_of after) read.numbers in
+    sym whole.numbers ∙ ap numbers_of split ∙ map-append (λ (u : Token). number_of u.text) before (t ∷ after)
+    ∙ ap (λ (x : List (Option ℤ)). x ++ number_of t.text ∷ numbers_of after) read.numbers in
     let cut = cut_numbers (numbers closed' begun') (numbers closed begun) (number_of t.text) (numbers_of after) e in
     let here = tally_read vars count before closed begun read in
     let there = tally_read vars count all closed' begun' whole in
     let t0 = tally 0 0 0 (numbers closed begun) in
-    let on : tally 0 0 0 (numbers closed' begun') ≡ tally_on t0 (cut.number ∷ cut.rest) = ap (tally 0 0 0) cut.whole ∙ tally-append 0 0 0 (numbers closed begun) (cut.number ∷ cut.rest) in
-    let all_within : AllByRecursion (λ (y : ℤ). nat_abs y ≤ vars) (numbers closed' begun') = within_append vars (flat_map ended closed') begun' (within_clauses vars closed' whole.closed_within) (within_literals vars begun' whole.begun_within.within) in
+    let on : tally 0 0 0 (numbers closed' begun') ≡ tally_on t0 (cut.number ∷ cut.rest) = ap (tally 0 0 0) cut.whole
+    ∙ tally-append 0 0 0 (numbers closed begun) (cut.number ∷ cut.rest) in
+    let all_within : AllByRecursion (λ (y : ℤ). nat_abs y ≤ vars) (numbers closed' begun') = within_append vars (flat_map ended closed')
+    begun' (within_clauses vars closed' whole.closed_within) (within_literals vars begun' whole.begun_within.within) in
     record {
       number = cut.number;
       spelled = cut.at_is;
@@ -84,14 +100,26 @@ fine vars count all closed' begun' t before after closed begun whole split read 
           let begun_on = ap (λ (x : Tally). x.begun) on in
           ⊎_elim
           (λ more. omega (arith, more, clauses_on, here.clauses_are, there.clauses_are, whole.closed_count))
-          (λ same. omega (arith, same.0, same.1, clauses_on, begun_on, here.clauses_are, there.clauses_are, there.literals_are, whole.begun_count (omega (arith, same.1, begun_on, there.literals_are))))
+          (λ same. omega (
+            arith,
+            same.0,
+            same.1,
+            clauses_on,
+            begun_on,
+            here.clauses_are,
+            there.clauses_are,
+            there.literals_are,
+            whole.begun_count (omega (arith, same.1, begun_on, there.literals_are)),
+          ))
           (further_by_one t0.ended_clauses t0.begun t0.longest cut.number cut.rest);
       short = λ some.
           let longest_on = ap (λ (x : Tally). x.longest) on in
-          omega (arith, longer_by_one t0.ended_clauses t0.begun t0.longest cut.number cut.rest some, longest_on, here.literals_are, there.short);
+          omega
+          (arith, longer_by_one t0.ended_clauses t0.begun t0.longest cut.number cut.rest some, longest_on, here.literals_are, there.short);
     }
 
-pub fine_at : (vars count : ℕ) (all : List Token) (closed' : List (List ℤ)) (begun' : List ℤ) (t : Token) (closed : List (List ℤ)) (begun : List ℤ) → TokensSpell vars count all closed' begun' → StandsAt t vars count all closed begun → IsFine vars count t closed begun
+pub fine_at : (vars count : ℕ) (all : List Token) (closed' : List (List ℤ)) (begun' : List ℤ) (t : Token) (closed : List (List ℤ))
+    (begun : List ℤ) → TokensSpell vars count all closed' begun' → StandsAt t vars count all closed begun → IsFine vars count t closed begun
 fine_at vars count all closed' begun' t closed begun whole place =
     fine vars count all closed' begun' t place.before place.after closed begun whole place.whole place.read
 
@@ -106,17 +134,22 @@ somes-injective (x ∷ xs) (y ∷ ys) e =
     let below = somes-injective xs ys tail in cc
 
 -- two readings have as many clauses, and as many literals after them
-pub one_reading : (vars count : ℕ) (all : List Token) (closed closed' : List (List ℤ)) (begun begun' : List ℤ) → TokensSpell vars count all closed begun → TokensSpell vars count all closed' begun' → (length closed ≡ length closed') × (length begun ≡ length begun')
+pub one_reading : (vars count : ℕ) (all : List Token) (closed closed' : List (List ℤ)) (begun begun' : List ℤ)
+    → TokensSpell vars count all closed begun → TokensSpell vars count all closed' begun'
+    → (length closed ≡ length closed') × (length begun ≡ length begun')
 one_reading vars count all closed closed' begun begun' one other =
     let same = somes-injective (numbers closed begun) (numbers closed' begun') (sym one.numbers ∙ other.numbers) in
     let t = ap (tally 0 0 0) same in
     let here = tally_read vars count all closed begun one in
-    let there = tally_read vars count all closed' begun' other in
-    (sym here.clauses_are ∙ ap (λ (x : Tally). x.ended_clauses) t ∙ there.clauses_are, sym here.literals_are ∙ ap (λ (x : Tally). x.begun) t ∙ there.literals_are)
+    let there = tally_read vars count all closed' begun' other in (
+      sym here.clauses_are ∙ ap (λ (x : Tally). x.ended_clauses) t ∙ there.clauses_are,
+      sym here.literals_are ∙ ap (λ (x : Tally). x.begun) t ∙ there.literals_are,
+    )
 
 -- ## the first law
 
-no_body_fault : (fault : DimacsFault) (f : Cnf) (vars count : ℕ) (all : List Token) → AreClauses f vars count all → IsBodyFault fault vars count all → ⊥
+no_body_fault : (fault : DimacsFault) (f : Cnf) (vars count : ℕ) (all : List Token) → AreClauses f vars count all
+    → IsBodyFault fault vars count all → ⊥
 no_body_fault (BadNumber line) f vars count all text h =
     let good = fine_at vars count all text.written [] _ h.closed h.begun text.read h.place in
     let e = h.fault in
@@ -146,7 +179,8 @@ no_body_fault NoHeader f vars count all text h = h
 no_body_fault BadHeader f vars count all text h = h
 no_body_fault Memory f vars count all text h = h
 
-pub one_header : (tokens : List (List ℕ)) (vars count vars' count' : ℕ) → IsHeader tokens vars count → IsHeader tokens vars' count' → (vars ≡ vars') × (count ≡ count')
+pub one_header : (tokens : List (List ℕ)) (vars count vars' count' : ℕ) → IsHeader tokens vars count → IsHeader tokens vars' count'
+    → (vars ≡ vars') × (count ≡ count')
 one_header [] vars count vars' count' h k = absurd h
 one_header (p ∷ []) vars count vars' count' h k = absurd h
 one_header (p ∷ q ∷ []) vars count vars' count' h k = absurd h
@@ -163,7 +197,8 @@ begins (p ∷ q ∷ v ∷ c ∷ []) vars count h = h.0
 begins (p ∷ q ∷ v ∷ c ∷ x ∷ tokens) vars count h = absurd h
 
 -- a header that is spelled right and within the limits has no fault
-pub no_header_fault : (fault : DimacsFault) (header : Line) (lines : List Line) (vars count : ℕ) → IsHeader header.tokens vars count → vars ≤ max_variable → count ≤ max_clauses → IsHeaderFault fault (header ∷ lines) → ⊥
+pub no_header_fault : (fault : DimacsFault) (header : Line) (lines : List Line) (vars count : ℕ) → IsHeader header.tokens vars count
+    → vars ≤ max_variable → count ≤ max_clauses → IsHeaderFault fault (header ∷ lines) → ⊥
 no_header_fault NoHeader header lines vars count spelled few_variables few_clauses h = h (begins header.tokens vars count spelled)
 no_header_fault BadHeader header lines vars count spelled few_variables few_clauses h = h.1 vars count spelled
 no_header_fault Limit header lines vars count spelled few_variables few_clauses h =
@@ -176,7 +211,8 @@ no_header_fault TooFew header lines vars count spelled few_variables few_clauses
 no_header_fault (TooMany line) header lines vars count spelled few_variables few_clauses h = h
 no_header_fault Memory header lines vars count spelled few_variables few_clauses h = h
 
-in_lines : (lines : List Line) (f : Cnf) (fault : DimacsFault) → InBodyOf lines (AreClauses f) → IsHeaderFault fault lines ⊎ InBodyOf lines (IsBodyFault fault) → ⊥
+in_lines : (lines : List Line) (f : Cnf) (fault : DimacsFault) → InBodyOf lines (AreClauses f)
+    → IsHeaderFault fault lines ⊎ InBodyOf lines (IsBodyFault fault) → ⊥
 in_lines [] f fault text faulty = absurd text
 in_lines (header ∷ lines) f fault text faulty =
     ⊎_elim

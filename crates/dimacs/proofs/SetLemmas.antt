@@ -1,5 +1,6 @@
 -- Clauses as sets, and the marks of their literals.
-use Rattle.std.proofs.Common.{◌≡◌, ◌↔◌, ◌⊎◌, ◌*◌, ◌/◌, ◌%◌, ◌^◌, ◌<◌, ℕ, ℤ, true, List, [], ◌∷◌, ◌++◌, length, get_or, set, zero, suc, refl, sym, ap, ◌∙◌, inl, inr, ⊎_elim, subst, arith, length-append}
+use Rattle.std.proofs.Common.{◌≡◌, ◌↔◌, ◌⊎◌, ◌*◌, ◌/◌, ◌%◌, ◌^◌, ◌<◌, ℕ, ℤ, true, List, [], ◌∷◌, ◌++◌, length, get_or, set, zero, suc, refl}
+use Rattle.std.proofs.Common.{sym, ap, ◌∙◌, inl, inr, ⊎_elim, subst, arith, length-append}
 use Rattle.std.proofs.lemmas.Bool.{eqb-true, cases_eq}
 use Rattle.std.proofs.lemmas.List.{get_or-set_same, get_or-set_other}
 use Rattle.lrup_model.specs.Literal.{code_of}
@@ -36,48 +37,67 @@ IsMarked-read words p =
     (λ h. sym e ∙ eqb-true _ 1 h, λ h. eq-eqb _ 1 (e ∙ h))
 
 -- a bit more, at place k of word i
-pub IsMarked-set : (words : List ℕ) (i k p : ℕ) → i < length words → k < 64 → IsBitSet (set words i (bit_or (get_or words i 0) (1 * 2 ^ k % 2 ^ 64))) p ↔ (IsBitSet words p ⊎ ((p / 64 ≡ i) × (p % 64 ≡ k)))
+pub IsMarked-set : (words : List ℕ) (i k p : ℕ) → i < length words → k < 64
+    → IsBitSet (set words i (bit_or (get_or words i 0) (1 * 2 ^ k % 2 ^ 64))) p ↔ (IsBitSet words p ⊎ ((p / 64 ≡ i) × (p % 64 ≡ k)))
 unfolding IsBitSet
 IsMarked-set words i k p within small =
     ⊎_elim
     (λ here.
-    let word : get_or (set words i (bit_or (get_or words i 0) (1 * 2 ^ k % 2 ^ 64))) (p / 64) 0 ≡ bit_or (get_or words i 0) (1 * 2 ^ k % 2 ^ 64) = ap (λ (m : ℕ). get_or (set words i (bit_or (get_or words i 0) (1 * 2 ^ k % 2 ^ 64))) m 0) here ∙ get_or-set_same words i _ 0 within in
+    let word : get_or (set words i (bit_or (get_or words i 0) (1 * 2 ^ k % 2 ^ 64))) (p / 64) 0
+    ≡ bit_or (get_or words i 0) (1 * 2 ^ k % 2 ^ 64) =
+    ap (λ (m : ℕ). get_or (set words i (bit_or (get_or words i 0) (1 * 2 ^ k % 2 ^ 64))) m 0) here ∙ get_or-set_same words i _ 0 within in
     ⊎_elim
     (λ bit. (
       λ _. inr (here, bit),
-      λ _. ap (λ (m : ℕ). bit_at m (p % 64)) word ∙ ap (bit_at (bit_or (get_or words i 0) (1 * 2 ^ k % 2 ^ 64))) bit ∙ bit_at_set_same w64 (get_or words i 0) k small,
+      λ _. ap (λ (m : ℕ). bit_at m (p % 64)) word ∙ ap (bit_at (bit_or (get_or words i 0) (1 * 2 ^ k % 2 ^ 64))) bit
+          ∙ bit_at_set_same w64 (get_or words i 0) k small,
     ))
     (λ other.
-    let same : bit_at (get_or (set words i (bit_or (get_or words i 0) (1 * 2 ^ k % 2 ^ 64))) (p / 64) 0) (p % 64) ≡ bit_at (get_or words (p / 64) 0) (p % 64) = ap (λ (m : ℕ). bit_at m (p % 64)) word ∙ bit_at_set_other w64 (get_or words i 0) k small (p % 64) other ∙ ap (λ (m : ℕ). bit_at (get_or words m 0) (p % 64)) (sym here) in
+    let same : bit_at (get_or (set words i (bit_or (get_or words i 0) (1 * 2 ^ k % 2 ^ 64))) (p / 64) 0) (p % 64)
+    ≡ bit_at (get_or words (p / 64) 0) (p % 64) = ap (λ (m : ℕ). bit_at m (p % 64)) word
+    ∙ bit_at_set_other w64 (get_or words i 0) k small (p % 64) other ∙ ap (λ (m : ℕ). bit_at (get_or words m 0) (p % 64)) (sym here) in
     (λ h. inl (sym same ∙ h), λ h. ⊎_elim (λ old. same ∙ old) (λ both. absurd (other both.1)) h))
     (cases_eq (p % 64) k))
     (λ elsewhere.
-    let same : bit_at (get_or (set words i (bit_or (get_or words i 0) (1 * 2 ^ k % 2 ^ 64))) (p / 64) 0) (p % 64) ≡ bit_at (get_or words (p / 64) 0) (p % 64) = ap (λ (m : ℕ). bit_at m (p % 64)) (get_or-set_other words i (p / 64) _ 0 elsewhere) in
+    let same : bit_at (get_or (set words i (bit_or (get_or words i 0) (1 * 2 ^ k % 2 ^ 64))) (p / 64) 0) (p % 64)
+    ≡ bit_at (get_or words (p / 64) 0) (p % 64) = ap (λ (m : ℕ). bit_at m (p % 64)) (get_or-set_other words i (p / 64) _ 0 elsewhere) in
     (λ h. inl (sym same ∙ h), λ h. ⊎_elim (λ old. same ∙ old) (λ both. absurd (elsewhere both.0)) h))
     (cases_eq (p / 64) i)
 
 -- a bit less
-pub IsMarked-cleared : (words : List ℕ) (i k p : ℕ) → i < length words → k < 64 → IsBitSet (set words i (bit_and (get_or words i 0) (bit_not w64 (1 * 2 ^ k % 2 ^ 64)))) p ↔ (IsBitSet words p × ((p / 64 ≡ i) × (p % 64 ≡ k) → ⊥))
+pub IsMarked-cleared : (words : List ℕ) (i k p : ℕ) → i < length words → k < 64
+    → IsBitSet (set words i (bit_and (get_or words i 0) (bit_not w64 (1 * 2 ^ k % 2 ^ 64)))) p
+    ↔ (IsBitSet words p × ((p / 64 ≡ i) × (p % 64 ≡ k) → ⊥))
 unfolding IsBitSet
 IsMarked-cleared words i k p within small =
     ⊎_elim
     (λ here.
-    let word : get_or (set words i (bit_and (get_or words i 0) (bit_not w64 (1 * 2 ^ k % 2 ^ 64)))) (p / 64) 0 ≡ bit_and (get_or words i 0) (bit_not w64 (1 * 2 ^ k % 2 ^ 64)) = ap (λ (m : ℕ). get_or (set words i (bit_and (get_or words i 0) (bit_not w64 (1 * 2 ^ k % 2 ^ 64)))) m 0) here ∙ get_or-set_same words i _ 0 within in
+    let word : get_or (set words i (bit_and (get_or words i 0) (bit_not w64 (1 * 2 ^ k % 2 ^ 64)))) (p / 64) 0
+    ≡ bit_and (get_or words i 0) (bit_not w64 (1 * 2 ^ k % 2 ^ 64)) =
+    ap (λ (m : ℕ). get_or (set words i (bit_and (get_or words i 0) (bit_not w64 (1 * 2 ^ k % 2 ^ 64)))) m 0) here
+    ∙ get_or-set_same words i _ 0 within in
     ⊎_elim
     (λ bit.
-    let none : bit_at (get_or (set words i (bit_and (get_or words i 0) (bit_not w64 (1 * 2 ^ k % 2 ^ 64)))) (p / 64) 0) (p % 64) ≡ 0 = ap (λ (m : ℕ). bit_at m (p % 64)) word ∙ ap (bit_at (bit_and (get_or words i 0) (bit_not w64 (1 * 2 ^ k % 2 ^ 64)))) bit ∙ bit_at_clear_same w64 (get_or words i 0) k small in
+    let none : bit_at (get_or (set words i (bit_and (get_or words i 0) (bit_not w64 (1 * 2 ^ k % 2 ^ 64)))) (p / 64) 0) (p % 64) ≡ 0 =
+    ap (λ (m : ℕ). bit_at m (p % 64)) word ∙ ap (bit_at (bit_and (get_or words i 0) (bit_not w64 (1 * 2 ^ k % 2 ^ 64)))) bit
+    ∙ bit_at_clear_same w64 (get_or words i 0) k small in
     (λ h. absurd (omega (arith, none, h)), λ h. absurd (h.1 (here, bit))))
     (λ other.
-    let same : bit_at (get_or (set words i (bit_and (get_or words i 0) (bit_not w64 (1 * 2 ^ k % 2 ^ 64)))) (p / 64) 0) (p % 64) ≡ bit_at (get_or words (p / 64) 0) (p % 64) = ap (λ (m : ℕ). bit_at m (p % 64)) word ∙ bit_at_clear_other w64 (get_or words i 0) k small (p % 64) (omega arith) other ∙ ap (λ (m : ℕ). bit_at (get_or words m 0) (p % 64)) (sym here) in
+    let same : bit_at (get_or (set words i (bit_and (get_or words i 0) (bit_not w64 (1 * 2 ^ k % 2 ^ 64)))) (p / 64) 0) (p % 64)
+    ≡ bit_at (get_or words (p / 64) 0) (p % 64) = ap (λ (m : ℕ). bit_at m (p % 64)) word
+    ∙ bit_at_clear_other w64 (get_or words i 0) k small (p % 64) (omega arith) other
+    ∙ ap (λ (m : ℕ). bit_at (get_or words m 0) (p % 64)) (sym here) in
     (λ h. (sym same ∙ h, λ both. other both.1), λ h. same ∙ h.0))
     (cases_eq (p % 64) k))
     (λ elsewhere.
-    let same : bit_at (get_or (set words i (bit_and (get_or words i 0) (bit_not w64 (1 * 2 ^ k % 2 ^ 64)))) (p / 64) 0) (p % 64) ≡ bit_at (get_or words (p / 64) 0) (p % 64) = ap (λ (m : ℕ). bit_at m (p % 64)) (get_or-set_other words i (p / 64) _ 0 elsewhere) in
+    let same : bit_at (get_or (set words i (bit_and (get_or words i 0) (bit_not w64 (1 * 2 ^ k % 2 ^ 64)))) (p / 64) 0) (p % 64)
+    ≡ bit_at (get_or words (p / 64) 0) (p % 64) = ap (λ (m : ℕ). bit_at m (p % 64)) (get_or-set_other words i (p / 64) _ 0 elsewhere) in
     (λ h. (sym same ∙ h, λ both. elsewhere both.0), λ h. same ∙ h.0))
     (cases_eq (p / 64) i)
 
 -- words that were there or are 0 have no more marks
-IsMarked-fewer : (old new : List ℕ) → ((k : ℕ) → (get_or new k 0 ≡ get_or old k 0) ⊎ (get_or new k 0 ≡ 0)) → (p : ℕ) → IsBitSet new p → IsBitSet old p
+IsMarked-fewer : (old new : List ℕ) → ((k : ℕ) → (get_or new k 0 ≡ get_or old k 0) ⊎ (get_or new k 0 ≡ 0)) → (p : ℕ) → IsBitSet new p
+    → IsBitSet old p
 unfolding IsBitSet
 IsMarked-fewer old new same p h =
     ⊎_elim
@@ -92,11 +112,13 @@ none_marked p h = omega (arith, h, bit_at-zero (p % 64))
 pub MarksAre-none : MarksAre [] []
 MarksAre-none = λ l. (λ h. none_marked (code_of l) h, λ none. absurd none)
 
-pub MarksAre-fewer : (old new : List ℕ) → ((k : ℕ) → (get_or new k 0 ≡ get_or old k 0) ⊎ (get_or new k 0 ≡ 0)) → MarksAre old [] → MarksAre new []
+pub MarksAre-fewer : (old new : List ℕ) → ((k : ℕ) → (get_or new k 0 ≡ get_or old k 0) ⊎ (get_or new k 0 ≡ 0)) → MarksAre old []
+    → MarksAre new []
 MarksAre-fewer old new same marks =
     λ l. (λ h. (marks l).0 (IsMarked-fewer old new same (code_of l) h), λ none. absurd none)
 
-pub MarksAre-push : (old new : List ℕ) (c : List ℤ) (l : ℤ) → ((m : ℤ) → IsBitSet new (code_of m) ↔ (IsBitSet old (code_of m) ⊎ (m ≡ l))) → MarksAre old c → MarksAre new (c ++ l ∷ [])
+pub MarksAre-push : (old new : List ℕ) (c : List ℤ) (l : ℤ) → ((m : ℤ) → IsBitSet new (code_of m) ↔ (IsBitSet old (code_of m) ⊎ (m ≡ l)))
+    → MarksAre old c → MarksAre new (c ++ l ∷ [])
 MarksAre-push old new c l added h =
     λ m. (
       λ yes. (Has-push c l m).1 (⊎_elim (λ before. inl ((h m).0 before)) (λ e. inr (sym e)) ((added m).0 yes)),
@@ -131,7 +153,8 @@ LeavesMarks words left = (l : ℤ) → IsBitSet words (code_of l) → Has left l
 pub LeavesMarks-none : (words : List ℕ) → LeavesMarks words [] → MarksAre words []
 LeavesMarks-none words h = λ l. (h l, λ none. absurd none)
 
-pub LeavesMarks-more : (old new : List ℕ) (later : List ℤ) (l : ℤ) (p : ℕ) → p ≡ code_of l → ((q : ℕ) → IsBitSet new q ↔ (IsBitSet old q × (q ≡ p → ⊥))) → LeavesMarks old (l ∷ later) → LeavesMarks new later
+pub LeavesMarks-more : (old new : List ℕ) (later : List ℤ) (l : ℤ) (p : ℕ) → p ≡ code_of l
+    → ((q : ℕ) → IsBitSet new q ↔ (IsBitSet old q × (q ≡ p → ⊥))) → LeavesMarks old (l ∷ later) → LeavesMarks new later
 LeavesMarks-more old new later l p is cleared h =
     λ m yes.
     let still = (cleared (code_of m)).0 yes in

@@ -1,5 +1,6 @@
 -- How many clauses and literals a list of numbers spells, counted from the left; what the two laws compare.
-use Rattle.std.proofs.Common.{◌≡◌, ◌⊎◌, ◌+◌, ◌<◌, ◌≤◌, ℕ, ℤ, pos, negsuc, nat_abs, List, [], ◌∷◌, ◌++◌, flat_map, length, max, zero, suc, refl, ap, ◌∙◌, inl, inr, ⊎_elim, arith}
+use Rattle.std.proofs.Common.{◌≡◌, ◌⊎◌, ◌+◌, ◌<◌, ◌≤◌, ℕ, ℤ, pos, negsuc, nat_abs, List, [], ◌∷◌, ◌++◌, flat_map, length, max, zero, suc}
+use Rattle.std.proofs.Common.{refl, ap, ◌∙◌, inl, inr, ⊎_elim, arith}
 use Rattle.std.specs.List.{AllByRecursion}
 use Rattle.std.proofs.lemmas.List.{append_assoc}
 use Rattle.lrup_model.specs.Literal.{IsLiteral}
@@ -40,13 +41,20 @@ goes_on n k l (pos zero ∷ zs) =
     record { further = inl (⊎_elim (λ more. omega (arith, more)) (λ same. omega (arith, same.0)) next.further); longer = next.longer }
 goes_on n k l (pos (suc m) ∷ zs) =
     let next = goes_on n (k + 1) (max l (k + 1)) zs in
-    record { further = ⊎_elim (λ more. inl more) (λ same. inr (same.0, omega (arith, same.1))) next.further; longer = omega (arith, next.longer) }
+    record {
+      further = ⊎_elim (λ more. inl more) (λ same. inr (same.0, omega (arith, same.1))) next.further;
+      longer = omega (arith, next.longer);
+    }
 goes_on n k l (negsuc m ∷ zs) =
     let next = goes_on n (k + 1) (max l (k + 1)) zs in
-    record { further = ⊎_elim (λ more. inl more) (λ same. inr (same.0, omega (arith, same.1))) next.further; longer = omega (arith, next.longer) }
+    record {
+      further = ⊎_elim (λ more. inl more) (λ same. inr (same.0, omega (arith, same.1))) next.further;
+      longer = omega (arith, next.longer);
+    }
 
 -- one number more
-pub further_by_one : (n k l : ℕ) (z : ℤ) (zs : List ℤ) → let t = tally n k l (z ∷ zs) in (n < t.ended_clauses) ⊎ ((t.ended_clauses ≡ n) × (k < t.begun))
+pub further_by_one : (n k l : ℕ) (z : ℤ) (zs : List ℤ) → let t = tally n k l (z ∷ zs) in
+    (n < t.ended_clauses) ⊎ ((t.ended_clauses ≡ n) × (k < t.begun))
 further_by_one n k l (pos zero) zs =
     inl (⊎_elim (λ more. omega (arith, more)) (λ same. omega (arith, same.0)) (goes_on (n + 1) 0 l zs).further)
 further_by_one n k l (pos (suc m)) zs =
@@ -66,7 +74,8 @@ pub record Comes (t : Tally) (clauses literals : ℕ) : Type 0 where
   pub literals_are : t.begun ≡ literals
   pub short : t.longest ≤ max_clause_literals
 
-tally_literals : (vars n k l : ℕ) (c : List ℤ) → AllByRecursion (IsLiteral vars) c → l ≤ max_clause_literals → k + length c ≤ max_clause_literals → Comes (tally n k l c) n (k + length c)
+tally_literals : (vars n k l : ℕ) (c : List ℤ) → AllByRecursion (IsLiteral vars) c → l ≤ max_clause_literals
+    → k + length c ≤ max_clause_literals → Comes (tally n k l c) n (k + length c)
 tally_literals vars n k l [] all few short = record { clauses_are = refl; literals_are = omega arith; short = few }
 tally_literals vars n k l (pos zero ∷ c) all few short = absurd (omega (arith, all.0.0))
 tally_literals vars n k l (pos (suc m) ∷ c) all few short =
@@ -76,22 +85,34 @@ tally_literals vars n k l (negsuc m ∷ c) all few short =
     let next = tally_literals vars n (k + 1) (max l (k + 1)) c all.1 (omega arith) (omega arith) in
     record { clauses_are = next.clauses_are; literals_are = omega (arith, next.literals_are); short = next.short }
 
-tally_clauses : (vars n l : ℕ) (closed : List (List ℤ)) → AllByRecursion (IsWritten vars) closed → l ≤ max_clause_literals → Comes (tally n 0 l (flat_map ended closed)) (n + length closed) 0
+tally_clauses : (vars n l : ℕ) (closed : List (List ℤ)) → AllByRecursion (IsWritten vars) closed → l ≤ max_clause_literals
+    → Comes (tally n 0 l (flat_map ended closed)) (n + length closed) 0
 tally_clauses vars n l [] all few = record { clauses_are = omega arith; literals_are = refl; short = few }
 tally_clauses vars n l (c ∷ closed) all few =
     let first = tally_literals vars n 0 l c all.0.within few (omega (arith, all.0.size)) in
     let t = tally n 0 l c in
-    let whole : tally n 0 l ((c ++ pos 0 ∷ []) ++ flat_map ended closed) ≡ tally (t.ended_clauses + 1) 0 t.longest (flat_map ended closed) = ap (tally n 0 l) (append_assoc c (pos 0 ∷ []) (flat_map ended closed)) ∙ tally-append n 0 l c (pos 0 ∷ flat_map ended closed) in
+    let whole : tally n 0 l ((c ++ pos 0 ∷ []) ++ flat_map ended closed) ≡ tally (t.ended_clauses + 1) 0 t.longest (flat_map ended closed) =
+    ap (tally n 0 l) (append_assoc c (pos 0 ∷ []) (flat_map ended closed)) ∙ tally-append n 0 l c (pos 0 ∷ flat_map ended closed) in
     let next = tally_clauses vars (t.ended_clauses + 1) t.longest closed all.1 first.short in
-    rw whole (record { clauses_are = omega (arith, next.clauses_are, first.clauses_are); literals_are = next.literals_are; short = next.short })
+    rw whole (record {
+      clauses_are = omega (arith, next.clauses_are, first.clauses_are);
+      literals_are = next.literals_are;
+      short = next.short;
+    })
 
 -- the numbers of tokens without a fault
 abbrev pub numbers : List (List ℤ) → List ℤ → List ℤ
 numbers closed begun = flat_map ended closed ++ begun
 
-pub tally_read : (vars count : ℕ) (tokens : List Token) (closed : List (List ℤ)) (begun : List ℤ) → TokensSpell vars count tokens closed begun → Comes (tally 0 0 0 (numbers closed begun)) (length closed) (length begun)
+pub tally_read : (vars count : ℕ) (tokens : List Token) (closed : List (List ℤ)) (begun : List ℤ)
+    → TokensSpell vars count tokens closed begun → Comes (tally 0 0 0 (numbers closed begun)) (length closed) (length begun)
 tally_read vars count tokens closed begun read =
     let first = tally_clauses vars 0 0 closed read.closed_within (omega arith) in
     let t = tally 0 0 0 (flat_map ended closed) in
-    let next = tally_literals vars t.ended_clauses t.begun t.longest begun read.begun_within.within first.short (omega (arith, first.literals_are, read.begun_within.size)) in
-    rw (tally-append 0 0 0 (flat_map ended closed) begun) (record { clauses_are = omega (arith, next.clauses_are, first.clauses_are); literals_are = omega (arith, next.literals_are, first.literals_are); short = next.short })
+    let next = tally_literals vars t.ended_clauses t.begun t.longest begun read.begun_within.within first.short
+    (omega (arith, first.literals_are, read.begun_within.size)) in
+    rw (tally-append 0 0 0 (flat_map ended closed) begun) (record {
+      clauses_are = omega (arith, next.clauses_are, first.clauses_are);
+      literals_are = omega (arith, next.literals_are, first.literals_are);
+      short = next.short;
+    })

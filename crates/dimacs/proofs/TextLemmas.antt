@@ -1,5 +1,7 @@
 -- A text of a formula, as it is printed, is the text that is read token by token.
-use Rattle.std.proofs.Common.{inl, inr, ◌≡◌, ◌+◌, ◌-◌, ◌*◌, ◌^◌, ◌<◌, ◌≤◌, ◌&&◌, ◌==◌, ℕ, ℤ, pos, negsuc, neg_ℤ, nat_abs, zero, suc, true, false, not, leb, List, [], ◌∷◌, ◌++◌, codes, map, flat_map, filter, length, get_or, Option, Some, None, refl, sym, ap, ◌∙◌, subst, arith}
+use Rattle.std.proofs.Common.{inl, inr, ◌≡◌, ◌+◌, ◌-◌, ◌*◌, ◌^◌, ◌<◌, ◌≤◌, ◌&&◌, ◌==◌, ℕ, ℤ, pos, negsuc, neg_ℤ, nat_abs, zero, suc, true}
+use Rattle.std.proofs.Common.{false, not, leb, List, [], ◌∷◌, ◌++◌, codes, map, flat_map, filter, length, get_or, Option, Some, None, refl}
+use Rattle.std.proofs.Common.{sym, ap, ◌∙◌, subst, arith}
 use Rattle.std.specs.Fmt.{decimal, signed_decimal}
 use Rattle.std.specs.List.{AllByRecursion, slice_split}
 use Rattle.std.proofs.lemmas.Bool.{and_from, and_parts, cases_Bool, eqb-true, le-leb, leb-true, ne_eqb}
@@ -24,7 +26,8 @@ use Rattle.dimacs.proofs.TokenLemmas.{negative}
 tells : IsDigitsTest (λ ds. all_digits ds ≡ true)
 tells = record {
   empty = refl;
-  parts = λ c cs e. let k = and_parts (is_digit c) (all_digits cs) e in let m = and_parts (leb 48 c) (leb c 57) k.0 in ((leb-true 48 c m.0, leb-true c 57 m.1), k.1);
+  parts = λ c cs e. let k = and_parts (is_digit c) (all_digits cs) e in let m = and_parts (leb 48 c) (leb c 57) k.0 in
+      ((leb-true 48 c m.0, leb-true c 57 m.1), k.1);
   more = λ c cs k e. and_from (is_digit c) (all_digits cs) (and_from (leb 48 c) (leb c 57) (le-leb 48 c k.0) (le-leb c 57 k.1)) e;
 }
 
@@ -40,8 +43,10 @@ numeral_from [] some all = absurd (omega (arith, some))
 numeral_from (b ∷ bs) some all =
     let low : 48 < b = some in
     let k = and_parts (is_digit b) (all_digits bs) all in
-    let m = and_parts (leb 48 b) (leb b 57) k.0 in
-    (not_zero b bs low, and_from (leb 49 b && leb b 57) (all_digits bs) (and_from (leb 49 b) (leb b 57) (le-leb 49 b (omega arith)) m.1) k.1)
+    let m = and_parts (leb 48 b) (leb b 57) k.0 in (
+      not_zero b bs low,
+      and_from (leb 49 b && leb b 57) (all_digits bs) (and_from (leb 49 b) (leb b 57) (le-leb 49 b (omega arith)) m.1) k.1,
+    )
   where
     not_zero : (b : ℕ) (bs : List ℕ) → 48 < b → is_zero (b ∷ bs) ≡ false
     not_zero b [] low = ne_eqb b 48 (λ e. omega (arith, e, low))
@@ -61,8 +66,10 @@ numeral_decimal : (ds : List ℕ) → is_numeral ds ≡ true → value ds < 2 ^ 
 numeral_decimal [] is fits = cc
 numeral_decimal (b ∷ bs) is fits =
     let parts = numeral_parts b bs is in
-    let least = value_after-le (10 * 0 + (b - 48)) bs in
-    (decimal-digits_value own (b ∷ bs) parts.1 (omega arith) (λ e. absurd (let same : b ≡ 48 = e in omega (arith, same, parts.0))) fits, omega (arith, least, parts.0))
+    let least = value_after-le (10 * 0 + (b - 48)) bs in (
+      decimal-digits_value own (b ∷ bs) parts.1 (omega arith) (λ e. absurd (let same : b ≡ 48 = e in omega (arith, same, parts.0))) fits,
+      omega (arith, least, parts.0),
+    )
 
 zero_text : (text : List ℕ) → is_zero text ≡ true → text ≡ 48 ∷ []
 zero_text [] is = cc
@@ -108,7 +115,8 @@ negative_text (b ∷ digits) z fits h =
           let found : Some (neg_ℤ (pos (value digits))) ≡ Some z = rw holds at h in
           let same : neg_ℤ (pos (value digits)) ≡ z = cc in
           let is = numeral_decimal digits parts.1 (omega (arith, fits, ap nat_abs same, abs_minus (value digits))) in
-          ap (λ (x : ℕ). x ∷ digits) (eqb-true b 45 parts.0) ∙ ap (λ (x : List ℕ). 45 ∷ x) (sym is.0) ∙ sym (minus_text (value digits) is.1) ∙ ap signed_decimal same
+          ap (λ (x : ℕ). x ∷ digits) (eqb-true b 45 parts.0) ∙ ap (λ (x : List ℕ). 45 ∷ x) (sym is.0) ∙ sym (minus_text (value digits) is.1)
+          ∙ ap signed_decimal same
       | inr fails ↦ let none : ◌≡◌ {A = Option ℤ} None (Some z) = rw fails at h in cc
     ]
 
@@ -144,34 +152,41 @@ text_number (negsuc n) fits =
 abbrev Fits : ℤ → Type 0
 Fits z = nat_abs z < 2 ^ 64
 
-texts_from_numbers : (tokens : List Token) (zs : List ℤ) → AllByRecursion Fits zs → map (λ (t : Token). number_of t.text) tokens ≡ map (λ (z : ℤ). Some z) zs → map (λ (t : Token). t.text) tokens ≡ map signed_decimal zs
+texts_from_numbers : (tokens : List Token) (zs : List ℤ) → AllByRecursion Fits zs
+    → map (λ (t : Token). number_of t.text) tokens ≡ map (λ (z : ℤ). Some z) zs → map (λ (t : Token). t.text) tokens ≡ map signed_decimal zs
 texts_from_numbers [] [] all e = refl
 texts_from_numbers [] (z ∷ zs) all e = cc
 texts_from_numbers (t ∷ tokens) [] all e = cc
 texts_from_numbers (t ∷ tokens) (z ∷ zs) all e =
     let head : number_of t.text ≡ Some z = cc in
     let tail : map (λ (u : Token). number_of u.text) tokens ≡ map (λ (y : ℤ). Some y) zs = cc in
-    ap (λ (x : List ℕ). x ∷ map (λ (u : Token). u.text) tokens) (number_text t.text z all.0 head) ∙ ap (λ (x : List (List ℕ)). signed_decimal z ∷ x) (texts_from_numbers tokens zs all.1 tail)
+    ap (λ (x : List ℕ). x ∷ map (λ (u : Token). u.text) tokens) (number_text t.text z all.0 head)
+    ∙ ap (λ (x : List (List ℕ)). signed_decimal z ∷ x) (texts_from_numbers tokens zs all.1 tail)
 
-numbers_from_texts : (tokens : List Token) (zs : List ℤ) → AllByRecursion Fits zs → map (λ (t : Token). t.text) tokens ≡ map signed_decimal zs → map (λ (t : Token). number_of t.text) tokens ≡ map (λ (z : ℤ). Some z) zs
+numbers_from_texts : (tokens : List Token) (zs : List ℤ) → AllByRecursion Fits zs
+    → map (λ (t : Token). t.text) tokens ≡ map signed_decimal zs → map (λ (t : Token). number_of t.text) tokens ≡ map (λ (z : ℤ). Some z) zs
 numbers_from_texts [] [] all e = refl
 numbers_from_texts [] (z ∷ zs) all e = cc
 numbers_from_texts (t ∷ tokens) [] all e = cc
 numbers_from_texts (t ∷ tokens) (z ∷ zs) all e =
     let head : t.text ≡ signed_decimal z = cc in
     let tail : map (λ (u : Token). u.text) tokens ≡ map signed_decimal zs = cc in
-    ap (λ (x : Option ℤ). x ∷ map (λ (u : Token). number_of u.text) tokens) (ap number_of head ∙ text_number z all.0) ∙ ap (λ (x : List (Option ℤ)). Some z ∷ x) (numbers_from_texts tokens zs all.1 tail)
+    ap (λ (x : Option ℤ). x ∷ map (λ (u : Token). number_of u.text) tokens) (ap number_of head ∙ text_number z all.0)
+    ∙ ap (λ (x : List (Option ℤ)). Some z ∷ x) (numbers_from_texts tokens zs all.1 tail)
 
-all_fit : (vars : ℕ) (written : List (List ℤ)) → vars ≤ max_variable → AllByRecursion (AllByRecursion (IsLiteral vars)) written → AllByRecursion Fits (flat_map ended written)
+all_fit : (vars : ℕ) (written : List (List ℤ)) → vars ≤ max_variable → AllByRecursion (AllByRecursion (IsLiteral vars)) written
+    → AllByRecursion Fits (flat_map ended written)
 all_fit vars [] few all = tt
 all_fit vars (c ∷ written) few all =
     let zero_fits : Fits (pos 0) = omega arith in
     let first = All-map (IsLiteral vars) Fits (λ z is. omega (arith, few, is.1)) c all.0 in
-    All-append Fits (ended c) (flat_map ended written) (All-append Fits c (pos 0 ∷ []) first (zero_fits, tt)) (all_fit vars written few all.1)
+    All-append Fits (ended c) (flat_map ended written) (All-append Fits c (pos 0 ∷ []) first (zero_fits, tt))
+    (all_fit vars written few all.1)
 
 -- ## lines
 
-lines_tokens : (n : ℕ) (pieces : List (List ℕ)) → map (λ (l : Line). l.tokens) (lines_from n pieces) ≡ filter (λ tokens. not (is_empty tokens)) (map runs (filter (λ line. not (is_comment line)) pieces))
+lines_tokens : (n : ℕ) (pieces : List (List ℕ)) → map (λ (l : Line). l.tokens) (lines_from n pieces)
+    ≡ filter (λ tokens. not (is_empty tokens)) (map runs (filter (λ line. not (is_comment line)) pieces))
 lines_tokens n [] = refl
 lines_tokens n (line ∷ pieces) =
     let below = lines_tokens (n + 1) pieces in
@@ -190,7 +205,8 @@ line_texts : (l : Line) (tokens : List (List ℕ)) → map (λ (t : Token). t.te
 line_texts l [] = refl
 line_texts l (text ∷ tokens) = ap (λ (x : List (List ℕ)). text ∷ x) (line_texts l tokens)
 
-all_texts : (lines : List Line) → map (λ (t : Token). t.text) (all_tokens lines) ≡ flat_map (λ (line : List (List ℕ)). line) (map (λ (l : Line). l.tokens) lines)
+all_texts : (lines : List Line)
+    → map (λ (t : Token). t.text) (all_tokens lines) ≡ flat_map (λ (line : List (List ℕ)). line) (map (λ (l : Line). l.tokens) lines)
 all_texts [] = refl
 all_texts (l ∷ lines) =
     map-append (λ (t : Token). t.text) (tokens_of l) (all_tokens lines)
@@ -199,7 +215,8 @@ all_texts (l ∷ lines) =
 
 -- ## the header
 
-header_tokens : (tokens : List (List ℕ)) (vars count : ℕ) → vars < 2 ^ 64 → count < 2 ^ 64 → IsHeader tokens vars count → tokens ≡ codes "p" ∷ codes "cnf" ∷ decimal vars ∷ decimal count ∷ []
+header_tokens : (tokens : List (List ℕ)) (vars count : ℕ) → vars < 2 ^ 64 → count < 2 ^ 64 → IsHeader tokens vars count
+    → tokens ≡ codes "p" ∷ codes "cnf" ∷ decimal vars ∷ decimal count ∷ []
 header_tokens [] vars count v c h = absurd h
 header_tokens (p ∷ []) vars count v c h = absurd h
 header_tokens (p ∷ cnf ∷ []) vars count v c h = absurd h
@@ -212,7 +229,8 @@ header_tokens (p ∷ cnf ∷ x ∷ y ∷ []) vars count v c h =
     cc
 header_tokens (p ∷ cnf ∷ x ∷ y ∷ z ∷ more) vars count v c h = absurd h
 
-tokens_header : (tokens : List (List ℕ)) (vars count : ℕ) → vars < 2 ^ 64 → count < 2 ^ 64 → tokens ≡ codes "p" ∷ codes "cnf" ∷ decimal vars ∷ decimal count ∷ [] → IsHeader tokens vars count
+tokens_header : (tokens : List (List ℕ)) (vars count : ℕ) → vars < 2 ^ 64 → count < 2 ^ 64
+    → tokens ≡ codes "p" ∷ codes "cnf" ∷ decimal vars ∷ decimal count ∷ [] → IsHeader tokens vars count
 tokens_header tokens vars count v c e =
     subst (λ (x : List (List ℕ)). IsHeader x vars count) (sym e) (refl, refl, text_count vars v, text_count count c)
 
@@ -225,7 +243,8 @@ set_distinct vars w all = record {
   order = refl;
 }
 
-sets_distinct : (vars : ℕ) (written : List (List ℤ)) → AllByRecursion (AllByRecursion (IsLiteral vars)) written → AreSetsOf written (map distinct written)
+sets_distinct : (vars : ℕ) (written : List (List ℤ)) → AllByRecursion (AllByRecursion (IsLiteral vars)) written
+    → AreSetsOf written (map distinct written)
 sets_distinct vars [] all = tt
 sets_distinct vars (w ∷ written) all = (set_distinct vars w all.0, sets_distinct vars written all.1)
 
@@ -236,14 +255,16 @@ distinct_sets (w ∷ written) [] h = absurd h
 distinct_sets (w ∷ written) (c ∷ clauses) h =
     ap (λ (x : Clause). x ∷ clauses) h.0.order ∙ ap (λ (x : List Clause). distinct w ∷ x) (distinct_sets written clauses h.1)
 
-all_written : (vars : ℕ) (written : List (List ℤ)) → AllByRecursion (AllByRecursion (IsLiteral vars)) written → AllByRecursion (λ (c : List ℤ). length c ≤ max_clause_literals) written → AllByRecursion (IsWritten vars) written
+all_written : (vars : ℕ) (written : List (List ℤ)) → AllByRecursion (AllByRecursion (IsLiteral vars)) written
+    → AllByRecursion (λ (c : List ℤ). length c ≤ max_clause_literals) written → AllByRecursion (IsWritten vars) written
 all_written vars [] literals sizes = tt
 all_written vars (w ∷ written) literals sizes =
     (record { within = literals.0; size = sizes.0 }, all_written vars written literals.1 sizes.1)
 
 -- ## both directions
 
-body_from : (bytes : List ℕ) (f : Cnf) (lines : List Line) → map (λ (l : Line). l.tokens) lines ≡ token_lines bytes → IsFormulaText bytes f → InBodyOf lines (AreClauses f)
+body_from : (bytes : List ℕ) (f : Cnf) (lines : List Line) → map (λ (l : Line). l.tokens) lines ≡ token_lines bytes → IsFormulaText bytes f
+    → InBodyOf lines (AreClauses f)
 body_from bytes f [] are h = let e = h.header in cc
 body_from bytes f (header ∷ lines) are h =
     let whole = are ∙ h.header in
@@ -263,7 +284,9 @@ body_from bytes f (header ∷ lines) are h =
         vars_are = refl;
         count_is = refl;
         read = record {
-          numbers = numbers_from_texts (all_tokens lines) (flat_map ended h.written) (all_fit f.vars h.written h.few_variables h.literals) texts ∙ ap (map (λ (z : ℤ). Some z)) (sym (append-nil (flat_map ended h.written)));
+          numbers =
+              numbers_from_texts (all_tokens lines) (flat_map ended h.written) (all_fit f.vars h.written h.few_variables h.literals) texts
+              ∙ ap (map (λ (z : ℤ). Some z)) (sym (append-nil (flat_map ended h.written)));
           closed_within = all_written f.vars h.written h.literals h.sizes;
           begun_within = record { within = tt; size = omega arith };
           closed_count = omega (arith, count);
@@ -273,12 +296,14 @@ body_from bytes f (header ∷ lines) are h =
       };
     }
 
-text_from : (bytes : List ℕ) (f : Cnf) (lines : List Line) → map (λ (l : Line). l.tokens) lines ≡ token_lines bytes → InBodyOf lines (AreClauses f) → IsFormulaText bytes f
+text_from : (bytes : List ℕ) (f : Cnf) (lines : List Line) → map (λ (l : Line). l.tokens) lines ≡ token_lines bytes
+    → InBodyOf lines (AreClauses f) → IsFormulaText bytes f
 text_from bytes f [] are h = absurd h
 text_from bytes f (header ∷ lines) are h =
     let body = h.later in
     let literals : AllByRecursion (AllByRecursion (IsLiteral f.vars)) body.written =
-    rw body.vars_are (All-map (IsWritten h.vars) (AllByRecursion (IsLiteral h.vars)) (λ c is. is.within) body.written body.read.closed_within) in
+    rw body.vars_are
+    (All-map (IsWritten h.vars) (AllByRecursion (IsLiteral h.vars)) (λ c is. is.within) body.written body.read.closed_within) in
     let few : f.vars ≤ max_variable = omega (arith, body.vars_are, h.few_variables) in
     let first = header_tokens header.tokens h.vars h.count (omega (arith, h.few_variables)) (omega (arith, h.few_clauses)) h.spelled in
     let numbers = body.read.numbers ∙ ap (map (λ (z : ℤ). Some z)) (append-nil (flat_map ended body.written)) in
@@ -286,9 +311,11 @@ text_from bytes f (header ∷ lines) are h =
       lines = map (λ (l : Line). l.tokens) lines;
       header = sym are ∙ ap (λ (x : List (List ℕ)). x ∷ map (λ (l : Line). l.tokens) lines) (rw (body.vars_are, body.count_is) first);
       written = body.written;
-      tokens = sym (all_texts lines) ∙ texts_from_numbers (all_tokens lines) (flat_map ended body.written) (all_fit f.vars body.written few literals) numbers;
+      tokens = sym (all_texts lines)
+          ∙ texts_from_numbers (all_tokens lines) (flat_map ended body.written) (all_fit f.vars body.written few literals) numbers;
       literals = literals;
-      sizes = All-map (IsWritten h.vars) (λ (c : List ℤ). length c ≤ max_clause_literals) (λ c is. is.size) body.written body.read.closed_within;
+      sizes = All-map (IsWritten h.vars) (λ (c : List ℤ). length c ≤ max_clause_literals)
+          (λ c is. is.size) body.written body.read.closed_within;
       few_variables = few;
       few_clauses = omega (arith, body.count_is, h.few_clauses);
       clauses = distinct_sets body.written f.clauses body.sets;

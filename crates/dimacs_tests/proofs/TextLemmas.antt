@@ -1,5 +1,6 @@
 -- A few texts, by the definition of a text.
-use Rattle.std.proofs.Common.{◌≡◌, ◌≢◌, ◌^◌, ◌<◌, ◌≤◌, ℕ, ℤ, pos, negsuc, nat_abs, zero, suc, List, [], ◌∷◌, ◌++◌, codes, map, flat_map, get_or, refl, sym, ap, ◌∙◌, arith}
+use Rattle.std.proofs.Common.{◌≡◌, ◌≢◌, ◌^◌, ◌<◌, ◌≤◌, ℕ, ℤ, pos, negsuc, nat_abs, zero, suc, List, [], ◌∷◌, ◌++◌, codes, map, flat_map}
+use Rattle.std.proofs.Common.{get_or, refl, sym, ap, ◌∙◌, arith}
 use Rattle.std.specs.Fmt.{decimal, signed_decimal}
 use Rattle.std.specs.List.{AllByRecursion}
 use Rattle.std.proofs.lemmas.Fmt.{decimal_digit, first_decimal}
@@ -19,7 +20,9 @@ number_begins (pos n) b bs fits e = count_begins n b bs fits e
 number_begins (negsuc n) b bs fits e = omega (arith, ap (λ (x : List ℕ). get_or x 0 0) e)
 
 -- so no clauses are printed with one in front of their first number
-clauses_begin : (vars : ℕ) (written : List (List ℤ)) (b : ℕ) (bs : List ℕ) (tokens : List (List ℕ)) → vars ≤ max_variable → AllByRecursion (AllByRecursion (IsLiteral vars)) written → (48 ∷ b ∷ bs) ∷ tokens ≢ map signed_decimal (flat_map (λ clause. clause ++ pos 0 ∷ []) written)
+clauses_begin : (vars : ℕ) (written : List (List ℤ)) (b : ℕ) (bs : List ℕ) (tokens : List (List ℕ))
+    → vars ≤ max_variable → AllByRecursion (AllByRecursion (IsLiteral vars)) written
+    → (48 ∷ b ∷ bs) ∷ tokens ≢ map signed_decimal (flat_map (λ clause. clause ++ pos 0 ∷ []) written)
 clauses_begin vars [] b bs tokens few all e = cc
 clauses_begin vars ([] ∷ written) b bs tokens few all e =
     let first : signed_decimal (pos 0) ≡ 48 ∷ b ∷ bs = cc in
@@ -45,7 +48,8 @@ text_of_two_lines = record {
   lines = (codes "1" ∷ []) ∷ (codes "2" ∷ codes "0" ∷ []) ∷ [];
   header = let one = decimal_digit 1 (omega arith) in let two = decimal_digit 2 (omega arith) in cc;
   written = (pos 1 ∷ pos 2 ∷ []) ∷ [];
-  tokens = let none = decimal_digit 0 (omega arith) in let one = decimal_digit 1 (omega arith) in let two = decimal_digit 2 (omega arith) in cc;
+  tokens =
+      let none = decimal_digit 0 (omega arith) in let one = decimal_digit 1 (omega arith) in let two = decimal_digit 2 (omega arith) in cc;
   literals = (((omega arith, omega arith), ((omega arith, omega arith), tt)), tt);
   sizes = (omega arith, tt);
   few_variables = omega arith;

@@ -1,5 +1,6 @@
 -- Lemmas on a publish: its exchange wins exactly where the own identity is vacant.
-use Rattle.std.proofs.Common.{◌≡◌, ◌≢◌, ℕ, ◌+◌, eqb, List, [], ◌∷◌, ◌++◌, length, set, slice_index, slice_set, Option, None, Some, refl, sym, ap, subst, ◌∙◌, inl, inr, arith, eq-eqb, ne_eqb}
+use Rattle.std.proofs.Common.{◌≡◌, ◌≢◌, ℕ, ◌+◌, eqb, List, [], ◌∷◌, ◌++◌, length, set, slice_index, slice_set, Option, None, Some, refl}
+use Rattle.std.proofs.Common.{sym, ap, subst, ◌∙◌, inl, inr, arith, eq-eqb, ne_eqb}
 use mathlib.Core.Option.{some}
 use lib.ListN.{get_elem?}
 use prog.Atomic.{either}
@@ -25,9 +26,11 @@ use Rattle.idwords.proofs.SpellingLemmas.{words_spent-own, spelt, spells_absent,
 use Rattle.idwords.proofs.RuleLemmas.{OwnKeeps, advanced, event_top, stands_at, Serves, advance}
 use Rattle.idwords.proofs.StepLemmas.{OwnStep}
 use Rattle.idwords.proofs.LookLemmas.{IsPlain, plain_step}
-use Rattle.idwords.proofs.OwnLemmas.{absent_word, own_slot, own_identity, count-write, first-write, here-write, slots-write, texts-write, drafts-write}
+use Rattle.idwords.proofs.OwnLemmas.{absent_word, own_slot, own_identity, count-write, first-write, here-write, slots-write, texts-write}
+use Rattle.idwords.proofs.OwnLemmas.{drafts-write}
 
-module _ (v : Part) (seat id new : ℕ) (owns : Owns v.view.caller.layout (part_stream v) id) (clause : IsPublishable v.view.caller.formula v.draft)
+module _ (v : Part) (seat id new : ℕ) (owns : Owns v.view.caller.layout (part_stream v) id)
+    (clause : IsPublishable v.view.caller.formula v.draft)
     (is : new ≡ identity_word 1 (length v.draft) v.top) (more : History) (words : List ℕ) (views : List (List Part))
     (kept : OwnKeeps v more words views) (here : get_elem? views seat ≡ some (v ∷ [])) where
   -- the row is kept with this word at the identity, and the publish was answered so
@@ -48,13 +51,15 @@ module _ (v : Part) (seat id new : ℕ) (owns : Owns v.view.caller.layout (part_
       let stands = stands_at v more words views seat kept here in
       let identity = own_identity v more words views seat kept here id owns in
       let all : IsSpelt f log xs = spelt f p log kept.legal.events in
-      let vacant : state f log id ≡ absent = absent_word (state f log id) (kept_in xs id) (all.slots id) (sym (kept.slots id identity) ∙ nil) in
+      let vacant : state f log id ≡ absent =
+      absent_word (state f log id) (kept_in xs id) (all.slots id) (sym (kept.slots id identity) ∙ nil) in
       let none : kept_in xs id ≡ None = spells_absent (state f log id) (kept_in xs id) vacant (all.slots id) in
       let spent_all = words_spent-own log v.view.mine s stands.mine in
       let place : v.top ≡ top_after p s log = omega (arith, stands.top) in
       let ws : List ℕ = slice_set words id new in
       let new_text : kept_in (xs ++ x ∷ []) id ≡ Some x.kept = kept-append_none xs (x ∷ []) id none ∙ kept_one x id refl in
-      let new_lies : LiesAt ws x.kept.start x.kept.literals = subst (λ (n : ℕ). LiesAt ws n v.draft) place (drafts-write f p log words views id new kept identity v stands) in
+      let new_lies : LiesAt ws x.kept.start x.kept.literals =
+      subst (λ (n : ℕ). LiesAt ws n v.draft) place (drafts-write f p log words views id new kept identity v stands) in
       let serves : Serves f p log words e ws = record {
         count = count-write f p log words views id new kept identity;
         first = first-write f p log words views id new kept identity;
@@ -74,11 +79,13 @@ module _ (v : Part) (seat id new : ℕ) (owns : Owns v.view.caller.layout (part_
           | inl at ↦
               let same : Some x.kept ≡ Some text = sym new_text ∙ ap (λ (k : ℕ). kept_in (xs ++ x ∷ []) k) (sym at) ∙ there in
               subst (λ (k : Kept). LiesAt ws k.start k.literals) (same_Some x.kept text same) new_lies
-          | inr other ↦ texts-write f p log words views id new kept identity j text (sym (kept_beside xs x j (kept_in xs j) refl other) ∙ there)
+          | inr other ↦
+              texts-write f p log words views id new kept identity j text (sym (kept_beside xs x j (kept_in xs j) refl other) ∙ there)
         ];
         others = λ q other there. drafts-write f p log words views id new kept identity q there;
       } in
-      let top : top_after p s (v.view.mine ++ e ∷ []) ≡ v.top + words_for (length v.draft) = omega (arith, event_top p s v.view.mine e refl, stands.top) in
+      let top : top_after p s (v.view.mine ++ e ∷ []) ≡ v.top + words_for (length v.draft) =
+      omega (arith, event_top p s v.view.mine e refl, stands.top) in
       let done = advance v more words ws views seat e [] kept here refl vacant (owns, clause) (omega (arith, stands.room)) serves tt in
       let w : Part = advanced v more e [] in
       let slot = own_slot v more words views seat kept here id owns in (
@@ -87,9 +94,11 @@ module _ (v : Part) (seat id new : ℕ) (owns : Owns v.view.caller.layout (part_
         done.0,
         record {
           calls = subst (λ (r : Published). Calls v.view w.view (events.publish s id v.draft r))
-              (sym (cond-true (eqb (slice_index words id) 0) publishing.Done publishing.Taken (eq-eqb (slice_index words id) 0 nil))) done.1;
+              (sym (cond-true (eqb (slice_index words id) 0) publishing.Done publishing.Taken (eq-eqb (slice_index words id) 0 nil)))
+              done.1;
           absent = (λ is_nil. sym slot ∙ vacant, λ is_absent. nil);
-          top = top ∙ sym (cond-true (eqb (slice_index words id) 0) (v.top + words_for (length v.draft)) v.top (eq-eqb (slice_index words id) 0 nil));
+          top = top ∙ sym (cond-true (eqb (slice_index words id) 0) (v.top + words_for (length v.draft)) v.top
+              (eq-eqb (slice_index words id) 0 nil));
           draft = refl;
         },
       )
@@ -114,9 +123,11 @@ module _ (v : Part) (seat id new : ℕ) (owns : Owns v.view.caller.layout (part_
         subst (λ (ws : List ℕ). Keeps f p (log ++ e ∷ []) ws (set views seat (w ∷ []))) (sym (set-get_or words id 0)) done.0,
         record {
           calls = subst (λ (r : Published). Calls v.view w.view (events.publish s id v.draft r))
-              (sym (cond-false (eqb (slice_index words id) 0) publishing.Done publishing.Taken (ne_eqb (slice_index words id) 0 taken))) done.1;
+              (sym (cond-false (eqb (slice_index words id) 0) publishing.Done publishing.Taken (ne_eqb (slice_index words id) 0 taken)))
+              done.1;
           absent = (λ is_nil. absurd (taken is_nil), λ is_absent. absurd (held (slot ∙ is_absent)));
-          top = done.2 ∙ sym (cond-false (eqb (slice_index words id) 0) (v.top + words_for (length v.draft)) v.top (ne_eqb (slice_index words id) 0 taken));
+          top = done.2 ∙ sym (cond-false (eqb (slice_index words id) 0) (v.top + words_for (length v.draft)) v.top
+              (ne_eqb (slice_index words id) 0 taken));
           draft = refl;
         },
       )
@@ -126,4 +137,5 @@ pub claims : (v : Part) (seat id new : ℕ) → Owns v.view.caller.layout (part_
     → OwnStep v seat id (λ n. either (eqb n 0) new n) (λ n w. Claims id v n w)
 claims v seat id new owns clause is more words views kept here small =
     exchanged (slice_index words id) 0 new (Claimed v seat id new owns clause is more words views kept here)
-    (claims_vacant v seat id new owns clause is more words views kept here) (claims_taken v seat id new owns clause is more words views kept here)
+    (claims_vacant v seat id new owns clause is more words views kept here)
+    (claims_taken v seat id new owns clause is more words views kept here)

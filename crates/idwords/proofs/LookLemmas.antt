@@ -1,5 +1,6 @@
 -- Lemmas on a step that changes no word: a fetch, and every other event that changes nothing of the map.
-use Rattle.std.proofs.Common.{◌≡◌, ℕ, ◌<◌, ◌≤◌, cond, eqb, List, [], ◌∷◌, ◌++◌, length, set, slice_index, slice_set, Option, None, Some, refl, sym, ap, subst, ◌∙◌, arith, append-nil, eq-eqb, ne_eqb}
+use Rattle.std.proofs.Common.{◌≡◌, ℕ, ◌<◌, ◌≤◌, cond, eqb, List, [], ◌∷◌, ◌++◌, length, set, slice_index, slice_set, Option, None, Some}
+use Rattle.std.proofs.Common.{refl, sym, ap, subst, ◌∙◌, arith, append-nil, eq-eqb, ne_eqb}
 use mathlib.Core.Option.{some}
 use lib.ListN.{get_elem?}
 use Rattle.std.proofs.lemmas.Bool.{cond-true, cond-false}
@@ -30,13 +31,16 @@ pub record IsPlain (f : Cnf) (p : LayoutValue) (log : History) (e : Event) : Typ
   pub spelling : event_spelling p log e ≡ []
   pub size : size_of e ≡ 0
 
-plain_spelling : (f : Cnf) (p : LayoutValue) (log : History) (e : Event) → IsPlain f p log e → spelling_of f p log ++ event_spelling p log e ≡ spelling_of f p log
+plain_spelling : (f : Cnf) (p : LayoutValue) (log : History) (e : Event) → IsPlain f p log e
+    → spelling_of f p log ++ event_spelling p log e ≡ spelling_of f p log
 plain_spelling f p log e plain = ap (λ (xs : List Spelling). spelling_of f p log ++ xs) plain.spelling ∙ append-nil (spelling_of f p log)
 
 module _ (v : Part) (more : History) (words : List ℕ) (views : List (List Part)) (id : ℕ) (e : Event) (draft : Clause) where
   pub plain_step : OwnKeeps v more words views → get_elem? views id ≡ some (v ∷ [])
-      → stream_of e ≡ part_stream v → Answers (state v.view.caller.formula (v.view.seen ++ more)) e → IsAllowed v.view.caller.formula v.view.caller.layout e
-      → IsPlain v.view.caller.formula v.view.caller.layout (v.view.seen ++ more) e → LiesAt words v.top draft → length draft ≤ length v.draft
+      → stream_of e ≡ part_stream v → Answers (state v.view.caller.formula (v.view.seen ++ more)) e
+      → IsAllowed v.view.caller.formula v.view.caller.layout e
+      → IsPlain v.view.caller.formula v.view.caller.layout (v.view.seen ++ more) e → LiesAt words v.top draft
+      → length draft ≤ length v.draft
       → Keeps v.view.caller.formula v.view.caller.layout (v.view.seen ++ more ++ e ∷ []) words (set views id (advanced v more e draft ∷ []))
       × Calls v.view (advanced v more e draft).view e × ((advanced v more e draft).top ≡ v.top)
   plain_step kept here mine answers allowed plain lies shorter =
@@ -74,30 +78,34 @@ slot_answers m s id (retired c) is = subst (λ (x : Slot). Rattle.lrup_model.spe
 
 reply_one : (o : Option Kept) (word : ℕ) → word_state word ≡ 1 → reply_in o word ≡ events.live (literals_in o)
 reply_one o word is =
-    cond-false (eqb (word_state word) 0) events.vacant (cond (eqb (word_state word) 1) (events.live (literals_in o)) events.retired) (ne_eqb (word_state word) 0 (λ nil. omega arith))
+    cond-false (eqb (word_state word) 0) events.vacant (cond (eqb (word_state word) 1) (events.live (literals_in o)) events.retired)
+    (ne_eqb (word_state word) 0 (λ nil. omega arith))
     ∙ cond-true (eqb (word_state word) 1) (events.live (literals_in o)) events.retired (eq-eqb (word_state word) 1 is)
 
 reply_two : (o : Option Kept) (word : ℕ) → word_state word ≡ 2 → reply_in o word ≡ events.retired
 reply_two o word is =
-    cond-false (eqb (word_state word) 0) events.vacant (cond (eqb (word_state word) 1) (events.live (literals_in o)) events.retired) (ne_eqb (word_state word) 0 (λ nil. omega arith))
+    cond-false (eqb (word_state word) 0) events.vacant (cond (eqb (word_state word) 1) (events.live (literals_in o)) events.retired)
+    (ne_eqb (word_state word) 0 (λ nil. omega arith))
     ∙ cond-false (eqb (word_state word) 1) (events.live (literals_in o)) events.retired (ne_eqb (word_state word) 1 (λ one. omega arith))
 
 pub reply_slot : (slot : Slot) (o : Option Kept) → Spells slot o → reply_in o (word_of slot o) ≡ slot_reply slot
 reply_slot absent o spells = refl
 reply_slot (live c) None spells = absurd spells
 reply_slot (live c) (Some kept) spells =
-    reply_one (Some kept) (identity_word 1 (length kept.literals) kept.start) (state-identity_word 1 (length kept.literals) kept.start (omega arith)) ∙ ap events.live spells
+    reply_one (Some kept) (identity_word 1 (length kept.literals) kept.start) (state-identity_word 1 (length kept.literals) kept.start
+    (omega arith)) ∙ ap events.live spells
 reply_slot (retired c) None spells = absurd spells
 reply_slot (retired c) (Some kept) spells =
-    reply_two (Some kept) (identity_word 2 (length kept.literals) kept.start) (state-identity_word 2 (length kept.literals) kept.start (omega arith))
+    reply_two (Some kept) (identity_word 2 (length kept.literals) kept.start)
+    (state-identity_word 2 (length kept.literals) kept.start (omega arith))
 
 short_option : (o o' : Option Kept) → o ≡ o' → ((kept : Kept) → o ≡ Some kept → length kept.literals < 1048576) → IsShort o'
 short_option o None same all = tt
 short_option o (Some kept) same all = all kept same
 
 -- the word of an identity shows what is kept, and spells its slot
-pub shown : (f : Cnf) (p : LayoutValue) (log : History) (words : List ℕ) (views : List (List Part)) (id : ℕ) → Keeps f p log words views → IsIdentity p id
-    → ShowsKept (kept_in (spelling_of f p log) id) (slice_index words id)
+pub shown : (f : Cnf) (p : LayoutValue) (log : History) (words : List ℕ) (views : List (List Part)) (id : ℕ) → Keeps f p log words views
+    → IsIdentity p id → ShowsKept (kept_in (spelling_of f p log) id) (slice_index words id)
     × (reply_in (kept_in (spelling_of f p log) id) (slice_index words id) ≡ slot_reply (state f log id))
 shown f p log words views id kept identity =
     let all : IsSpelt f log (spelling_of f p log) = spelt f p log kept.legal.events in
@@ -117,7 +125,8 @@ looks v seat id identity more words views kept here small =
     let e : Event = events.fetch (part_stream v) id (slot_reply slot) in
     let plain : IsPlain f p log e = record { state = λ j. refl; spelling = refl; size = refl } in
     let stands = stands_at v more words views seat kept here in
-    let done = plain_step v more words views seat e v.draft kept here refl (slot_answers (state f log) (part_stream v) id slot refl) identity plain stands.draft (omega arith) in
+    let done = plain_step v more words views seat e v.draft kept here refl
+    (slot_answers (state f log) (part_stream v) id slot refl) identity plain stands.draft (omega arith) in
     let same : slice_set words id (slice_index words id) ≡ words = set-get_or words id 0 in
     let there : spelling_of f p (log ++ e ∷ []) ≡ spelling_of f p log = spelling-snoc f p log e ∙ append-nil (spelling_of f p log) in
     let told = shown f p log words views id kept identity in

@@ -1,5 +1,6 @@
 -- Lemmas on a meeting: parts are dealt out and put together, and of two parts each sees the longer history.
-use Rattle.std.proofs.Common.{◌≡◌, ◌⊎◌, ℕ, ◌+◌, ◌≤◌, List, [], ◌∷◌, ◌++◌, length, set, slice_index, refl, sym, ap, subst, ◌∙◌, inl, inr, arith, ap₂, cond, eqb, append-nil, append_assoc, length-append}
+use Rattle.std.proofs.Common.{◌≡◌, ◌⊎◌, ℕ, ◌+◌, ◌≤◌, List, [], ◌∷◌, ◌++◌, length, set, slice_index, refl, sym, ap, subst, ◌∙◌, inl, inr}
+use Rattle.std.proofs.Common.{arith, ap₂, cond, eqb, append-nil, append_assoc, length-append}
 use Rattle.std.specs.List.{AllByRecursion}
 use mathlib.Core.Option.{some}
 use lib.ListN.{get_elem?}
@@ -55,29 +56,40 @@ with_views f p log words views views' kept parts once = record {
 
 module _ {S : Type 0} where
   -- a seat's parts are cut in two, and a new seat has the front
-  pub splits_front : (f : Cnf) (p : LayoutValue) (id : ℕ) (front back : List Part) → Splits {S = S} (IsKept f p) id (front ++ back) back front
+  pub splits_front : (f : Cnf) (p : LayoutValue) (id : ℕ) (front back : List Part)
+      → Splits {S = S} (IsKept f p) id (front ++ back) back front
   splits_front f p id front back s kept here =
       let P : Part → Type 0 = Stands f p kept.0 s.words in
       let all = all_at P s.views id (front ++ back) here kept.1.parts in (
         kept.0,
         with_views f p kept.0 s.words s.views (set s.views id back ++ front ∷ []) kept.1
-            (all-snoc P (set s.views id back) front (all-set P s.views id back kept.1.parts (all-back P front back all)) (All-front P front back all))
-            (λ t. omega (arith, times-snoc t (set s.views id back) front, times-set t s.views id (front ++ back) back here, count-append t front back)),
+            (all-snoc P (set s.views id back) front (all-set P s.views id back kept.1.parts (all-back P front back all))
+            (All-front P front back all))
+            (λ t. omega
+            (arith, times-snoc t (set s.views id back) front, times-set t s.views id (front ++ back) back here, count-append t front back)),
       )
 
   -- or the back
-  pub splits_back : (f : Cnf) (p : LayoutValue) (id : ℕ) (front back : List Part) → Splits {S = S} (IsKept f p) id (front ++ back) front back
+  pub splits_back : (f : Cnf) (p : LayoutValue) (id : ℕ) (front back : List Part)
+      → Splits {S = S} (IsKept f p) id (front ++ back) front back
   splits_back f p id front back s kept here =
       let P : Part → Type 0 = Stands f p kept.0 s.words in
       let all = all_at P s.views id (front ++ back) here kept.1.parts in (
         kept.0,
         with_views f p kept.0 s.words s.views (set s.views id front ++ back ∷ []) kept.1
-            (all-snoc P (set s.views id front) back (all-set P s.views id front kept.1.parts (All-front P front back all)) (all-back P front back all))
-            (λ t. omega (arith, times-snoc t (set s.views id front) back, times-set t s.views id (front ++ back) front here, count-append t front back)),
+            (all-snoc P (set s.views id front) back (all-set P s.views id front kept.1.parts (All-front P front back all))
+            (all-back P front back all))
+            (λ t. omega (
+              arith,
+              times-snoc t (set s.views id front) back,
+              times-set t s.views id (front ++ back) front here,
+              count-append t front back,
+            )),
       )
 
   -- a seat takes in the parts of another
-  pub joins : (f : Cnf) (p : LayoutValue) (id : ℕ) (vs : List Part) (other : ℕ) (ws : List Part) → Joins {S = S} (IsKept f p) id vs other ws (vs ++ ws) []
+  pub joins : (f : Cnf) (p : LayoutValue) (id : ℕ) (vs : List Part) (other : ℕ) (ws : List Part)
+      → Joins {S = S} (IsKept f p) id vs other ws (vs ++ ws) []
   joins f p id vs other ws s kept here apart there =
       let P : Part → Type 0 = Stands f p kept.0 s.words in
       let there' : get_elem? s.views other ≡ some ws = sym (set_else s.views id other (vs ++ ws) apart) ∙ there in
@@ -85,7 +97,12 @@ module _ {S : Type 0} where
         kept.0,
         with_views f p kept.0 s.words s.views (set (set s.views id (vs ++ ws)) other []) kept.1
             (all-set P (set s.views id (vs ++ ws)) other [] (all-set P s.views id (vs ++ ws) kept.1.parts all) tt)
-            (λ t. omega (arith, times-set t (set s.views id (vs ++ ws)) other ws [] there, times-set t s.views id vs (vs ++ ws) here, count-append t vs ws)),
+            (λ t. omega (
+              arith,
+              times-set t (set s.views id (vs ++ ws)) other ws [] there,
+              times-set t s.views id vs (vs ++ ws) here,
+              count-append t vs ws,
+            )),
       )
 
 -- Of two histories that begin one log, one begins the other
@@ -121,7 +138,8 @@ own_all : (seen rest more mine : History) (s : ℕ) → own seen s ≡ mine → 
 own_all seen rest more mine s here all =
     let nothing : own rest s ++ own more s ≡ [] = own_rest (own seen s) (own rest s ++ own more s) mine (sym here)
     (ap (λ (h : History). own seen s ++ h) (sym (own-append rest more s)) ∙ sym (own-append seen (rest ++ more) s) ∙ all) in
-    own-append seen rest s ∙ ap (λ (h : History). own seen s ++ h) (front_nil (own rest s) (own more s) nothing) ∙ append-nil (own seen s) ∙ here
+    own-append seen rest s ∙ ap (λ (h : History). own seen s ++ h) (front_nil (own rest s) (own more s) nothing)
+    ∙ append-nil (own seen s) ∙ here
 
 -- it stands, and has moved by no call
 pub record Learns (f : Cnf) (p : LayoutValue) (log : History) (words : List ℕ) (v w : Part) (h : History) : Type 0 where
@@ -133,7 +151,8 @@ pub record Learns (f : Cnf) (p : LayoutValue) (log : History) (words : List ℕ)
   pub top : w.top ≡ v.top
   pub draft : w.draft ≡ v.draft
 
-learns_own : (v : Part) (rest more : History) (words : List ℕ) (views : List (List Part)) → Keeps v.view.caller.formula v.view.caller.layout (v.view.seen ++ (rest ++ more)) words views
+learns_own : (v : Part) (rest more : History) (words : List ℕ) (views : List (List Part))
+    → Keeps v.view.caller.formula v.view.caller.layout (v.view.seen ++ (rest ++ more)) words views
     → Stands v.view.caller.formula v.view.caller.layout (v.view.seen ++ (rest ++ more)) words v
     → Learns v.view.caller.formula v.view.caller.layout (v.view.seen ++ (rest ++ more)) words v (informed v rest) (v.view.seen ++ rest)
 learns_own v rest more words views kept stands =
@@ -142,11 +161,13 @@ learns_own v rest more words views kept stands =
     let s = part_stream v in
     let all = v.view.seen ++ (rest ++ more) in
     let cut : v.view.seen ++ rest ++ more ≡ all = append_assoc v.view.seen rest more in
-    let legal : IsLegal f p (v.view.seen ++ rest) = IsLegal-front f p (v.view.seen ++ rest) more (subst (λ (h : History). IsLegal f p h) (sym cut) kept.legal) in
+    let legal : IsLegal f p (v.view.seen ++ rest) =
+    IsLegal-front f p (v.view.seen ++ rest) more (subst (λ (h : History). IsLegal f p h) (sym cut) kept.legal) in
     let mine : own (v.view.seen ++ rest) s ≡ v.view.mine = own_all v.view.seen rest more v.view.mine s stands.seen stands.mine in
     let keeps_on : KeepsSpelt (kept_in v.view.spelt) (kept_in (spelling_of f p (v.view.seen ++ rest))) = λ j text there.
     keeps_spelt f p v.view.seen rest j text (ap (λ (xs : List Spelling). kept_in xs j) (sym stands.spelt) ∙ there) in
-    let step = moves_learn v.view rest (spelling_of f p (v.view.seen ++ rest)) (fair_part v (rest ++ more) words kept.plan kept.legal stands)
+    let step =
+    moves_learn v.view rest (spelling_of f p (v.view.seen ++ rest)) (fair_part v (rest ++ more) words kept.plan kept.legal stands)
     (between v.view.seen rest v.view.mine s stands.seen mine) legal (spelt f p (v.view.seen ++ rest) legal.events) keeps_on in
     record {
       stands = record {
@@ -169,26 +190,31 @@ learns_own v rest more words views kept stands =
       draft = refl;
     }
 
-learns_cut : (f : Cnf) (p : LayoutValue) (log : History) (words : List ℕ) (views : List (List Part)) (v : Part) (h more rest : History) → Keeps f p log words views → Stands f p log words v
-    → v.view.seen ++ (rest ++ more) ≡ log → v.view.seen ++ rest ≡ h → (w : Part) × (part_stream w ≡ part_stream v) × Learns f p log words v w h
+learns_cut : (f : Cnf) (p : LayoutValue) (log : History) (words : List ℕ) (views : List (List Part)) (v : Part) (h more rest : History)
+    → Keeps f p log words views → Stands f p log words v
+    → v.view.seen ++ (rest ++ more) ≡ log → v.view.seen ++ rest ≡ h
+    → (w : Part) × (part_stream w ≡ part_stream v) × Learns f p log words v w h
 learns_cut f p log words views v h more rest kept stands cut same =
     let g = v.view.caller.formula in
     let q = v.view.caller.layout in
     let kept_formula : Keeps g p log words views = subst (λ (x : Cnf). Keeps x p log words views) (sym stands.formula) kept in
     let kept_layout : Keeps g q log words views = subst (λ (x : LayoutValue). Keeps g x log words views) (sym stands.layout) kept_formula in
-    let kept_log : Keeps g q (v.view.seen ++ (rest ++ more)) words views = subst (λ (x : History). Keeps g q x words views) (sym cut) kept_layout in
+    let kept_log : Keeps g q (v.view.seen ++ (rest ++ more)) words views =
+    subst (λ (x : History). Keeps g q x words views) (sym cut) kept_layout in
     let st_formula : Stands g p log words v = subst (λ (x : Cnf). Stands x p log words v) (sym stands.formula) stands in
     let st_layout : Stands g q log words v = subst (λ (x : LayoutValue). Stands g x log words v) (sym stands.layout) st_formula in
     let st_log : Stands g q (v.view.seen ++ (rest ++ more)) words v = subst (λ (x : History). Stands g q x words v) (sym cut) st_layout in
     let own = learns_own v rest more words views kept_log st_log in
     let w : Part = informed v rest in
-    let at_log : Learns g q log words v w (v.view.seen ++ rest) = subst (λ (x : History). Learns g q x words v w (v.view.seen ++ rest)) cut own in
+    let at_log : Learns g q log words v w (v.view.seen ++ rest) =
+    subst (λ (x : History). Learns g q x words v w (v.view.seen ++ rest)) cut own in
     let at_h : Learns g q log words v w h = subst (λ (x : History). Learns g q log words v w x) same at_log in
     let at_layout : Learns g p log words v w h = subst (λ (x : LayoutValue). Learns g x log words v w h) stands.layout at_h in
     (w, refl, subst (λ (x : Cnf). Learns x p log words v w h) stands.formula at_layout)
 
 -- from a history that begins with what the part has seen, and begins the log
-learns : (f : Cnf) (p : LayoutValue) (log : History) (words : List ℕ) (views : List (List Part)) (v : Part) (h more : History) → Keeps f p log words views → Stands f p log words v
+learns : (f : Cnf) (p : LayoutValue) (log : History) (words : List ℕ) (views : List (List Part)) (v : Part) (h more : History)
+    → Keeps f p log words views → Stands f p log words v
     → log ≡ h ++ more → Begins v.view.seen h → (w : Part) × (part_stream w ≡ part_stream v) × Learns f p log words v w h
 learns f p log words views v h more kept stands whole begins =
     let rest : History = begins.0 in
@@ -200,7 +226,8 @@ learns f p log words views v h more kept stands whole begins =
 no_rest : (g h k : History) → g ≡ g ++ h ++ k → h ≡ []
 no_rest g [] k same = refl
 no_rest g (e ∷ h) k same =
-    absurd (let len : length g ≡ length (g ++ e ∷ h ++ k) = ap length same in omega (arith, length-append (g ++ e ∷ h) k, length-append g (e ∷ h)))
+    absurd (let len : length g ≡ length (g ++ e ∷ h ++ k) = ap length same in
+    omega (arith, length-append (g ++ e ∷ h) k, length-append g (e ∷ h)))
 
 -- a history that begins with another and is begun by it is that one
 begins_both : (g h : History) → Begins g h → Begins h g → g ≡ h
@@ -208,13 +235,16 @@ begins_both g h longer shorter =
     let none : longer.0 ≡ [] = no_rest g longer.0 shorter.0 (shorter.1 ∙ ap (λ (x : History). x ++ shorter.0) longer.1) in
     sym (longer.1 ∙ ap (λ (x : History). g ++ x) none ∙ append-nil g)
 
-module _ (f : Cnf) (p : LayoutValue) (log : History) (words : List ℕ) (views : List (List Part)) (v v' : Part) (kept : Keeps f p log words views) (stands : Stands f p log words v)
+module _ (f : Cnf) (p : LayoutValue) (log : History) (words : List ℕ) (views : List (List Part)) (v v' : Part)
+    (kept : Keeps f p log words views) (stands : Stands f p log words v)
     (stands' : Stands f p log words v') where
   abbrev Pair : Type 0
-  Pair = (w w' : Part) × (part_stream w ≡ part_stream v) × (part_stream w' ≡ part_stream v') × Stands f p log words w × Stands f p log words w' × Met v v' w w'
+  Pair = (w w' : Part) × (part_stream w ≡ part_stream v) × (part_stream w' ≡ part_stream v') × Stands f p log words w
+      × Stands f p log words w' × Met v v' w w'
 
   met_at : (h more : History) → log ≡ h ++ more → Begins v.view.seen h → Begins v'.view.seen h
-      → ((rest : History) → v.view.seen ≡ v'.view.seen ++ rest → h ≡ v.view.seen) → ((rest : History) → v'.view.seen ≡ v.view.seen ++ rest → h ≡ v'.view.seen) → Pair
+      → ((rest : History) → v.view.seen ≡ v'.view.seen ++ rest → h ≡ v.view.seen)
+      → ((rest : History) → v'.view.seen ≡ v.view.seen ++ rest → h ≡ v'.view.seen) → Pair
   met_at h more whole begins begins' longer longer' =
       let a = learns f p log words views v h more kept stands whole begins in
       let b = learns f p log words views v' h more kept stands' whole begins' in (

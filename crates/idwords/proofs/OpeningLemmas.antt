@@ -1,8 +1,11 @@
 -- Lemmas on the row at the opening: the loops that make its words, and the rule for them.
-use Rattle.std.proofs.Common.{◌≡◌, ℕ, zero, suc, ◌+◌, ◌-◌, ◌*◌, ◌<◌, ◌≤◌, cond, eqb, List, [], ◌∷◌, ◌++◌, length, get_or, take, replicate, slice_index, slice_get, Some, refl, sym, ap, subst, ◌∙◌, inl, inr, arith, append-nil, append_assoc, length-append, eq-eqb, ne_eqb}
+use Rattle.std.proofs.Common.{◌≡◌, ℕ, zero, suc, ◌+◌, ◌-◌, ◌*◌, ◌<◌, ◌≤◌, cond, eqb, List, [], ◌∷◌, ◌++◌, length, get_or, take, replicate}
+use Rattle.std.proofs.Common.{slice_index, slice_get, Some, refl, sym, ap, subst, ◌∙◌, inl, inr, arith, append-nil, append_assoc}
+use Rattle.std.proofs.Common.{length-append, eq-eqb, ne_eqb}
 use Rattle.std.specs.List.{sum_by, AllByRecursion}
 use Rattle.std.proofs.lemmas.Bool.{cases_eq, cases_lt, cond-true, cond-false}
-use Rattle.std.proofs.lemmas.List.{take_more, take_all, length-replicate, get_or-replicate, get_or_at, get_or-append_right, get_or_append_left}
+use Rattle.std.proofs.lemmas.List.{take_more, take_all, length-replicate, get_or-replicate, get_or_at, get_or-append_right}
+use Rattle.std.proofs.lemmas.List.{get_or_append_left}
 use Rattle.std.proofs.lemmas.List.Sums.{sum_by-cons, sum_by-append, sum_by-take-le, sum_by-le-sum_by}
 use Rattle.lrup_model.specs.Clause.{Clause}
 use mathlib.Core.Option as Maybe
@@ -39,31 +42,36 @@ words_in-take cs i = omega (arith, words_in-le (take i cs), sum_by-take-le lengt
 
 -- The loops
 
-clause_words-append : (start : ℕ) (cs ds : List Clause) → clause_words start (cs ++ ds) ≡ clause_words start cs ++ clause_words (start + words_in cs) ds
+clause_words-append : (start : ℕ) (cs ds : List Clause)
+    → clause_words start (cs ++ ds) ≡ clause_words start cs ++ clause_words (start + words_in cs) ds
 clause_words-append start [] ds = ap (λ (n : ℕ). clause_words n ds) (omega arith)
 clause_words-append start (c ∷ cs) ds =
     let all = words_in-cons c cs in
     ap (λ (ws : List ℕ). identity_word 1 (length c) start ∷ ws)
-    (clause_words-append (start + words_for (length c)) cs ds ∙ ap (λ (n : ℕ). clause_words (start + words_for (length c)) cs ++ clause_words n ds) (omega arith))
+    (clause_words-append (start + words_for (length c)) cs ds
+    ∙ ap (λ (n : ℕ). clause_words (start + words_for (length c)) cs ++ clause_words n ds) (omega arith))
 
 literal_words-append : (cs ds : List Clause) → literal_words (cs ++ ds) ≡ literal_words cs ++ literal_words ds
 literal_words-append [] ds = refl
-literal_words-append (c ∷ cs) ds = ap (λ (ws : List ℕ). packed c ++ ws) (literal_words-append cs ds) ∙ sym (append_assoc (packed c) (literal_words cs) (literal_words ds))
+literal_words-append (c ∷ cs) ds = ap (λ (ws : List ℕ). packed c ++ ws) (literal_words-append cs ds)
+    ∙ sym (append_assoc (packed c) (literal_words cs) (literal_words ds))
 
 -- one more clause
-pub clause_words_more : (first start i : ℕ) (cs : List Clause) (c : Clause) (new words old : List ℕ) (word : ℕ) → i < length cs → c ≡ get_or cs i []
-    → start ≡ first + words_in (take i cs) → words ≡ old ++ clause_words first (take i cs) → new ≡ words ++ word ∷ [] → word ≡ identity_word 1 (length c) start
-    → new ≡ old ++ clause_words first (take (i + 1) cs)
+pub clause_words_more : (first start i : ℕ) (cs : List Clause) (c : Clause) (new words old : List ℕ) (word : ℕ) → i < length cs
+    → c ≡ get_or cs i []
+    → start ≡ first + words_in (take i cs) → words ≡ old ++ clause_words first (take i cs) → new ≡ words ++ word ∷ []
+    → word ≡ identity_word 1 (length c) start → new ≡ old ++ clause_words first (take (i + 1) cs)
 clause_words_more first start i cs c new words old word within here from is pushed word_is =
     let cut : take (i + 1) cs ≡ take i cs ++ c ∷ [] = take_more cs i [] within ∙ ap (λ (d : Clause). take i cs ++ d ∷ []) (sym here) in
     let place : word ≡ identity_word 1 (length c) (first + words_in (take i cs)) = word_is ∙ ap (identity_word 1 (length c)) from in
     pushed ∙ ap (λ (ws : List ℕ). ws ++ word ∷ []) is
     ∙ append_assoc old (clause_words first (take i cs)) (word ∷ [])
     ∙ ap (λ (ws : List ℕ). old ++ ws)
-    (ap (λ (n : ℕ). clause_words first (take i cs) ++ n ∷ []) place ∙ sym (clause_words-append first (take i cs) (c ∷ [])) ∙ ap (clause_words first) (sym cut))
+    (ap (λ (n : ℕ). clause_words first (take i cs) ++ n ∷ []) place ∙ sym (clause_words-append first (take i cs) (c ∷ []))
+    ∙ ap (clause_words first) (sym cut))
 
-pub literal_words_more : (i : ℕ) (cs : List Clause) (c : Clause) (words old : List ℕ) → i < length cs → c ≡ get_or cs i [] → words ≡ old ++ literal_words (take i cs)
-    → words ++ packed c ≡ old ++ literal_words (take (i + 1) cs)
+pub literal_words_more : (i : ℕ) (cs : List Clause) (c : Clause) (words old : List ℕ) → i < length cs → c ≡ get_or cs i []
+    → words ≡ old ++ literal_words (take i cs) → words ++ packed c ≡ old ++ literal_words (take (i + 1) cs)
 literal_words_more i cs c words old within here is =
     let cut : take (i + 1) cs ≡ take i cs ++ c ∷ [] = take_more cs i [] within ∙ ap (λ (d : Clause). take i cs ++ d ∷ []) (sym here) in
     ap (λ (ws : List ℕ). ws ++ packed c) is
@@ -72,7 +80,8 @@ literal_words_more i cs c words old within here is =
     (ap (λ (ws : List ℕ). literal_words (take i cs) ++ ws) (sym (append-nil (packed c)))
     ∙ sym (literal_words-append (take i cs) (c ∷ [])) ∙ ap literal_words (sym cut))
 
-pub words_more : (cs : List Clause) (i : ℕ) (c : Clause) → i < length cs → c ≡ get_or cs i [] → words_in (take (i + 1) cs) ≡ words_in (take i cs) + words_for (length c)
+pub words_more : (cs : List Clause) (i : ℕ) (c : Clause) → i < length cs → c ≡ get_or cs i []
+    → words_in (take (i + 1) cs) ≡ words_in (take i cs) + words_for (length c)
 words_more cs i c within here =
     let cut : take (i + 1) cs ≡ take i cs ++ c ∷ [] = take_more cs i [] within ∙ ap (λ (d : Clause). take i cs ++ d ∷ []) (sym here) in
     let one = sum_by-append (λ d. words_for (length d)) (take i cs) (c ∷ []) in
@@ -87,23 +96,34 @@ length-clause_words start (c ∷ cs) = let rest = length-clause_words (start + w
 
 pub length-literal_words : (cs : List Clause) → length (literal_words cs) ≡ words_in cs
 length-literal_words [] = refl
-length-literal_words (c ∷ cs) = let rest = length-literal_words cs in omega (arith, length-append (packed c) (literal_words cs), length-packed c, words_in-cons c cs)
+length-literal_words (c ∷ cs) =
+    let rest = length-literal_words cs in omega (arith, length-append (packed c) (literal_words cs), length-packed c, words_in-cons c cs)
 
 -- All words, from what each step of the loops leaves
-pub opened_words : (f : Cnf) (p : LayoutValue) (first n k : ℕ) (w1 w2 w3 w4 w5 : List ℕ) → Fits p f → first ≡ last_identity p + 1 → n ≡ last_identity p + 1 → k ≡ row_words p
+pub opened_words : (f : Cnf) (p : LayoutValue) (first n k : ℕ) (w1 w2 w3 w4 w5 : List ℕ) → Fits p f → first ≡ last_identity p + 1
+    → n ≡ last_identity p + 1 → k ≡ row_words p
     → w1 ≡ 0 ∷ [] → w2 ≡ w1 ++ clause_words first f.clauses → w3 ≡ take n w2 ++ replicate (n - length w2) 0
     → w4 ≡ w3 ++ literal_words f.clauses → w5 ≡ take k w4 ++ replicate (k - length w4) 0 → w5 ≡ opening_words f p
 opened_words f p first n k w1 w2 w3 w4 w5 fits from to all e1 e2 e3 e4 e5 =
     let cs : List Clause = f.clauses in
     let front : List ℕ = 0 ∷ clause_words (1 + last_identity p) cs in
-    let w2_is : w2 ≡ front = e2 ∙ ap (λ (ws : List ℕ). ws ++ clause_words first cs) e1 ∙ ap (λ (m : ℕ). 0 ∷ clause_words m cs) (omega arith) in
+    let w2_is : w2 ≡ front = e2 ∙ ap (λ (ws : List ℕ). ws ++ clause_words first cs) e1
+    ∙ ap (λ (m : ℕ). 0 ∷ clause_words m cs) (omega arith) in
     let len2 : length w2 ≡ 1 + length cs = ap length w2_is ∙ omega (arith, length-clause_words (1 + last_identity p) cs) in
     let vacant : List ℕ = replicate (p.streams * p.lines) 0 in
-    let w3_is : w3 ≡ front ++ vacant = e3 ∙ ap (λ (ws : List ℕ). ws ++ replicate (n - length w2) 0) (take_all n w2 (omega (arith, fits.clauses)) ∙ w2_is)
+    let w3_is : w3 ≡ front ++ vacant = e3
+    ∙ ap (λ (ws : List ℕ). ws ++ replicate (n - length w2) 0) (take_all n w2 (omega (arith, fits.clauses)) ∙ w2_is)
     ∙ ap (λ (m : ℕ). front ++ replicate m 0) (omega (arith, fits.clauses)) in
-    let len3 : length w3 ≡ 1 + last_identity p = ap length w3_is ∙ omega (arith, length-append front vacant, length-clause_words (1 + last_identity p) cs, length-replicate {A = ℕ} (p.streams * p.lines) 0, fits.clauses) in
+    let len3 : length w3 ≡ 1 + last_identity p = ap length w3_is ∙ omega (
+      arith,
+      length-append front vacant,
+      length-clause_words (1 + last_identity p) cs,
+      length-replicate {A = ℕ} (p.streams * p.lines) 0,
+      fits.clauses,
+    ) in
     let w4_is : w4 ≡ front ++ vacant ++ literal_words cs = e4 ∙ ap (λ (ws : List ℕ). ws ++ literal_words cs) w3_is in
-    let len4 : length w4 ≡ 1 + last_identity p + length (literal_words cs) = ap length e4 ∙ omega (arith, length-append w3 (literal_words cs)) in
+    let len4 : length w4 ≡ 1 + last_identity p + length (literal_words cs) = ap length e4
+    ∙ omega (arith, length-append w3 (literal_words cs)) in
     let few : length (literal_words cs) ≤ p.literals = omega (arith, length-literal_words cs, words_in-le cs, fits.literals) in
     e5 ∙ ap (λ (ws : List ℕ). ws ++ replicate (k - length w4) 0) (take_all k w4 (omega arith) ∙ w4_is)
     ∙ ap (λ (m : ℕ). front ++ vacant ++ literal_words cs ++ replicate m 0) (omega arith)
@@ -135,15 +155,18 @@ clause_word_at : (id start : ℕ) (cs : List Clause) (back : List ℕ) (k : ℕ)
     → get_or (clause_words start cs ++ back) k 0 ≡ kept_word 1 (kept_in (clauses_spelling id start cs) (id + k))
 clause_word_at id start [] back k within = absurd (omega arith)
 clause_word_at id start (c ∷ cs) back zero within =
-    ap (kept_word 1) (sym (cond-true (eqb id (id + 0)) (Some (record { start = start; literals = c })) (kept_in (clauses_spelling (id + 1) (start + words_for (length c)) cs) (id + 0)) (eq-eqb id (id + 0) (omega arith))))
+    ap (kept_word 1) (sym (cond-true (eqb id (id + 0)) (Some (record { start = start; literals = c }))
+    (kept_in (clauses_spelling (id + 1) (start + words_for (length c)) cs) (id + 0)) (eq-eqb id (id + 0) (omega arith))))
 clause_word_at id start (c ∷ cs) back (suc k) within =
     let next : id + suc k ≡ id + 1 + k = omega arith in
     clause_word_at (id + 1) (start + words_for (length c)) cs back k (omega arith)
-    ∙ ap (kept_word 1) (sym (cond-false (eqb id (id + 1 + k)) (Some (record { start = start; literals = c })) (kept_in (clauses_spelling (id + 1) (start + words_for (length c)) cs) (id + 1 + k)) (ne_eqb id (id + 1 + k) (λ same. omega arith))))
+    ∙ ap (kept_word 1) (sym (cond-false (eqb id (id + 1 + k)) (Some (record { start = start; literals = c }))
+    (kept_in (clauses_spelling (id + 1) (start + words_for (length c)) cs) (id + 1 + k)) (ne_eqb id (id + 1 + k) (λ same. omega arith))))
     ∙ ap (λ (j : ℕ). kept_word 1 (kept_in (clauses_spelling id start (c ∷ cs)) j)) (sym next)
 
 vacant_at : (n k : ℕ) (back : List ℕ) → k < n → get_or (replicate n 0 ++ back) k 0 ≡ 0
-vacant_at n k back within = get_or_append_left (replicate n 0) back 0 k (omega (arith, length-replicate {A = ℕ} n 0)) ∙ get_or-replicate n k 0 0 within
+vacant_at n k back within = get_or_append_left (replicate n 0) back 0 k (omega (arith, length-replicate {A = ℕ} n 0))
+    ∙ get_or-replicate n k 0 0 within
 
 -- words stand at their place
 stand_front : (pre back ws : List ℕ) (place : ℕ) → length pre ≡ place → StandAt (pre ++ (ws ++ back)) place ws
@@ -154,18 +177,22 @@ stand_front pre back (w ∷ ws) place len = (
       (stand_front (pre ++ w ∷ []) back ws (place + 1) (omega (arith, length-append pre (w ∷ [])))),
 )
 
-lies_clauses : (pre back : List ℕ) (id start : ℕ) (cs : List Clause) (j : ℕ) (kept : Kept) → length pre ≡ start → kept_in (clauses_spelling id start cs) j ≡ Some kept
-    → LiesAt (pre ++ (literal_words cs ++ back)) kept.start kept.literals
+lies_clauses : (pre back : List ℕ) (id start : ℕ) (cs : List Clause) (j : ℕ) (kept : Kept) → length pre ≡ start
+    → kept_in (clauses_spelling id start cs) j ≡ Some kept → LiesAt (pre ++ (literal_words cs ++ back)) kept.start kept.literals
 lies_clauses pre back id start [] j kept len here = absurd (cc)
 lies_clauses pre back id start (c ∷ cs) j kept len here =
     let tail : List ℕ = literal_words cs ++ back in
     let cut : packed c ++ literal_words cs ++ back ≡ packed c ++ tail = append_assoc (packed c) (literal_words cs) back in
     let whole : pre ++ (packed c ++ tail) ≡ pre ++ (packed c ++ literal_words cs ++ back) = ap (λ (ws : List ℕ). pre ++ ws) (sym cut) in
-    elim (either_kept (eqb id j) (record { start = start; literals = c }) (kept_in (clauses_spelling (id + 1) (start + words_for (length c)) cs) j) kept here) [
+    elim (either_kept (eqb id j) (record {
+      start = start;
+      literals = c;
+    }) (kept_in (clauses_spelling (id + 1) (start + words_for (length c)) cs) j) kept here) [
       | inl same ↦ subst (λ (k : Kept). LiesAt (pre ++ (packed c ++ literal_words cs ++ back)) k.start k.literals) same
           (subst (λ (ws : List ℕ). LiesAt ws start c) whole (stand_front pre tail (packed c) start len))
       | inr later ↦ subst (λ (ws : List ℕ). LiesAt ws kept.start kept.literals) (append_assoc pre (packed c) tail ∙ whole)
-          (lies_clauses (pre ++ packed c) back (id + 1) (start + words_for (length c)) cs j kept (omega (arith, length-append pre (packed c), length-packed c)) later)
+          (lies_clauses (pre ++ packed c) back (id + 1) (start + words_for (length c)) cs j kept
+          (omega (arith, length-append pre (packed c), length-packed c)) later)
     ]
 
 below_one : (id : ℕ) → 0 < id → id ≡ suc (id - 1)
@@ -198,15 +225,21 @@ opening_slot f p id fits identity =
           ∙ ap (λ (y : Slot). word_of y (kept_in xs id)) (sym slot)
     ]
 
-opening_text : (f : Cnf) (p : LayoutValue) (j : ℕ) (kept : Kept) → Fits p f → kept_in (clauses_spelling 1 (1 + last_identity p) f.clauses) j ≡ Some kept
-    → LiesAt (opening_words f p) kept.start kept.literals
+opening_text : (f : Cnf) (p : LayoutValue) (j : ℕ) (kept : Kept) → Fits p f
+    → kept_in (clauses_spelling 1 (1 + last_identity p) f.clauses) j ≡ Some kept → LiesAt (opening_words f p) kept.start kept.literals
 opening_text f p j kept fits here =
     let front : List ℕ = 0 ∷ clause_words (1 + last_identity p) f.clauses in
     let vacant : List ℕ = replicate (p.streams * p.lines) 0 in
     let rooms : List ℕ = replicate (p.literals + p.streams * p.room - length (literal_words f.clauses)) 0 in
     subst (λ (ws : List ℕ). LiesAt ws kept.start kept.literals) (sym (append_assoc (front ++ vacant) (literal_words f.clauses) rooms))
     (lies_clauses (front ++ vacant) rooms 1 (1 + last_identity p) f.clauses j kept
-    (omega (arith, length-append front vacant, length-clause_words (1 + last_identity p) f.clauses, length-replicate {A = ℕ} (p.streams * p.lines) 0, fits.clauses)) here)
+    (omega (
+      arith,
+      length-append front vacant,
+      length-clause_words (1 + last_identity p) f.clauses,
+      length-replicate {A = ℕ} (p.streams * p.lines) 0,
+      fits.clauses,
+    )) here)
 
 -- The parts
 
@@ -224,7 +257,8 @@ opening_stands f p words s stream = record {
   draft = tt;
 }
 
-all_stand : (f : Cnf) (p : LayoutValue) (words : List ℕ) (s count : ℕ) → 0 < s → s + count ≤ p.streams + 1 → AllByRecursion (Stands f p [] words) (opening_parts f p s count)
+all_stand : (f : Cnf) (p : LayoutValue) (words : List ℕ) (s count : ℕ) → 0 < s → s + count ≤ p.streams + 1
+    → AllByRecursion (Stands f p [] words) (opening_parts f p s count)
 all_stand f p words s zero positive within = tt
 all_stand f p words s (suc count) positive within =
     (opening_stands f p words s (positive, omega arith), all_stand f p words (s + 1) count (omega arith) (omega arith))
@@ -282,7 +316,8 @@ opening_fair f p s plan stream = record {
 left_next : (n i : ℕ) → i < n → n - i ≡ suc (n - (i + 1))
 left_next n i within = omega arith
 
-pub parts_next : (f : Cnf) (p : LayoutValue) (s n i : ℕ) → i < n → opening_parts f p s (n - i) ≡ opening_part f p s ∷ opening_parts f p (s + 1) (n - (i + 1))
+pub parts_next : (f : Cnf) (p : LayoutValue) (s n i : ℕ) → i < n
+    → opening_parts f p s (n - i) ≡ opening_part f p s ∷ opening_parts f p (s + 1) (n - (i + 1))
 parts_next f p s n i within = ap (opening_parts f p s) (left_next n i within)
 
 pub first_next : (p : LayoutValue) (i : ℕ) → first_place p (i + 1) + p.room ≡ first_place p (i + 1 + 1)
@@ -292,7 +327,8 @@ first_next p i =
     omega arith
 
 -- the seat that is dealt out
-pub dealt : {S : Type 0} (f : Cnf) (p : LayoutValue) (s : ℕ) (table : TableId) (me : Me S (List Part)) (top room : ℕ) → IsPlan f p → IsStream p s → table.words ≡ row_words p
+pub dealt : {S : Type 0} (f : Cnf) (p : LayoutValue) (s : ℕ) (table : TableId) (me : Me S (List Part)) (top room : ℕ) → IsPlan f p
+    → IsStream p s → table.words ≡ row_words p
     → me ≡ (opening_part f p s ∷ [], []) → top ≡ first_place p s → room ≡ p.room → IsSeated {S = S} table me top 0 room
 dealt {S} f p s table me top room plan stream words whole at all =
     subst (λ (m : Me S (List Part)). IsSeated {S = S} table m top 0 room) (sym whole) (record {

@@ -1,5 +1,6 @@
 -- Lemmas on a stream's own identities: what lies there follows from its own calls, and only its own steps change it.
-use Rattle.std.proofs.Common.{◌≡◌, ◌≢◌, ℕ, ◌+◌, ◌<◌, List, [], ◌∷◌, ◌++◌, length, slice_index, slice_set, Option, None, Some, refl, sym, ap, ap₂, ◌∙◌, inl, inr, arith, length-set, get_or-set_same, get_or-set_other}
+use Rattle.std.proofs.Common.{◌≡◌, ◌≢◌, ℕ, ◌+◌, ◌<◌, List, [], ◌∷◌, ◌++◌, length, slice_index, slice_set, Option, None, Some, refl, sym, ap}
+use Rattle.std.proofs.Common.{ap₂, ◌∙◌, inl, inr, arith, length-set, get_or-set_same, get_or-set_other}
 use mathlib.Core.Option.{some}
 use lib.ListN.{get_elem?}
 use Rattle.lrup_model.specs.Clause.{Clause}
@@ -47,19 +48,23 @@ retired_word (retired c) o spells is = absurd is
 
 -- Own identities
 
-module _ (v : Part) (more : History) (words : List ℕ) (views : List (List Part)) (seat : ℕ) (kept : OwnKeeps v more words views) (here : get_elem? views seat ≡ some (v ∷ [])) where
+module _ (v : Part) (more : History) (words : List ℕ) (views : List (List Part)) (seat : ℕ) (kept : OwnKeeps v more words views)
+    (here : get_elem? views seat ≡ some (v ∷ [])) where
   -- what the map has at an own identity is what the part's calls left there
-  pub own_slot : (id : ℕ) → Owns v.view.caller.layout (part_stream v) id → state v.view.caller.formula (v.view.seen ++ more) id ≡ state v.view.caller.formula v.view.mine id
+  pub own_slot : (id : ℕ) → Owns v.view.caller.layout (part_stream v) id
+      → state v.view.caller.formula (v.view.seen ++ more) id ≡ state v.view.caller.formula v.view.mine id
   own_slot id owns =
       let f = v.view.caller.formula in
       run-own f v.view.caller.layout (opening f) (opening f) (v.view.seen ++ more) (part_stream v) id kept.legal.events owns refl
       ∙ ap (λ (h : History). state f h id) (stands_at v more words views seat kept here).mine
 
-  seen_slot : (id : ℕ) → Owns v.view.caller.layout (part_stream v) id → state v.view.caller.formula v.view.seen id ≡ state v.view.caller.formula v.view.mine id
+  seen_slot : (id : ℕ) → Owns v.view.caller.layout (part_stream v) id
+      → state v.view.caller.formula v.view.seen id ≡ state v.view.caller.formula v.view.mine id
   seen_slot id owns =
       let f = v.view.caller.formula in
       let p = v.view.caller.layout in
-      run-own f p (opening f) (opening f) v.view.seen (part_stream v) id (legal-front f p (opening f) v.view.seen more kept.legal.events) owns refl
+      run-own f p (opening f) (opening f) v.view.seen (part_stream v) id
+      (legal-front f p (opening f) v.view.seen more kept.legal.events) owns refl
       ∙ ap (λ (h : History). state f h id) (stands_at v more words views seat kept here).seen
 
   -- what is kept for it too
@@ -79,11 +84,13 @@ module _ (v : Part) (more : History) (words : List ℕ) (views : List (List Part
   -- and so is its word
   pub own_word : (id : ℕ) → Owns v.view.caller.layout (part_stream v) id
       → slice_index words id ≡ word_of (state v.view.caller.formula v.view.mine id) (kept_in v.view.spelt id)
-  own_word id owns = kept.slots id (own_identity id owns) ∙ ap₂ (λ (slot : Slot) (o : Option Kept). word_of slot o) (own_slot id owns) (own_text id owns)
+  own_word id owns = kept.slots id (own_identity id owns)
+      ∙ ap₂ (λ (slot : Slot) (o : Option Kept). word_of slot o) (own_slot id owns) (own_text id owns)
 
 -- A write of an identity's word
 
-module _ (f : Cnf) (p : LayoutValue) (log : History) (words : List ℕ) (views : List (List Part)) (id new : ℕ) (kept : Keeps f p log words views) (identity : IsIdentity p id) where
+module _ (f : Cnf) (p : LayoutValue) (log : History) (words : List ℕ) (views : List (List Part)) (id new : ℕ)
+    (kept : Keeps f p log words views) (identity : IsIdentity p id) where
   pub count-write : length (slice_set words id new) ≡ row_words p
   count-write = length-set words id new ∙ kept.count
 
@@ -93,7 +100,8 @@ module _ (f : Cnf) (p : LayoutValue) (log : History) (words : List ℕ) (views :
   pub here-write : slice_index (slice_set words id new) id ≡ new
   here-write = get_or-set_same words id new 0 (omega (arith, kept.count, identity.1))
 
-  pub slots-write : (j : ℕ) → j ≢ id → IsIdentity p j → slice_index (slice_set words id new) j ≡ word_of (state f log j) (kept_in (spelling_of f p log) j)
+  pub slots-write : (j : ℕ) → j ≢ id → IsIdentity p j
+      → slice_index (slice_set words id new) j ≡ word_of (state f log j) (kept_in (spelling_of f p log) j)
   slots-write j other there = get_or-set_other words id j new 0 other ∙ kept.slots j there
 
   -- literals lie as before, since they lie above all identities
@@ -104,10 +112,12 @@ module _ (f : Cnf) (p : LayoutValue) (log : History) (words : List ℕ) (views :
   above_lodged text (inl formula) = omega (arith, formula.first)
   above_lodged text (inr (s, lodging)) = omega (arith, lodging.first)
 
-  pub texts-write : (j : ℕ) (text : Kept) → kept_in (spelling_of f p log) j ≡ Some text → LiesAt (slice_set words id new) text.start text.literals
+  pub texts-write : (j : ℕ) (text : Kept) → kept_in (spelling_of f p log) j ≡ Some text
+      → LiesAt (slice_set words id new) text.start text.literals
   texts-write j text there =
       literals-write text.start text.literals
-      (above_lodged text (lodged f p log j text (omega (arith, kept.plan.layout.some_stream)) kept.plan.fits kept.legal.events there)) (kept.texts j text there)
+      (above_lodged text (lodged f p log j text (omega (arith, kept.plan.layout.some_stream)) kept.plan.fits kept.legal.events there))
+      (kept.texts j text there)
 
   pub drafts-write : (q : Part) → Stands f p log words q → LiesAt (slice_set words id new) q.top q.draft
   drafts-write q stands = literals-write q.top q.draft (omega (arith, stands.top)) stands.draft

@@ -1,5 +1,7 @@
 -- Lemmas on places: streams write apart from each other, from the formula and from the identities; and steps on literals.
-use Rattle.std.proofs.Common.{◌≡◌, ◌≢◌, ℕ, ℤ, ◌+◌, ◌-◌, ◌*◌, ◌/◌, ◌%◌, ◌<◌, ◌≤◌, ◌⊎◌, List, [], ◌∷◌, ◌++◌, Option, length, set, slice_index, slice_set, refl, sym, ap, subst, ◌∙◌, inl, inr, arith, length-append, length-set, get_or-set_same, get_or-set_other}
+use Rattle.std.proofs.Common.{◌≡◌, ◌≢◌, ℕ, ℤ, ◌+◌, ◌-◌, ◌*◌, ◌/◌, ◌%◌, ◌<◌, ◌≤◌, ◌⊎◌, List, [], ◌∷◌, ◌++◌, Option, length, set, slice_index}
+use Rattle.std.proofs.Common.{slice_set, refl, sym, ap, subst, ◌∙◌, inl, inr, arith, length-append, length-set, get_or-set_same}
+use Rattle.std.proofs.Common.{get_or-set_other}
 use Rattle.std.proofs.Math.Nat.{mul-le-mul_right}
 use Rattle.std.proofs.lemmas.Bool.{cases_eq, cases_lt}
 use Rattle.std.proofs.lemmas.List.{set-get_or}
@@ -32,8 +34,8 @@ rooms_apart p s t positive less =
     omega arith
 
 -- a place in a stream's room, at or above its top, lies outside what another part of the row takes
-outside_room : (p : LayoutValue) (s t place from to : ℕ) → IsStream p s → IsStream p t → t ≢ s → first_place p s ≤ place → place < first_place p s + p.room
-    → first_place p t ≤ from → to ≤ first_place p t + p.room → (place < from) ⊎ (to ≤ place)
+outside_room : (p : LayoutValue) (s t place from to : ℕ) → IsStream p s → IsStream p t → t ≢ s → first_place p s ≤ place
+    → place < first_place p s + p.room → first_place p t ≤ from → to ≤ first_place p t + p.room → (place < from) ⊎ (to ≤ place)
 outside_room p s t place from to mine theirs other above below first last =
     elim (cases_lt s t) [
       | inl less ↦ let apart = rooms_apart p s t mine.0 less in inl (omega arith)
@@ -42,15 +44,16 @@ outside_room p s t place from to mine theirs other above below first last =
 
 module _ (f : Cnf) (p : LayoutValue) (log : History) (legal : IsLegal f p log) where
   -- no clause's literals lie at a place of a stream's room at or above its top
-  pub outside_text : (s place : ℕ) (kept : Kept) → IsStream p s → top_after p s log ≤ place → place < first_place p s + p.room → IsLodged p log kept
-      → (place < kept.start) ⊎ (kept.start + words_for (length kept.literals) ≤ place)
+  pub outside_text : (s place : ℕ) (kept : Kept) → IsStream p s → top_after p s log ≤ place → place < first_place p s + p.room
+      → IsLodged p log kept → (place < kept.start) ⊎ (kept.start + words_for (length kept.literals) ≤ place)
   outside_text s place kept mine above below (inl formula) = inr (omega (arith, formula.last))
   outside_text s place kept mine above below (inr (t, lodging)) =
       elim (cases_eq t s) [
         | inl same ↦
             let top : top_after p t log ≡ top_after p s log = ap (λ (u : ℕ). top_after p u log) same in
             inr (omega (arith, lodging.last))
-        | inr other ↦ outside_room p s t place kept.start (kept.start + words_for (length kept.literals)) mine lodging.stream other (omega arith) below lodging.first
+        | inr other ↦ outside_room p s t place kept.start (kept.start + words_for (length kept.literals)) mine lodging.stream other
+            (omega arith) below lodging.first
             (omega (arith, lodging.last, legal.room t, words_within t log))
       ]
 
@@ -61,7 +64,8 @@ within_row p s place all mine count below =
     omega arith
 
 -- and so what a stream's clauses take, and a draft inside what they leave
-pub top_within : (p : LayoutValue) (s top n room : ℕ) (mine : History) → IsStream p s → top ≡ top_after p s mine → room + spent s mine ≡ p.room → n ≤ room → top + n ≤ row_words p
+pub top_within : (p : LayoutValue) (s top n room : ℕ) (mine : History) → IsStream p s → top ≡ top_after p s mine
+    → room + spent s mine ≡ p.room → n ≤ room → top + n ≤ row_words p
 top_within p s top n room mine stream at left short =
     let more : (s - 1 + 1) * p.room ≤ p.streams * p.room = mul-le-mul_right p.room (omega (arith, stream.0, stream.1)) in
     omega (arith, words_within s mine)
@@ -78,21 +82,25 @@ reads v seat place more words views kept here small =
     let same_views : set views seat (v ∷ []) ≡ views = set_again views seat (v ∷ []) here in (
       v,
       log,
-      subst (λ (ws : List ℕ). Keeps f p log ws (set views seat (v ∷ []))) (sym same_words) (subst (λ (us : List (List Part)). Keeps f p log words us) (sym same_views) kept),
+      subst (λ (ws : List ℕ). Keeps f p log ws (set views seat (v ∷ []))) (sym same_words)
+          (subst (λ (us : List (List Part)). Keeps f p log words us) (sym same_views) kept),
       record {
         same = refl;
         text = λ id k text l there at here_is.
             let derived = (fair_follows v.view (fair_part v more words kept.plan kept.legal stands)).each id text there in
             ap (λ (n : ℕ). half_of (k % 2) (slice_index words n)) here_is
             ∙ lies_get f.vars words text.start text.literals k l kept.plan.formula.vars derived.0.literals
-            (kept.texts id text (keeps_spelt f p v.view.seen more id text (ap (λ (xs : List Spelling). kept_in xs id) (sym stands.spelt) ∙ there))) at;
+            (kept.texts id text
+            (keeps_spelt f p v.view.seen more id text (ap (λ (xs : List Spelling). kept_in xs id) (sym stands.spelt) ∙ there))) at;
       },
     )
 
 -- A store of literals
 
-written : (v : Part) (seat : ℕ) (l : ℤ) (m : Option ℤ) → length v.draft % 2 ≡ 0 → spent (part_stream v) v.view.mine + length (v.draft ++ pair_of l m) ≤ v.view.caller.layout.room
-    → HasCode l → IfSome m HasCode → OwnStep v seat (v.top + length v.draft / 2) (λ _. literal_word l m) (λ n w. Writes (literal_word l m) v w)
+written : (v : Part) (seat : ℕ) (l : ℤ) (m : Option ℤ) → length v.draft % 2 ≡ 0
+    → spent (part_stream v) v.view.mine + length (v.draft ++ pair_of l m) ≤ v.view.caller.layout.room
+    → HasCode l → IfSome m HasCode
+    → OwnStep v seat (v.top + length v.draft / 2) (λ _. literal_word l m) (λ n w. Writes (literal_word l m) v w)
 written v seat l m even room first second more words views kept here small =
     let f = v.view.caller.formula in
     let p = v.view.caller.layout in
@@ -114,7 +122,8 @@ written v seat l m even room first second more words views kept here small =
     let elsewhere : (q : Part) → part_stream q ≢ s → Stands f p log words q → Stands f p log new q = λ q other there.
     stands_words f p log words new q there
     (lies-set words q.top q.draft place word there.draft
-    (outside_room p s (part_stream q) place q.top (q.top + words_for (length q.draft)) stands.stream there.stream other (omega arith) below (omega (arith, there.top))
+    (outside_room p s (part_stream q) place q.top (q.top + words_for (length q.draft)) stands.stream there.stream other (omega arith) below
+    (omega (arith, there.top))
     (omega (arith, there.top, there.room, words_within (part_stream q) q.view.mine)))) in
     let mine : Stands f p log new w = record {
       formula = stands.formula;
@@ -126,7 +135,8 @@ written v seat l m even room first second more words views kept here small =
       spelt = stands.spelt;
       top = stands.top;
       room = room;
-      draft = lies-pair new v.top v.draft l m even (lies-set words v.top v.draft place word stands.draft (inr (omega arith))) (get_or-set_same words place word 0 within);
+      draft = lies-pair new v.top v.draft l m even (lies-set words v.top v.draft place word stands.draft (inr (omega arith)))
+          (get_or-set_same words place word 0 within);
     } in (
       w,
       log,
@@ -137,7 +147,8 @@ written v seat l m even room first second more words views kept here small =
         first = get_or-set_other words place 0 word 0 (λ same. omega arith) ∙ kept.first;
         slots = λ id identity. get_or-set_other words place id word 0 (λ same. omega (arith, identity.1)) ∙ kept.slots id identity;
         texts = λ id text there. lies-set words text.start text.literals place word (kept.texts id text there)
-            (outside_text f p log kept.legal s place text stands.stream (omega arith) below (lodged f p log id text (omega (arith, kept.plan.layout.some_stream)) kept.plan.fits kept.legal.events there));
+            (outside_text f p log kept.legal s place text stands.stream (omega arith) below
+            (lodged f p log id text (omega (arith, kept.plan.layout.some_stream)) kept.plan.fits kept.legal.events there));
         parts = moved (Stands f p log words) (Stands f p log new) views seat v w here (kept.once s) kept.parts elsewhere mine;
         once = times-same views seat v w here refl kept.once;
       },
@@ -150,5 +161,6 @@ pub written_at : (v : Part) (seat : ℕ) (l : ℤ) (m : Option ℤ) (place word 
     → v.top + length v.draft / 2 ≡ place → literal_word l m ≡ word → OwnStep v seat place (λ _. word) (λ n w. Writes word v w)
 written_at v seat l m place word even room first second at is =
     let here : OwnStep v seat place (λ _. literal_word l m) (λ n w. Writes (literal_word l m) v w) =
-    subst (λ (i : ℕ). OwnStep v seat i (λ _. literal_word l m) (λ n w. Writes (literal_word l m) v w)) at (written v seat l m even room first second) in
+    subst (λ (i : ℕ). OwnStep v seat i (λ _. literal_word l m) (λ n w. Writes (literal_word l m) v w)) at
+    (written v seat l m even room first second) in
     subst (λ (k : ℕ). OwnStep v seat place (λ _. k) (λ n w. Writes k v w)) is here

@@ -1,5 +1,6 @@
 -- Lemmas on a retire: its look, and its exchange, which always wins.
-use Rattle.std.proofs.Common.{◌≡◌, ◌≢◌, ℕ, ◌+◌, eqb, List, [], ◌∷◌, ◌++◌, set, slice_index, slice_set, Option, refl, sym, ap, subst, ◌∙◌, inl, inr, arith, append-nil, eq-eqb}
+use Rattle.std.proofs.Common.{◌≡◌, ◌≢◌, ℕ, ◌+◌, eqb, List, [], ◌∷◌, ◌++◌, set, slice_index, slice_set, Option, refl, sym, ap, subst, ◌∙◌}
+use Rattle.std.proofs.Common.{inl, inr, arith, append-nil, eq-eqb}
 use prog.Atomic.{either}
 use Rattle.std.proofs.lemmas.Bool.{cases_eq}
 use Rattle.std.proofs.lemmas.List.{set-get_or}
@@ -20,7 +21,8 @@ use Rattle.idwords.proofs.SpellingLemmas.{spelt}
 use Rattle.idwords.proofs.RuleLemmas.{advanced, event_top, stands_at, Serves, advance}
 use Rattle.idwords.proofs.StepLemmas.{OwnStep}
 use Rattle.idwords.proofs.LookLemmas.{IsPlain, plain_step}
-use Rattle.idwords.proofs.OwnLemmas.{live_word, other_word, retired_word, own_slot, own_identity, own_word, count-write, first-write, here-write, slots-write, texts-write, drafts-write}
+use Rattle.idwords.proofs.OwnLemmas.{live_word, other_word, retired_word, own_slot, own_identity, own_word, count-write, first-write}
+use Rattle.idwords.proofs.OwnLemmas.{here-write, slots-write, texts-write, drafts-write}
 
 -- the look of a retire
 pub finds : (v : Part) (seat id : ℕ) → Owns v.view.caller.layout (part_stream v) id → OwnStep v seat id (λ n. n) (λ n w. Finds id v n w)
@@ -39,13 +41,15 @@ finds v seat id owns more words views kept here small =
           let same_views : set views seat (v ∷ []) ≡ views = set_again views seat (v ∷ []) here in (
             v,
             log,
-            subst (λ (ws : List ℕ). Keeps f p log ws (set views seat (v ∷ []))) (sym same_words) (subst (λ (us : List (List Part)). Keeps f p log words us) (sym same_views) kept),
+            subst (λ (ws : List ℕ). Keeps f p log ws (set views seat (v ∷ []))) (sym same_words)
+                (subst (λ (us : List (List Part)). Keeps f p log words us) (sym same_views) kept),
             record { own = word; live = λ is. refl; none = λ other. absurd (other one) },
           )
       | inr other ↦
           let e : Event = events.retire (part_stream v) id retiring.NotLive in
           let none : ¬ IsLive (state f log id) =
-          other_word (state f log id) (kept_in (spelling_of f p log) id) (all.slots id) (subst (λ (n : ℕ). word_state n ≢ 1) log_word other) in
+          other_word (state f log id) (kept_in (spelling_of f p log) id) (all.slots id)
+          (subst (λ (n : ℕ). word_state n ≢ 1) log_word other) in
           let plain : IsPlain f p log e = record { state = λ j. refl; spelling = refl; size = refl } in
           let done = plain_step v more words views seat e v.draft kept here refl none owns plain stands.draft (omega arith) in
           let w : Part = advanced v more e v.draft in (
@@ -97,10 +101,12 @@ retires v seat id old owns is one more words views kept here small =
             ∙ ap (λ (xs : List Spelling). word_of (after (state f log) e j) (kept_in xs j)) (sym same)
         | inr other ↦
             slots-write f p log words views id (old + 1) kept identity j other there
-            ∙ ap (λ (x : Slot). word_of x (kept_in (spelling_of f p log) j)) (sym (put-other (state f log) id (retire_slot (state f log id)) j other))
+            ∙ ap (λ (x : Slot). word_of x (kept_in (spelling_of f p log) j))
+            (sym (put-other (state f log) id (retire_slot (state f log id)) j other))
             ∙ ap (λ (xs : List Spelling). word_of (after (state f log) e j) (kept_in xs j)) (sym same)
       ];
-      texts = λ j text there. texts-write f p log words views id (old + 1) kept identity j text (ap (λ (xs : List Spelling). kept_in xs j) (sym same) ∙ there);
+      texts = λ j text there. texts-write f p log words views id (old + 1) kept identity j text
+          (ap (λ (xs : List Spelling). kept_in xs j) (sym same) ∙ there);
       others = λ q other there. drafts-write f p log words views id (old + 1) kept identity q there;
     } in
     let top : top_after p s (v.view.mine ++ e ∷ []) ≡ v.top = omega (arith, event_top p s v.view.mine e refl, stands.top) in

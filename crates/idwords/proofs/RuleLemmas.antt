@@ -1,5 +1,6 @@
 -- Lemmas on the rule: how a part and the others stand after one event more.
-use Rattle.std.proofs.Common.{◌≡◌, ◌≢◌, ℕ, ◌+◌, ◌≤◌, List, [], ◌∷◌, ◌++◌, length, set, slice_index, Some, refl, sym, ap, ap₂, subst, ◌∙◌, inl, inr, arith, append-nil, append_assoc, length-append}
+use Rattle.std.proofs.Common.{◌≡◌, ◌≢◌, ℕ, ◌+◌, ◌≤◌, List, [], ◌∷◌, ◌++◌, length, set, slice_index, Some, refl, sym, ap, ap₂, subst, ◌∙◌}
+use Rattle.std.proofs.Common.{inl, inr, arith, append-nil, append_assoc, length-append}
 use Rattle.std.specs.List.{AllByRecursion, sum_by}
 use mathlib.Core.Option.{some}
 use lib.ListN.{get_elem?}
@@ -27,7 +28,8 @@ use Rattle.idwords.proofs.ViewLemmas.{all_at, moved, times-same}
 
 pub own_rest : (g h k : History) → k ≡ g → g ++ h ≡ k → h ≡ []
 own_rest g [] k same all = refl
-own_rest g (e ∷ h) k same all = absurd (let len : length (g ++ e ∷ h) ≡ length g = ap length (all ∙ same) in omega (arith, length-append g (e ∷ h)))
+own_rest g (e ∷ h) k same all =
+    absurd (let len : length (g ++ e ∷ h) ≡ length g = ap length (all ∙ same) in omega (arith, length-append g (e ∷ h)))
 
 others_from_own : (h : History) (s : ℕ) → own h s ≡ [] → AllByRecursion (λ d. stream_of d ≢ s) h
 others_from_own [] s none = tt
@@ -38,8 +40,10 @@ others_from_own (e ∷ h) s none =
     ]
 
 -- between what a part has seen and the log, its stream made no call
-pub between : (seen more mine : History) (s : ℕ) → own seen s ≡ mine → own (seen ++ more) s ≡ mine → AllByRecursion (λ d. stream_of d ≢ s) more
-between seen more mine s here all = others_from_own more s (own_rest (own seen s) (own more s) mine (sym here) (sym (own-append seen more s) ∙ all))
+pub between : (seen more mine : History) (s : ℕ) → own seen s ≡ mine → own (seen ++ more) s ≡ mine
+    → AllByRecursion (λ d. stream_of d ≢ s) more
+between seen more mine s here all =
+    others_from_own more s (own_rest (own seen s) (own more s) mine (sym here) (sym (own-append seen more s) ∙ all))
 
 -- what a part's calls spent is what its stream spent in the log
 pub spent_log : (log mine : History) (s : ℕ) → own log s ≡ mine → spent s mine ≡ spent s log
@@ -63,13 +67,14 @@ advanced v more e draft = record {
   draft = draft;
 }
 
-pub stands_at : (v : Part) (more : History) (words : List ℕ) (views : List (List Part)) (id : ℕ) → OwnKeeps v more words views → get_elem? views id ≡ some (v ∷ [])
-    → Stands v.view.caller.formula v.view.caller.layout (v.view.seen ++ more) words v
+pub stands_at : (v : Part) (more : History) (words : List ℕ) (views : List (List Part)) (id : ℕ) → OwnKeeps v more words views
+    → get_elem? views id ≡ some (v ∷ []) → Stands v.view.caller.formula v.view.caller.layout (v.view.seen ++ more) words v
 stands_at v more words views id keeps here =
     (all_at (Stands v.view.caller.formula v.view.caller.layout (v.view.seen ++ more) words) views id (v ∷ []) here keeps.parts).0
 
 -- a part that stands is fair
-pub fair_part : (v : Part) (more : History) (words : List ℕ) (plan : IsPlan v.view.caller.formula v.view.caller.layout) → IsLegal v.view.caller.formula v.view.caller.layout (v.view.seen ++ more)
+pub fair_part : (v : Part) (more : History) (words : List ℕ) (plan : IsPlan v.view.caller.formula v.view.caller.layout)
+    → IsLegal v.view.caller.formula v.view.caller.layout (v.view.seen ++ more)
     → Stands v.view.caller.formula v.view.caller.layout (v.view.seen ++ more) words v → IsFair v.view
 fair_part v more words plan legal stands =
     let f = v.view.caller.formula in
@@ -101,13 +106,15 @@ legal_next f p log e legal answers allowed room = record {
         let here : spent (stream_of e) log ≡ spent t log = ap (λ (s : ℕ). spent s log) mine in
         omega arith
     | inr other ↦
-        let same : spent t (log ++ e ∷ []) ≡ spent t log = ap (λ (es : History). sum_by (λ p. length p.1) (published es)) (own_past log e t other) in
+        let same : spent t (log ++ e ∷ []) ≡ spent t log =
+        ap (λ (es : History). sum_by (λ p. length p.1) (published es)) (own_past log e t other) in
         omega (arith, legal.room t)
   ];
 }
 
 -- other words serve a part as well, where its draft lies in them
-pub stands_words : (f : Cnf) (p : LayoutValue) (log : History) (words words' : List ℕ) (q : Part) → Stands f p log words q → LiesAt words' q.top q.draft → Stands f p log words' q
+pub stands_words : (f : Cnf) (p : LayoutValue) (log : History) (words words' : List ℕ) (q : Part) → Stands f p log words q
+    → LiesAt words' q.top q.draft → Stands f p log words' q
 stands_words f p log words words' q stands lies = record {
   formula = stands.formula;
   layout = stands.layout;
@@ -122,13 +129,14 @@ stands_words f p log words words' q stands lies = record {
 }
 
 -- another stream's part stands as before
-stands_on : (f : Cnf) (p : LayoutValue) (log : History) (words words' : List ℕ) (e : Event) (q : Part) → (stream_of e ≡ part_stream q → ⊥) → Stands f p log words q
-    → LiesAt words' q.top q.draft → Stands f p (log ++ e ∷ []) words' q
+stands_on : (f : Cnf) (p : LayoutValue) (log : History) (words words' : List ℕ) (e : Event) (q : Part) → (stream_of e ≡ part_stream q → ⊥)
+    → Stands f p log words q → LiesAt words' q.top q.draft → Stands f p (log ++ e ∷ []) words' q
 stands_on f p log words words' e q other stands lies = record {
   formula = stands.formula;
   layout = stands.layout;
   stream = stands.stream;
-  begins = (stands.begins.0 ++ e ∷ [], ap (λ (h : History). h ++ e ∷ []) stands.begins.1 ∙ append_assoc q.view.seen stands.begins.0 (e ∷ []));
+  begins =
+      (stands.begins.0 ++ e ∷ [], ap (λ (h : History). h ++ e ∷ []) stands.begins.1 ∙ append_assoc q.view.seen stands.begins.0 (e ∷ []));
   seen = stands.seen;
   mine = own_past log e (part_stream q) other ∙ stands.mine;
   spelt = stands.spelt;
@@ -141,7 +149,8 @@ state_next : (f : Cnf) (log : History) (e : Event) (id : ℕ) → state f (log +
 state_next f log e id = ap (λ (m : State). m id) (run-append (opening f) log (e ∷ []))
 
 -- the top after a call of the stream
-pub event_top : (p : LayoutValue) (s : ℕ) (mine : History) (e : Event) → stream_of e ≡ s → top_after p s (mine ++ e ∷ []) ≡ top_after p s mine + words_taken e
+pub event_top : (p : LayoutValue) (s : ℕ) (mine : History) (e : Event) → stream_of e ≡ s
+    → top_after p s (mine ++ e ∷ []) ≡ top_after p s mine + words_taken e
 event_top p s mine e is =
     let all : words_spent s (mine ++ e ∷ []) ≡ words_spent s mine + words_spent s (e ∷ []) = words_spent-append s mine (e ∷ []) in
     let one : words_spent s (e ∷ []) ≡ words_taken e = words_spent_one s e is in
@@ -151,17 +160,21 @@ event_top p s mine e is =
 pub record Serves (f : Cnf) (p : LayoutValue) (log : History) (words : List ℕ) (e : Event) (words' : List ℕ) : Type 0 where
   pub count : length words' ≡ row_words p
   pub first : slice_index words' 0 ≡ 0
-  pub slots : (id : ℕ) → IsIdentity p id → slice_index words' id ≡ word_of (after (state f log) e id) (kept_in (spelling_of f p log ++ event_spelling p log e) id)
-  pub texts : (id : ℕ) (kept : Kept) → kept_in (spelling_of f p log ++ event_spelling p log e) id ≡ Some kept → LiesAt words' kept.start kept.literals
+  pub slots : (id : ℕ) → IsIdentity p id
+      → slice_index words' id ≡ word_of (after (state f log) e id) (kept_in (spelling_of f p log ++ event_spelling p log e) id)
+  pub texts : (id : ℕ) (kept : Kept) → kept_in (spelling_of f p log ++ event_spelling p log e) id ≡ Some kept
+      → LiesAt words' kept.start kept.literals
   pub others : (q : Part) → part_stream q ≢ stream_of e → Stands f p log words q → LiesAt words' q.top q.draft
 
 module _ (v : Part) (more : History) (words words' : List ℕ) (views : List (List Part)) (id : ℕ) (e : Event) (draft : Clause) where
   pub advance : OwnKeeps v more words views → get_elem? views id ≡ some (v ∷ [])
-      → stream_of e ≡ part_stream v → Answers (state v.view.caller.formula (v.view.seen ++ more)) e → IsAllowed v.view.caller.formula v.view.caller.layout e
+      → stream_of e ≡ part_stream v → Answers (state v.view.caller.formula (v.view.seen ++ more)) e
+      → IsAllowed v.view.caller.formula v.view.caller.layout e
       → spent (part_stream v) v.view.mine + size_of e + length draft ≤ v.view.caller.layout.room
       → Serves v.view.caller.formula v.view.caller.layout (v.view.seen ++ more) words e words'
       → LiesAt words' (top_after v.view.caller.layout (part_stream v) (v.view.mine ++ e ∷ [])) draft
-      → Keeps v.view.caller.formula v.view.caller.layout (v.view.seen ++ more ++ e ∷ []) words' (set views id (advanced v more e draft ∷ []))
+      → Keeps v.view.caller.formula v.view.caller.layout (v.view.seen ++ more ++ e ∷ []) words' (set views id
+      (advanced v more e draft ∷ []))
       × Calls v.view (advanced v more e draft).view e
   advance keeps here mine answers allowed room serves lies =
       let f = v.view.caller.formula in
@@ -172,7 +185,8 @@ module _ (v : Part) (more : History) (words words' : List ℕ) (views : List (Li
       let spent_here : spent s v.view.mine ≡ spent s log = spent_log log v.view.mine s stands.mine in
       let spent_there : spent (stream_of e) log ≡ spent s log = ap (λ (t : ℕ). spent t log) mine in
       let legal : IsLegal f p (log ++ e ∷ []) = legal_next f p log e keeps.legal answers allowed (omega arith) in
-      let all_mine : own (log ++ e ∷ []) s ≡ v.view.mine ++ e ∷ [] = own_next log e s mine ∙ ap (λ (h : History). h ++ e ∷ []) stands.mine in
+      let all_mine : own (log ++ e ∷ []) s ≡ v.view.mine ++ e ∷ [] = own_next log e s mine
+      ∙ ap (λ (h : History). h ++ e ∷ []) stands.mine in
       let spelling_there : spelling_of f p (log ++ e ∷ []) ≡ spelling_of f p log ++ event_spelling p log e = spelling-snoc f p log e in
       let spent_next : spent s (v.view.mine ++ e ∷ []) ≡ spent s v.view.mine + spent s (e ∷ []) = spent-append s v.view.mine (e ∷ []) in
       let spent_event : spent s (e ∷ []) ≡ size_of e = spent_one s e mine in
@@ -203,7 +217,8 @@ module _ (v : Part) (more : History) (words words' : List ℕ) (views : List (Li
               ∙ ap₂ (λ (slot : Slot) (xs : List Spelling). word_of slot (kept_in xs j)) (sym (state_next f log e j)) (sym spelling_there);
           texts = λ j kept there. serves.texts j kept (ap (λ (xs : List Spelling). kept_in xs j) (sym spelling_there) ∙ there);
           parts = moved (Stands f p log words) (Stands f p (log ++ e ∷ []) words') views id v w here (keeps.once s) keeps.parts
-              (λ q other there. stands_on f p log words words' e q (λ same. other (sym same ∙ mine)) there (serves.others q (λ same. other (same ∙ mine)) there)) new;
+              (λ q other there. stands_on f p log words words' e q (λ same. other (sym same ∙ mine)) there
+              (serves.others q (λ same. other (same ∙ mine)) there)) new;
           once = times-same views id v w here refl keeps.once;
         },
         record {

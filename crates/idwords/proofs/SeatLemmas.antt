@@ -1,5 +1,6 @@
 -- Lemmas on a seat: what a step asks of its token, from what the contract's value of the seat has.
-use Rattle.std.proofs.Common.{◌≡◌, ◌≢◌, ◌+◌, ◌-◌, ◌<◌, ◌≤◌, ℕ, eqb, List, [], ◌∷◌, length, refl, sym, ap, ap₂, subst, ◌∙◌, arith, eq-eqb, ne_eqb, ◌++◌, length-append}
+use Rattle.std.proofs.Common.{◌≡◌, ◌≢◌, ◌+◌, ◌-◌, ◌<◌, ◌≤◌, ℕ, eqb, List, [], ◌∷◌, length, refl, sym, ap, ap₂, subst, ◌∙◌, arith, eq-eqb}
+use Rattle.std.proofs.Common.{ne_eqb, ◌++◌, length-append}
 use Rattle.std.proofs.lemmas.Bool.{cond-true, cond-false}
 use Rattle.atomic_table.specs.Seated.{TableId}
 use Rattle.atomic_table.specs.Table.{Step, Me, Allows}
@@ -23,13 +24,14 @@ use Rattle.idwords.proofs.SpellingLemmas.{words_spent-append, words_spent_one, w
 use Rattle.idwords.proofs.StepLemmas.{OwnStep, allows}
 
 -- the row that a seat is of has as many words as the seat's layout says
-pub words_of : {S : Type 0} (table row : TableId) (me : Me S (List Part)) (top drafted room : ℕ) → IsSeated table me top drafted room → table ≡ row
-    → row.words ≡ row_words (first_part me.0).view.caller.layout
+pub words_of : {S : Type 0} (table row : TableId) (me : Me S (List Part)) (top drafted room : ℕ)
+    → IsSeated table me top drafted room → table ≡ row → row.words ≡ row_words (first_part me.0).view.caller.layout
 words_of table row me top drafted room seated same = ap (λ (t : TableId). t.words) (sym same) ∙ seated.words
 
 module _ {S : Type 0} where
   -- by the token's own part
-  pub asks_part : (f : Cnf) (p : LayoutValue) (slots id i : ℕ) (g : ℕ → ℕ) (told : Part → ℕ → Part → Type 0) (then : Me S (List Part) → ℕ → Me S (List Part) → Type 0)
+  pub asks_part : (f : Cnf) (p : LayoutValue) (slots id i : ℕ) (g : ℕ → ℕ) (told : Part → ℕ → Part → Type 0)
+      (then : Me S (List Part) → ℕ → Me S (List Part) → Type 0)
       (table row : TableId) (me : Me S (List Part)) (v : Part)
       → me ≡ (v ∷ [], []) → table ≡ row → i < row.words → OwnStep v id i g (told v)
       → ((u : Part) (n : ℕ) (w : Part) → told u n w → then (u ∷ [], []) n (w ∷ [], []))
@@ -37,20 +39,24 @@ module _ {S : Type 0} where
   asks_part f p slots id i g told then table row me v one same within own tell = (
     same,
     within,
-    subst (λ (m : Me S (List Part)). Allows {S = S} (IsKept f p) slots id m i g (then m)) (sym one) (allows f p slots id v i g (told v) (then (v ∷ [], [])) own (tell v)),
+    subst (λ (m : Me S (List Part)). Allows {S = S} (IsKept f p) slots id m i g (then m)) (sym one)
+        (allows f p slots id v i g (told v) (then (v ∷ [], [])) own (tell v)),
   )
 
-  pub asks : (f : Cnf) (p : LayoutValue) (slots id i : ℕ) (g : ℕ → ℕ) (told : Part → ℕ → Part → Type 0) (then : Me S (List Part) → ℕ → Me S (List Part) → Type 0)
+  pub asks : (f : Cnf) (p : LayoutValue) (slots id i : ℕ) (g : ℕ → ℕ) (told : Part → ℕ → Part → Type 0)
+      (then : Me S (List Part) → ℕ → Me S (List Part) → Type 0)
       (table row : TableId) (me : Me S (List Part)) (seat : SeatValue) (top drafted room : ℕ)
-      → IsSeated table me top drafted room → seat_value table (first_part me.0) ≡ seat → seat.table ≡ row → i < row_words seat.view.caller.layout
-      → OwnStep (part_of seat) id i g (told (part_of seat))
+      → IsSeated table me top drafted room → seat_value table (first_part me.0) ≡ seat → seat.table ≡ row
+      → i < row_words seat.view.caller.layout → OwnStep (part_of seat) id i g (told (part_of seat))
       → ((v : Part) (n : ℕ) (w : Part) → told v n w → then (v ∷ [], []) n (w ∷ [], []))
       → (table ≡ row) × (i < row.words) × Allows {S = S} (IsKept f p) slots id me i g (then me)
   asks f p slots id i g told then table row me seat top drafted room seated view same within own tell =
       let here : first_part me.0 ≡ part_of seat = ap part_of view in
       let tables : table ≡ row = ap (λ (s : SeatValue). s.table) view ∙ same in
-      let words : row.words ≡ row_words seat.view.caller.layout = words_of table row me top drafted room seated tables ∙ ap (λ (u : Part). row_words u.view.caller.layout) here in
-      asks_part f p slots id i g told then table row me (part_of seat) (seated.one ∙ ap (λ (u : Part). (u ∷ [], [])) here) tables (omega arith) own tell
+      let words : row.words ≡ row_words seat.view.caller.layout = words_of table row me top drafted room seated tables
+      ∙ ap (λ (u : Part). row_words u.view.caller.layout) here in
+      asks_part f p slots id i g told then table row me (part_of seat) (seated.one ∙ ap (λ (u : Part). (u ∷ [], [])) here) tables
+      (omega arith) own tell
 
 -- A seat after a step
 
@@ -63,8 +69,10 @@ module _ {S : Type 0} where
       subst (λ (m : Me S (List Part)). IsSeated table m top drafted room) whole seated
 
   -- after a step in which the stream spent nothing and its draft stayed
-  pub seated_on : (table table' : TableId) (me me' : Me S (List Part)) (top drafted room : ℕ) (w : Part) (es : History) → IsSeated table me top drafted room → table' ≡ table
-      → me'.0 ≡ w ∷ [] → me'.1 ≡ [] → PassMoves (first_part me.0).view w.view es → IsFair w.view → spent (part_stream (first_part me.0)) es ≡ 0
+  pub seated_on : (table table' : TableId) (me me' : Me S (List Part)) (top drafted room : ℕ) (w : Part) (es : History)
+      → IsSeated table me top drafted room → table' ≡ table
+      → me'.0 ≡ w ∷ [] → me'.1 ≡ [] → PassMoves (first_part me.0).view w.view es → IsFair w.view
+      → spent (part_stream (first_part me.0)) es ≡ 0
       → w.top ≡ (first_part me.0).top → w.draft ≡ (first_part me.0).draft → IsSeated table' me' top drafted room
   seated_on table table' me me' top drafted room w es seated same one none moves fair nothing top_stays draft_stays =
       let v : Part = first_part me.0 in
@@ -73,12 +81,15 @@ module _ {S : Type 0} where
       let stream : part_stream w ≡ s = ap (λ (r : Caller). r.stream) moves.caller in
       let layout : w.view.caller.layout ≡ p = ap (λ (r : Caller). r.layout) moves.caller in
       let room_is : p.room ≡ w.view.caller.layout.room = ap (λ (q : LayoutValue). q.room) (sym layout) in
-      let words : table'.words ≡ row_words w.view.caller.layout = ap (λ (t : TableId). t.words) same ∙ seated.words ∙ ap row_words (sym layout) in
-      let spends : spent (part_stream w) w.view.mine ≡ spent s v.view.mine + spent s es = ap₂ (λ (t : ℕ) (h : History). spent t h) stream moves.mine ∙ spent-append s v.view.mine es in
+      let words : table'.words ≡ row_words w.view.caller.layout = ap (λ (t : TableId). t.words) same ∙ seated.words
+      ∙ ap row_words (sym layout) in
+      let spends : spent (part_stream w) w.view.mine ≡ spent s v.view.mine + spent s es =
+      ap₂ (λ (t : ℕ) (h : History). spent t h) stream moves.mine ∙ spent-append s v.view.mine es in
       let takes : words_spent (part_stream w) w.view.mine ≡ words_spent s v.view.mine + words_spent s es =
       ap₂ (λ (t : ℕ) (h : History). words_spent t h) stream moves.mine ∙ words_spent-append s v.view.mine es in
       let none_taken : words_spent s es ≤ spent s es = words_within s es in
-      let first : first_place w.view.caller.layout (part_stream w) ≡ first_place p s = ap₂ (λ (q : LayoutValue) (t : ℕ). first_place q t) layout stream in
+      let first : first_place w.view.caller.layout (part_stream w) ≡ first_place p s =
+      ap₂ (λ (q : LayoutValue) (t : ℕ). first_place q t) layout stream in
       let len : length w.draft ≡ length v.draft = ap length draft_stays in
       seat_of table' me' w top drafted room one none (record {
         one = refl;
@@ -92,21 +103,25 @@ module _ {S : Type 0} where
       })
 
   -- after a call that takes nothing of the stream's room
-  pub seated_call : (table table' : TableId) (me me' : Me S (List Part)) (top drafted room : ℕ) (w : Part) (e : Event) → IsSeated table me top drafted room → table' ≡ table
+  pub seated_call : (table table' : TableId) (me me' : Me S (List Part)) (top drafted room : ℕ) (w : Part) (e : Event)
+      → IsSeated table me top drafted room → table' ≡ table
       → me'.0 ≡ w ∷ [] → me'.1 ≡ me.1 → Calls (first_part me.0).view w.view e → stream_of e ≡ part_stream (first_part me.0) → size_of e ≡ 0
       → w.top ≡ (first_part me.0).top → w.draft ≡ (first_part me.0).draft → IsSeated table' me' top drafted room
   seated_call table table' me me' top drafted room w e seated same one slots calls own nothing top_stays draft_stays =
-      seated_on table table' me me' top drafted room w (e ∷ []) seated same one (slots ∙ ap (λ (m : Me S (List Part)). m.1) seated.one) calls.moves calls.fair
+      seated_on table table' me me' top drafted room w (e ∷ []) seated same one
+      (slots ∙ ap (λ (m : Me S (List Part)). m.1) seated.one) calls.moves calls.fair
       (spent_one (part_stream (first_part me.0)) e own ∙ nothing) top_stays draft_stays
 
   -- after a store that added literals to the draft
-  pub seated_write : (table table' : TableId) (me me' : Me S (List Part)) (top drafted room more : ℕ) (c : Clause) (w : Part) → IsSeated table me top drafted room → table' ≡ table
-      → me'.0 ≡ w ∷ [] → me'.1 ≡ me.1 → w ≡ record (first_part me.0) { draft = (first_part me.0).draft ++ c } → more ≡ length c → drafted + more ≤ room
-      → IsSeated table' me' top (drafted + more) room
+  pub seated_write : (table table' : TableId) (me me' : Me S (List Part)) (top drafted room more : ℕ) (c : Clause) (w : Part)
+      → IsSeated table me top drafted room → table' ≡ table
+      → me'.0 ≡ w ∷ [] → me'.1 ≡ me.1 → w ≡ record (first_part me.0) { draft = (first_part me.0).draft ++ c } → more ≡ length c
+      → drafted + more ≤ room → IsSeated table' me' top (drafted + more) room
   seated_write table table' me me' top drafted room more c w seated same one slots grown count fits =
       let v : Part = first_part me.0 in
       let u : Part = record v { draft = v.draft ++ c } in
-      seat_of table' me' u top (drafted + more) room (one ∙ ap (λ (x : Part). x ∷ []) grown) (slots ∙ ap (λ (m : Me S (List Part)). m.1) seated.one) (record {
+      seat_of table' me' u top (drafted + more) room (one ∙ ap (λ (x : Part). x ∷ []) grown)
+      (slots ∙ ap (λ (m : Me S (List Part)). m.1) seated.one) (record {
         one = refl;
         fair = seated.fair;
         words = ap (λ (t : TableId). t.words) same ∙ seated.words;
@@ -118,8 +133,8 @@ module _ {S : Type 0} where
       })
 
   -- after a publish that found a word
-  pub seated_claim : (table table' : TableId) (me me' : Me S (List Part)) (top drafted room found id : ℕ) (one : Step S) → IsSeated table me top drafted room → table' ≡ table
-      → Changes Claims one me found me'
+  pub seated_claim : (table table' : TableId) (me me' : Me S (List Part)) (top drafted room found id : ℕ) (one : Step S)
+      → IsSeated table me top drafted room → table' ≡ table → Changes Claims one me found me'
       → (found ≡ 0 → IsSeated table' me' (top + words_for drafted) 0 (room - drafted)) × (found ≢ 0 → IsSeated table' me' top 0 room)
   seated_claim table table' me me' top drafted room found id one seated same told =
       let v : Part = first_part me.0 in
@@ -132,18 +147,25 @@ module _ {S : Type 0} where
       let stream : part_stream w ≡ s = ap (λ (r : Caller). r.stream) claim.calls.moves.caller in
       let layout : w.view.caller.layout ≡ p = ap (λ (r : Caller). r.layout) claim.calls.moves.caller in
       let room_is : p.room ≡ w.view.caller.layout.room = ap (λ (q : LayoutValue). q.room) (sym layout) in
-      let words : table'.words ≡ row_words w.view.caller.layout = ap (λ (t : TableId). t.words) same ∙ seated.words ∙ ap row_words (sym layout) in
+      let words : table'.words ≡ row_words w.view.caller.layout = ap (λ (t : TableId). t.words) same ∙ seated.words
+      ∙ ap row_words (sym layout) in
       let nil : length w.draft ≡ 0 = ap length claim.draft in
       let e : Published → Event = λ r. events.publish s one.word v.draft r in
       let spends : spent (part_stream w) w.view.mine ≡ spent s v.view.mine + size_of (e (published_at found)) =
-      ap₂ (λ (t : ℕ) (h : History). spent t h) stream claim.calls.moves.mine ∙ spent-append s v.view.mine (e (published_at found) ∷ []) ∙ ap (λ (n : ℕ). spent s v.view.mine + n) (spent_one s (e (published_at found)) refl) in
+      ap₂ (λ (t : ℕ) (h : History). spent t h) stream claim.calls.moves.mine ∙ spent-append s v.view.mine (e (published_at found) ∷ [])
+      ∙ ap (λ (n : ℕ). spent s v.view.mine + n) (spent_one s (e (published_at found)) refl) in
       let takes : words_spent (part_stream w) w.view.mine ≡ words_spent s v.view.mine + words_taken (e (published_at found)) =
-      ap₂ (λ (t : ℕ) (h : History). words_spent t h) stream claim.calls.moves.mine ∙ words_spent-append s v.view.mine (e (published_at found) ∷ []) ∙ ap (λ (n : ℕ). words_spent s v.view.mine + n) (words_spent_one s (e (published_at found)) refl) in
-      let first : first_place w.view.caller.layout (part_stream w) ≡ first_place p s = ap₂ (λ (q : LayoutValue) (t : ℕ). first_place q t) layout stream in (
+      ap₂ (λ (t : ℕ) (h : History). words_spent t h) stream claim.calls.moves.mine
+      ∙ words_spent-append s v.view.mine (e (published_at found) ∷ [])
+      ∙ ap (λ (n : ℕ). words_spent s v.view.mine + n) (words_spent_one s (e (published_at found)) refl) in
+      let first : first_place w.view.caller.layout (part_stream w) ≡ first_place p s =
+      ap₂ (λ (q : LayoutValue) (t : ℕ). first_place q t) layout stream in (
         λ is.
-            let done : published_at found ≡ publishing.Done = cond-true (eqb found 0) publishing.Done publishing.Taken (eq-eqb found 0 is) in
+            let done : published_at found ≡ publishing.Done =
+            cond-true (eqb found 0) publishing.Done publishing.Taken (eq-eqb found 0 is) in
             let size : size_of (e (published_at found)) ≡ length v.draft = ap (λ (r : Published). size_of (e r)) done in
-            let grown : w.top ≡ v.top + words_for (length v.draft) = claim.top ∙ cond-true (eqb found 0) (v.top + words_for (length v.draft)) v.top (eq-eqb found 0 is) in
+            let grown : w.top ≡ v.top + words_for (length v.draft) = claim.top
+            ∙ cond-true (eqb found 0) (v.top + words_for (length v.draft)) v.top (eq-eqb found 0 is) in
             seat_of table' me' w (top + words_for drafted) 0 (room - drafted) all.1 none (record {
               one = refl;
               fair = claim.calls.fair;
@@ -155,9 +177,11 @@ module _ {S : Type 0} where
               within = omega arith;
             }),
         λ not.
-            let taken : published_at found ≡ publishing.Taken = cond-false (eqb found 0) publishing.Done publishing.Taken (ne_eqb found 0 not) in
+            let taken : published_at found ≡ publishing.Taken =
+            cond-false (eqb found 0) publishing.Done publishing.Taken (ne_eqb found 0 not) in
             let size : size_of (e (published_at found)) ≡ 0 = ap (λ (r : Published). size_of (e r)) taken in
-            let stays : w.top ≡ v.top = claim.top ∙ cond-false (eqb found 0) (v.top + words_for (length v.draft)) v.top (ne_eqb found 0 not) in
+            let stays : w.top ≡ v.top = claim.top
+            ∙ cond-false (eqb found 0) (v.top + words_for (length v.draft)) v.top (ne_eqb found 0 not) in
             seat_of table' me' w top 0 room all.1 none (record {
               one = refl;
               fair = claim.calls.fair;

@@ -1,5 +1,7 @@
 -- Lemmas on where the clauses of a history lie.
-use Rattle.std.proofs.Common.{◌≡◌, ℕ, ◌+◌, ◌-◌, ◌*◌, ◌<◌, ◌≤◌, ◌⊎◌, Bool, true, false, cond, eqb, zero, suc, List, [], ◌∷◌, ◌++◌, length, get_or, Option, None, Some, refl, sym, ap, subst, ◌∙◌, inl, inr, arith, append-nil, append_assoc, eq-eqb, ne_eqb}
+use Rattle.std.proofs.Common.{◌≡◌, ℕ, ◌+◌, ◌-◌, ◌*◌, ◌<◌, ◌≤◌, ◌⊎◌, Bool, true, false, cond, eqb, zero, suc, List, [], ◌∷◌, ◌++◌, length}
+use Rattle.std.proofs.Common.{get_or, Option, None, Some, refl, sym, ap, subst, ◌∙◌, inl, inr, arith, append-nil, append_assoc, eq-eqb}
+use Rattle.std.proofs.Common.{ne_eqb}
 use Rattle.std.specs.List.{sum_by, AllByRecursion}
 use Rattle.std.proofs.lemmas.Bool.{cases_eq, cases_lt, cond-true, cond-false}
 use Rattle.std.proofs.lemmas.List.Sums.{sum_by-cons, sum_by-append, sum_by-le-sum_by}
@@ -14,12 +16,14 @@ use Rattle.lrup_model.specs.History.{LegalFrom, IsLegal}
 use Rattle.lrup_model.specs.Place.{Kept, KeepsSpelt}
 use Rattle.lrup_model.specs.Pass.{Spelling, kept_in, IsOncePerIdentity, Spells, IsSpelt}
 use Rattle.lrup_model.specs.RunningLemmas.{size_of, spent-sizes, own-append}
-use Rattle.lrup_model.specs.HistoryLemmas.{put, put-same, put-other, own-mine, own-own, legal-front, opening-formula, opening-above, opening-none}
+use Rattle.lrup_model.specs.HistoryLemmas.{put, put-same, put-other, own-mine, own-own, legal-front, opening-formula, opening-above}
+use Rattle.lrup_model.specs.HistoryLemmas.{opening-none}
 use Rattle.lrup_model.specs.OwnerLemmas.{owned}
 use Rattle.lrup_model.specs.declared.clause_map.Published.TheVariants as publishing
 use Rattle.lrup_model.specs.declared.clause_map.Retired.TheVariants as retiring
 use Rattle.idwords.specs.Words.{words_for}
-use Rattle.idwords.specs.Spelling.{spelling, clauses_spelling, first_place, words_taken, words_spent, top_after, event_spelling, added_spelling, spelling_of, LieWithin}
+use Rattle.idwords.specs.Spelling.{spelling, clauses_spelling, first_place, words_taken, words_spent, top_after, event_spelling}
+use Rattle.idwords.specs.Spelling.{added_spelling, spelling_of, LieWithin}
 
 -- The words that were spent
 
@@ -51,9 +55,11 @@ added-append p b (e ∷ g) h =
 pub spelling-append : (f : Cnf) (p : LayoutValue) (g h : History) → spelling_of f p (g ++ h) ≡ spelling_of f p g ++ added_spelling p g h
 spelling-append f p g h =
     let front : List Spelling = clauses_spelling 1 (1 + last_identity p) f.clauses in
-    ap (λ (xs : List Spelling). front ++ xs) (added-append p [] g h) ∙ sym (append_assoc front (added_spelling p [] g) (added_spelling p g h))
+    ap (λ (xs : List Spelling). front ++ xs) (added-append p [] g h)
+    ∙ sym (append_assoc front (added_spelling p [] g) (added_spelling p g h))
 
-pub spelling-snoc : (f : Cnf) (p : LayoutValue) (h : History) (e : Event) → spelling_of f p (h ++ e ∷ []) ≡ spelling_of f p h ++ event_spelling p h e
+pub spelling-snoc : (f : Cnf) (p : LayoutValue) (h : History) (e : Event)
+    → spelling_of f p (h ++ e ∷ []) ≡ spelling_of f p h ++ event_spelling p h e
 spelling-snoc f p h e =
     spelling-append f p h (e ∷ []) ∙ ap (λ (xs : List Spelling). spelling_of f p h ++ xs) (append-nil (event_spelling p h e))
 
@@ -65,7 +71,8 @@ past_some false a o o' k go here = go here
 
 pub kept-append_some : (xs ys : List Spelling) (id : ℕ) (k : Kept) → kept_in xs id ≡ Some k → kept_in (xs ++ ys) id ≡ Some k
 kept-append_some [] ys id k here = absurd (cc)
-kept-append_some (x ∷ xs) ys id k here = past_some (eqb x.id id) (Some x.kept) (kept_in xs id) (kept_in (xs ++ ys) id) k (kept-append_some xs ys id k) here
+kept-append_some (x ∷ xs) ys id k here =
+    past_some (eqb x.id id) (Some x.kept) (kept_in xs id) (kept_in (xs ++ ys) id) k (kept-append_some xs ys id k) here
 
 not_some : (b : Bool) (a : Kept) (o : Option Kept) → cond b (Some a) o ≡ None → (b ≡ false) × (o ≡ None)
 not_some true a o here = absurd (cc)
@@ -77,9 +84,11 @@ kept-append_none (x ∷ xs) ys id none =
     let parts = not_some (eqb x.id id) x.kept (kept_in xs id) none in
     cond-false (eqb x.id id) (Some x.kept) (kept_in (xs ++ ys) id) parts.0 ∙ kept-append_none xs ys id parts.1
 
-pub keeps_spelt : (f : Cnf) (p : LayoutValue) (g h : History) → KeepsSpelt (kept_in (spelling_of f p g)) (kept_in (spelling_of f p (g ++ h)))
+pub keeps_spelt : (f : Cnf) (p : LayoutValue) (g h : History)
+    → KeepsSpelt (kept_in (spelling_of f p g)) (kept_in (spelling_of f p (g ++ h)))
 keeps_spelt f p g h id kept here =
-    ap (λ (xs : List Spelling). kept_in xs id) (spelling-append f p g h) ∙ kept-append_some (spelling_of f p g) (added_spelling p g h) id kept here
+    ap (λ (xs : List Spelling). kept_in xs id) (spelling-append f p g h)
+    ∙ kept-append_some (spelling_of f p g) (added_spelling p g h) id kept here
 
 pub kept_one : (x : Spelling) (id : ℕ) → id ≡ x.id → kept_in (x ∷ []) id ≡ Some x.kept
 kept_one x id same = cond-true (eqb x.id id) (Some x.kept) None (eq-eqb x.id id (sym same))
@@ -125,11 +134,13 @@ spells_retired (retired c) o spells = spells
 same_list : (m : State) (xs : List Spelling) → SpellsState m xs → SpellsState m (xs ++ [])
 same_list m xs spells = subst (λ (ys : List Spelling). SpellsState m ys) (sym (append-nil xs)) spells
 
-pub kept_beside : (xs : List Spelling) (x : Spelling) (j : ℕ) (o : Option Kept) → kept_in xs j ≡ o → (j ≡ x.id → ⊥) → kept_in (xs ++ x ∷ []) j ≡ o
+pub kept_beside : (xs : List Spelling) (x : Spelling) (j : ℕ) (o : Option Kept) → kept_in xs j ≡ o → (j ≡ x.id → ⊥)
+    → kept_in (xs ++ x ∷ []) j ≡ o
 kept_beside xs x j None here other = kept-append_none xs (x ∷ []) j here ∙ kept_other x j other
 kept_beside xs x j (Some k) here other = kept-append_some xs (x ∷ []) j k here
 
-spells_event : (p : LayoutValue) (b : History) (m : State) (xs : List Spelling) (e : Event) → SpellsState m xs → Answers m e → SpellsState (after m e) (xs ++ event_spelling p b e)
+spells_event : (p : LayoutValue) (b : History) (m : State) (xs : List Spelling) (e : Event) → SpellsState m xs → Answers m e
+    → SpellsState (after m e) (xs ++ event_spelling p b e)
 spells_event p b m xs (events.fetch s id r) spells answers = same_list m xs spells
 spells_event p b m xs (events.publish s id c publishing.Done) spells answers =
     let x : Spelling = spelling id (top_after p s b) c in
@@ -138,13 +149,16 @@ spells_event p b m xs (events.publish s id c publishing.Done) spells answers =
       once = once-snoc xs x spells.once none;
       slots = λ j. elim (cases_eq j id) [
         | inl same ↦
-            let there : kept_in (xs ++ x ∷ []) j ≡ Some x.kept = kept-append_none xs (x ∷ []) j (subst (λ (k : ℕ). kept_in xs k ≡ None) (sym same) none) ∙ kept_one x j same in
+            let there : kept_in (xs ++ x ∷ []) j ≡ Some x.kept =
+            kept-append_none xs (x ∷ []) j (subst (λ (k : ℕ). kept_in xs k ≡ None) (sym same) none) ∙ kept_one x j same in
             let slot : put m id (live c) j ≡ live c = put-same m id (live c) j same in
-            subst (λ (y : Slot). Spells y (kept_in (xs ++ x ∷ []) j)) (sym slot) (subst (λ (o : Option Kept). Spells (live c) o) (sym there) refl)
+            subst (λ (y : Slot). Spells y (kept_in (xs ++ x ∷ []) j)) (sym slot)
+            (subst (λ (o : Option Kept). Spells (live c) o) (sym there) refl)
         | inr other ↦
             let slot : put m id (live c) j ≡ m j = put-other m id (live c) j other in
             let there : kept_in (xs ++ x ∷ []) j ≡ kept_in xs j = kept_beside xs x j (kept_in xs j) refl other in
-            subst (λ (y : Slot). Spells y (kept_in (xs ++ x ∷ []) j)) (sym slot) (subst (λ (o : Option Kept). Spells (m j) o) (sym there) (spells.slots j))
+            subst (λ (y : Slot). Spells y (kept_in (xs ++ x ∷ []) j)) (sym slot)
+            (subst (λ (o : Option Kept). Spells (m j) o) (sym there) (spells.slots j))
       ];
     }
 spells_event p b m xs (events.publish s id c publishing.Taken) spells answers = same_list m xs spells
@@ -153,51 +167,61 @@ spells_event p b m xs (events.retire s id retiring.Done) spells answers =
       once = spells.once;
       slots = λ j. elim (cases_eq j id) [
         | inl same ↦
-            let slot : put m id (retire_slot (m id)) j ≡ retire_slot (m j) = put-same m id (retire_slot (m id)) j same ∙ ap (λ (k : ℕ). retire_slot (m k)) (sym same) in
+            let slot : put m id (retire_slot (m id)) j ≡ retire_slot (m j) = put-same m id (retire_slot (m id)) j same
+            ∙ ap (λ (k : ℕ). retire_slot (m k)) (sym same) in
             subst (λ (y : Slot). Spells y (kept_in xs j)) (sym slot) (spells_retired (m j) (kept_in xs j) (spells.slots j))
         | inr other ↦ subst (λ (y : Slot). Spells y (kept_in xs j)) (sym (put-other m id (retire_slot (m id)) j other)) (spells.slots j)
       ];
     })
 spells_event p b m xs (events.retire s id retiring.NotLive) spells answers = same_list m xs spells
 
-spells_run : (f : Cnf) (p : LayoutValue) (b : History) (m : State) (xs : List Spelling) (h : History) → SpellsState m xs → LegalFrom f p m h → SpellsState (run m h) (xs ++ added_spelling p b h)
+spells_run : (f : Cnf) (p : LayoutValue) (b : History) (m : State) (xs : List Spelling) (h : History) → SpellsState m xs → LegalFrom f p m h
+    → SpellsState (run m h) (xs ++ added_spelling p b h)
 spells_run f p b m xs [] spells legal = same_list m xs spells
 spells_run f p b m xs (e ∷ h) spells legal =
     let one : SpellsState (after m e) (xs ++ event_spelling p b e) = spells_event p b m xs e spells legal.0 in
     let all = spells_run f p (b ++ e ∷ []) (after m e) (xs ++ event_spelling p b e) h one legal.2 in
-    subst (λ (ys : List Spelling). SpellsState (run (after m e) h) ys) (append_assoc xs (event_spelling p b e) (added_spelling p (b ++ e ∷ []) h)) all
+    subst (λ (ys : List Spelling). SpellsState (run (after m e) h) ys)
+    (append_assoc xs (event_spelling p b e) (added_spelling p (b ++ e ∷ []) h)) all
 
 -- The formula's clauses
 
 clauses_below : (id start : ℕ) (cs : List Clause) (j : ℕ) → j < id → kept_in (clauses_spelling id start cs) j ≡ None
 clauses_below id start [] j below = refl
 clauses_below id start (c ∷ cs) j below =
-    cond-false (eqb id j) (Some (record { start = start; literals = c })) (kept_in (clauses_spelling (id + 1) (start + words_for (length c)) cs) j) (ne_eqb id j (λ same. omega arith))
+    cond-false (eqb id j) (Some (record { start = start; literals = c }))
+    (kept_in (clauses_spelling (id + 1) (start + words_for (length c)) cs) j) (ne_eqb id j (λ same. omega arith))
     ∙ clauses_below (id + 1) (start + words_for (length c)) cs j (omega arith)
 
 clauses_above : (id start : ℕ) (cs : List Clause) (j : ℕ) → id + length cs ≤ j → kept_in (clauses_spelling id start cs) j ≡ None
 clauses_above id start [] j above = refl
 clauses_above id start (c ∷ cs) j above =
-    cond-false (eqb id j) (Some (record { start = start; literals = c })) (kept_in (clauses_spelling (id + 1) (start + words_for (length c)) cs) j) (ne_eqb id j (λ same. omega arith))
+    cond-false (eqb id j) (Some (record { start = start; literals = c }))
+    (kept_in (clauses_spelling (id + 1) (start + words_for (length c)) cs) j) (ne_eqb id j (λ same. omega arith))
     ∙ clauses_above (id + 1) (start + words_for (length c)) cs j (omega arith)
 
 clauses_at : (id start : ℕ) (cs : List Clause) (k : ℕ) → k < length cs
     → (place : ℕ) × (kept_in (clauses_spelling id start cs) (id + k) ≡ Some (record { start = place; literals = get_or cs k [] }))
 clauses_at id start [] k within = absurd (omega arith)
-clauses_at id start (c ∷ cs) zero within =
-    (start, cond-true (eqb id (id + 0)) (Some (record { start = start; literals = c })) (kept_in (clauses_spelling (id + 1) (start + words_for (length c)) cs) (id + 0)) (eq-eqb id (id + 0) (omega arith)))
+clauses_at id start (c ∷ cs) zero within = (
+  start,
+  cond-true (eqb id (id + 0)) (Some (record { start = start; literals = c }))
+      (kept_in (clauses_spelling (id + 1) (start + words_for (length c)) cs) (id + 0)) (eq-eqb id (id + 0) (omega arith)),
+)
 clauses_at id start (c ∷ cs) (suc k) within =
     let rest = clauses_at (id + 1) (start + words_for (length c)) cs k (omega arith) in
     let next : id + suc k ≡ id + 1 + k = omega arith in (
       rest.0,
       ap (λ (j : ℕ). kept_in (clauses_spelling id start (c ∷ cs)) j) next
-          ∙ cond-false (eqb id (id + 1 + k)) (Some (record { start = start; literals = c })) (kept_in (clauses_spelling (id + 1) (start + words_for (length c)) cs) (id + 1 + k)) (ne_eqb id (id + 1 + k) (λ same. omega arith))
+          ∙ cond-false (eqb id (id + 1 + k)) (Some (record { start = start; literals = c })) (kept_in
+          (clauses_spelling (id + 1) (start + words_for (length c)) cs) (id + 1 + k)) (ne_eqb id (id + 1 + k) (λ same. omega arith))
           ∙ rest.1,
     )
 
 clauses_once : (id start : ℕ) (cs : List Clause) → IsOncePerIdentity (clauses_spelling id start cs)
 clauses_once id start [] = tt
-clauses_once id start (c ∷ cs) = (clauses_below (id + 1) (start + words_for (length c)) cs id (omega arith), clauses_once (id + 1) (start + words_for (length c)) cs)
+clauses_once id start (c ∷ cs) =
+    (clauses_below (id + 1) (start + words_for (length c)) cs id (omega arith), clauses_once (id + 1) (start + words_for (length c)) cs)
 
 spells_opening : (f : Cnf) (start : ℕ) → SpellsState (opening f) (clauses_spelling 1 start f.clauses)
 spells_opening f start = record {
@@ -206,22 +230,26 @@ spells_opening f start = record {
     | inl positive ↦ elim (cases_lt (length f.clauses) id) [
       | inl above ↦
           let none : kept_in (clauses_spelling 1 start f.clauses) id ≡ None = clauses_above 1 start f.clauses id (omega arith) in
-          subst (λ (y : Slot). Spells y (kept_in (clauses_spelling 1 start f.clauses) id)) (sym (opening-above f id above)) (subst (λ (o : Option Kept). Spells absent o) (sym none) tt)
+          subst (λ (y : Slot). Spells y (kept_in (clauses_spelling 1 start f.clauses) id)) (sym (opening-above f id above))
+          (subst (λ (o : Option Kept). Spells absent o) (sym none) tt)
       | inr within ↦
           let at = clauses_at 1 start f.clauses (id - 1) (omega arith) in
           let here : kept_in (clauses_spelling 1 start f.clauses) id ≡ Some (record { start = at.0; literals = clause_at f id }) =
           ap (λ (j : ℕ). kept_in (clauses_spelling 1 start f.clauses) j) (omega arith) ∙ at.1 in
-          subst (λ (y : Slot). Spells y (kept_in (clauses_spelling 1 start f.clauses) id)) (sym (opening-formula f id positive within)) (subst (λ (o : Option Kept). Spells (live (clause_at f id)) o) (sym here) refl)
+          subst (λ (y : Slot). Spells y (kept_in (clauses_spelling 1 start f.clauses) id)) (sym (opening-formula f id positive within))
+          (subst (λ (o : Option Kept). Spells (live (clause_at f id)) o) (sym here) refl)
     ]
     | inr nil ↦
         let none : kept_in (clauses_spelling 1 start f.clauses) id ≡ None = clauses_below 1 start f.clauses id (omega arith) in
-        subst (λ (y : Slot). Spells y (kept_in (clauses_spelling 1 start f.clauses) id)) (sym (opening-none f id nil)) (subst (λ (o : Option Kept). Spells absent o) (sym none) tt)
+        subst (λ (y : Slot). Spells y (kept_in (clauses_spelling 1 start f.clauses) id)) (sym (opening-none f id nil))
+        (subst (λ (o : Option Kept). Spells absent o) (sym none) tt)
   ];
 }
 
 pub spelt : (f : Cnf) (p : LayoutValue) (h : History) → LegalFrom f p (opening f) h → IsSpelt f h (spelling_of f p h)
 spelt f p h legal =
-    let all = spells_run f p [] (opening f) (clauses_spelling 1 (1 + last_identity p) f.clauses) h (spells_opening f (1 + last_identity p)) legal in
+    let all =
+    spells_run f p [] (opening f) (clauses_spelling 1 (1 + last_identity p) f.clauses) h (spells_opening f (1 + last_identity p)) legal in
     record { once = all.once; slots = all.slots }
 
 -- Inside the row
@@ -248,7 +276,10 @@ clauses_lodged : (id start : ℕ) (cs : List Clause) (j : ℕ) (kept : Kept) →
 clauses_lodged id start [] j kept here = absurd (cc)
 clauses_lodged id start (c ∷ cs) j kept here =
     let all = sum_by-cons length c cs in
-    elim (either_kept (eqb id j) (record { start = start; literals = c }) (kept_in (clauses_spelling (id + 1) (start + words_for (length c)) cs) j) kept here) [
+    elim (either_kept (eqb id j) (record {
+      start = start;
+      literals = c;
+    }) (kept_in (clauses_spelling (id + 1) (start + words_for (length c)) cs) j) kept here) [
       | inl same ↦
           let at : start ≡ kept.start = ap (λ (k : Kept). k.start) same in
           let len : length c ≡ length kept.literals = ap (λ (k : Kept). length k.literals) same in
@@ -258,7 +289,8 @@ clauses_lodged id start (c ∷ cs) j kept here =
           (omega (arith, rest.0), omega (arith, rest.1, all))
     ]
 
-lodged_on : (p : LayoutValue) (b : History) (e : Event) (h : History) (kept : Kept) → ((s : ℕ) × LodgedOf p (b ++ e ∷ [] ++ h) kept s) → (s : ℕ) × LodgedOf p (b ++ e ∷ h) kept s
+lodged_on : (p : LayoutValue) (b : History) (e : Event) (h : History) (kept : Kept) → ((s : ℕ) × LodgedOf p (b ++ e ∷ [] ++ h) kept s)
+    → (s : ℕ) × LodgedOf p (b ++ e ∷ h) kept s
 lodged_on p b e h kept lodged = subst (λ (g : History). (s : ℕ) × LodgedOf p g kept s) (append_assoc b (e ∷ []) h) lodged
 
 added_lodged : (f : Cnf) (p : LayoutValue) (b : History) (m : State) (h : History) (j : ℕ) (kept : Kept) → 0 < p.streams → LegalFrom f p m h
@@ -270,16 +302,21 @@ added_lodged f p b m (events.publish s id c publishing.Done ∷ h) j kept some l
     let sum : words_spent s (b ++ e ∷ h) ≡ words_spent s b + words_spent s (e ∷ h) = words_spent-append s b (e ∷ h) in
     let sum' : words_spent s (e ∷ h) ≡ words_spent s (e ∷ []) + words_spent s h = words_spent-append s (e ∷ []) h in
     let one : words_spent s (e ∷ []) ≡ words_for (length c) = words_spent_one s e refl in
-    elim (either_kept (eqb id j) (record { start = top_after p s b; literals = c }) (kept_in (added_spelling p (b ++ e ∷ []) h) j) kept here) [
+    elim (either_kept (eqb id j) (record {
+      start = top_after p s b;
+      literals = c;
+    }) (kept_in (added_spelling p (b ++ e ∷ []) h) j) kept here) [
       | inl same ↦
           let at : top_after p s b ≡ kept.start = ap (λ (k : Kept). k.start) same in
           let len : length c ≡ length kept.literals = ap (λ (k : Kept). length k.literals) same in
           (s, record { stream = (who.first, who.last); first = omega arith; last = omega arith })
       | inr later ↦ lodged_on p b e h kept (added_lodged f p (b ++ e ∷ []) (after m e) h j kept some legal.2 later)
     ]
-added_lodged f p b m (events.fetch s id r ∷ h) j kept some legal here = lodged_on p b (events.fetch s id r) h kept (added_lodged f p (b ++ events.fetch s id r ∷ []) m h j kept some legal.2 here)
+added_lodged f p b m (events.fetch s id r ∷ h) j kept some legal here =
+    lodged_on p b (events.fetch s id r) h kept (added_lodged f p (b ++ events.fetch s id r ∷ []) m h j kept some legal.2 here)
 added_lodged f p b m (events.publish s id c publishing.Taken ∷ h) j kept some legal here =
-    let e : Event = events.publish s id c publishing.Taken in lodged_on p b e h kept (added_lodged f p (b ++ e ∷ []) m h j kept some legal.2 here)
+    let e : Event = events.publish s id c publishing.Taken in
+    lodged_on p b e h kept (added_lodged f p (b ++ e ∷ []) m h j kept some legal.2 here)
 added_lodged f p b m (events.retire s id r ∷ h) j kept some legal here =
     let e : Event = events.retire s id r in lodged_on p b e h kept (added_lodged f p (b ++ e ∷ []) (after m e) h j kept some legal.2 here)
 
@@ -298,65 +335,83 @@ lodged_either f p h j kept some fits legal here (Some k) there =
 -- each clause that is kept lies inside the row, apart from what other streams may write
 pub lodged : (f : Cnf) (p : LayoutValue) (h : History) (j : ℕ) (kept : Kept) → 0 < p.streams → Fits p f → LegalFrom f p (opening f) h
     → kept_in (spelling_of f p h) j ≡ Some kept → IsLodged p h kept
-lodged f p h j kept some fits legal here = lodged_either f p h j kept some fits legal here (kept_in (clauses_spelling 1 (1 + last_identity p) f.clauses) j) refl
+lodged f p h j kept some fits legal here =
+    lodged_either f p h j kept some fits legal here (kept_in (clauses_spelling 1 (1 + last_identity p) f.clauses) j) refl
 
 -- Inside the row
 
-pub lies_within : (f : Cnf) (p : LayoutValue) (h : History) → 0 < p.streams → Fits p f → IsLegal f p h → LieWithin (row_words p) (spelling_of f p h)
+pub lies_within : (f : Cnf) (p : LayoutValue) (h : History) → 0 < p.streams → Fits p f → IsLegal f p h
+    → LieWithin (row_words p) (spelling_of f p h)
 lies_within f p h some fits legal j kept there =
     elim (lodged f p h j kept some fits legal.events there) [
       | inl formula ↦ omega (arith, formula.last)
       | inr (s, lodging) ↦
-          let more : (s - 1 + 1) * p.room ≤ p.streams * p.room = mul-le-mul_right p.room (omega (arith, lodging.stream.0, lodging.stream.1)) in
+          let more : (s - 1 + 1) * p.room ≤ p.streams * p.room =
+          mul-le-mul_right p.room (omega (arith, lodging.stream.0, lodging.stream.1)) in
           omega (arith, lodging.last, legal.room s, words_within s h)
     ]
 
 -- Of a length that an identity's word can hold
 
-clauses_short : (vars id start : ℕ) (cs : List Clause) (j : ℕ) (kept : Kept) → AllByRecursion (IsFormulaClause vars) cs → kept_in (clauses_spelling id start cs) j ≡ Some kept
-    → length kept.literals < 1048576
+clauses_short : (vars id start : ℕ) (cs : List Clause) (j : ℕ) (kept : Kept) → AllByRecursion (IsFormulaClause vars) cs
+    → kept_in (clauses_spelling id start cs) j ≡ Some kept → length kept.literals < 1048576
 clauses_short vars id start [] j kept all here = absurd (cc)
 clauses_short vars id start (c ∷ cs) j kept all here =
-    elim (either_kept (eqb id j) (record { start = start; literals = c }) (kept_in (clauses_spelling (id + 1) (start + words_for (length c)) cs) j) kept here) [
+    elim (either_kept (eqb id j) (record {
+      start = start;
+      literals = c;
+    }) (kept_in (clauses_spelling (id + 1) (start + words_for (length c)) cs) j) kept here) [
       | inl same ↦ let len : length c ≡ length kept.literals = ap (λ (k : Kept). length k.literals) same in omega (arith, all.0.1)
       | inr later ↦ clauses_short vars (id + 1) (start + words_for (length c)) cs j kept all.1 later
     ]
 
-added_short : (f : Cnf) (p : LayoutValue) (b : History) (m : State) (h : History) (j : ℕ) (kept : Kept) → LegalFrom f p m h → kept_in (added_spelling p b h) j ≡ Some kept
-    → length kept.literals < 1048576
+added_short : (f : Cnf) (p : LayoutValue) (b : History) (m : State) (h : History) (j : ℕ) (kept : Kept) → LegalFrom f p m h
+    → kept_in (added_spelling p b h) j ≡ Some kept → length kept.literals < 1048576
 added_short f p b m [] j kept legal here = absurd (cc)
 added_short f p b m (events.publish s id c publishing.Done ∷ h) j kept legal here =
     let e : Event = events.publish s id c publishing.Done in
-    elim (either_kept (eqb id j) (record { start = top_after p s b; literals = c }) (kept_in (added_spelling p (b ++ e ∷ []) h) j) kept here) [
+    elim (either_kept (eqb id j) (record {
+      start = top_after p s b;
+      literals = c;
+    }) (kept_in (added_spelling p (b ++ e ∷ []) h) j) kept here) [
       | inl same ↦ let len : length c ≡ length kept.literals = ap (λ (k : Kept). length k.literals) same in omega (arith, legal.1.1.length)
       | inr later ↦ added_short f p (b ++ e ∷ []) (after m e) h j kept legal.2 later
     ]
 added_short f p b m (events.fetch s id r ∷ h) j kept legal here = added_short f p (b ++ events.fetch s id r ∷ []) m h j kept legal.2 here
-added_short f p b m (events.publish s id c publishing.Taken ∷ h) j kept legal here = added_short f p (b ++ events.publish s id c publishing.Taken ∷ []) m h j kept legal.2 here
-added_short f p b m (events.retire s id r ∷ h) j kept legal here = added_short f p (b ++ events.retire s id r ∷ []) (after m (events.retire s id r)) h j kept legal.2 here
+added_short f p b m (events.publish s id c publishing.Taken ∷ h) j kept legal here =
+    added_short f p (b ++ events.publish s id c publishing.Taken ∷ []) m h j kept legal.2 here
+added_short f p b m (events.retire s id r ∷ h) j kept legal here =
+    added_short f p (b ++ events.retire s id r ∷ []) (after m (events.retire s id r)) h j kept legal.2 here
 
-short_either : (f : Cnf) (p : LayoutValue) (h : History) (j : ℕ) (kept : Kept) → IsCnf f → LegalFrom f p (opening f) h → kept_in (spelling_of f p h) j ≡ Some kept
+short_either : (f : Cnf) (p : LayoutValue) (h : History) (j : ℕ) (kept : Kept) → IsCnf f → LegalFrom f p (opening f) h
+    → kept_in (spelling_of f p h) j ≡ Some kept
     → (o : Option Kept) → kept_in (clauses_spelling 1 (1 + last_identity p) f.clauses) j ≡ o → length kept.literals < 1048576
 short_either f p h j kept cnf legal here None there =
-    added_short f p [] (opening f) h j kept legal (sym (kept-append_none (clauses_spelling 1 (1 + last_identity p) f.clauses) (added_spelling p [] h) j there) ∙ here)
+    added_short f p [] (opening f) h j kept legal
+    (sym (kept-append_none (clauses_spelling 1 (1 + last_identity p) f.clauses) (added_spelling p [] h) j there) ∙ here)
 short_either f p h j kept cnf legal here (Some k) there =
-    let same : Some k ≡ Some kept = sym (kept-append_some (clauses_spelling 1 (1 + last_identity p) f.clauses) (added_spelling p [] h) j k there) ∙ here in
+    let same : Some k ≡ Some kept =
+    sym (kept-append_some (clauses_spelling 1 (1 + last_identity p) f.clauses) (added_spelling p [] h) j k there) ∙ here in
     clauses_short f.vars 1 (1 + last_identity p) f.clauses j kept cnf.clauses (there ∙ same)
 
-pub short : (f : Cnf) (p : LayoutValue) (h : History) (j : ℕ) (kept : Kept) → IsCnf f → LegalFrom f p (opening f) h → kept_in (spelling_of f p h) j ≡ Some kept
-    → length kept.literals < 1048576
-short f p h j kept cnf legal here = short_either f p h j kept cnf legal here (kept_in (clauses_spelling 1 (1 + last_identity p) f.clauses) j) refl
+pub short : (f : Cnf) (p : LayoutValue) (h : History) (j : ℕ) (kept : Kept) → IsCnf f → LegalFrom f p (opening f) h
+    → kept_in (spelling_of f p h) j ≡ Some kept → length kept.literals < 1048576
+short f p h j kept cnf legal here =
+    short_either f p h j kept cnf legal here (kept_in (clauses_spelling 1 (1 + last_identity p) f.clauses) j) refl
 
 -- What is kept for a stream's own identity is the same in what the stream has seen and in any later history in which it made no call
 
-own_either : (f : Cnf) (p : LayoutValue) (seen more : History) (id : ℕ) → IsSpelt f seen (spelling_of f p seen) → IsSpelt f (seen ++ more) (spelling_of f p (seen ++ more))
-    → state f (seen ++ more) id ≡ state f seen id → (o : Option Kept) → kept_in (spelling_of f p seen) id ≡ o → kept_in (spelling_of f p (seen ++ more)) id ≡ o
+own_either : (f : Cnf) (p : LayoutValue) (seen more : History) (id : ℕ) → IsSpelt f seen (spelling_of f p seen)
+    → IsSpelt f (seen ++ more) (spelling_of f p (seen ++ more))
+    → state f (seen ++ more) id ≡ state f seen id → (o : Option Kept) → kept_in (spelling_of f p seen) id ≡ o
+    → kept_in (spelling_of f p (seen ++ more)) id ≡ o
 own_either f p seen more id before later same None here =
     let nothing : state f seen id ≡ absent = spells_none (state f seen id) (kept_in (spelling_of f p seen) id) here (before.slots id) in
     spells_absent (state f (seen ++ more) id) (kept_in (spelling_of f p (seen ++ more)) id) (same ∙ nothing) (later.slots id)
 own_either f p seen more id before later same (Some kept) here = keeps_spelt f p seen more id kept here
 
-pub own_kept : (f : Cnf) (p : LayoutValue) (seen more : History) (id : ℕ) → LegalFrom f p (opening f) (seen ++ more) → state f (seen ++ more) id ≡ state f seen id
-    → kept_in (spelling_of f p (seen ++ more)) id ≡ kept_in (spelling_of f p seen) id
+pub own_kept : (f : Cnf) (p : LayoutValue) (seen more : History) (id : ℕ) → LegalFrom f p (opening f) (seen ++ more)
+    → state f (seen ++ more) id ≡ state f seen id → kept_in (spelling_of f p (seen ++ more)) id ≡ kept_in (spelling_of f p seen) id
 own_kept f p seen more id legal same =
-    own_either f p seen more id (spelt f p seen (legal-front f p (opening f) seen more legal)) (spelt f p (seen ++ more) legal) same (kept_in (spelling_of f p seen) id) refl
+    own_either f p seen more id (spelt f p seen (legal-front f p (opening f) seen more legal)) (spelt f p (seen ++ more) legal) same
+    (kept_in (spelling_of f p seen) id) refl

@@ -11,23 +11,26 @@ use Rattle.idwords.specs.Steps.{Changes, Writes, Stores}
 use Rattle.idwords.proofs.RuleLemmas.{OwnKeeps}
 use Rattle.idwords.proofs.ViewLemmas.{all_at}
 
--- Whatever the row is, the part has another that stands to it in this way, and the row is kept with it: by the part's own plan, and from the log that
--- begins with what the part has seen.
+-- Whatever the row is, the part has another that stands to it in this way, and the row is kept with it: by the part's own plan, and
+-- from the log that begins with what the part has seen.
 abbrev pub OwnStep : Part → ℕ → ℕ → (ℕ → ℕ) → (ℕ → Part → Type 0) → Type 0
 OwnStep v id i f then =
-    (more : History) (words : List ℕ) (views : List (List Part)) → OwnKeeps v more words views → get_elem? views id ≡ some (v ∷ []) → slice_index words i < 18446744073709551616
-    → (w : Part) × (log : History)
+    (more : History) (words : List ℕ) (views : List (List Part)) → OwnKeeps v more words views → get_elem? views id ≡ some (v ∷ [])
+    → slice_index words i < 18446744073709551616 → (w : Part) × (log : History)
     × Keeps v.view.caller.formula v.view.caller.layout log (slice_set words i (f (slice_index words i))) (set views id (w ∷ []))
     × then (slice_index words i) w
 
-to_own : (f : Cnf) (p : LayoutValue) (log : History) (words : List ℕ) (views : List (List Part)) (v : Part) → Keeps f p log words views → (stands : Stands f p log words v)
-    → OwnKeeps v stands.begins.0 words views
+to_own : (f : Cnf) (p : LayoutValue) (log : History) (words : List ℕ) (views : List (List Part)) (v : Part) → Keeps f p log words views
+    → (stands : Stands f p log words v) → OwnKeeps v stands.begins.0 words views
 to_own f p log words views v kept stands =
-    let by_formula : Keeps v.view.caller.formula p log words views = subst (λ (g : Cnf). Keeps g p log words views) (sym stands.formula) kept in
-    let by_layout : Keeps v.view.caller.formula v.view.caller.layout log words views = subst (λ (q : LayoutValue). Keeps v.view.caller.formula q log words views) (sym stands.layout) by_formula in
+    let by_formula : Keeps v.view.caller.formula p log words views =
+    subst (λ (g : Cnf). Keeps g p log words views) (sym stands.formula) kept in
+    let by_layout : Keeps v.view.caller.formula v.view.caller.layout log words views =
+    subst (λ (q : LayoutValue). Keeps v.view.caller.formula q log words views) (sym stands.layout) by_formula in
     subst (λ (h : History). Keeps v.view.caller.formula v.view.caller.layout h words views) stands.begins.1 by_layout
 
-from_own : (f : Cnf) (p : LayoutValue) (g : Cnf) (q : LayoutValue) (log : History) (words : List ℕ) (views : List (List Part)) → g ≡ f → q ≡ p → Keeps g q log words views → Keeps f p log words views
+from_own : (f : Cnf) (p : LayoutValue) (g : Cnf) (q : LayoutValue) (log : History) (words : List ℕ) (views : List (List Part)) → g ≡ f
+    → q ≡ p → Keeps g q log words views → Keeps f p log words views
 from_own f p g q log words views same_formula same_layout kept =
     subst (λ (k : LayoutValue). Keeps f k log words views) same_layout (subst (λ (h : Cnf). Keeps h q log words views) same_formula kept)
 
@@ -35,7 +38,8 @@ head_of : (v u : Part) → v ∷ [] ≡ u ∷ [] → v ≡ u
 head_of v u same = cc
 
 module _ {S : Type 0} where
-  pub allows : (f : Cnf) (p : LayoutValue) (slots id : ℕ) (v : Part) (i : ℕ) (g : ℕ → ℕ) (told : ℕ → Part → Type 0) (then : ℕ → Me S (List Part) → Type 0)
+  pub allows : (f : Cnf) (p : LayoutValue) (slots id : ℕ) (v : Part) (i : ℕ) (g : ℕ → ℕ) (told : ℕ → Part → Type 0)
+      (then : ℕ → Me S (List Part) → Type 0)
       → OwnStep v id i g told → ((n : ℕ) (w : Part) → told n w → then n (w ∷ [], []))
       → Allows {S = S} (IsKept f p) slots id (v ∷ [], []) i g then
   allows f p slots id v i g told then own tell s kept homes here small =
@@ -44,13 +48,19 @@ module _ {S : Type 0} where
         done.0 ∷ [],
         keeps,
         tt,
-        (done.1, from_own f p v.view.caller.formula v.view.caller.layout done.1 (slice_set s.words i (g (slice_index s.words i))) (set s.views id (done.0 ∷ [])) stands.formula stands.layout done.2),
+        (
+          done.1,
+          from_own f p v.view.caller.formula v.view.caller.layout done.1 (slice_set s.words i (g (slice_index s.words i)))
+              (set s.views id (done.0 ∷ [])) stands.formula stands.layout done.2,
+        ),
         tell (slice_index s.words i) done.0 done.3,
       )
 
   -- what is told of one part is told of a seat that has it
-  pub changes : (R : ℕ → Part → ℕ → Part → Type 0) (step : Step S) (v : Part) (n : ℕ) (w : Part) → R step.word v n w → Changes R step (v ∷ [], []) n (w ∷ [], [])
+  pub changes : (R : ℕ → Part → ℕ → Part → Type 0) (step : Step S) (v : Part) (n : ℕ) (w : Part) → R step.word v n w
+      → Changes R step (v ∷ [], []) n (w ∷ [], [])
   changes R step v n w told u same = let one : v ≡ u = head_of v u same in (w, refl, refl, subst (λ (x : Part). R step.word x n w) one told)
 
   pub stores : (step : Step S) (v : Part) (n : ℕ) (w : Part) → Writes step.first v w → Stores step (v ∷ [], []) n (w ∷ [], [])
-  stores step v n w told u same = let one : v ≡ u = head_of v u same in (w, refl, refl, subst (λ (x : Part). Writes step.first x w) one told)
+  stores step v n w told u same =
+      let one : v ≡ u = head_of v u same in (w, refl, refl, subst (λ (x : Part). Writes step.first x w) one told)

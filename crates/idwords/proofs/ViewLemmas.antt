@@ -1,5 +1,6 @@
 -- Lemmas on the parts of all seats.
-use Rattle.std.proofs.Common.{inl, inr, ◌≡◌, ◌≢◌, ℕ, ◌+◌, ◌≤◌, zero, suc, cond, eqb, List, [], ◌∷◌, ◌++◌, set, refl, sym, ap, subst, arith, eq-eqb}
+use Rattle.std.proofs.Common.{inl, inr, ◌≡◌, ◌≢◌, ℕ, ◌+◌, ◌≤◌, zero, suc, cond, eqb, List, [], ◌∷◌, ◌++◌, set, refl, sym, ap, subst, arith}
+use Rattle.std.proofs.Common.{eq-eqb}
 use Rattle.std.specs.List.{AllByRecursion}
 use mathlib.Core.Option.{some, some-injective, some-ne-none}
 use lib.ListN.{get_elem?}
@@ -8,25 +9,30 @@ use Rattle.idwords.specs.Rule.{Part, part_stream, AllParts, count_in, times}
 
 -- Every part
 
-pub all_at : (P : Part → Type 0) (views : List (List Part)) (id : ℕ) (vs : List Part) → get_elem? views id ≡ some vs → AllParts P views → AllByRecursion P vs
+pub all_at : (P : Part → Type 0) (views : List (List Part)) (id : ℕ) (vs : List Part) → get_elem? views id ≡ some vs → AllParts P views
+    → AllByRecursion P vs
 all_at P [] id vs here all = absurd (some-ne-none vs (sym here))
 all_at P (us ∷ views) zero vs here all = subst (λ (xs : List Part). AllByRecursion P xs) (some-injective us vs here) all.0
 all_at P (us ∷ views) (suc id) vs here all = all_at P views id vs here all.1
 
-pub all-set : (P : Part → Type 0) (views : List (List Part)) (id : ℕ) (vs : List Part) → AllParts P views → AllByRecursion P vs → AllParts P (set views id vs)
+pub all-set : (P : Part → Type 0) (views : List (List Part)) (id : ℕ) (vs : List Part) → AllParts P views → AllByRecursion P vs
+    → AllParts P (set views id vs)
 all-set P [] id vs all new = tt
 all-set P (us ∷ views) zero vs all new = (new, all.1)
 all-set P (us ∷ views) (suc id) vs all new = (all.0, all-set P views id vs all.1 new)
 
-pub all-snoc : (P : Part → Type 0) (views : List (List Part)) (vs : List Part) → AllParts P views → AllByRecursion P vs → AllParts P (views ++ vs ∷ [])
+pub all-snoc : (P : Part → Type 0) (views : List (List Part)) (vs : List Part) → AllParts P views → AllByRecursion P vs
+    → AllParts P (views ++ vs ∷ [])
 all-snoc P [] vs all new = (new, tt)
 all-snoc P (us ∷ views) vs all new = (all.0, all-snoc P views vs all.1 new)
 
 -- Each stream's parts, counted
 
-pub times-set : (s : ℕ) (views : List (List Part)) (id : ℕ) (vs ws : List Part) → get_elem? views id ≡ some vs → times s (set views id ws) + count_in s vs ≡ times s views + count_in s ws
+pub times-set : (s : ℕ) (views : List (List Part)) (id : ℕ) (vs ws : List Part) → get_elem? views id ≡ some vs
+    → times s (set views id ws) + count_in s vs ≡ times s views + count_in s ws
 times-set s [] id vs ws here = absurd (some-ne-none vs (sym here))
-times-set s (us ∷ views) zero vs ws here = let same : count_in s us ≡ count_in s vs = ap (count_in s) (some-injective us vs here) in omega arith
+times-set s (us ∷ views) zero vs ws here =
+    let same : count_in s us ≡ count_in s vs = ap (count_in s) (some-injective us vs here) in omega arith
 times-set s (us ∷ views) (suc id) vs ws here = let rest = times-set s views id vs ws here in omega arith
 
 pub times-snoc : (s : ℕ) (views : List (List Part)) (vs : List Part) → times s (views ++ vs ∷ []) ≡ times s views + count_in s vs
@@ -46,7 +52,8 @@ one_of : (a b : ℕ) → a ≡ b → ◌≡◌ {A = ℕ} (cond (eqb a b) 1 0) 1
 one_of a b same = cond-true (eqb a b) 1 0 (eq-eqb a b same)
 
 -- where a stream is counted nowhere, no part is its own
-all_others : (P Q : Part → Type 0) (s : ℕ) (vs : List Part) → count_in s vs ≤ 0 → AllByRecursion P vs → ((q : Part) → part_stream q ≢ s → P q → Q q) → AllByRecursion Q vs
+all_others : (P Q : Part → Type 0) (s : ℕ) (vs : List Part) → count_in s vs ≤ 0 → AllByRecursion P vs
+    → ((q : Part) → part_stream q ≢ s → P q → Q q) → AllByRecursion Q vs
 all_others P Q s [] none all go = tt
 all_others P Q s (v ∷ vs) none all go =
     elim (cases_eq (part_stream v) s) [
@@ -54,7 +61,8 @@ all_others P Q s (v ∷ vs) none all go =
       | inr other ↦ (go v other all.0, all_others P Q s vs (omega arith) all.1 go)
     ]
 
-none_others : (P Q : Part → Type 0) (s : ℕ) (views : List (List Part)) → times s views ≤ 0 → AllParts P views → ((q : Part) → part_stream q ≢ s → P q → Q q) → AllParts Q views
+none_others : (P Q : Part → Type 0) (s : ℕ) (views : List (List Part)) → times s views ≤ 0 → AllParts P views
+    → ((q : Part) → part_stream q ≢ s → P q → Q q) → AllParts Q views
 none_others P Q s [] none all go = tt
 none_others P Q s (vs ∷ views) none all go = (all_others P Q s vs (omega arith) all.0 go, none_others P Q s views (omega arith) all.1 go)
 
@@ -63,17 +71,20 @@ counted : (views : List (List Part)) (id : ℕ) (v : Part) → get_elem? views i
 counted [] id v here = absurd (some-ne-none (v ∷ []) (sym here))
 counted (us ∷ views) zero v here =
     let one = one_of (part_stream v) (part_stream v) refl in
-    let same : count_in (part_stream v) us ≡ count_in (part_stream v) (v ∷ []) = ap (count_in (part_stream v)) (some-injective us (v ∷ []) here) in
+    let same : count_in (part_stream v) us ≡ count_in (part_stream v) (v ∷ []) =
+    ap (count_in (part_stream v)) (some-injective us (v ∷ []) here) in
     omega arith
 counted (us ∷ views) (suc id) v here = let rest = counted views id v here in omega arith
 
 -- a seat's one part changes, and the parts of all other streams change so
-pub moved : (P Q : Part → Type 0) (views : List (List Part)) (id : ℕ) (v w : Part) → get_elem? views id ≡ some (v ∷ []) → times (part_stream v) views ≤ 1 → AllParts P views
+pub moved : (P Q : Part → Type 0) (views : List (List Part)) (id : ℕ) (v w : Part) → get_elem? views id ≡ some (v ∷ [])
+    → times (part_stream v) views ≤ 1 → AllParts P views
     → ((q : Part) → part_stream q ≢ part_stream v → P q → Q q) → Q w → AllParts Q (set views id (w ∷ []))
 moved P Q [] id v w here once all go new = absurd (some-ne-none (v ∷ []) (sym here))
 moved P Q (us ∷ views) zero v w here once all go new =
     let one = one_of (part_stream v) (part_stream v) refl in
-    let same : count_in (part_stream v) us ≡ count_in (part_stream v) (v ∷ []) = ap (count_in (part_stream v)) (some-injective us (v ∷ []) here) in
+    let same : count_in (part_stream v) us ≡ count_in (part_stream v) (v ∷ []) =
+    ap (count_in (part_stream v)) (some-injective us (v ∷ []) here) in
     ((new, tt), none_others P Q (part_stream v) views (omega arith) all.1 go)
 moved P Q (us ∷ views) (suc id) v w here once all go new =
     let rest = counted views id v here in

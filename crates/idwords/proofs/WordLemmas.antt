@@ -1,5 +1,7 @@
 -- Lemmas on words: the parts of an identity's word, and literals that lie in the row.
-use Rattle.std.proofs.Common.{◌≡◌, ◌≢◌, ℕ, ◌+◌, ◌*◌, ◌/◌, ◌%◌, ◌^◌, bit_and, ◌<◌, ◌≤◌, ◌⊎◌, true, false, ℤ, zero, suc, eqb, List, [], ◌∷◌, ◌++◌, length, slice_index, slice_set, slice_get, Option, None, Some, refl, ap, ap₂, ◌∙◌, inl, inr, arith, get_or-set_other, eq-eqb, ne_eqb}
+use Rattle.std.proofs.Common.{◌≡◌, ◌≢◌, ℕ, ◌+◌, ◌*◌, ◌/◌, ◌%◌, ◌^◌, bit_and, ◌<◌, ◌≤◌, ◌⊎◌, true, false, ℤ, zero, suc, eqb, List, [], ◌∷◌}
+use Rattle.std.proofs.Common.{◌++◌, length, slice_index, slice_set, slice_get, Option, None, Some, refl, ap, ap₂, ◌∙◌, inl, inr, arith}
+use Rattle.std.proofs.Common.{get_or-set_other, eq-eqb, ne_eqb}
 use Rattle.std.specs.Prelude.{IfSome}
 use Rattle.std.specs.Option.{is_some}
 use Rattle.std.specs.List.{AllByRecursion}
@@ -11,7 +13,8 @@ use Rattle.lrup_model.specs.Place.{Kept}
 use Rattle.lrup_model.specs.Pass.{Spells}
 use Rattle.lrup_model.specs.Literal.{IsLiteral, IsCode, code_of, max_variable}
 use Rattle.lrup_model.specs.LiteralLaws.{IsCode-code_of, code_of-injective}
-use Rattle.idwords.specs.Words.{identity_word, word_state, length_of, start_of, word_of, words_for, pair_of, literal_word, half_of, packed, StandAt, LiesAt, ShowsKept}
+use Rattle.idwords.specs.Words.{identity_word, word_state, length_of, start_of, word_of, words_for, pair_of, literal_word, half_of, packed}
+use Rattle.idwords.specs.Words.{StandAt, LiesAt, ShowsKept}
 
 -- The parts of a word
 
@@ -24,7 +27,8 @@ length-identity_word state len start small short = omega arith
 pub start-identity_word : (state len start : ℕ) → state < 4 → len < 1048576 → start_of (identity_word state len start) ≡ start
 start-identity_word state len start small short = omega arith
 
-shows_word : (state : ℕ) (kept : Kept) → 0 < state → state < 3 → length kept.literals < 1048576 → ShowsKept (Some kept) (identity_word state (length kept.literals) kept.start)
+shows_word : (state : ℕ) (kept : Kept) → 0 < state → state < 3 → length kept.literals < 1048576
+    → ShowsKept (Some kept) (identity_word state (length kept.literals) kept.start)
 shows_word state kept some small short =
     let s = state-identity_word state (length kept.literals) kept.start (omega arith) in (
       omega arith,
@@ -49,11 +53,15 @@ shows_slot (retired c) (Some kept) spells short = shows_word 2 kept (omega arith
 -- Words in the row
 
 -- they stand there after a write elsewhere
-stand-set : (words : List ℕ) (place : ℕ) (ws : List ℕ) (at n : ℕ) → StandAt words place ws → (at < place) ⊎ (place + length ws ≤ at) → StandAt (slice_set words at n) place ws
+stand-set : (words : List ℕ) (place : ℕ) (ws : List ℕ) (at n : ℕ) → StandAt words place ws → (at < place) ⊎ (place + length ws ≤ at)
+    → StandAt (slice_set words at n) place ws
 stand-set words place [] at n stand apart = tt
 stand-set words place (w ∷ ws) at n stand apart =
     let other : place ≢ at = λ same. elim apart [ inl below ↦ omega arith | inr above ↦ omega arith ] in
-    let rest : (at < place + 1) ⊎ (place + 1 + length ws ≤ at) = elim apart [ inl below ↦ inl (omega arith) | inr above ↦ inr (omega arith) ] in
+    let rest : (at < place + 1) ⊎ (place + 1 + length ws ≤ at) = elim apart [
+      | inl below ↦ inl (omega arith)
+      | inr above ↦ inr (omega arith)
+    ] in
     (get_or-set_other words at place n 0 other ∙ stand.0, stand-set words (place + 1) ws at n stand.1 rest)
 
 -- Literals, two in a word
@@ -84,7 +92,8 @@ packed-pair (x ∷ y ∷ d) l m even = ap (λ (ws : List ℕ). literal_word x (S
 
 -- Literals in the row
 
-pub lies-set : (words : List ℕ) (place : ℕ) (c : Clause) (at n : ℕ) → LiesAt words place c → (at < place) ⊎ (place + words_for (length c) ≤ at) → LiesAt (slice_set words at n) place c
+pub lies-set : (words : List ℕ) (place : ℕ) (c : Clause) (at n : ℕ) → LiesAt words place c
+    → (at < place) ⊎ (place + words_for (length c) ≤ at) → LiesAt (slice_set words at n) place c
 lies-set words place c at n lies apart =
     let len = length-packed c in
     stand-set words place (packed c) at n lies (elim apart [ inl below ↦ inl below | inr above ↦ inr (omega arith) ])
@@ -113,7 +122,8 @@ code_small : (vars : ℕ) (l : ℤ) → vars ≤ max_variable → IsLiteral vars
 code_small vars l few is = let code = IsCode-code_of vars l is in omega (arith, code.1)
 
 -- what the halves of literals' words are
-first_half : (l : ℤ) (m : Option ℤ) (half word : ℕ) → half ≡ 0 → code_of l < 4294967296 → word ≡ literal_word l m → half_of half word ≡ code_of l
+first_half : (l : ℤ) (m : Option ℤ) (half word : ℕ) → half ≡ 0 → code_of l < 4294967296 → word ≡ literal_word l m
+    → half_of half word ≡ code_of l
 first_half l None half word is small here = half_zero half word is ∙ omega arith
 first_half l (Some m) half word is small here = half_zero half word is ∙ omega arith
 
@@ -121,19 +131,23 @@ second_half : (l m : ℤ) (half word : ℕ) → half ≡ 1 → code_of l < 42949
 second_half l m half word is small here = half_one half word (λ none. omega arith) ∙ omega arith
 
 -- each literal's code is in a half of its word
-pub lies_get : (vars : ℕ) (words : List ℕ) (place : ℕ) (c : Clause) (k : ℕ) (l : ℤ) → vars ≤ max_variable → AllByRecursion (IsLiteral vars) c → LiesAt words place c
+pub lies_get : (vars : ℕ) (words : List ℕ) (place : ℕ) (c : Clause) (k : ℕ) (l : ℤ) → vars ≤ max_variable
+    → AllByRecursion (IsLiteral vars) c → LiesAt words place c
     → slice_get c k ≡ Some l → half_of (k % 2) (slice_index words (place + k / 2)) ≡ code_of l
 lies_get vars words place [] k l few all lies here = absurd (cc)
 lies_get vars words place (x ∷ []) zero l few all lies here =
     let same : x ≡ l = cc in
-    first_half x None 0 (slice_index words (place + 0)) refl (code_small vars x few all.0) (ap (λ (n : ℕ). slice_index words n) (omega arith) ∙ lies.0) ∙ ap code_of same
+    first_half x None 0 (slice_index words (place + 0)) refl (code_small vars x few all.0)
+    (ap (λ (n : ℕ). slice_index words n) (omega arith) ∙ lies.0) ∙ ap code_of same
 lies_get vars words place (x ∷ []) (suc k) l few all lies here = absurd (cc)
 lies_get vars words place (x ∷ y ∷ c) zero l few all lies here =
     let same : x ≡ l = cc in
-    first_half x (Some y) 0 (slice_index words (place + 0)) refl (code_small vars x few all.0) (ap (λ (n : ℕ). slice_index words n) (omega arith) ∙ lies.0) ∙ ap code_of same
+    first_half x (Some y) 0 (slice_index words (place + 0)) refl (code_small vars x few all.0)
+    (ap (λ (n : ℕ). slice_index words n) (omega arith) ∙ lies.0) ∙ ap code_of same
 lies_get vars words place (x ∷ y ∷ c) (suc zero) l few all lies here =
     let same : y ≡ l = cc in
-    second_half x y 1 (slice_index words (place + 0)) refl (code_small vars x few all.0) (ap (λ (n : ℕ). slice_index words n) (omega arith) ∙ lies.0) ∙ ap code_of same
+    second_half x y 1 (slice_index words (place + 0)) refl (code_small vars x few all.0) (ap (λ (n : ℕ). slice_index words n) (omega arith)
+    ∙ lies.0) ∙ ap code_of same
 lies_get vars words place (x ∷ y ∷ c) (suc (suc k)) l few all lies here =
     let half : suc (suc k) % 2 ≡ k % 2 = omega arith in
     let at : place + suc (suc k) / 2 ≡ place + 1 + k / 2 = omega arith in
@@ -145,9 +159,11 @@ lies_get vars words place (x ∷ y ∷ c) (suc (suc k)) l few all lies here =
 abbrev pub HasCode : ℤ → Type 0
 HasCode l = IsCode max_variable (code_of l)
 
-pub word_injective : (l k : ℤ) (m n : Option ℤ) → HasCode l → HasCode k → IfSome m HasCode → IfSome n HasCode → literal_word l m ≡ literal_word k n → pair_of l m ≡ pair_of k n
+pub word_injective : (l k : ℤ) (m n : Option ℤ) → HasCode l → HasCode k → IfSome m HasCode → IfSome n HasCode
+    → literal_word l m ≡ literal_word k n → pair_of l m ≡ pair_of k n
 word_injective l k None None first first' second second' same = ap (λ (x : ℤ). x ∷ []) (code_of-injective l k same)
 word_injective l k None (Some n) first first' second second' same = absurd (omega (arith, first, first', second'))
 word_injective l k (Some m) None first first' second second' same = absurd (omega (arith, first, first', second))
 word_injective l k (Some m) (Some n) first first' second second' same =
-    ap₂ (λ (x y : ℤ). x ∷ y ∷ []) (code_of-injective l k (omega (arith, first, first', second, second'))) (code_of-injective m n (omega (arith, first, first', second, second')))
+    ap₂ (λ (x y : ℤ). x ∷ y ∷ []) (code_of-injective l k (omega (arith, first, first', second, second')))
+    (code_of-injective m n (omega (arith, first, first', second, second')))

@@ -1,5 +1,6 @@
 -- A cube by the codes of its literals.
-use Rattle.std.proofs.Common.{◌≡◌, inl, inr, ℕ, zero, suc, ◌-◌, ◌/◌, ◌<◌, ◌≤◌, ℤ, pos, neg_ℤ, nat_abs, List, [], ◌∷◌, length, get_or, map, refl, sym, subst, ap, ◌∙◌, arith}
+use Rattle.std.proofs.Common.{◌≡◌, inl, inr, ℕ, zero, suc, ◌-◌, ◌/◌, ◌<◌, ◌≤◌, ℤ, pos, neg_ℤ, nat_abs, List, [], ◌∷◌, length, get_or, map}
+use Rattle.std.proofs.Common.{refl, sym, subst, ap, ◌∙◌, arith}
 use Rattle.std.specs.Prelude.{◌↔◌, IsTrue, Result, Ok, Err}
 use Rattle.std.specs.Result.{is_ok}
 use Rattle.std.specs.List.{Contains}
@@ -27,13 +28,16 @@ contains_has : (xs : List ℤ) (l : ℤ) → Contains xs l → Has xs l
 contains_has xs l h = Has-at xs h.0 l (slice_get_read xs (length xs) h.0 l refl h.1 (sym h.2))
 
 -- an order of the literals changes nothing
-pub reordered : (xs ys : List ℕ) (literals : List ℤ) → IsPermutation xs ys → map literal_of xs ≡ literals → IsCubeOf literals (map literal_of ys)
+pub reordered : (xs ys : List ℕ) (literals : List ℤ) → IsPermutation xs ys → map literal_of xs ≡ literals
+    → IsCubeOf literals (map literal_of ys)
 reordered xs ys literals same is l =
     let moved = IsPermutation-map literal_of xs ys same in
     let back = IsPermutation-sym (map literal_of xs) (map literal_of ys) moved in (
-      (λ h. subst (λ (zs : List ℤ). Has zs l) is (contains_has (map literal_of xs) l (Contains-permutation (map literal_of ys) (map literal_of xs) l back (has_contains (map literal_of ys) l h)))),
+      (λ h. subst (λ (zs : List ℤ). Has zs l) is (contains_has (map literal_of xs) l
+          (Contains-permutation (map literal_of ys) (map literal_of xs) l back (has_contains (map literal_of ys) l h)))),
       (λ h. contains_has (map literal_of ys) l
-          (Contains-permutation (map literal_of xs) (map literal_of ys) l moved (has_contains (map literal_of xs) l (subst (λ (zs : List ℤ). Has zs l) (sym is) h)))),
+          (Contains-permutation (map literal_of xs) (map literal_of ys) l moved
+          (has_contains (map literal_of xs) l (subst (λ (zs : List ℤ). Has zs l) (sym is) h)))),
     )
 
 -- the literal of a code at a place, and the place of a literal's code
@@ -54,8 +58,8 @@ literal_of-code_of : (l : ℤ) → IsCode max_variable (code_of l) → literal_o
 literal_of-code_of l code = code_of-injective (literal_of (code_of l)) l (code_of-literal_of (code_of l) code.0)
 
 -- a binary search for a literal's code tells whether the literal is there
-pub found : (codes : List ℕ) (l : ℤ) (r : Result ℕ ℕ) → AreCubeCodes codes → IsCode max_variable (code_of l) → IsBinarySearchResult (λ y. nat_cmp y (code_of l)) codes r
-    → IsTrue (is_ok r) ↔ Has (map literal_of codes) l
+pub found : (codes : List ℕ) (l : ℤ) (r : Result ℕ ℕ) → AreCubeCodes codes → IsCode max_variable (code_of l)
+    → IsBinarySearchResult (λ y. nat_cmp y (code_of l)) codes r → IsTrue (is_ok r) ↔ Has (map literal_of codes) l
 found codes l (Ok i) are code searches =
     let at = searched codes (code_of l) (Ok i) searches (λ j k le lt. are.sorted j k 0 le lt) in (
       (λ is. subst (Has (map literal_of codes)) (ap literal_of at.1 ∙ literal_of-code_of l code) (has_at codes i at.0)),
@@ -66,7 +70,8 @@ found codes l (Err i) are code searches =
       (λ is. cc),
       (λ h.
           let there = place_of codes l h in
-          let same : get_or codes there.0 0 ≡ code_of l = sym (code_of-literal_of (get_or codes there.0 0) (are.each there.0 0 there.1).0) ∙ ap code_of there.2 in
+          let same : get_or codes there.0 0 ≡ code_of l = sym (code_of-literal_of (get_or codes there.0 0) (are.each there.0 0 there.1).0)
+          ∙ ap code_of there.2 in
           elim (cases_lt there.0 i) [
             | inl before ↦ absurd (omega (arith, same, at.1 there.0 before))
             | inr after ↦ absurd (omega (arith, same, at.2 there.0 after there.1))
@@ -85,7 +90,8 @@ variable_of code = elim (parity code) [
     abs_neg (suc v) = refl
 
 -- the last code has the greatest variable
-pub greatest : (codes : List ℕ) (n : ℕ) → AreCubeCodes codes → 0 < length codes → IsCubeOver n (map literal_of codes) ↔ (get_or codes (length codes - 1) 0 / 2 ≤ n)
+pub greatest : (codes : List ℕ) (n : ℕ) → AreCubeCodes codes → 0 < length codes
+    → IsCubeOver n (map literal_of codes) ↔ (get_or codes (length codes - 1) 0 / 2 ≤ n)
 greatest codes n are some =
     let last : ℕ = length codes - 1 in
     let inside : last < length codes = omega arith in (

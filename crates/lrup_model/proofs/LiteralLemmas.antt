@@ -17,8 +17,10 @@ literal_of-xor_one code =
     elim (parity code) [
       | inl e ↦
           let half : bit_xor code 1 / 2 ≡ code / 2 = omega (arith, other, e) in
-          literal_of-odd (bit_xor code 1) (omega (arith, other, e)) ∙ (ap (λ v. neg_ℤ (pos v)) half ∙ ap neg_ℤ (sym (literal_of-even code e)))
+          literal_of-odd (bit_xor code 1) (omega (arith, other, e))
+          ∙ (ap (λ v. neg_ℤ (pos v)) half ∙ ap neg_ℤ (sym (literal_of-even code e)))
       | inr e ↦
           let half : bit_xor code 1 / 2 ≡ code / 2 = omega (arith, other, e) in
-          literal_of-even (bit_xor code 1) (omega (arith, other, e)) ∙ (ap pos half ∙ (sym (neg_ℤ-neg_ℤ (pos (code / 2))) ∙ ap neg_ℤ (sym (literal_of-odd code e))))
+          literal_of-even (bit_xor code 1) (omega (arith, other, e))
+          ∙ (ap pos half ∙ (sym (neg_ℤ-neg_ℤ (pos (code / 2))) ∙ ap neg_ℤ (sym (literal_of-odd code e))))
     ]

@@ -1,5 +1,6 @@
 -- The clause map of one thread as it is opened: the formula's clauses, and nothing else.
-use Rattle.std.proofs.Common.{◌≡◌, ℕ, zero, suc, ℤ, ◌+◌, ◌-◌, ◌*◌, ◌<◌, ◌≤◌, List, [], ◌∷◌, ◌++◌, length, get_or, take, drop, replicate, refl, sym, ap, subst, ◌∙◌, inl, inr, arith, length-append, append_assoc}
+use Rattle.std.proofs.Common.{◌≡◌, ℕ, zero, suc, ℤ, ◌+◌, ◌-◌, ◌*◌, ◌<◌, ◌≤◌, List, [], ◌∷◌, ◌++◌, length, get_or, take, drop, replicate}
+use Rattle.std.proofs.Common.{refl, sym, ap, subst, ◌∙◌, inl, inr, arith, length-append, append_assoc}
 use Rattle.std.specs.Prelude.{map, sum}
 use Rattle.std.specs.List.{sum_by, AllByRecursion}
 use Rattle.std.proofs.Math.Path.{fun_ext}
@@ -33,21 +34,26 @@ pub flat-push : (cs : List Clause) (c : Clause) → flat (cs ++ c ∷ []) ≡ fl
 flat-push [] c = append-nil c
 flat-push (d ∷ cs) c = ap (λ (ls : List ℤ). d ++ ls) (flat-push cs c) ∙ sym (append_assoc d (flat cs) c)
 
-pub entries_from-push : (from : ℕ) (cs : List Clause) (c : Clause) → entries_from from (cs ++ c ∷ []) ≡ entries_from from cs ++ Live (from + length (flat cs)) (length c) ∷ []
+pub entries_from-push : (from : ℕ) (cs : List Clause) (c : Clause)
+    → entries_from from (cs ++ c ∷ []) ≡ entries_from from cs ++ Live (from + length (flat cs)) (length c) ∷ []
 entries_from-push from [] c = ap (λ n. Live n (length c) ∷ []) (omega arith)
 entries_from-push from (d ∷ cs) c =
     let place : from + length d + length (flat cs) ≡ from + length (d ++ flat cs) = omega (arith, length-append d (flat cs)) in
-    ap (λ (es : List Entry). Live from (length d) ∷ es) (entries_from-push (from + length d) cs c ∙ ap (λ n. entries_from (from + length d) cs ++ Live n (length c) ∷ []) place)
+    ap (λ (es : List Entry). Live from (length d) ∷ es)
+    (entries_from-push (from + length d) cs c ∙ ap (λ n. entries_from (from + length d) cs ++ Live n (length c) ∷ []) place)
 
 -- one more clause
-pub kept_more : (cs : List Clause) (i : ℕ) (c : Clause) (start : ℕ) (ls more : List ℤ) (es grown first : List Entry) → i < length cs → c ≡ get_or cs i [] → ls ≡ flat (take i cs)
+pub kept_more : (cs : List Clause) (i : ℕ) (c : Clause) (start : ℕ) (ls more : List ℤ) (es grown first : List Entry) → i < length cs
+    → c ≡ get_or cs i [] → ls ≡ flat (take i cs)
     → start ≡ length ls → more ≡ ls ++ c → es ≡ first ++ entries_from 0 (take i cs) → grown ≡ es ++ Live start (length c) ∷ []
     → (grown ≡ first ++ entries_from 0 (take (i + 1) cs)) × (more ≡ flat (take (i + 1) cs))
 kept_more cs i c start ls more es grown first within here lits from grows ents new =
     let cut : take (i + 1) cs ≡ take i cs ++ c ∷ [] = take_more cs i [] within ∙ ap (λ (d : Clause). take i cs ++ d ∷ []) (sym here) in
     let place : start ≡ 0 + length (flat (take i cs)) = omega (arith, from, ap length lits) in (
-      new ∙ ap (λ (xs : List Entry). xs ++ Live start (length c) ∷ []) ents ∙ append_assoc first (entries_from 0 (take i cs)) (Live start (length c) ∷ [])
-          ∙ ap (λ (xs : List Entry). first ++ xs) (ap (λ n. entries_from 0 (take i cs) ++ Live n (length c) ∷ []) place ∙ sym (entries_from-push 0 (take i cs) c) ∙ ap (entries_from 0) (sym cut)),
+      new ∙ ap (λ (xs : List Entry). xs ++ Live start (length c) ∷ []) ents
+          ∙ append_assoc first (entries_from 0 (take i cs)) (Live start (length c) ∷ [])
+          ∙ ap (λ (xs : List Entry). first ++ xs) (ap (λ n. entries_from 0 (take i cs) ++ Live n (length c) ∷ []) place
+          ∙ sym (entries_from-push 0 (take i cs) c) ∙ ap (entries_from 0) (sym cut)),
       grows ∙ ap (λ (xs : List ℤ). xs ++ c) lits ∙ sym (flat-push (take i cs) c) ∙ ap flat (sym cut),
     )
 
@@ -58,7 +64,8 @@ kept_fits cs i within = omega (arith, length-flat (take i cs), sum_by_more_le le
 -- The map that the entries and the literals make
 
 -- the clause that ends a front of the literals is what stands behind the ones before
-entry_is : (front c back : List ℤ) → stored_in (front ++ c ++ back) (Live (length front) (length c)) ≡ plain.live (record { start = length front; literals = c })
+entry_is : (front c back : List ℤ)
+    → stored_in (front ++ c ++ back) (Live (length front) (length c)) ≡ plain.live (record { start = length front; literals = c })
 entry_is front c back =
     let inside : length front + length c ≤ length (front ++ c) = omega (arith, length-append front c) in
     ap (λ (ls : List ℤ). plain.live (record { start = length front; literals = ls }))
@@ -69,16 +76,22 @@ stored_from : ℕ → List Clause → List Stored
 stored_from from [] = []
 stored_from from (c ∷ cs) = plain.live (record { start = from; literals = c }) ∷ stored_from (from + length c) cs
 
-entries_stored : (front : List ℤ) (cs : List Clause) → map (stored_in (front ++ flat cs)) (entries_from (length front) cs) ≡ stored_from (length front) cs
+entries_stored : (front : List ℤ) (cs : List Clause)
+    → map (stored_in (front ++ flat cs)) (entries_from (length front) cs) ≡ stored_from (length front) cs
 unfolding stored_from
 entries_stored front [] = refl
 entries_stored front (c ∷ cs) =
     let regrouped : front ++ (c ++ flat cs) ≡ front ++ c ++ flat cs = sym (append_assoc front c (flat cs)) in
-    let here : stored_in (front ++ (c ++ flat cs)) (Live (length front) (length c)) ≡ plain.live (record { start = length front; literals = c }) =
+    let here : stored_in (front ++ (c ++ flat cs)) (Live (length front) (length c)) ≡ plain.live (record {
+      start = length front;
+      literals = c;
+    }) =
     ap (λ (ls : List ℤ). stored_in ls (Live (length front) (length c))) regrouped ∙ entry_is front c (flat cs) in
-    let there : map (stored_in (front ++ (c ++ flat cs))) (entries_from (length front + length c) cs) ≡ stored_from (length front + length c) cs =
+    let there : map (stored_in (front ++ (c ++ flat cs))) (entries_from (length front + length c) cs)
+    ≡ stored_from (length front + length c) cs =
     ap (λ (ls : List ℤ). map (stored_in ls) (entries_from (length front + length c) cs)) regrouped
-    ∙ subst (λ n. map (stored_in (front ++ c ++ flat cs)) (entries_from n cs) ≡ stored_from n cs) (length-append front c) (entries_stored (front ++ c) cs) in
+    ∙ subst (λ n. map (stored_in (front ++ c ++ flat cs)) (entries_from n cs) ≡ stored_from n cs) (length-append front c)
+    (entries_stored (front ++ c) cs) in
     cc
 
 clauses_stored : (from : ℕ) (cs : List Clause) → map clause_of (stored_from from cs) ≡ cs
@@ -97,13 +110,15 @@ none_there (suc n) zero = refl
 none_there (suc n) (suc i) = none_there n i
 
 -- the slot at a place behind identity 0
-slot_here : (from : ℕ) (cs : List Clause) (n i : ℕ) → i < length cs → slot_of (get_or (stored_from from cs ++ replicate n plain.vacant) i plain.vacant) ≡ slots.live (get_or cs i [])
+slot_here : (from : ℕ) (cs : List Clause) (n i : ℕ) → i < length cs
+    → slot_of (get_or (stored_from from cs ++ replicate n plain.vacant) i plain.vacant) ≡ slots.live (get_or cs i [])
 unfolding stored_from
 slot_here from [] n i lt = absurd (omega (arith, lt))
 slot_here from (c ∷ cs) n zero lt = refl
 slot_here from (c ∷ cs) n (suc i) lt = slot_here (from + length c) cs n i (omega (arith, lt))
 
-slot_past : (from : ℕ) (cs : List Clause) (n i : ℕ) → length cs ≤ i → slot_of (get_or (stored_from from cs ++ replicate n plain.vacant) i plain.vacant) ≡ slots.absent
+slot_past : (from : ℕ) (cs : List Clause) (n i : ℕ) → length cs ≤ i
+    → slot_of (get_or (stored_from from cs ++ replicate n plain.vacant) i plain.vacant) ≡ slots.absent
 unfolding stored_from
 slot_past from [] n i le = ap slot_of (none_there n i)
 slot_past from (c ∷ cs) n zero le = absurd (omega (arith, le))
@@ -115,11 +130,13 @@ clause_behind f i =
     ap (λ n. get_or f.clauses n []) place
 
 -- what the map has at each identity
-opened_slot : (f : Cnf) (n id : ℕ) → slot_of (get_or (plain.vacant ∷ (stored_from 0 f.clauses ++ replicate n plain.vacant)) id plain.vacant) ≡ opening f id
+opened_slot : (f : Cnf) (n id : ℕ)
+    → slot_of (get_or (plain.vacant ∷ (stored_from 0 f.clauses ++ replicate n plain.vacant)) id plain.vacant) ≡ opening f id
 opened_slot f n zero = refl
 opened_slot f n (suc i) =
     elim (cases_lt i (length f.clauses)) [
-      | inl lt ↦ slot_here 0 f.clauses n i lt ∙ ap slots.live (sym (clause_behind f i)) ∙ sym (opening-formula f (suc i) (omega arith) (omega (arith, lt)))
+      | inl lt ↦ slot_here 0 f.clauses n i lt ∙ ap slots.live (sym (clause_behind f i))
+          ∙ sym (opening-formula f (suc i) (omega arith) (omega (arith, lt)))
       | inr le ↦ slot_past 0 f.clauses n i le ∙ sym (opening-above f (suc i) (omega (arith, le)))
     ]
 
@@ -130,7 +147,8 @@ vacant_stored ls zero = refl
 vacant_stored ls (suc n) = ap (λ (xs : List Stored). plain.vacant ∷ xs) (vacant_stored ls n)
 
 -- what the entries of an opened map stand for
-opened_entries : (f : Cnf) (n : ℕ) → map (stored_in (flat f.clauses)) (Vacant ∷ (entries_from 0 f.clauses ++ replicate n Vacant)) ≡ plain.vacant ∷ (stored_from 0 f.clauses ++ replicate n plain.vacant)
+opened_entries : (f : Cnf) (n : ℕ) → map (stored_in (flat f.clauses)) (Vacant ∷ (entries_from 0 f.clauses ++ replicate n Vacant))
+    ≡ plain.vacant ∷ (stored_from 0 f.clauses ++ replicate n plain.vacant)
 opened_entries f n =
     let clauses : map (stored_in (flat f.clauses)) (entries_from 0 f.clauses) ≡ stored_from 0 f.clauses = entries_stored [] f.clauses in
     ap (λ (xs : List Stored). plain.vacant ∷ xs)
@@ -138,24 +156,29 @@ opened_entries f n =
     ∙ ap (λ (xs : List Stored). xs ++ map (stored_in (flat f.clauses)) (replicate n Vacant)) clauses
     ∙ ap (λ (xs : List Stored). stored_from 0 f.clauses ++ xs) (vacant_stored (flat f.clauses) n))
 
-pub opened_formula : (f : Cnf) (p : LayoutValue) (n : ℕ) (free : List ℕ) → Fits p f → formula_of (plain_of p (Vacant ∷ (entries_from 0 f.clauses ++ replicate n Vacant)) (flat f.clauses) free) ≡ f
+pub opened_formula : (f : Cnf) (p : LayoutValue) (n : ℕ) (free : List ℕ) → Fits p f
+    → formula_of (plain_of p (Vacant ∷ (entries_from 0 f.clauses ++ replicate n Vacant)) (flat f.clauses) free) ≡ f
 opened_formula f p n free fits =
     let count : p.clauses ≡ length (stored_from 0 f.clauses) = fits.clauses ∙ sym (length-stored_from 0 f.clauses) in
-    let clauses : map clause_of (take p.clauses (drop 1 (map (stored_in (flat f.clauses)) (Vacant ∷ (entries_from 0 f.clauses ++ replicate n Vacant))))) ≡ f.clauses =
+    let clauses : map clause_of
+    (take p.clauses (drop 1 (map (stored_in (flat f.clauses)) (Vacant ∷ (entries_from 0 f.clauses ++ replicate n Vacant))))) ≡ f.clauses =
     ap (λ (xs : List Stored). map clause_of (take p.clauses (drop 1 xs))) (opened_entries f n)
     ∙ ap (λ k. map clause_of (take k (stored_from 0 f.clauses ++ replicate n plain.vacant))) count
     ∙ ap (map clause_of) (take-append_seam (stored_from 0 f.clauses) (replicate n plain.vacant))
     ∙ clauses_stored 0 f.clauses in
     ap (λ (cs : List Clause). record { vars = p.vars; clauses = cs }) clauses ∙ ap (λ v. record { vars = v; clauses = f.clauses }) fits.vars
 
-pub opened_state : (f : Cnf) (p : LayoutValue) (n : ℕ) (free : List ℕ) → plain_state (plain_of p (Vacant ∷ (entries_from 0 f.clauses ++ replicate n Vacant)) (flat f.clauses) free) ≡ opening f
-opened_state f p n free = fun_ext (λ id. ap (λ (xs : List Stored). slot_of (get_or xs id plain.vacant)) (opened_entries f n) ∙ opened_slot f n id)
+pub opened_state : (f : Cnf) (p : LayoutValue) (n : ℕ) (free : List ℕ)
+    → plain_state (plain_of p (Vacant ∷ (entries_from 0 f.clauses ++ replicate n Vacant)) (flat f.clauses) free) ≡ opening f
+opened_state f p n free =
+    fun_ext (λ id. ap (λ (xs : List Stored). slot_of (get_or xs id plain.vacant)) (opened_entries f n) ∙ opened_slot f n id)
 
 vacant_within : (all n : ℕ) → AllByRecursion (LiesWithin all) (replicate n Vacant)
 vacant_within all zero = tt
 vacant_within all (suc n) = (tt, vacant_within all n)
 
-entries_within : (from : ℕ) (cs : List Clause) (all n : ℕ) → from + length (flat cs) ≤ all → AllByRecursion (LiesWithin all) (entries_from from cs ++ replicate n Vacant)
+entries_within : (from : ℕ) (cs : List Clause) (all n : ℕ) → from + length (flat cs) ≤ all
+    → AllByRecursion (LiesWithin all) (entries_from from cs ++ replicate n Vacant)
 entries_within from [] all n le = vacant_within all n
 entries_within from (c ∷ cs) all n le =
     let size : length (c ++ flat cs) ≡ length c + length (flat cs) = length-append c (flat cs) in
@@ -166,8 +189,8 @@ length-entries_from from [] = refl
 length-entries_from from (c ∷ cs) = ap suc (length-entries_from (from + length c) cs)
 
 -- each clause of the formula follows from it
-each_follows : (f : Cnf) (cs : List Clause) → AllByRecursion (IsFormulaClause f.vars) cs → ((a : Assignment) → SatisfiesAll a f → AllByRecursion (Satisfies a) cs)
-    → AllByRecursion (λ c. IsClause f.vars c × Follows f c) cs
+each_follows : (f : Cnf) (cs : List Clause) → AllByRecursion (IsFormulaClause f.vars) cs
+    → ((a : Assignment) → SatisfiesAll a f → AllByRecursion (Satisfies a) cs) → AllByRecursion (λ c. IsClause f.vars c × Follows f c) cs
 each_follows f [] h holds = tt
 each_follows f (c ∷ cs) h holds = ((h.0.0, record { holds = λ a all. (holds a all).0 }), each_follows f cs h.1 (λ a all. (holds a all).1))
 
@@ -175,7 +198,8 @@ vacant_stores : (f : Cnf) (n : ℕ) → AllByRecursion (StoresClause f) (replica
 vacant_stores f zero = tt
 vacant_stores f (suc n) = (tt, vacant_stores f n)
 
-clauses_store : (f : Cnf) (from : ℕ) (cs : List Clause) (n : ℕ) → AllByRecursion (λ c. IsClause f.vars c × Follows f c) cs → AllByRecursion (StoresClause f) (stored_from from cs ++ replicate n plain.vacant)
+clauses_store : (f : Cnf) (from : ℕ) (cs : List Clause) (n : ℕ) → AllByRecursion (λ c. IsClause f.vars c × Follows f c) cs
+    → AllByRecursion (StoresClause f) (stored_from from cs ++ replicate n plain.vacant)
 unfolding stored_from
 clauses_store f from [] n h = vacant_stores f n
 clauses_store f from (c ∷ cs) n h = (h.0, clauses_store f (from + length c) cs n h.1)
@@ -185,13 +209,16 @@ live_from plain.vacant c is = absurd (cc)
 live_from (plain.live kept) c is = (kept, refl)
 live_from (plain.retired kept) c is = absurd (cc)
 
-pub opened_sound : (f : Cnf) (p : LayoutValue) (n capacity : ℕ) → IsCnf f → IsLayout p → Fits p f → n ≡ last_identity p - length f.clauses → formula_literals f + p.streams * p.room ≤ capacity
+pub opened_sound : (f : Cnf) (p : LayoutValue) (n capacity : ℕ) → IsCnf f → IsLayout p → Fits p f → n ≡ last_identity p - length f.clauses
+    → formula_literals f + p.streams * p.room ≤ capacity
     → IsPlainSound p (Vacant ∷ (entries_from 0 f.clauses ++ replicate n Vacant)) (flat f.clauses) (replicate p.streams p.room) capacity
 opened_sound f p n capacity cnf is fits rest enough =
     let size : length (flat f.clauses) ≡ formula_literals f = length-flat f.clauses in
     let rooms : sum (replicate p.streams p.room) ≡ p.streams * p.room = sum_by-replicate (λ x. x) p.streams p.room in
     let entries : length (entries_from 0 f.clauses ++ replicate n Vacant) ≡ length f.clauses + n =
-    length-append (entries_from 0 f.clauses) (replicate n Vacant) ∙ ap (λ k. k + length (replicate n Vacant)) (length-entries_from 0 f.clauses) ∙ ap (λ k. length f.clauses + k) (length-replicate n Vacant) in
+    length-append (entries_from 0 f.clauses) (replicate n Vacant)
+    ∙ ap (λ k. k + length (replicate n Vacant)) (length-entries_from 0 f.clauses)
+    ∙ ap (λ k. length f.clauses + k) (length-replicate n Vacant) in
     record {
       limits = is;
       count = omega (arith, fits.clauses);
@@ -200,26 +227,38 @@ opened_sound f p n capacity cnf is fits rest enough =
       reserved = omega arith;
       small = omega (arith, is.row, fits.literals);
       formula = λ id positive within.
-          live_from (stored_at (plain_of p (Vacant ∷ (entries_from 0 f.clauses ++ replicate n Vacant)) (flat f.clauses) (replicate p.streams p.room)) id) (clause_at f id)
-          (ap (λ (m : State). m id) (opened_state f p n (replicate p.streams p.room)) ∙ opening-formula f id positive (omega (arith, within, fits.clauses)));
-      clauses = subst (λ (g : Cnf). AllByRecursion (StoresClause g) (map (stored_in (flat f.clauses)) (Vacant ∷ (entries_from 0 f.clauses ++ replicate n Vacant)))) (sym (opened_formula f p n (replicate p.streams p.room) fits))
-          (subst (AllByRecursion (StoresClause f)) (sym (opened_entries f n)) (tt, clauses_store f 0 f.clauses n (each_follows f f.clauses cnf.clauses (λ a all. all))));
+          live_from
+          (stored_at (plain_of p (Vacant ∷ (entries_from 0 f.clauses ++ replicate n Vacant)) (flat f.clauses) (replicate p.streams p.room))
+          id) (clause_at f id)
+          (ap (λ (m : State). m id) (opened_state f p n (replicate p.streams p.room))
+          ∙ opening-formula f id positive (omega (arith, within, fits.clauses)));
+      clauses = subst (λ (g : Cnf). AllByRecursion (StoresClause g)
+          (map (stored_in (flat f.clauses)) (Vacant ∷ (entries_from 0 f.clauses ++ replicate n Vacant))))
+          (sym (opened_formula f p n (replicate p.streams p.room) fits))
+          (subst (AllByRecursion (StoresClause f)) (sym (opened_entries f n)) (
+            tt,
+            clauses_store f 0 f.clauses n (each_follows f f.clauses cnf.clauses (λ a all. all)),
+          ));
     }
 
 -- an opened map, by what it is made of
 abbrev pub IsOpened : Cnf → LayoutValue → ℕ → List Entry → List ℤ → List ℕ → Type 0
-IsOpened f p capacity es ls free = IsPlainSound p es ls free capacity × (formula_of (plain_of p es ls free) ≡ f) × (plain_state (plain_of p es ls free) ≡ opening f)
+IsOpened f p capacity es ls free = IsPlainSound p es ls free capacity × (formula_of (plain_of p es ls free) ≡ f)
+    × (plain_state (plain_of p es ls free) ≡ opening f)
 
 -- the same, where the lists are known by equations
-pub opened : (f : Cnf) (p : LayoutValue) (n capacity : ℕ) (first kept all : List Entry) (ls : List ℤ) (free : List ℕ) → IsCnf f → IsLayout p → Fits p f
-    → n ≡ last_identity p - length f.clauses → formula_literals f + p.streams * p.room ≤ capacity
-    → first ≡ Vacant ∷ [] → kept ≡ first ++ entries_from 0 f.clauses → all ≡ kept ++ replicate n Vacant → ls ≡ flat f.clauses → free ≡ replicate p.streams p.room
-    → IsOpened f p capacity all ls free
+pub opened : (f : Cnf) (p : LayoutValue) (n capacity : ℕ) (first kept all : List Entry) (ls : List ℤ) (free : List ℕ) → IsCnf f
+    → IsLayout p → Fits p f → n ≡ last_identity p - length f.clauses → formula_literals f + p.streams * p.room ≤ capacity
+    → first ≡ Vacant ∷ [] → kept ≡ first ++ entries_from 0 f.clauses → all ≡ kept ++ replicate n Vacant → ls ≡ flat f.clauses
+    → free ≡ replicate p.streams p.room → IsOpened f p capacity all ls free
 opened f p n capacity first kept all ls free cnf is fits rest enough one some whole literals rooms =
     let whole_map = Vacant ∷ (entries_from 0 f.clauses ++ replicate n Vacant) in
     let entries : all ≡ whole_map =
     whole ∙ ap (λ (es : List Entry). es ++ replicate n Vacant) (some ∙ ap (λ (es : List Entry). es ++ entries_from 0 f.clauses) one) in
     subst (λ (es : List Entry). IsOpened f p capacity es ls free) (sym entries)
     (subst (λ (l : List ℤ). IsOpened f p capacity whole_map l free) (sym literals)
-    (subst (λ (r : List ℕ). IsOpened f p capacity whole_map (flat f.clauses) r) (sym rooms)
-    (opened_sound f p n capacity cnf is fits rest enough, opened_formula f p n (replicate p.streams p.room) fits, opened_state f p n (replicate p.streams p.room))))
+    (subst (λ (r : List ℕ). IsOpened f p capacity whole_map (flat f.clauses) r) (sym rooms) (
+      opened_sound f p n capacity cnf is fits rest enough,
+      opened_formula f p n (replicate p.streams p.room) fits,
+      opened_state f p n (replicate p.streams p.room),
+    )))

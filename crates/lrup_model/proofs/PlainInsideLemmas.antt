@@ -1,5 +1,6 @@
 -- How the clause map of one thread is kept, through publish and retire.
-use Rattle.std.proofs.Common.{◌≡◌, ℕ, zero, suc, ℤ, ◌+◌, ◌-◌, ◌<◌, ◌≤◌, List, [], ◌∷◌, ◌++◌, length, get_or, set, take, drop, Some, refl, sym, ap, subst, ◌∙◌, arith, length-append, length-drop, length-take}
+use Rattle.std.proofs.Common.{◌≡◌, ℕ, zero, suc, ℤ, ◌+◌, ◌-◌, ◌<◌, ◌≤◌, List, [], ◌∷◌, ◌++◌, length, get_or, set, take, drop, Some, refl}
+use Rattle.std.proofs.Common.{sym, ap, subst, ◌∙◌, arith, length-append, length-drop, length-take}
 use Rattle.std.specs.Prelude.{pos, map, sum, slice_range, slice_get}
 use Rattle.std.specs.List.{AllByRecursion}
 use Rattle.std.proofs.lemmas.List.{map-set, length-set, get_or-take, get_or-drop, get_or_read, get_or-map, length-map}
@@ -13,7 +14,8 @@ use Rattle.lrup_model.specs.Entailment.{Follows, IsDerived}
 use Rattle.lrup_model.specs.Layout.{LayoutValue, Owns, last_identity}
 use Rattle.lrup_model.specs.Place.{Kept, ClipValue, IsKnown, AllFollow, clip_clause}
 use Rattle.lrup_model.specs.Plain as plain
-use Rattle.lrup_model.specs.Plain.{Stored, Plain, formula_of, IsFormulaLive, StoresClause, kept_of, slot_of, stored_at, plain_place, AfterPublish, AfterRetire}
+use Rattle.lrup_model.specs.Plain.{Stored, Plain, formula_of, IsFormulaLive, StoresClause, kept_of, slot_of, stored_at, plain_place}
+use Rattle.lrup_model.specs.Plain.{AfterPublish, AfterRetire}
 use Rattle.lrup_model.specs.History.{IsPublishable}
 use Rattle.lrup_model.specs.declared.clause_map.Published.TheVariants as publishing
 use Rattle.lrup_model.specs.declared.clause_map.Retired.TheVariants as retiring
@@ -41,10 +43,13 @@ LiesWithin-weaker n m le (Retired start len) h = omega (arith, le, h)
 
 stored_in-append : (ls c : List ℤ) (e : Entry) → LiesWithin (length ls) e → stored_in (ls ++ c) e ≡ stored_in ls e
 stored_in-append ls c Vacant h = refl
-stored_in-append ls c (Live start len) h = ap (λ (t : List ℤ). plain.live (record { start = start; literals = t })) (slice_range-append ls c start (start + len) (omega arith) h)
-stored_in-append ls c (Retired start len) h = ap (λ (t : List ℤ). plain.retired (record { start = start; literals = t })) (slice_range-append ls c start (start + len) (omega arith) h)
+stored_in-append ls c (Live start len) h =
+    ap (λ (t : List ℤ). plain.live (record { start = start; literals = t })) (slice_range-append ls c start (start + len) (omega arith) h)
+stored_in-append ls c (Retired start len) h = ap (λ (t : List ℤ). plain.retired (record { start = start; literals = t }))
+    (slice_range-append ls c start (start + len) (omega arith) h)
 
-map-stored_in-append : (ls c : List ℤ) (es : List Entry) → AllByRecursion (LiesWithin (length ls)) es → map (stored_in (ls ++ c)) es ≡ map (stored_in ls) es
+map-stored_in-append : (ls c : List ℤ) (es : List Entry) → AllByRecursion (LiesWithin (length ls)) es
+    → map (stored_in (ls ++ c)) es ≡ map (stored_in ls) es
 map-stored_in-append ls c [] h = refl
 map-stored_in-append ls c (e ∷ es) h =
     let here : stored_in (ls ++ c) e ≡ stored_in ls e = stored_in-append ls c e h.0 in
@@ -54,7 +59,8 @@ map-stored_in-append ls c (e ∷ es) h =
 -- Publish
 
 pub stored_more : (ls c : List ℤ) (es : List Entry) (id : ℕ) → AllByRecursion (LiesWithin (length ls)) es
-    → map (stored_in (ls ++ c)) (set es id (Live (length ls) (length c))) ≡ set (map (stored_in ls) es) id (plain.live (record { start = length ls; literals = c }))
+    → map (stored_in (ls ++ c)) (set es id (Live (length ls) (length c)))
+    ≡ set (map (stored_in ls) es) id (plain.live (record { start = length ls; literals = c }))
 stored_more ls c es id h =
     map-set (stored_in (ls ++ c)) es id (Live (length ls) (length c))
     ∙ ap (λ (xs : List Stored). set xs id (stored_in (ls ++ c) (Live (length ls) (length c)))) (map-stored_in-append ls c es h)
@@ -68,11 +74,12 @@ view_more p es ls c free id h = ap (λ (xs : List Stored). record { layout = p; 
 -- the room that a stream has left, with what the others have
 sum-less : (free : List ℕ) (i n : ℕ) → i < length free → n ≤ get_or free i 0 → sum (set free i (get_or free i 0 - n)) + n ≡ sum free
 sum-less free i n within fits =
-    let step : sum (set free i (get_or free i 0 - n)) + get_or free i 0 ≡ sum free + (get_or free i 0 - n) = sum_by-set (λ x. x) free i (get_or free i 0 - n) 0 within in
+    let step : sum (set free i (get_or free i 0 - n)) + get_or free i 0 ≡ sum free + (get_or free i 0 - n) =
+    sum_by-set (λ x. x) free i (get_or free i 0 - n) 0 within in
     omega arith
 
-pub sound_more : (p : LayoutValue) (es : List Entry) (ls c : List ℤ) (free : List ℕ) (capacity more i id : ℕ) → IsPlainSound p es ls free capacity
-    → p.clauses < id → i < length free → length c ≤ get_or free i 0 → capacity ≤ more
+pub sound_more : (p : LayoutValue) (es : List Entry) (ls c : List ℤ) (free : List ℕ) (capacity more i id : ℕ)
+    → IsPlainSound p es ls free capacity → p.clauses < id → i < length free → length c ≤ get_or free i 0 → capacity ≤ more
     → IsClause p.vars c → Follows (formula_of (plain_of p es ls free)) c
     → IsPlainSound p (set es id (Live (length ls) (length c))) (ls ++ c) (set free i (get_or free i 0 - length c)) more
 sound_more p es ls c free capacity more i id sound derived within fits grows clause follows =
@@ -80,7 +87,8 @@ sound_more p es ls c free capacity more i id sound derived within fits grows cla
     let all : length (ls ++ c) ≡ length ls + length c = length-append ls c in
     let free' = set free i (get_or free i 0 - length c) in
     let v = plain.live (record { start = length ls; literals = c }) in
-    let stored : map (stored_in (ls ++ c)) (set es id (Live (length ls) (length c))) ≡ set (map (stored_in ls) es) id v = stored_more ls c es id sound.within in
+    let stored : map (stored_in (ls ++ c)) (set es id (Live (length ls) (length c))) ≡ set (map (stored_in ls) es) id v =
+    stored_more ls c es id sound.within in
     let same : formula_of (plain_of p (set es id (Live (length ls) (length c))) (ls ++ c) free') ≡ formula_of (plain_of p es ls free) =
     ap formula_of (view_more p es ls c free' id sound.within) ∙ formula_of-set (plain_of p es ls free) id v free' derived in
     record {
@@ -88,43 +96,58 @@ sound_more p es ls c free capacity more i id sound derived within fits grows cla
       count = length-set es id (Live (length ls) (length c)) ∙ sound.count;
       streams = length-set free i (get_or free i 0 - length c) ∙ sound.streams;
       within = AllByRecursion-set (LiesWithin (length (ls ++ c))) es id (Live (length ls) (length c))
-          (All-map (LiesWithin (length ls)) (LiesWithin (length (ls ++ c))) (LiesWithin-weaker (length ls) (length (ls ++ c)) (omega (arith, all))) es sound.within)
+          (All-map (LiesWithin (length ls)) (LiesWithin (length (ls ++ c)))
+          (LiesWithin-weaker (length ls) (length (ls ++ c)) (omega (arith, all))) es sound.within)
           (omega (arith, all));
       reserved = omega (arith, all, left, sound.reserved, grows);
       small = omega (arith, all, left, sound.small);
-      formula = subst IsFormulaLive (sym (view_more p es ls c free' id sound.within)) (formula_live-set (plain_of p es ls free) id v free' derived sound.formula);
-      clauses = subst (λ (f : Cnf). AllByRecursion (StoresClause f) (map (stored_in (ls ++ c)) (set es id (Live (length ls) (length c))))) (sym same)
+      formula = subst IsFormulaLive (sym (view_more p es ls c free' id sound.within))
+          (formula_live-set (plain_of p es ls free) id v free' derived sound.formula);
+      clauses = subst (λ (f : Cnf). AllByRecursion (StoresClause f) (map (stored_in (ls ++ c)) (set es id (Live (length ls) (length c)))))
+          (sym same)
           (subst (AllByRecursion (StoresClause (formula_of (plain_of p es ls free)))) (sym stored)
-          (AllByRecursion-set (StoresClause (formula_of (plain_of p es ls free))) (map (stored_in ls) es) id v sound.clauses (clause, follows)));
+          (AllByRecursion-set (StoresClause (formula_of (plain_of p es ls free))) (map (stored_in ls) es) id v sound.clauses (
+            clause,
+            follows,
+          )));
     }
 
 -- Retire
 
-stores_at : (f : Cnf) (ls : List ℤ) (es : List Entry) (id : ℕ) → AllByRecursion (StoresClause f) (map (stored_in ls) es) → id < length es → StoresClause f (stored_in ls (get_or es id Vacant))
+stores_at : (f : Cnf) (ls : List ℤ) (es : List Entry) (id : ℕ) → AllByRecursion (StoresClause f) (map (stored_in ls) es) → id < length es
+    → StoresClause f (stored_in ls (get_or es id Vacant))
 stores_at f ls [] id h lt = absurd (omega (arith, lt))
 stores_at f ls (e ∷ es) zero h lt = h.0
 stores_at f ls (e ∷ es) (suc id) h lt = stores_at f ls es id h.1 (omega (arith, lt))
 
 pub stored_retired : (ls : List ℤ) (es : List Entry) (id start len : ℕ)
-    → map (stored_in ls) (set es id (Retired start len)) ≡ set (map (stored_in ls) es) id (plain.retired (record { start = start; literals = slice_range ls start (start + len) }))
+    → map (stored_in ls) (set es id (Retired start len))
+    ≡ set (map (stored_in ls) es) id (plain.retired (record { start = start; literals = slice_range ls start (start + len) }))
 stored_retired ls es id start len = map-set (stored_in ls) es id (Retired start len)
 
 pub view_retired : (p : LayoutValue) (es : List Entry) (ls : List ℤ) (free : List ℕ) (id start len : ℕ)
     → plain_of p (set es id (Retired start len)) ls free
-    ≡ record { layout = p; stored = set (map (stored_in ls) es) id (plain.retired (record { start = start; literals = slice_range ls start (start + len) })); free = free }
-view_retired p es ls free id start len = ap (λ (xs : List Stored). record { layout = p; stored = xs; free = free }) (stored_retired ls es id start len)
+    ≡ record {
+      layout = p;
+      stored = set (map (stored_in ls) es) id (plain.retired (record { start = start; literals = slice_range ls start (start + len) }));
+      free = free;
+    }
+view_retired p es ls free id start len =
+    ap (λ (xs : List Stored). record { layout = p; stored = xs; free = free }) (stored_retired ls es id start len)
 
-pub sound_retired : (p : LayoutValue) (es : List Entry) (ls : List ℤ) (free : List ℕ) (capacity id start len : ℕ) → IsPlainSound p es ls free capacity
-    → p.clauses < id → id < length es → get_or es id Vacant ≡ Live start len
+pub sound_retired : (p : LayoutValue) (es : List Entry) (ls : List ℤ) (free : List ℕ) (capacity id start len : ℕ)
+    → IsPlainSound p es ls free capacity → p.clauses < id → id < length es → get_or es id Vacant ≡ Live start len
     → IsPlainSound p (set es id (Retired start len)) ls free capacity
 sound_retired p es ls free capacity id start len sound derived within here =
-    let lies : LiesWithin (length ls) (Live start len) = subst (LiesWithin (length ls)) here (All-from_recursion (LiesWithin (length ls)) es sound.within id Vacant within) in
+    let lies : LiesWithin (length ls) (Live start len) =
+    subst (LiesWithin (length ls)) here (All-from_recursion (LiesWithin (length ls)) es sound.within id Vacant within) in
     let text = slice_range ls start (start + len) in
     let v = plain.retired (record { start = start; literals = text }) in
     let same : formula_of (plain_of p (set es id (Retired start len)) ls free) ≡ formula_of (plain_of p es ls free) =
     ap formula_of (view_retired p es ls free id start len) ∙ formula_of-set (plain_of p es ls free) id v free derived in
     let f = formula_of (plain_of p es ls free) in
-    let kept : StoresClause f (stored_in ls (Live start len)) = subst (λ (e : Entry). StoresClause f (stored_in ls e)) here (stores_at f ls es id sound.clauses within) in
+    let kept : StoresClause f (stored_in ls (Live start len)) =
+    subst (λ (e : Entry). StoresClause f (stored_in ls e)) here (stores_at f ls es id sound.clauses within) in
     record {
       limits = sound.limits;
       count = length-set es id (Retired start len) ∙ sound.count;
@@ -132,7 +155,8 @@ sound_retired p es ls free capacity id start len sound derived within here =
       within = AllByRecursion-set (LiesWithin (length ls)) es id (Retired start len) sound.within lies;
       reserved = sound.reserved;
       small = sound.small;
-      formula = subst IsFormulaLive (sym (view_retired p es ls free id start len)) (formula_live-set (plain_of p es ls free) id v free derived sound.formula);
+      formula = subst IsFormulaLive (sym (view_retired p es ls free id start len))
+          (formula_live-set (plain_of p es ls free) id v free derived sound.formula);
       clauses = subst (λ (g : Cnf). AllByRecursion (StoresClause g) (map (stored_in ls) (set es id (Retired start len)))) (sym same)
           (subst (AllByRecursion (StoresClause f)) (sym (stored_retired ls es id start len))
           (AllByRecursion-set (StoresClause f) (map (stored_in ls) es) id v sound.clauses kept));
@@ -148,8 +172,10 @@ entry_text : (ls : List ℤ) (es : List Entry) (id : ℕ) (kept : Kept) → AllB
     → kept_of (get_or (map (stored_in ls) es) id plain.vacant) ≡ Some kept → LiesAt ls kept
 entry_text ls [] id kept h e = absurd (nothing_kept e)
 entry_text ls (Vacant ∷ es) zero kept h e = absurd (nothing_kept e)
-entry_text ls (Live start len ∷ es) zero kept h e = subst (LiesAt ls) (same_Some (record { start = start; literals = slice_range ls start (start + len) }) kept e) (len, h.0, refl)
-entry_text ls (Retired start len ∷ es) zero kept h e = subst (LiesAt ls) (same_Some (record { start = start; literals = slice_range ls start (start + len) }) kept e) (len, h.0, refl)
+entry_text ls (Live start len ∷ es) zero kept h e =
+    subst (LiesAt ls) (same_Some (record { start = start; literals = slice_range ls start (start + len) }) kept e) (len, h.0, refl)
+entry_text ls (Retired start len ∷ es) zero kept h e =
+    subst (LiesAt ls) (same_Some (record { start = start; literals = slice_range ls start (start + len) }) kept e) (len, h.0, refl)
 entry_text ls (x ∷ es) (suc id) kept h e = entry_text ls es id kept h.1 e
 
 -- one literal of it
@@ -162,8 +188,11 @@ literal_lies ls es id k start text h e lt =
     let is : text ≡ take lies.0 (drop start ls) = lies.2 ∙ ap (λ n. take n (drop start ls)) width in
     let room : length (drop start ls) ≡ length ls - start = length-drop start ls in
     let size : length text ≡ lies.0 = ap length is ∙ length-take lies.0 (drop start ls) ∙ min-eq_left (omega arith) in
-    let short : k < lies.0 = omega arith in
-    (omega arith, slice_get-get_or text k (pos 0) lt ∙ ap Some (ap (λ (t : List ℤ). get_or t k (pos 0)) is ∙ get_or-take lies.0 (drop start ls) k (pos 0) short ∙ get_or-drop start ls k (pos 0)))
+    let short : k < lies.0 = omega arith in (
+      omega arith,
+      slice_get-get_or text k (pos 0) lt ∙ ap Some (ap (λ (t : List ℤ). get_or t k (pos 0)) is
+          ∙ get_or-take lies.0 (drop start ls) k (pos 0) short ∙ get_or-drop start ls k (pos 0)),
+    )
 
 -- The same of the whole map, where the entry was read
 
@@ -174,16 +203,20 @@ within_stored : (ls : List ℤ) (es : List Entry) (id : ℕ) → id < length es 
 within_stored ls es id h = omega (arith, h, length-map es (stored_in ls))
 
 -- what is stored where this entry was read
-stored_is : (ls : List ℤ) (es : List Entry) (id : ℕ) (e : Entry) → id < length es → e ≡ get_or es id e → get_or (map (stored_in ls) es) id plain.vacant ≡ stored_in ls e
-stored_is ls es id e within read = get_or-map (stored_in ls) es id Vacant plain.vacant within ∙ ap (stored_in ls) (sym (get_or_read es id e within read Vacant))
+stored_is : (ls : List ℤ) (es : List Entry) (id : ℕ) (e : Entry) → id < length es → e ≡ get_or es id e
+    → get_or (map (stored_in ls) es) id plain.vacant ≡ stored_in ls e
+stored_is ls es id e within read = get_or-map (stored_in ls) es id Vacant plain.vacant within
+    ∙ ap (stored_in ls) (sym (get_or_read es id e within read Vacant))
 
 pub retire_done : (v : Plain) (p : LayoutValue) (es : List Entry) (ls : List ℤ) (free : List ℕ) (capacity s id start len : ℕ) (e : Entry)
     → plain_of p es ls free ≡ v → IsPlainSound p es ls free capacity → Owns v.layout s id
     → e ≡ get_or es id e → e ≡ Live start len
-    → IsPlainSound p (set es id (Retired start len)) ls free capacity × AfterRetire v (plain_of p (set es id (Retired start len)) ls free) id retiring.Done
+    → IsPlainSound p (set es id (Retired start len)) ls free capacity
+    × AfterRetire v (plain_of p (set es id (Retired start len)) ls free) id retiring.Done
 retire_done v p es ls free capacity s id start len e view sound =
     subst (λ (w : Plain). Owns w.layout s id → e ≡ get_or es id e → e ≡ Live start len
-    → IsPlainSound p (set es id (Retired start len)) ls free capacity × AfterRetire w (plain_of p (set es id (Retired start len)) ls free) id retiring.Done) view
+    → IsPlainSound p (set es id (Retired start len)) ls free capacity
+    × AfterRetire w (plain_of p (set es id (Retired start len)) ls free) id retiring.Done) view
     (λ owns read is.
     let mine = owned p s id sound.limits.some_stream owns in
     let within : id < length es = within_count p es id sound.count mine.identity in
@@ -197,7 +230,8 @@ retire_done v p es ls free capacity s id start len e view sound =
       ),
     ))
 
-pub publish_done : (v : Plain) (p : LayoutValue) (es : List Entry) (ls c more : List ℤ) (free : List ℕ) (capacity grown i id n left : ℕ) (e : Entry)
+pub publish_done : (v : Plain) (p : LayoutValue) (es : List Entry) (ls c more : List ℤ) (free : List ℕ)
+    (capacity grown i id n left : ℕ) (e : Entry)
     → plain_of p es ls free ≡ v → IsPlainSound p es ls free capacity → Owns v.layout (i + 1) id
     → IsPublishable (formula_of v) c → length c ≤ get_or v.free i 0
     → e ≡ get_or es id e → e ≡ Vacant → more ≡ ls ++ c → n ≡ length ls → left ≡ get_or free i left → capacity ≤ grown
@@ -216,7 +250,13 @@ publish_done v p es ls c more free capacity grown i id n left e view sound =
     let left_is : left ≡ get_or free i 0 = get_or_read free i left inside room 0 in
     rw (grows, from, left_is) (
       sound_more p es ls c free capacity grown i id sound mine.derived inside fits bigger clause.clause clause.follows,
-      (inside, within_stored ls es id within, stored_is ls es id e within read ∙ ap (stored_in ls) is, length ls, view_more p es ls c (set free i (get_or free i 0 - length c)) id sound.within),
+      (
+        inside,
+        within_stored ls es id within,
+        stored_is ls es id e within read ∙ ap (stored_in ls) is,
+        length ls,
+        view_more p es ls c (set free i (get_or free i 0 - length c)) id sound.within,
+      ),
     ))
 
 -- a literal of a known clause lies in the list
@@ -224,8 +264,10 @@ pub known_literal : (v : Plain) (p : LayoutValue) (es : List Entry) (ls : List �
     → plain_of p es ls free ≡ v → AllByRecursion (LiesWithin (length ls)) es → IsKnown (plain_place v 1) clip → k < clip.len
     → (clip.start + k < length ls) × (slice_get (clip_clause (plain_place v 1) clip) k ≡ Some (get_or ls (clip.start + k) (pos 0)))
 known_literal v p es ls free clip k view within known lt =
-    subst (λ (w : Plain). IsKnown (plain_place w 1) clip → (clip.start + k < length ls) × (slice_get (clip_clause (plain_place w 1) clip) k ≡ Some (get_or ls (clip.start + k) (pos 0)))) view
-    (λ here. literal_lies ls es clip.id k clip.start (clip_clause (plain_place (plain_of p es ls free) 1) clip) within here.kept (omega (arith, lt, here.len))) known
+    subst (λ (w : Plain). IsKnown (plain_place w 1) clip
+    → (clip.start + k < length ls) × (slice_get (clip_clause (plain_place w 1) clip) k ≡ Some (get_or ls (clip.start + k) (pos 0)))) view
+    (λ here. literal_lies ls es clip.id k clip.start (clip_clause (plain_place (plain_of p es ls free) 1) clip) within here.kept
+    (omega (arith, lt, here.len))) known
 
 kept_follows : (f : Cnf) (x : Stored) (kept : Kept) → StoresClause f x → kept_of x ≡ Some kept → IsDerived f kept.literals
 kept_follows f plain.vacant kept stores there = absurd (nothing_kept there)
@@ -238,8 +280,8 @@ stores_all f (x ∷ xs) zero all = all.0
 stores_all f (x ∷ xs) (suc id) all = stores_all f xs id all.1
 
 -- every clause that is kept follows, and the formula's are live
-pub sound_follows : (v : Plain) (p : LayoutValue) (es : List Entry) (ls : List ℤ) (free : List ℕ) (capacity : ℕ) → plain_of p es ls free ≡ v → IsPlainSound p es ls free capacity
-    → AllFollow (plain_place v 1) × IsFormulaLive v
+pub sound_follows : (v : Plain) (p : LayoutValue) (es : List Entry) (ls : List ℤ) (free : List ℕ) (capacity : ℕ) → plain_of p es ls free ≡ v
+    → IsPlainSound p es ls free capacity → AllFollow (plain_place v 1) × IsFormulaLive v
 sound_follows v p es ls free capacity view sound =
     subst (λ (w : Plain). AllFollow (plain_place w 1) × IsFormulaLive w) view (
       record {

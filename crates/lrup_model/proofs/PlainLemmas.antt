@@ -1,5 +1,6 @@
 -- How the events of a stream move the clause map of one thread.
-use Rattle.std.proofs.Common.{◌≡◌, ◌≢◌, ℕ, zero, suc, ◌+◌, ◌-◌, ◌<◌, ◌≤◌, Bool, true, false, cond, eqb, List, [], ◌∷◌, length, get_or, set, take, drop, Some, None, refl, sym, ap, subst, ◌∙◌, arith}
+use Rattle.std.proofs.Common.{◌≡◌, ◌≢◌, ℕ, zero, suc, ◌+◌, ◌-◌, ◌<◌, ◌≤◌, Bool, true, false, cond, eqb, List, [], ◌∷◌, length, get_or, set}
+use Rattle.std.proofs.Common.{take, drop, Some, None, refl, sym, ap, subst, ◌∙◌, arith}
 use Rattle.std.specs.Prelude.{map}
 use Rattle.std.proofs.Math.Path.{fun_ext}
 use Rattle.std.proofs.lemmas.Bool.{eqb-true, eqb-false}
@@ -24,7 +25,8 @@ use Rattle.lrup_model.specs.declared.clause_map.Fetched.{Fetched}
 use Rattle.lrup_model.specs.declared.clause_map.Retired.{Retired}
 use Rattle.lrup_model.specs.declared.clause_map.Retired.TheVariants as retiring
 use Rattle.lrup_model.specs.HistoryLemmas.{put, owned_above, spent_one}
-use Rattle.lrup_model.specs.Plain.{Stored, vacant, live, retired, Plain, slot_of, kept_of, clause_of, stored_at, formula_of, plain_state, free_at, plain_place, IsFormulaLive, PlainMoves, AfterPublish, AfterRetire, fetched_of}
+use Rattle.lrup_model.specs.Plain.{Stored, vacant, live, retired, Plain, slot_of, kept_of, clause_of, stored_at, formula_of, plain_state}
+use Rattle.lrup_model.specs.Plain.{free_at, plain_place, IsFormulaLive, PlainMoves, AfterPublish, AfterRetire, fetched_of}
 use Rattle.lrup_model.specs.declared.clause_map.Published.{Published}
 use Rattle.lrup_model.specs.declared.clause_map.Published.TheVariants as publishing
 
@@ -39,27 +41,32 @@ pub plain_state-set : (m : Plain) (id : ℕ) (v : Stored) (free : List ℕ) → 
     → plain_state (record { layout = m.layout; stored = set m.stored id v; free = free }) ≡ put (plain_state m) id (slot_of v)
 plain_state-set m id v free h = fun_ext (λ j. at_set m.stored id j v (eqb j id) refl h)
 
-clauses-set : (xs : List Stored) (n id : ℕ) (v : Stored) → n < id → map clause_of (take n (drop 1 (set xs id v))) ≡ map clause_of (take n (drop 1 xs))
+clauses-set : (xs : List Stored) (n id : ℕ) (v : Stored) → n < id
+    → map clause_of (take n (drop 1 (set xs id v))) ≡ map clause_of (take n (drop 1 xs))
 clauses-set xs n zero v h = absurd (omega (arith, h))
 clauses-set xs n (suc id) v h =
     let le : n ≤ id = omega (arith, h) in
-    let cut : take n (drop 1 (set xs (1 + id) v)) ≡ take n (drop 1 xs) = ap (take n) (drop-set-add 1 xs id v) ∙ take-set-le n (drop 1 xs) id v le in
+    let cut : take n (drop 1 (set xs (1 + id) v)) ≡ take n (drop 1 xs) = ap (take n) (drop-set-add 1 xs id v)
+    ∙ take-set-le n (drop 1 xs) id v le in
     ap (map clause_of) (subst (λ k. take n (drop 1 (set xs k v)) ≡ take n (drop 1 xs)) (one-add id) cut)
 
 pub formula_of-set : (m : Plain) (id : ℕ) (v : Stored) (free : List ℕ) → m.layout.clauses < id
     → formula_of (record { layout = m.layout; stored = set m.stored id v; free = free }) ≡ formula_of m
-formula_of-set m id v free h = ap (λ (cs : List Clause). record { vars = m.layout.vars; clauses = cs }) (clauses-set m.stored m.layout.clauses id v h)
+formula_of-set m id v free h =
+    ap (λ (cs : List Clause). record { vars = m.layout.vars; clauses = cs }) (clauses-set m.stored m.layout.clauses id v h)
 
 kept_at-set : (xs : List Stored) (id j : ℕ) (v : Stored) (kept : Kept) (b : Bool) → eqb j id ≡ b → id < length xs
     → ((k : Kept) → kept_of (get_or xs id vacant) ≡ Some k → kept_of v ≡ Some k)
     → kept_of (get_or xs j vacant) ≡ Some kept → kept_of (get_or (set xs id v) j vacant) ≡ Some kept
 kept_at-set xs id j v kept true e h keeps old =
-    ap kept_of (get_or-set_at xs id j v vacant (eqb-true j id e) h) ∙ keeps kept (subst (λ i. kept_of (get_or xs i vacant) ≡ Some kept) (eqb-true j id e) old)
+    ap kept_of (get_or-set_at xs id j v vacant (eqb-true j id e) h)
+    ∙ keeps kept (subst (λ i. kept_of (get_or xs i vacant) ≡ Some kept) (eqb-true j id e) old)
 kept_at-set xs id j v kept false e h keeps old = ap kept_of (get_or-set_other xs id j v vacant (eqb-false j id e)) ∙ old
 
 pub keeps-set : (m : Plain) (id : ℕ) (v : Stored) (free : List ℕ) → id < length m.stored
     → ((k : Kept) → kept_of (stored_at m id) ≡ Some k → kept_of v ≡ Some k)
-    → KeepsSpelt (λ j. kept_of (stored_at m j)) (λ j. kept_of (stored_at (record { layout = m.layout; stored = set m.stored id v; free = free }) j))
+    → KeepsSpelt (λ j. kept_of (stored_at m j))
+    (λ j. kept_of (stored_at (record { layout = m.layout; stored = set m.stored id v; free = free }) j))
 keeps-set m id v free h keeps j kept old = kept_at-set m.stored id j v kept (eqb j id) refl h keeps old
 
 pub formula_live-set : (m : Plain) (id : ℕ) (v : Stored) (free : List ℕ) → m.layout.clauses < id → IsFormulaLive m
@@ -105,17 +112,22 @@ stays m s e by size same answers allowed = record {
   follow = λ all. all;
 }
 
-pub moves_taken : (m : Plain) (s id : ℕ) (c : Clause) → Owns m.layout s id → IsPublishable (formula_of m) c → plain_state m id ≢ slots.absent
-    → PlainMoves m m s (events.publish s id c publishing.Taken ∷ [])
+pub moves_taken : (m : Plain) (s id : ℕ) (c : Clause) → Owns m.layout s id → IsPublishable (formula_of m) c
+    → plain_state m id ≢ slots.absent → PlainMoves m m s (events.publish s id c publishing.Taken ∷ [])
 moves_taken m s id c owns clause taken = stays m s (events.publish s id c publishing.Taken) refl refl refl taken (owns, clause)
 
 -- the rooms after a stream took so many literals
-room_left : (free : List ℕ) (i n : ℕ) → i < length free → n ≤ get_or free i 0 → get_or (set free i (get_or free i 0 - n)) i 0 + n ≡ get_or free i 0
+room_left : (free : List ℕ) (i n : ℕ) → i < length free → n ≤ get_or free i 0
+    → get_or (set free i (get_or free i 0 - n)) i 0 + n ≡ get_or free i 0
 room_left free i n within fits = omega (arith, get_or-set_at free i i (get_or free i 0 - n) 0 refl within)
 
 pub moves_done : (m : Plain) (s id start : ℕ) (c : Clause) → 0 < s → s ≤ length m.free → m.layout.clauses < id → id < length m.stored
     → Owns m.layout s id → IsPublishable (formula_of m) c → stored_at m id ≡ vacant → length c ≤ free_at m s
-    → PlainMoves m (record { layout = m.layout; stored = set m.stored id (live (record { start = start; literals = c })); free = set m.free (s - 1) (free_at m s - length c) }) s (events.publish s id c publishing.Done ∷ [])
+    → PlainMoves m (record {
+      layout = m.layout;
+      stored = set m.stored id (live (record { start = start; literals = c }));
+      free = set m.free (s - 1) (free_at m s - length c);
+    }) s (events.publish s id c publishing.Done ∷ [])
 moves_done m s id start c first last derived within owns clause empty fits =
     let free = set m.free (s - 1) (free_at m s - length c) in
     let v = live (record { start = start; literals = c }) in
@@ -125,10 +137,15 @@ moves_done m s id start c first last derived within owns clause empty fits =
       callers = (refl, tt);
       answers = (ap slot_of empty, (owns, clause), tt);
       state = plain_state-set m id v free within;
-      room = omega (arith, spent_one s (events.publish s id c publishing.Done) refl, room_left m.free (s - 1) (length c) (omega (arith, first, last)) fits);
+      room = omega (
+        arith,
+        spent_one s (events.publish s id c publishing.Done) refl,
+        room_left m.free (s - 1) (length c) (omega (arith, first, last)) fits,
+      );
       others = λ t positive other. get_or-set_other m.free (s - 1) (t - 1) _ 0 (omega (arith, first, positive, other));
       spelt = keeps-set m id v free within (λ kept old. absurd (nothing_kept (subst (λ w. kept_of w ≡ Some kept) empty old)));
-      follow = follow-set m s id v free derived within (λ kept there all. subst (λ (k : Kept). IsDerived (formula_of m) k.literals) (same_Some _ _ there) (clause.clause, clause.follows));
+      follow = follow-set m s id v free derived within (λ kept there all. subst (λ (k : Kept). IsDerived (formula_of m) k.literals)
+          (same_Some _ _ there) (clause.clause, clause.follows));
     }
 
 vacant_from : (s : Stored) → slot_of s ≡ slots.absent → s ≡ vacant
@@ -137,28 +154,37 @@ vacant_from (live kept) h = absurd (cc)
 vacant_from (retired kept) h = absurd (cc)
 
 -- a publish, by its answer
-pub moves_publish : (old new : Plain) (i id : ℕ) (c : Clause) (r : Published) → Owns old.layout (i + 1) id → IsPublishable (formula_of old) c
+pub moves_publish : (old new : Plain) (i id : ℕ) (c : Clause) (r : Published) → Owns old.layout (i + 1) id
+    → IsPublishable (formula_of old) c
     → length c ≤ free_at old (i + 1) → AfterPublish old new i id c r → PlainMoves old new (i + 1) (events.publish (i + 1) id c r ∷ [])
 moves_publish old new i id c publishing.Done owns clause fits after =
     let place : i + 1 - 1 ≡ i = omega arith in
     let v = live (record { start = after.3; literals = c }) in
-    let moved = moves_done old (i + 1) id after.3 c (omega arith) (omega (arith, after.0)) (owned_above old.layout (i + 1) id owns) after.1 owns clause after.2 fits in
+    let moved = moves_done old (i + 1) id after.3 c (omega arith) (omega (arith, after.0))
+    (owned_above old.layout (i + 1) id owns) after.1 owns clause after.2 fits in
     subst (λ (n : Plain). PlainMoves old n (i + 1) (events.publish (i + 1) id c publishing.Done ∷ [])) (sym after.4)
-    (subst (λ j. PlainMoves old (record { layout = old.layout; stored = set old.stored id v; free = set old.free j (get_or old.free j 0 - length c) }) (i + 1) (events.publish (i + 1) id c publishing.Done ∷ [])) place moved)
+    (subst (λ j. PlainMoves old (record {
+      layout = old.layout;
+      stored = set old.stored id v;
+      free = set old.free j (get_or old.free j 0 - length c);
+    }) (i + 1) (events.publish (i + 1) id c publishing.Done ∷ [])) place moved)
 moves_publish old new i id c publishing.Taken owns clause fits after =
     subst (λ (n : Plain). PlainMoves old n (i + 1) (events.publish (i + 1) id c publishing.Taken ∷ [])) (sym after.1)
     (moves_taken old (i + 1) id c owns clause (λ none. after.0 (vacant_from (stored_at old id) none)))
 
-retired_state : (m : Plain) (id : ℕ) (kept : Kept) → stored_at m id ≡ live kept → retire_slot (plain_state m id) ≡ slots.retired kept.literals
+retired_state : (m : Plain) (id : ℕ) (kept : Kept) → stored_at m id ≡ live kept
+    → retire_slot (plain_state m id) ≡ slots.retired kept.literals
 retired_state m id kept here = ap (λ (x : Stored). retire_slot (slot_of x)) here
 
 -- a retire, by its answer
-pub moves_retire : (old new : Plain) (s id : ℕ) (r : Retired) → Owns old.layout s id → AfterRetire old new id r → PlainMoves old new s (events.retire s id r ∷ [])
+pub moves_retire : (old new : Plain) (s id : ℕ) (r : Retired) → Owns old.layout s id → AfterRetire old new id r
+    → PlainMoves old new s (events.retire s id r ∷ [])
 moves_retire old new s id retiring.Done owns after =
     let kept : Kept = after.1 in
     let v : Stored = retired kept in
     let derived : old.layout.clauses < id = owned_above old.layout s id owns in
-    let moved : PlainMoves old (record { layout = old.layout; stored = set old.stored id v; free = old.free }) s (events.retire s id retiring.Done ∷ []) = record {
+    let moved : PlainMoves old (record { layout = old.layout; stored = set old.stored id v; free = old.free }) s
+    (events.retire s id retiring.Done ∷ []) = record {
       layout = refl;
       formula = formula_of-set old id v old.free derived;
       callers = (refl, tt);
@@ -197,11 +223,12 @@ formula_stored m id positive within =
     let i : id - 1 < m.layout.clauses = omega arith in
     let place : 1 + (id - 1) ≡ id = omega arith in
     let cut : get_or (take m.layout.clauses (drop 1 m.stored)) (id - 1) vacant ≡ stored_at m id =
-    get_or-take m.layout.clauses (drop 1 m.stored) (id - 1) vacant i ∙ get_or-drop 1 m.stored (id - 1) vacant ∙ ap (λ (k : ℕ). get_or m.stored k vacant) place in
+    get_or-take m.layout.clauses (drop 1 m.stored) (id - 1) vacant i ∙ get_or-drop 1 m.stored (id - 1) vacant
+    ∙ ap (λ (k : ℕ). get_or m.stored k vacant) place in
     get_or-map clause_of (take m.layout.clauses (drop 1 m.stored)) (id - 1) vacant ∙ ap clause_of cut
 
-pub fetch_formula : (m : Plain) (s id : ℕ) (r : Fetched) → 0 < id → id ≤ m.layout.clauses → IsFormulaLive m → r ≡ fetched_of id (stored_at m id)
-    → reply_of (plain_place m s) r ≡ events.live (clause_at (formula_of m) id)
+pub fetch_formula : (m : Plain) (s id : ℕ) (r : Fetched) → 0 < id → id ≤ m.layout.clauses → IsFormulaLive m
+    → r ≡ fetched_of id (stored_at m id) → reply_of (plain_place m s) r ≡ events.live (clause_at (formula_of m) id)
 fetch_formula m s id r positive within formula is =
     let there = formula id positive within in
     ap (λ (x : Fetched). reply_of (plain_place m s) x) (is ∙ ap (fetched_of id) there.1)

@@ -12,9 +12,11 @@ use Rattle.lrup_text.specs.ByteNames.{space, minus}
 use Rattle.lrup_text.specs.Grammar.{IsDigit, SpellsNumber, SpellsLiteral}
 use Rattle.lrup_text.specs.Kernel.{ReadsLiterals, ReadsItems, numbers_text}
 use Rattle.lrup_text.specs.Lines.{IsStreamNumber, IsStreamLiteral}
-use Rattle.lrup_text.specs.Reading.{IsPartialLine, ReadsAhead, pending, pending_at, spot_at, IsRoomy, literals_text, items_text, clause_front, list_front, literals_read, identities_read}
+use Rattle.lrup_text.specs.Reading.{IsPartialLine, ReadsAhead, pending, pending_at, spot_at, IsRoomy, literals_text, items_text}
+use Rattle.lrup_text.specs.Reading.{clause_front, list_front, literals_read, identities_read}
 use Rattle.lrup_text.specs.Rests.{Spot, BeforeLiteral, AfterMinus, InLiteral, BeforeItem, InItem, Tracks}
-use Rattle.lrup_text.proofs.Steps.{tracks_more, item_digit, number_digit, number_space, body_minus, body_digit, minus_digit, literal_digit, literal_space}
+use Rattle.lrup_text.proofs.Steps.{tracks_more, item_digit, number_digit, number_space, body_minus, body_digit, minus_digit, literal_digit}
+use Rattle.lrup_text.proofs.Steps.{literal_space}
 use Rattle.lrup_text.proofs.Bytes.{clause_more}
 use Rattle.lrup_text.proofs.TextLaws.{signed_word, decimal_word}
 use Rattle.lrup_text.proofs.WholeLines.{spaces_move}
@@ -23,13 +25,15 @@ use Rattle.lrup_text.proofs.WholeLines.{spaces_move}
 pub tracks_as : {p q : List ℕ} {s t : Spot} → Tracks p s → p ≡ q → s ≡ t → Tracks q t
 tracks_as {p} {q} {s} {t} h e f = subst (λ x. Tracks x t) e (subst (λ x. Tracks p x) f h)
 
-number_digits : (p : List ℕ) (deletes : Bool) (k j : ℕ) (cs : List ℕ) → AllByRecursion IsDigit cs → Tracks p (InItem deletes k j) → Tracks (p ++ cs) (InItem deletes (k + length cs) j)
+number_digits : (p : List ℕ) (deletes : Bool) (k j : ℕ) (cs : List ℕ) → AllByRecursion IsDigit cs → Tracks p (InItem deletes k j)
+    → Tracks (p ++ cs) (InItem deletes (k + length cs) j)
 number_digits p deletes k j [] h t = tracks_as t (sym (append-nil p)) (ap (λ n. InItem deletes n j) (omega arith))
 number_digits p deletes k j (c ∷ cs) h t =
     tracks_as (number_digits (p ++ c ∷ []) deletes (k + 1) j cs h.1 (tracks_more p _ _ c t (number_digit deletes k j c h.0)))
     (append_assoc p (c ∷ []) cs) (ap (λ n. InItem deletes n j) (omega arith))
 
-tracks_number : (p : List ℕ) (deletes : Bool) (j : ℕ) (word : List ℕ) → SpellsNumber 18 word → Tracks p (BeforeItem deletes j) → Tracks (p ++ (word ++ space ∷ [])) (BeforeItem deletes (j + 1))
+tracks_number : (p : List ℕ) (deletes : Bool) (j : ℕ) (word : List ℕ) → SpellsNumber 18 word → Tracks p (BeforeItem deletes j)
+    → Tracks (p ++ (word ++ space ∷ [])) (BeforeItem deletes (j + 1))
 tracks_number p deletes j [] h t = absurd h
 tracks_number p deletes j (c ∷ cs) h t =
     let first = tracks_more p _ _ c t (item_digit deletes j c h.0 h.1) in
@@ -37,39 +41,49 @@ tracks_number p deletes j (c ∷ cs) h t =
     tracks_as (tracks_more ((p ++ c ∷ []) ++ cs) _ _ space digits (number_space deletes (1 + length cs) j (omega (arith, h.3))))
     (ap (λ t. t ++ space ∷ []) (append_assoc p (c ∷ []) cs) ∙ append_assoc p (c ∷ cs) (space ∷ [])) refl
 
-tracks_numbers : (p : List ℕ) (deletes : Bool) (j : ℕ) (ns : List ℕ) → AllByRecursion IsStreamNumber ns → Tracks p (BeforeItem deletes j) → Tracks (p ++ numbers_text ns) (BeforeItem deletes (j + length ns))
+tracks_numbers : (p : List ℕ) (deletes : Bool) (j : ℕ) (ns : List ℕ) → AllByRecursion IsStreamNumber ns → Tracks p (BeforeItem deletes j)
+    → Tracks (p ++ numbers_text ns) (BeforeItem deletes (j + length ns))
 unfolding numbers_text
 tracks_numbers p deletes j [] h t = tracks_as t (sym (append-nil p)) (ap (BeforeItem deletes) (omega arith))
 tracks_numbers p deletes j (n ∷ ns) h t =
-    tracks_as (tracks_numbers (p ++ (decimal n ++ space ∷ [])) deletes (j + 1) ns h.1 (tracks_number p deletes j (decimal n) (decimal_word n h.0) t))
+    tracks_as (tracks_numbers (p ++ (decimal n ++ space ∷ [])) deletes (j + 1) ns h.1
+    (tracks_number p deletes j (decimal n) (decimal_word n h.0) t))
     (append_assoc p (decimal n ++ space ∷ []) (numbers_text ns)) (ap (BeforeItem deletes) (omega arith))
 
-pub literal_digits : (p : List ℕ) (imports : Bool) (k n : ℕ) (cs : List ℕ) → AllByRecursion IsDigit cs → Tracks p (InLiteral imports k n) → Tracks (p ++ cs) (InLiteral imports (k + length cs) n)
+pub literal_digits : (p : List ℕ) (imports : Bool) (k n : ℕ) (cs : List ℕ) → AllByRecursion IsDigit cs → Tracks p (InLiteral imports k n)
+    → Tracks (p ++ cs) (InLiteral imports (k + length cs) n)
 literal_digits p imports k n [] h t = tracks_as t (sym (append-nil p)) (ap (λ x. InLiteral imports x n) (omega arith))
 literal_digits p imports k n (c ∷ cs) h t =
     tracks_as (literal_digits (p ++ c ∷ []) imports (k + 1) n cs h.1 (tracks_more p _ _ c t (literal_digit imports k n c h.0)))
     (append_assoc p (c ∷ []) cs) (ap (λ x. InLiteral imports x n) (omega arith))
 
 -- a literal's digits after the first, and the space
-tracks_rest : (p : List ℕ) (imports : Bool) (n c : ℕ) (cs : List ℕ) → AllByRecursion IsDigit cs → length cs < 18 → Tracks (p ++ c ∷ []) (InLiteral imports 1 n) → Tracks (p ++ ((c ∷ cs) ++ space ∷ [])) (BeforeLiteral imports (n + 1))
+tracks_rest : (p : List ℕ) (imports : Bool) (n c : ℕ) (cs : List ℕ) → AllByRecursion IsDigit cs → length cs < 18
+    → Tracks (p ++ c ∷ []) (InLiteral imports 1 n) → Tracks (p ++ ((c ∷ cs) ++ space ∷ [])) (BeforeLiteral imports (n + 1))
 tracks_rest p imports n c cs h few t =
-    tracks_as (tracks_more ((p ++ c ∷ []) ++ cs) _ _ space (literal_digits (p ++ c ∷ []) imports 1 n cs h t) (literal_space imports (1 + length cs) n (omega arith)))
+    tracks_as (tracks_more ((p ++ c ∷ []) ++ cs) _ _ space (literal_digits (p ++ c ∷ []) imports 1 n cs h t)
+    (literal_space imports (1 + length cs) n (omega arith)))
     (ap (λ t. t ++ space ∷ []) (append_assoc p (c ∷ []) cs) ∙ append_assoc p (c ∷ cs) (space ∷ [])) refl
 
-tracks_literal : (p : List ℕ) (imports : Bool) (n : ℕ) (word : List ℕ) → SpellsLiteral 18 word → Tracks p (BeforeLiteral imports n) → Tracks (p ++ (word ++ space ∷ [])) (BeforeLiteral imports (n + 1))
+tracks_literal : (p : List ℕ) (imports : Bool) (n : ℕ) (word : List ℕ) → SpellsLiteral 18 word → Tracks p (BeforeLiteral imports n)
+    → Tracks (p ++ (word ++ space ∷ [])) (BeforeLiteral imports (n + 1))
 tracks_literal p imports n [] h t = absurd h
-tracks_literal p imports n (c ∷ cs) (inl h) t = tracks_rest p imports n c cs h.2 h.3 (tracks_more p _ _ c t (body_digit imports n c h.0 h.1))
+tracks_literal p imports n (c ∷ cs) (inl h) t =
+    tracks_rest p imports n c cs h.2 h.3 (tracks_more p _ _ c t (body_digit imports n c h.0 h.1))
 tracks_literal p imports n (c ∷ []) (inr h) t = absurd h.1
 tracks_literal p imports n (c ∷ d ∷ ds) (inr h) t =
     let signed : Tracks (p ++ minus ∷ []) (AfterMinus imports n) = tracks_more p _ _ minus t (body_minus imports n) in
-    let digits = tracks_rest (p ++ minus ∷ []) imports n d ds h.1.2 h.1.3 (tracks_more (p ++ minus ∷ []) _ _ d signed (minus_digit imports n d h.1.0 h.1.1)) in
+    let digits = tracks_rest (p ++ minus ∷ []) imports n d ds h.1.2 h.1.3
+    (tracks_more (p ++ minus ∷ []) _ _ d signed (minus_digit imports n d h.1.0 h.1.1)) in
     tracks_as digits (append_assoc p (minus ∷ []) ((d ∷ ds) ++ space ∷ []) ∙ ap (λ x. p ++ (x ∷ ((d ∷ ds) ++ space ∷ []))) (sym h.0)) refl
 
-pub tracks_literals : (p : List ℕ) (imports : Bool) (n : ℕ) (zs : List ℤ) → AllByRecursion IsStreamLiteral zs → Tracks p (BeforeLiteral imports n) → Tracks (p ++ literals_text zs) (BeforeLiteral imports (n + length zs))
+pub tracks_literals : (p : List ℕ) (imports : Bool) (n : ℕ) (zs : List ℤ) → AllByRecursion IsStreamLiteral zs
+    → Tracks p (BeforeLiteral imports n) → Tracks (p ++ literals_text zs) (BeforeLiteral imports (n + length zs))
 unfolding literals_text
 tracks_literals p imports n [] h t = tracks_as t (sym (append-nil p)) (ap (BeforeLiteral imports) (omega arith))
 tracks_literals p imports n (z ∷ zs) h t =
-    tracks_as (tracks_literals (p ++ (signed_decimal z ++ space ∷ [])) imports (n + 1) zs h.1 (tracks_literal p imports n (signed_decimal z) (signed_word z h.0) t))
+    tracks_as (tracks_literals (p ++ (signed_decimal z ++ space ∷ [])) imports (n + 1) zs h.1
+    (tracks_literal p imports n (signed_decimal z) (signed_word z h.0) t))
     (append_assoc p (signed_decimal z ++ space ∷ []) (literals_text zs)) (ap (BeforeLiteral imports) (omega arith))
 
 -- the texts of two lists
@@ -78,19 +92,23 @@ texts_append f [] ys = refl
 texts_append f (x ∷ xs) ys = ap (λ t. f x ++ t) (texts_append f xs ys) ∙ sym (append_assoc (f x) (flat_map f xs) (flat_map f ys))
 
 -- how many there are then
-count_is : {X : Type 0} (old new more : List X) (first count : ℕ) → first ≤ length old → count ≤ length new → take count new ≡ take first old ++ more → count ≡ first + length more
+count_is : {X : Type 0} (old new more : List X) (first count : ℕ) → first ≤ length old → count ≤ length new
+    → take count new ≡ take first old ++ more → count ≡ first + length more
 count_is old new more first count first_in count_in is =
     omega (arith, length-take-le count new count_in, length-take-le first old first_in, ap length is, length-append (take first old) more)
 
-pub items_ahead : (m : PartialLine) (v : Vec ℕ Global) (count used last : ℕ) (ids piece : List ℕ) → IsPartialLine m → m.place ≡ places.Item → v.items ≡ ids → length ids ≡ 65536 → last ≤ length piece
-    → ReadsItems (take last piece) 0 m.identities.items m.identity_count ids count used → ReadsAhead m piece used (record m { identities = v; identity_count = count })
+pub items_ahead : (m : PartialLine) (v : Vec ℕ Global) (count used last : ℕ) (ids piece : List ℕ) → IsPartialLine m → m.place ≡ places.Item
+    → v.items ≡ ids → length ids ≡ 65536 → last ≤ length piece
+    → ReadsItems (take last piece) 0 m.identities.items m.identity_count ids count used
+    → ReadsAhead m piece used (record m { identities = v; identity_count = count })
 unfolding pending_at spot_at IsRoomy items_text
 items_ahead m v count used last ids piece h at items size inside found =
     let next : PartialLine = record m { identities = v; identity_count = count; place = places.Item } in
     let front = list_front m.deletes m.lead (literals_read m) in
     let few : m.identity_count ≤ length m.identities.items = omega (arith, h.room.identities, h.kept.few_identities) in
     let lists : identities_read next ≡ identities_read m ++ found.more = ap (take count) items ∙ found.ids in
-    let counted : count ≡ m.identity_count + length found.more = count_is m.identities.items ids found.more m.identity_count count few found.few found.ids in
+    let counted : count ≡ m.identity_count + length found.more =
+    count_is m.identities.items ids found.more m.identity_count count few found.few found.ids in
     let texts : items_text (identities_read next) ≡ items_text (identities_read m) ++ items_text found.more =
     ap items_text lists ∙ texts_append (λ n. space ∷ decimal n) (identities_read m) found.more in
     let here = (front ++ items_text (identities_read m)) ++ space ∷ [] in
@@ -98,10 +116,12 @@ items_ahead m v count used last ids piece h at items size inside found =
     ap (λ t. (front ++ t) ++ space ∷ []) texts
     ∙ ap (λ t. t ++ space ∷ []) (sym (append_assoc front (items_text (identities_read m)) (items_text found.more)))
     ∙ append_assoc (front ++ items_text (identities_read m)) (items_text found.more) (space ∷ [])
-    ∙ ap (λ t. (front ++ items_text (identities_read m)) ++ t) (sym (spaces_move found.more []) ∙ ap (λ t. space ∷ t) (append-nil (numbers_text found.more)))
+    ∙ ap (λ t. (front ++ items_text (identities_read m)) ++ t) (sym (spaces_move found.more [])
+    ∙ ap (λ t. space ∷ t) (append-nil (numbers_text found.more)))
     ∙ sym (append_assoc (front ++ items_text (identities_read m)) (space ∷ []) (numbers_text found.more)) in
     let tracks : Tracks here (BeforeItem m.deletes m.identity_count) = subst (λ p. Tracks (pending_at p m) (spot_at p m)) at h.tracks in
-    let bytes : take used piece ≡ numbers_text found.more = sym (take-take used last piece (omega (arith, found.inside, length-take-le last piece inside))) ∙ found.is in
+    let bytes : take used piece ≡ numbers_text found.more =
+    sym (take-take used last piece (omega (arith, found.inside, length-take-le last piece inside))) ∙ found.is in
     let result : ReadsAhead m piece used next = record {
       bound = omega (arith, found.inside, length-take-le last piece inside);
       reads = record {
@@ -111,31 +131,37 @@ items_ahead m v count used last ids piece h at items size inside found =
           few_literals = h.kept.few_literals;
           few_identities = omega (arith, found.few, size);
           literals = h.kept.literals;
-          identities = subst (AllByRecursion IsStreamNumber) (sym lists) (All-append IsStreamNumber (identities_read m) found.more h.kept.identities found.each);
+          identities = subst (AllByRecursion IsStreamNumber) (sym lists)
+              (All-append IsStreamNumber (identities_read m) found.more h.kept.identities found.each);
         };
         number = h.number;
         roomy = subst (λ p. IsRoomy p m) at h.roomy;
-        tracks = tracks_as (tracks_numbers here m.deletes m.identity_count found.more found.each tracks) (sym grown) (ap (BeforeItem m.deletes) (sym counted));
+        tracks = tracks_as (tracks_numbers here m.deletes m.identity_count found.more found.each tracks) (sym grown)
+            (ap (BeforeItem m.deletes) (sym counted));
       };
       is = grown ∙ ap (λ p. pending_at p m ++ numbers_text found.more) (sym at) ∙ ap (λ t. pending m ++ t) (sym bytes);
     } in
     subst (λ p. ReadsAhead m piece used (record next { place = p })) (sym at) result
 
-pub literals_ahead : (m : PartialLine) (v : Vec ℤ Global) (count used last : ℕ) (lits : List ℤ) (piece : List ℕ) → IsPartialLine m → m.place ≡ places.Body → v.items ≡ lits → length lits ≡ 65535 → last ≤ length piece
-    → ReadsLiterals (take last piece) 0 m.literals.items m.literal_count lits count used → ReadsAhead m piece used (record m { literals = v; literal_count = count })
+pub literals_ahead : (m : PartialLine) (v : Vec ℤ Global) (count used last : ℕ) (lits : List ℤ) (piece : List ℕ) → IsPartialLine m
+    → m.place ≡ places.Body → v.items ≡ lits → length lits ≡ 65535 → last ≤ length piece
+    → ReadsLiterals (take last piece) 0 m.literals.items m.literal_count lits count used
+    → ReadsAhead m piece used (record m { literals = v; literal_count = count })
 unfolding pending_at spot_at IsRoomy literals_text
 literals_ahead m v count used last lits piece h at items size inside found =
     let next : PartialLine = record m { literals = v; literal_count = count; place = places.Body } in
     let few : m.literal_count ≤ length m.literals.items = omega (arith, h.room.literals, h.kept.few_literals) in
     let lists : literals_read next ≡ literals_read m ++ found.more = ap (take count) items ∙ found.lits in
-    let counted : count ≡ m.literal_count + length found.more = count_is m.literals.items lits found.more m.literal_count count few found.few found.lits in
+    let counted : count ≡ m.literal_count + length found.more =
+    count_is m.literals.items lits found.more m.literal_count count few found.few found.lits in
     let texts : literals_text (literals_read next) ≡ literals_text (literals_read m) ++ literals_text found.more =
     ap literals_text lists ∙ texts_append (λ z. signed_decimal z ++ space ∷ []) (literals_read m) found.more in
     let here = clause_front m.imports m.lead (literals_read m) in
     let grown : pending next ≡ here ++ literals_text found.more =
     clause_more m.imports m.lead (literals_read m) (literals_read next) (literals_text found.more) texts in
     let tracks : Tracks here (BeforeLiteral m.imports m.literal_count) = subst (λ p. Tracks (pending_at p m) (spot_at p m)) at h.tracks in
-    let bytes : take used piece ≡ literals_text found.more = sym (take-take used last piece (omega (arith, found.inside, length-take-le last piece inside))) ∙ found.is in
+    let bytes : take used piece ≡ literals_text found.more =
+    sym (take-take used last piece (omega (arith, found.inside, length-take-le last piece inside))) ∙ found.is in
     let result : ReadsAhead m piece used next = record {
       bound = omega (arith, found.inside, length-take-le last piece inside);
       reads = record {
@@ -145,11 +171,13 @@ literals_ahead m v count used last lits piece h at items size inside found =
           few_literals = omega (arith, found.few, size);
           few_identities = h.kept.few_identities;
           identities = h.kept.identities;
-          literals = subst (AllByRecursion IsStreamLiteral) (sym lists) (All-append IsStreamLiteral (literals_read m) found.more h.kept.literals found.each);
+          literals = subst (AllByRecursion IsStreamLiteral) (sym lists)
+              (All-append IsStreamLiteral (literals_read m) found.more h.kept.literals found.each);
         };
         number = h.number;
         roomy = subst (λ p. IsRoomy p m) at h.roomy;
-        tracks = tracks_as (tracks_literals here m.imports m.literal_count found.more found.each tracks) (sym grown) (ap (BeforeLiteral m.imports) (sym counted));
+        tracks = tracks_as (tracks_literals here m.imports m.literal_count found.more found.each tracks) (sym grown)
+            (ap (BeforeLiteral m.imports) (sym counted));
       };
       is = grown ∙ ap (λ p. pending_at p m ++ literals_text found.more) (sym at) ∙ ap (λ t. pending m ++ t) (sym bytes);
     } in

@@ -1,5 +1,6 @@
 -- What a byte does to a line that was read in part, at each place.
-use Rattle.std.proofs.Common.{unsigned_abs, ◌≡◌, ◌≢◌, ℕ, ℤ, ◌+◌, ◌-◌, ◌*◌, ◌^◌, ◌<◌, ◌≤◌, inl, inr, Bool, true, false, List, [], ◌∷◌, ◌++◌, length, take, map, refl, sym, ◌∙◌, ap, subst, arith}
+use Rattle.std.proofs.Common.{unsigned_abs, ◌≡◌, ◌≢◌, ℕ, ℤ, ◌+◌, ◌-◌, ◌*◌, ◌^◌, ◌<◌, ◌≤◌, inl, inr, Bool, true, false, List, [], ◌∷◌, ◌++◌}
+use Rattle.std.proofs.Common.{length, take, map, refl, sym, ◌∙◌, ap, subst, arith}
 use Rattle.std.specs.Fmt.{decimal, signed_decimal}
 use Rattle.std.specs.List.{AllByRecursion, flat_map}
 use Rattle.std.specs.Prelude.{Vec, vec_len, slice_set}
@@ -15,8 +16,11 @@ use Rattle.lrup_text.specs.ByteNames.{space, minus, zero_digit, letter_d, letter
 use Rattle.lrup_text.specs.Grammar.{IsDigit, list_text, clause_text}
 use Rattle.lrup_text.specs.Faults.{IsRefused}
 use Rattle.lrup_text.specs.Lines.{IsWithinLimits, IsStreamNumber, IsStreamLiteral, LineText, line_text}
-use Rattle.lrup_text.specs.Rests.{Spot, InLead, AfterImport, BeforeLiteral, AfterMinus, InLiteral, BeforeList, BeforeItem, InItem, AtEnd, Tracks, Moves, Blocks, Allows}
-use Rattle.lrup_text.specs.Reading.{FitsDigits, CanStandInLine, IsPartialLine, pending_at, spot_at, pending, IsRoomy, clause_front, list_front, item_front, end_front, literal_front, literals_read, identities_read, literals_text, items_text, line_so_far, line_of_parts}
+use Rattle.lrup_text.specs.Rests.{Spot, InLead, AfterImport, BeforeLiteral, AfterMinus, InLiteral, BeforeList, BeforeItem, InItem, AtEnd}
+use Rattle.lrup_text.specs.Rests.{Tracks, Moves, Blocks, Allows}
+use Rattle.lrup_text.specs.Reading.{FitsDigits, CanStandInLine, IsPartialLine, pending_at, spot_at, pending, IsRoomy, clause_front}
+use Rattle.lrup_text.specs.Reading.{list_front, item_front, end_front, literal_front, literals_read, identities_read, literals_text}
+use Rattle.lrup_text.specs.Reading.{items_text, line_so_far, line_of_parts}
 use Rattle.lrup_text.proofs.Decisions.{decides_spelling, decides_long, decides_rat}
 use Rattle.lrup_text.proofs.Rests.{list_is_clause}
 use Rattle.lrup_text.proofs.Numerals.{decimal_one, decimal_byte, power_more, power_below}
@@ -88,16 +92,20 @@ bounded m h = bounded_at m m.place h h.roomy
 module _ (m : PartialLine) (place : Place) (at : m.place ≡ place) (reads : IsPartialLine m) (b : ℕ) where
   pub spelling_at : ((signed : Bool) → Blocks signed (spot_at place m) b) → IsRefused (pending m ++ b ∷ []) Spelling
   spelling_at blocks =
-      decides_spelling (pending m) (spot_at m.place m) b reads.tracks (bounded m reads) (subst (λ p. (signed : Bool) → Blocks signed (spot_at p m) b) (sym at) blocks)
+      decides_spelling (pending m) (spot_at m.place m) b reads.tracks (bounded m reads)
+      (subst (λ p. (signed : Bool) → Blocks signed (spot_at p m) b) (sym at) blocks)
 
   pub long_at : Exceeds (spot_at place m) b → IsRefused (pending m ++ b ∷ []) TooLong
-  long_at exceeds = decides_long (pending m) (spot_at m.place m) b reads.tracks (bounded m reads) (subst (λ p. Exceeds (spot_at p m) b) (sym at) exceeds)
+  long_at exceeds =
+      decides_long (pending m) (spot_at m.place m) b reads.tracks (bounded m reads) (subst (λ p. Exceeds (spot_at p m) b) (sym at) exceeds)
 
 -- the same line elsewhere, after one more byte
 module _ (m next : PartialLine) (place : Place) (at : m.place ≡ place) (reads : IsPartialLine m) (b : ℕ) where
-  pub tracks_next : pending next ≡ pending_at place m ++ b ∷ [] → Moves (spot_at place m) b (spot_at next.place next) → Tracks (pending next) (spot_at next.place next)
+  pub tracks_next : pending next ≡ pending_at place m ++ b ∷ [] → Moves (spot_at place m) b (spot_at next.place next)
+      → Tracks (pending next) (spot_at next.place next)
   tracks_next is moves =
-      subst (λ t. Tracks t (spot_at next.place next)) (sym is) (tracks_more (pending_at place m) (spot_at place m) (spot_at next.place next) b (tracks_at m place at reads) moves)
+      subst (λ t. Tracks t (spot_at next.place next)) (sym is)
+      (tracks_more (pending_at place m) (spot_at place m) (spot_at next.place next) b (tracks_at m place at reads) moves)
 
   pub pending_next : pending next ≡ pending_at place m ++ b ∷ [] → pending next ≡ pending m ++ b ∷ []
   pending_next is = is ∙ ap (λ p. pending_at p m ++ b ∷ []) (sym at)
@@ -107,7 +115,11 @@ pub first_digit : (b : ℕ) → 49 ≤ b → b ≤ 57 → FitsDigits (b - 48) 1
 first_digit b low high = record { low = omega arith; high = omega arith; few = omega arith }
 
 pub more_digits : (n k b : ℕ) → FitsDigits n k → k < 18 → IsDigit b → FitsDigits (n * 10 + (b - 48)) (k + 1)
-more_digits n k b h few digit = record { low = omega (arith, h.low); high = power_more k n (b - 48) h.high (omega arith); few = omega arith }
+more_digits n k b h few digit = record {
+  low = omega (arith, h.low);
+  high = power_more k n (b - 48) h.high (omega arith);
+  few = omega arith;
+}
 
 -- it keeps below the limit, and is a word
 pub below_limit : (n k : ℕ) → FitsDigits n k → n < 10 ^ 18
@@ -115,7 +127,8 @@ below_limit n k h = omega (arith, h.high, power_below k h.few)
 
 pub decimal_next : (n k b : ℕ) → FitsDigits n k → k < 18 → IsDigit b → decimal (n * 10 + (b - 48)) ≡ decimal n ++ b ∷ []
 decimal_next n k b h few digit =
-    decimal_byte n b h.low (below_limit n k h) digit (omega (arith, below_limit (n * 10 + (b - 48)) (k + 1) (more_digits n k b h few digit)))
+    decimal_byte n b h.low (below_limit n k h) digit
+    (omega (arith, below_limit (n * 10 + (b - 48)) (k + 1) (more_digits n k b h few digit)))
 
 pub positive : (n k : ℕ) → FitsDigits n k → IsStreamNumber n
 positive n k h = (h.low, below_limit n k h)
@@ -128,7 +141,8 @@ text_more f xs x = sym (flat_map_more f [] xs x)
 pub items_end : (ids : List ℕ) → items_text ids ++ space ∷ zero_digit ∷ line_feed ∷ [] ≡ list_text (map decimal ids)
 unfolding items_text
 items_end [] = refl
-items_end (n ∷ ns) = ap (λ t. space ∷ t) (append_assoc (decimal n) (items_text ns) (space ∷ zero_digit ∷ line_feed ∷ []) ∙ ap (λ t. decimal n ++ t) (items_end ns))
+items_end (n ∷ ns) = ap (λ t. space ∷ t)
+    (append_assoc (decimal n) (items_text ns) (space ∷ zero_digit ∷ line_feed ∷ []) ∙ ap (λ t. decimal n ++ t) (items_end ns))
 
 pub literals_end : (lits : List ℤ) (after : List ℕ) → literals_text lits ++ zero_digit ∷ after ≡ clause_text (map signed_decimal lits) after
 unfolding literals_text
@@ -140,14 +154,16 @@ literals_end (z ∷ zs) after =
 
 -- the whole text of a line, from its front
 list_end : (deletes : Bool) (lead : ℕ) (lits : List ℤ) (ids : List ℕ)
-    → ((list_front deletes lead lits ++ items_text ids) ++ space ∷ zero_digit ∷ []) ++ line_feed ∷ [] ≡ line_text (line_of_parts false deletes lead lits ids)
+    → ((list_front deletes lead lits ++ items_text ids) ++ space ∷ zero_digit ∷ []) ++ line_feed ∷ []
+    ≡ line_text (line_of_parts false deletes lead lits ids)
 list_end deletes lead lits ids =
     append_assoc (list_front deletes lead lits ++ items_text ids) (space ∷ zero_digit ∷ []) (line_feed ∷ [])
     ∙ append_assoc (list_front deletes lead lits) (items_text ids) (space ∷ zero_digit ∷ line_feed ∷ [])
     ∙ ap (λ t. list_front deletes lead lits ++ t) (items_end ids)
     ∙ front deletes
   where
-    front : (deletes : Bool) → list_front deletes lead lits ++ list_text (map decimal ids) ≡ line_text (line_of_parts false deletes lead lits ids)
+    front : (deletes : Bool)
+        → list_front deletes lead lits ++ list_text (map decimal ids) ≡ line_text (line_of_parts false deletes lead lits ids)
     front true = append_assoc (decimal lead) (space ∷ letter_d ∷ []) (list_text (map decimal ids))
     front false =
         append_assoc (clause_front false lead lits) (zero_digit ∷ []) (list_text (map decimal ids))
@@ -159,11 +175,12 @@ pub line_end : (imports deletes : Bool) (lead : ℕ) (lits : List ℤ) (ids : Li
 line_end true deletes lead lits ids =
     append_assoc (clause_front true lead lits) (zero_digit ∷ []) (line_feed ∷ [])
     ∙ append_assoc (decimal lead) (space ∷ letter_i ∷ space ∷ literals_text lits) (zero_digit ∷ line_feed ∷ [])
-    ∙ ap (λ t. decimal lead ++ space ∷ letter_i ∷ t) (ap (λ t. space ∷ t) (literals_end lits (line_feed ∷ [])) ∙ sym (list_is_clause (map signed_decimal lits)))
+    ∙ ap (λ t. decimal lead ++ space ∷ letter_i ∷ t) (ap (λ t. space ∷ t) (literals_end lits (line_feed ∷ []))
+    ∙ sym (list_is_clause (map signed_decimal lits)))
 line_end false deletes lead lits ids = list_end deletes lead lits ids
 
-pub line_fits : (imports deletes : Bool) (lead : ℕ) (lits : List ℤ) (n : ℕ) (ids : List ℕ) (j : ℕ) → CanStandInLine lead lits n ids j → n ≤ length lits → j ≤ length ids
-    → IsWithinLimits (line_of_parts imports deletes lead (take n lits) (take j ids))
+pub line_fits : (imports deletes : Bool) (lead : ℕ) (lits : List ℤ) (n : ℕ) (ids : List ℕ) (j : ℕ) → CanStandInLine lead lits n ids j
+    → n ≤ length lits → j ≤ length ids → IsWithinLimits (line_of_parts imports deletes lead (take n lits) (take j ids))
 line_fits true deletes lead lits n ids j h n_in j_in =
     (h.lead, record { count = omega (arith, length-take-le n lits n_in, h.few_literals); each = h.literals })
 line_fits false true lead lits n ids j h n_in j_in =
@@ -175,9 +192,12 @@ line_fits false false lead lits n ids j h n_in j_in = (
 )
 
 -- a clause that grows at its end
-pub clause_more : (imports : Bool) (lead : ℕ) (lits longer : List ℤ) (x : List ℕ) → literals_text longer ≡ literals_text lits ++ x → clause_front imports lead longer ≡ clause_front imports lead lits ++ x
-clause_more true lead lits longer x is = ap (λ t. decimal lead ++ space ∷ letter_i ∷ space ∷ t) is ∙ sym (append_assoc (decimal lead) (space ∷ letter_i ∷ space ∷ literals_text lits) x)
-clause_more false lead lits longer x is = ap (λ t. decimal lead ++ space ∷ t) is ∙ sym (append_assoc (decimal lead) (space ∷ literals_text lits) x)
+pub clause_more : (imports : Bool) (lead : ℕ) (lits longer : List ℤ) (x : List ℕ) → literals_text longer ≡ literals_text lits ++ x
+    → clause_front imports lead longer ≡ clause_front imports lead lits ++ x
+clause_more true lead lits longer x is = ap (λ t. decimal lead ++ space ∷ letter_i ∷ space ∷ t) is
+    ∙ sym (append_assoc (decimal lead) (space ∷ letter_i ∷ space ∷ literals_text lits) x)
+clause_more false lead lits longer x is = ap (λ t. decimal lead ++ space ∷ t) is
+    ∙ sym (append_assoc (decimal lead) (space ∷ literals_text lits) x)
 
 -- After the byte the line goes on.
 abbrev pub GoesOn : PartialLine → ℕ → PartialLine → Type 0
@@ -191,7 +211,13 @@ module _ (m : PartialLine) (b : ℕ) (h : IsPartialLine m) where
   start_goes_on at low high =
       let next : PartialLine = record m { number = b - 48; digits = 1; place = places.Lead } in
       let is : pending next ≡ [] ++ b ∷ [] = decimal_one b (omega arith, high) in (
-        record { room = h.room; kept = h.kept; number = first_digit b low high; roomy = tt; tracks = tracks_next m next places.Start at h b is (start_digit b low high) },
+        record {
+          room = h.room;
+          kept = h.kept;
+          number = first_digit b low high;
+          roomy = tt;
+          tracks = tracks_next m next places.Start at h b is (start_digit b low high);
+        },
         pending_next m next places.Start at h b is,
       )
 
@@ -201,28 +227,43 @@ module _ (m : PartialLine) (b : ℕ) (h : IsPartialLine m) where
 
   -- Lead
 
-  pub lead_digit_goes_on : m.place ≡ places.Lead → IsDigit b → m.digits < 18 → GoesOn m b (record m { number = m.number * 10 + (b - 48); digits = m.digits + 1 })
+  pub lead_digit_goes_on : m.place ≡ places.Lead → IsDigit b → m.digits < 18
+      → GoesOn m b (record m { number = m.number * 10 + (b - 48); digits = m.digits + 1 })
   unfolding pending_at spot_at IsRoomy
   lead_digit_goes_on at digit few =
       let next : PartialLine = record m { number = m.number * 10 + (b - 48); digits = m.digits + 1; place = places.Lead } in
       let is : pending next ≡ decimal m.number ++ b ∷ [] = decimal_next m.number m.digits b h.number few digit in
       let goes : GoesOn m b next = (
-        record { room = h.room; kept = h.kept; number = more_digits m.number m.digits b h.number few digit; roomy = tt; tracks = tracks_next m next places.Lead at h b is (lead_digit m.digits b digit) },
+        record {
+          room = h.room;
+          kept = h.kept;
+          number = more_digits m.number m.digits b h.number few digit;
+          roomy = tt;
+          tracks = tracks_next m next places.Lead at h b is (lead_digit m.digits b digit);
+        },
         pending_next m next places.Lead at h b is,
       ) in
       subst (λ p. GoesOn m b (record next { place = p })) (sym at) goes
 
-  pub lead_space_goes_on : m.place ≡ places.Lead → b ≡ space → GoesOn m b (record m { lead = m.number; imports = false; literal_count = 0; identity_count = 0; place = places.Body })
+  pub lead_space_goes_on : m.place ≡ places.Lead → b ≡ space
+      → GoesOn m b (record m { lead = m.number; imports = false; literal_count = 0; identity_count = 0; place = places.Body })
   unfolding pending_at spot_at IsRoomy literals_text
   lead_space_goes_on at e =
       let next : PartialLine = record m { lead = m.number; imports = false; literal_count = 0; identity_count = 0; place = places.Body } in
       let is : pending next ≡ decimal m.number ++ b ∷ [] = ap (λ x. decimal m.number ++ x ∷ []) (sym e) in (
         record {
           room = h.room;
-          kept = record { lead = positive m.number m.digits h.number; few_literals = omega arith; few_identities = omega arith; literals = tt; identities = tt };
+          kept = record {
+            lead = positive m.number m.digits h.number;
+            few_literals = omega arith;
+            few_identities = omega arith;
+            literals = tt;
+            identities = tt;
+          };
           number = h.number;
           roomy = refl;
-          tracks = tracks_next m next places.Lead at h b is (subst (λ x. Moves (InLead m.digits) x (BeforeLiteral false 0)) (sym e) (lead_space m.digits h.number.few));
+          tracks = tracks_next m next places.Lead at h b is
+              (subst (λ x. Moves (InLead m.digits) x (BeforeLiteral false 0)) (sym e) (lead_space m.digits h.number.few));
         },
         pending_next m next places.Lead at h b is,
       )
@@ -245,9 +286,11 @@ module _ (m : PartialLine) (b : ℕ) (h : IsPartialLine m) where
       let next : PartialLine = record m { place = places.Body } in
       let roomy : (m.identity_count ≡ 0) × (m.literal_count ≡ 0) × (m.imports ≡ true) = subst (λ p. IsRoomy p m) at h.roomy in
       let empty : literals_read m ≡ [] = ap (λ n. take n m.literals.items) roomy.1 in
-      let front : pending next ≡ decimal m.lead ++ space ∷ letter_i ∷ space ∷ [] = ap (λ i. clause_front i m.lead (literals_read m)) roomy.2 ∙ ap (clause_front true m.lead) empty in
+      let front : pending next ≡ decimal m.lead ++ space ∷ letter_i ∷ space ∷ [] = ap (λ i. clause_front i m.lead (literals_read m)) roomy.2
+      ∙ ap (clause_front true m.lead) empty in
       let is : pending next ≡ (decimal m.lead ++ space ∷ letter_i ∷ []) ++ b ∷ [] =
-      front ∙ ap (λ x. decimal m.lead ++ space ∷ letter_i ∷ x ∷ []) (sym e) ∙ sym (append_assoc (decimal m.lead) (space ∷ letter_i ∷ []) (b ∷ [])) in (
+      front ∙ ap (λ x. decimal m.lead ++ space ∷ letter_i ∷ x ∷ []) (sym e)
+      ∙ sym (append_assoc (decimal m.lead) (space ∷ letter_i ∷ []) (b ∷ [])) in (
         record {
           room = h.room;
           kept = h.kept;
@@ -255,7 +298,8 @@ module _ (m : PartialLine) (b : ℕ) (h : IsPartialLine m) where
           roomy = roomy.0;
           tracks = tracks_next m next places.Import at h b is
               (subst (λ i. Moves AfterImport b (BeforeLiteral i m.literal_count)) (sym roomy.2)
-              (subst (λ n. Moves AfterImport b (BeforeLiteral true n)) (sym roomy.1) (subst (λ x. Moves AfterImport x (BeforeLiteral true 0)) (sym e) import_space)));
+              (subst (λ n. Moves AfterImport b (BeforeLiteral true n)) (sym roomy.1)
+              (subst (λ x. Moves AfterImport x (BeforeLiteral true 0)) (sym e) import_space)));
         },
         pending_next m next places.Import at h b is,
       )
@@ -266,12 +310,14 @@ module _ (m : PartialLine) (b : ℕ) (h : IsPartialLine m) where
 
   -- Body
 
-  pub body_hints_goes_on : m.place ≡ places.Body → b ≡ zero_digit → m.imports ≡ false → GoesOn m b (record m { deletes = false; place = places.List })
+  pub body_hints_goes_on : m.place ≡ places.Body → b ≡ zero_digit → m.imports ≡ false
+      → GoesOn m b (record m { deletes = false; place = places.List })
   unfolding pending_at spot_at IsRoomy
   body_hints_goes_on at e adds =
       let next : PartialLine = record m { deletes = false; place = places.List } in
       let is : pending next ≡ clause_front m.imports m.lead (literals_read m) ++ b ∷ [] =
-      ap (λ i. clause_front i m.lead (literals_read m) ++ zero_digit ∷ []) (sym adds) ∙ ap (λ x. clause_front m.imports m.lead (literals_read m) ++ x ∷ []) (sym e) in (
+      ap (λ i. clause_front i m.lead (literals_read m) ++ zero_digit ∷ []) (sym adds)
+      ∙ ap (λ x. clause_front m.imports m.lead (literals_read m) ++ x ∷ []) (sym e) in (
         record {
           room = h.room;
           kept = h.kept;
@@ -279,7 +325,8 @@ module _ (m : PartialLine) (b : ℕ) (h : IsPartialLine m) where
           roomy = (subst (λ p. IsRoomy p m) at h.roomy, adds);
           tracks = tracks_next m next places.Body at h b is
               (subst (λ i. Moves (BeforeLiteral i m.literal_count) b (BeforeList false)) (sym adds)
-              (subst (λ x. Moves (BeforeLiteral false m.literal_count) x (BeforeList false)) (sym e) (body_hints m.literal_count h.kept.few_literals)));
+              (subst (λ x. Moves (BeforeLiteral false m.literal_count) x (BeforeList false)) (sym e)
+              (body_hints m.literal_count h.kept.few_literals)));
         },
         pending_next m next places.Body at h b is,
       )
@@ -290,7 +337,8 @@ module _ (m : PartialLine) (b : ℕ) (h : IsPartialLine m) where
       let next : PartialLine = record m { place = places.LineEnd } in
       let is : pending next ≡ clause_front m.imports m.lead (literals_read m) ++ b ∷ [] =
       ap (λ i. end_front i m.deletes m.lead (literals_read m) (identities_read m)) imports
-      ∙ ap (λ i. clause_front i m.lead (literals_read m) ++ zero_digit ∷ []) (sym imports) ∙ ap (λ x. clause_front m.imports m.lead (literals_read m) ++ x ∷ []) (sym e) in (
+      ∙ ap (λ i. clause_front i m.lead (literals_read m) ++ zero_digit ∷ []) (sym imports)
+      ∙ ap (λ x. clause_front m.imports m.lead (literals_read m) ++ x ∷ []) (sym e) in (
         record {
           room = h.room;
           kept = h.kept;
@@ -306,18 +354,23 @@ module _ (m : PartialLine) (b : ℕ) (h : IsPartialLine m) where
   -- what was read of a line that has no literals and is no import yet
   lead_front : m.imports ≡ false → m.literal_count ≡ 0 → clause_front m.imports m.lead (literals_read m) ≡ decimal m.lead ++ space ∷ []
   unfolding literals_text
-  lead_front adds few = ap (λ i. clause_front i m.lead (literals_read m)) adds ∙ ap (λ n. clause_front false m.lead (take n m.literals.items)) few
+  lead_front adds few = ap (λ i. clause_front i m.lead (literals_read m)) adds
+      ∙ ap (λ n. clause_front false m.lead (take n m.literals.items)) few
 
-  letter_moves : (next : Spot) (letter : ℕ) → b ≡ letter → m.imports ≡ false → m.literal_count ≡ 0 → Moves (BeforeLiteral false 0) letter next → Moves (BeforeLiteral m.imports m.literal_count) b next
+  letter_moves : (next : Spot) (letter : ℕ) → b ≡ letter → m.imports ≡ false → m.literal_count ≡ 0
+      → Moves (BeforeLiteral false 0) letter next → Moves (BeforeLiteral m.imports m.literal_count) b next
   letter_moves next letter e adds few moves =
-      subst (λ i. Moves (BeforeLiteral i m.literal_count) b next) (sym adds) (subst (λ n. Moves (BeforeLiteral false n) b next) (sym few) (subst (λ x. Moves (BeforeLiteral false 0) x next) (sym e) moves))
+      subst (λ i. Moves (BeforeLiteral i m.literal_count) b next) (sym adds)
+      (subst (λ n. Moves (BeforeLiteral false n) b next) (sym few) (subst (λ x. Moves (BeforeLiteral false 0) x next) (sym e) moves))
 
-  pub body_deletion_goes_on : m.place ≡ places.Body → b ≡ letter_d → m.imports ≡ false → m.literal_count ≡ 0 → GoesOn m b (record m { deletes = true; place = places.List })
+  pub body_deletion_goes_on : m.place ≡ places.Body → b ≡ letter_d → m.imports ≡ false → m.literal_count ≡ 0
+      → GoesOn m b (record m { deletes = true; place = places.List })
   unfolding pending_at spot_at IsRoomy
   body_deletion_goes_on at e adds few =
       let next : PartialLine = record m { deletes = true; place = places.List } in
       let is : pending next ≡ clause_front m.imports m.lead (literals_read m) ++ b ∷ [] =
-      sym (ap (λ t. t ++ b ∷ []) (lead_front adds few) ∙ append_assoc (decimal m.lead) (space ∷ []) (b ∷ []) ∙ ap (λ x. decimal m.lead ++ space ∷ x ∷ []) e) in (
+      sym (ap (λ t. t ++ b ∷ []) (lead_front adds few) ∙ append_assoc (decimal m.lead) (space ∷ []) (b ∷ [])
+      ∙ ap (λ x. decimal m.lead ++ space ∷ x ∷ []) e) in (
         record {
           room = h.room;
           kept = h.kept;
@@ -328,12 +381,14 @@ module _ (m : PartialLine) (b : ℕ) (h : IsPartialLine m) where
         pending_next m next places.Body at h b is,
       )
 
-  pub body_import_goes_on : m.place ≡ places.Body → b ≡ letter_i → m.imports ≡ false → m.literal_count ≡ 0 → GoesOn m b (record m { imports = true; place = places.Import })
+  pub body_import_goes_on : m.place ≡ places.Body → b ≡ letter_i → m.imports ≡ false → m.literal_count ≡ 0
+      → GoesOn m b (record m { imports = true; place = places.Import })
   unfolding pending_at spot_at IsRoomy
   body_import_goes_on at e adds few =
       let next : PartialLine = record m { imports = true; place = places.Import } in
       let is : pending next ≡ clause_front m.imports m.lead (literals_read m) ++ b ∷ [] =
-      sym (ap (λ t. t ++ b ∷ []) (lead_front adds few) ∙ append_assoc (decimal m.lead) (space ∷ []) (b ∷ []) ∙ ap (λ x. decimal m.lead ++ space ∷ x ∷ []) e) in (
+      sym (ap (λ t. t ++ b ∷ []) (lead_front adds few) ∙ append_assoc (decimal m.lead) (space ∷ []) (b ∷ [])
+      ∙ ap (λ x. decimal m.lead ++ space ∷ x ∷ []) e) in (
         record {
           room = h.room;
           kept = h.kept;
@@ -348,22 +403,27 @@ module _ (m : PartialLine) (b : ℕ) (h : IsPartialLine m) where
   unfolding pending_at spot_at IsRoomy
   body_minus_goes_on at e few =
       let next : PartialLine = record m { place = places.Minus } in
-      let is : pending next ≡ clause_front m.imports m.lead (literals_read m) ++ b ∷ [] = ap (λ x. clause_front m.imports m.lead (literals_read m) ++ x ∷ []) (sym e) in (
+      let is : pending next ≡ clause_front m.imports m.lead (literals_read m) ++ b ∷ [] =
+      ap (λ x. clause_front m.imports m.lead (literals_read m) ++ x ∷ []) (sym e) in (
         record {
           room = h.room;
           kept = h.kept;
           number = h.number;
           roomy = (subst (λ p. IsRoomy p m) at h.roomy, few);
-          tracks = tracks_next m next places.Body at h b is (subst (λ x. Moves (BeforeLiteral m.imports m.literal_count) x (AfterMinus m.imports m.literal_count)) (sym e) (body_minus m.imports m.literal_count));
+          tracks = tracks_next m next places.Body at h b is
+              (subst (λ x. Moves (BeforeLiteral m.imports m.literal_count) x (AfterMinus m.imports m.literal_count)) (sym e)
+              (body_minus m.imports m.literal_count));
         },
         pending_next m next places.Body at h b is,
       )
 
-  pub body_digit_goes_on : m.place ≡ places.Body → 49 ≤ b → b ≤ 57 → m.literal_count < 65535 → GoesOn m b (record m { negative = false; number = b - 48; digits = 1; place = places.Literal })
+  pub body_digit_goes_on : m.place ≡ places.Body → 49 ≤ b → b ≤ 57 → m.literal_count < 65535
+      → GoesOn m b (record m { negative = false; number = b - 48; digits = 1; place = places.Literal })
   unfolding pending_at spot_at IsRoomy
   body_digit_goes_on at low high few =
       let next : PartialLine = record m { negative = false; number = b - 48; digits = 1; place = places.Literal } in
-      let is : pending next ≡ clause_front m.imports m.lead (literals_read m) ++ b ∷ [] = ap (λ t. clause_front m.imports m.lead (literals_read m) ++ t) (decimal_one b (omega arith, high)) in (
+      let is : pending next ≡ clause_front m.imports m.lead (literals_read m) ++ b ∷ [] =
+      ap (λ t. clause_front m.imports m.lead (literals_read m) ++ t) (decimal_one b (omega arith, high)) in (
         record {
           room = h.room;
           kept = h.kept;
@@ -374,20 +434,27 @@ module _ (m : PartialLine) (b : ℕ) (h : IsPartialLine m) where
         pending_next m next places.Body at h b is,
       )
 
-  pub body_too_long : m.place ≡ places.Body → m.literal_count ≡ 65535 → (b ≢ minus → (49 ≤ b) × (b ≤ 57)) → IsRefused (pending m ++ b ∷ []) TooLong
+  pub body_too_long : m.place ≡ places.Body → m.literal_count ≡ 65535 → (b ≢ minus → (49 ≤ b) × (b ≤ 57))
+      → IsRefused (pending m ++ b ∷ []) TooLong
   unfolding spot_at
   body_too_long at many kind = long_at m places.Body at h b (subst (λ n. Exceeds (BeforeLiteral m.imports n) b) (sym many) (exceeds b kind))
     where
       exceeds : (x : ℕ) → (x ≢ minus → (49 ≤ x) × (x ≤ 57)) → Exceeds (BeforeLiteral m.imports 65535) x
-      exceeds x kind = elim (cases_eq x minus) [ inl e ↦ subst (Exceeds (BeforeLiteral m.imports 65535)) (sym e) (body_exceeds_minus m.imports) | inr ne ↦ body_exceeds_digit m.imports x (kind ne).0 (kind ne).1 ]
+      exceeds x kind = elim (cases_eq x minus) [
+        | inl e ↦ subst (Exceeds (BeforeLiteral m.imports 65535)) (sym e) (body_exceeds_minus m.imports)
+        | inr ne ↦ body_exceeds_digit m.imports x (kind ne).0 (kind ne).1
+      ]
 
-  pub body_spelling : m.place ≡ places.Body → b ≢ zero_digit → b ≢ minus → NoFirst b → (m.literal_count ≡ 0 → m.imports ≡ false → (b ≢ letter_d) × (b ≢ letter_i)) → IsRefused (pending m ++ b ∷ []) Spelling
+  pub body_spelling : m.place ≡ places.Body → b ≢ zero_digit → b ≢ minus → NoFirst b
+      → (m.literal_count ≡ 0 → m.imports ≡ false → (b ≢ letter_d) × (b ≢ letter_i)) → IsRefused (pending m ++ b ∷ []) Spelling
   unfolding spot_at
-  body_spelling at not_zero not_minus never no_letter = spelling_at m places.Body at h b (λ signed. body_blocks signed m.imports m.literal_count b not_zero not_minus never no_letter)
+  body_spelling at not_zero not_minus never no_letter =
+      spelling_at m places.Body at h b (λ signed. body_blocks signed m.imports m.literal_count b not_zero not_minus never no_letter)
 
   -- Minus
 
-  pub minus_goes_on : m.place ≡ places.Minus → 49 ≤ b → b ≤ 57 → GoesOn m b (record m { negative = true; number = b - 48; digits = 1; place = places.Literal })
+  pub minus_goes_on : m.place ≡ places.Minus → 49 ≤ b → b ≤ 57
+      → GoesOn m b (record m { negative = true; number = b - 48; digits = 1; place = places.Literal })
   unfolding pending_at spot_at IsRoomy
   minus_goes_on at low high =
       let next : PartialLine = record m { negative = true; number = b - 48; digits = 1; place = places.Literal } in
@@ -411,17 +478,20 @@ module _ (m : PartialLine) (b : ℕ) (h : IsPartialLine m) where
   -- Literal
 
   -- a literal that grows by a digit
-  literal_more : (negative : Bool) (n k : ℕ) → FitsDigits n k → k < 18 → IsDigit b → literal_front negative (n * 10 + (b - 48)) ≡ literal_front negative n ++ b ∷ []
+  literal_more : (negative : Bool) (n k : ℕ) → FitsDigits n k → k < 18 → IsDigit b
+      → literal_front negative (n * 10 + (b - 48)) ≡ literal_front negative n ++ b ∷ []
   literal_more true n k number few digit = ap (λ t. minus ∷ t) (decimal_next n k b number few digit)
   literal_more false n k number few digit = decimal_next n k b number few digit
 
-  pub literal_digit_goes_on : m.place ≡ places.Literal → IsDigit b → m.digits < 18 → GoesOn m b (record m { number = m.number * 10 + (b - 48); digits = m.digits + 1 })
+  pub literal_digit_goes_on : m.place ≡ places.Literal → IsDigit b → m.digits < 18
+      → GoesOn m b (record m { number = m.number * 10 + (b - 48); digits = m.digits + 1 })
   unfolding pending_at spot_at IsRoomy
   literal_digit_goes_on at digit few =
       let next : PartialLine = record m { number = m.number * 10 + (b - 48); digits = m.digits + 1; place = places.Literal } in
       let front = clause_front m.imports m.lead (literals_read m) in
       let is : pending next ≡ (front ++ literal_front m.negative m.number) ++ b ∷ [] =
-      ap (λ t. front ++ t) (literal_more m.negative m.number m.digits h.number few digit) ∙ sym (append_assoc front (literal_front m.negative m.number) (b ∷ [])) in
+      ap (λ t. front ++ t) (literal_more m.negative m.number m.digits h.number few digit)
+      ∙ sym (append_assoc front (literal_front m.negative m.number) (b ∷ [])) in
       let goes : GoesOn m b next = (
         record {
           room = h.room;
@@ -441,8 +511,10 @@ module _ (m : PartialLine) (b : ℕ) (h : IsPartialLine m) where
       let roomy : (m.identity_count ≡ 0) × (m.literal_count < 65535) = subst (λ p. IsRoomy p m) at h.roomy in
       omega (arith, h.room.literals, m.literals.ok.0)
 
-  pub literal_space_goes_on : (v : Vec ℤ Global) (z : ℤ) → v.items ≡ slice_set m.literals.items m.literal_count z → signed_decimal z ≡ literal_front m.negative m.number → unsigned_abs z ≡ m.number
-      → m.place ≡ places.Literal → b ≡ space → GoesOn m b (record m { literals = v; literal_count = m.literal_count + 1; place = places.Body })
+  pub literal_space_goes_on : (v : Vec ℤ Global) (z : ℤ) → v.items ≡ slice_set m.literals.items m.literal_count z
+      → signed_decimal z ≡ literal_front m.negative m.number → unsigned_abs z ≡ m.number
+      → m.place ≡ places.Literal → b ≡ space
+      → GoesOn m b (record m { literals = v; literal_count = m.literal_count + 1; place = places.Body })
   unfolding pending_at spot_at IsRoomy literals_text
   literal_space_goes_on v z items value magnitude at e =
       let next : PartialLine = record m { literals = v; literal_count = m.literal_count + 1; place = places.Body } in
@@ -453,25 +525,31 @@ module _ (m : PartialLine) (b : ℕ) (h : IsPartialLine m) where
       let front = clause_front m.imports m.lead (literals_read m) in
       let word = literal_front m.negative m.number in
       let texts : literals_text (literals_read next) ≡ literals_text (literals_read m) ++ (word ++ space ∷ []) =
-      ap literals_text more ∙ text_more (λ x. signed_decimal x ++ space ∷ []) (literals_read m) z ∙ ap (λ t. literals_text (literals_read m) ++ (t ++ space ∷ [])) value in
+      ap literals_text more ∙ text_more (λ x. signed_decimal x ++ space ∷ []) (literals_read m) z
+      ∙ ap (λ t. literals_text (literals_read m) ++ (t ++ space ∷ [])) value in
       let is : pending next ≡ (front ++ word) ++ b ∷ [] =
       clause_more m.imports m.lead (literals_read m) (literals_read next) (word ++ space ∷ []) texts
       ∙ sym (append_assoc front word (space ∷ []))
       ∙ ap (λ x. (front ++ word) ++ x ∷ []) (sym e) in
       let literal : IsStreamLiteral z = subst IsStreamNumber (sym magnitude) (positive m.number m.digits h.number) in (
         record {
-          room = record { literals = ap length items ∙ length-set m.literals.items m.literal_count z ∙ count; identities = h.room.identities };
+          room = record {
+            literals = ap length items ∙ length-set m.literals.items m.literal_count z ∙ count;
+            identities = h.room.identities;
+          };
           kept = record {
             lead = h.kept.lead;
             few_literals = omega arith;
             few_identities = h.kept.few_identities;
             identities = h.kept.identities;
-            literals = subst (AllByRecursion IsStreamLiteral) (sym more) (All-push IsStreamLiteral (literals_read m) z h.kept.literals literal);
+            literals =
+                subst (AllByRecursion IsStreamLiteral) (sym more) (All-push IsStreamLiteral (literals_read m) z h.kept.literals literal);
           };
           number = h.number;
           roomy = roomy.0;
           tracks = tracks_next m next places.Literal at h b is
-              (subst (λ x. Moves (InLiteral m.imports m.digits m.literal_count) x (BeforeLiteral m.imports (m.literal_count + 1))) (sym e) (literal_space m.imports m.digits m.literal_count h.number.few));
+              (subst (λ x. Moves (InLiteral m.imports m.digits m.literal_count) x (BeforeLiteral m.imports (m.literal_count + 1))) (sym e)
+              (literal_space m.imports m.digits m.literal_count h.number.few));
         },
         pending_next m next places.Literal at h b is,
       )
@@ -481,11 +559,13 @@ module _ (m : PartialLine) (b : ℕ) (h : IsPartialLine m) where
   literal_too_long at digit many =
       let e : m.digits ≡ 18 = omega (arith, h.number.few) in
       let roomy : (m.identity_count ≡ 0) × (m.literal_count < 65535) = subst (λ p. IsRoomy p m) at h.roomy in
-      long_at m places.Literal at h b (subst (λ k. Exceeds (InLiteral m.imports k m.literal_count) b) (sym e) (literal_exceeds m.imports m.literal_count b roomy.1 digit))
+      long_at m places.Literal at h b
+      (subst (λ k. Exceeds (InLiteral m.imports k m.literal_count) b) (sym e) (literal_exceeds m.imports m.literal_count b roomy.1 digit))
 
   pub literal_spelling : m.place ≡ places.Literal → NoDigit b → b ≢ space → IsRefused (pending m ++ b ∷ []) Spelling
   unfolding spot_at
-  literal_spelling at never ne = spelling_at m places.Literal at h b (λ signed. literal_blocks signed m.imports m.digits m.literal_count b never ne)
+  literal_spelling at never ne =
+      spelling_at m places.Literal at h b (λ signed. literal_blocks signed m.imports m.digits m.literal_count b never ne)
 
   -- List
 
@@ -504,7 +584,8 @@ module _ (m : PartialLine) (b : ℕ) (h : IsPartialLine m) where
           number = h.number;
           roomy = roomy.1;
           tracks = tracks_next m next places.List at h b is
-              (subst (λ n. Moves (BeforeList m.deletes) b (BeforeItem m.deletes n)) (sym none) (subst (λ x. Moves (BeforeList m.deletes) x (BeforeItem m.deletes 0)) (sym e) (list_space m.deletes)));
+              (subst (λ n. Moves (BeforeList m.deletes) b (BeforeItem m.deletes n)) (sym none)
+              (subst (λ x. Moves (BeforeList m.deletes) x (BeforeItem m.deletes 0)) (sym e) (list_space m.deletes)));
         },
         pending_next m next places.List at h b is,
       )
@@ -531,16 +612,19 @@ module _ (m : PartialLine) (b : ℕ) (h : IsPartialLine m) where
           kept = h.kept;
           number = h.number;
           roomy = tt;
-          tracks = tracks_next m next places.Item at h b is (subst (λ x. Moves (BeforeItem m.deletes m.identity_count) x AtEnd) (sym e) (item_zero m.deletes m.identity_count h.kept.few_identities));
+          tracks = tracks_next m next places.Item at h b is (subst (λ x. Moves (BeforeItem m.deletes m.identity_count) x AtEnd) (sym e)
+              (item_zero m.deletes m.identity_count h.kept.few_identities));
         },
         pending_next m next places.Item at h b is,
       )
 
-  pub item_digit_goes_on : m.place ≡ places.Item → 49 ≤ b → b ≤ 57 → m.identity_count < 65536 → GoesOn m b (record m { number = b - 48; digits = 1; place = places.Number })
+  pub item_digit_goes_on : m.place ≡ places.Item → 49 ≤ b → b ≤ 57 → m.identity_count < 65536
+      → GoesOn m b (record m { number = b - 48; digits = 1; place = places.Number })
   unfolding pending_at spot_at IsRoomy
   item_digit_goes_on at low high few =
       let next : PartialLine = record m { number = b - 48; digits = 1; place = places.Number } in
-      let is : pending next ≡ (item_front m ++ space ∷ []) ++ b ∷ [] = ap (λ t. item_front m ++ space ∷ t) (decimal_one b (omega arith, high)) ∙ after_space b refl in (
+      let is : pending next ≡ (item_front m ++ space ∷ []) ++ b ∷ [] =
+      ap (λ t. item_front m ++ space ∷ t) (decimal_one b (omega arith, high)) ∙ after_space b refl in (
         record {
           room = h.room;
           kept = h.kept;
@@ -553,29 +637,37 @@ module _ (m : PartialLine) (b : ℕ) (h : IsPartialLine m) where
 
   pub item_too_long : m.place ≡ places.Item → 49 ≤ b → b ≤ 57 → m.identity_count ≡ 65536 → IsRefused (pending m ++ b ∷ []) TooLong
   unfolding spot_at
-  item_too_long at low high many = long_at m places.Item at h b (subst (λ n. Exceeds (BeforeItem m.deletes n) b) (sym many) (item_exceeds m.deletes b low high))
+  item_too_long at low high many =
+      long_at m places.Item at h b (subst (λ n. Exceeds (BeforeItem m.deletes n) b) (sym many) (item_exceeds m.deletes b low high))
 
   pub item_rat : m.place ≡ places.Item → b ≡ minus → m.deletes ≡ false → IsRefused (pending m ++ b ∷ []) RatHint
   unfolding spot_at
   item_rat at e keeps =
       decides_rat (pending m) (spot_at m.place m) b h.tracks (bounded m h)
-      (subst (λ p. Blocks false (spot_at p m) b) (sym at) (item_blocks false m.deletes m.identity_count b (λ z. let e' : minus ≡ zero_digit = sym e ∙ z in absurd (omega arith)) (λ low high. let e' : b ≡ minus = e in omega arith) (λ _ _ s. cc)))
+      (subst (λ p. Blocks false (spot_at p m) b) (sym at)
+      (item_blocks false m.deletes m.identity_count b (λ z. let e' : minus ≡ zero_digit = sym e ∙ z in absurd (omega arith))
+      (λ low high. let e' : b ≡ minus = e in omega arith) (λ _ _ s. cc)))
       (subst (λ p. Allows true (spot_at p m) b) (sym at)
-      (subst (λ x. Allows true (BeforeItem m.deletes m.identity_count) x) (sym e) (subst (λ d. Allows true (BeforeItem d m.identity_count) minus) (sym keeps) (hint_allows m.identity_count h.kept.few_identities))))
+      (subst (λ x. Allows true (BeforeItem m.deletes m.identity_count) x) (sym e)
+      (subst (λ d. Allows true (BeforeItem d m.identity_count) minus) (sym keeps) (hint_allows m.identity_count h.kept.few_identities))))
 
-  pub item_spelling : m.place ≡ places.Item → b ≢ zero_digit → NoFirst b → (b ≡ minus → m.deletes ≡ true) → IsRefused (pending m ++ b ∷ []) Spelling
+  pub item_spelling : m.place ≡ places.Item → b ≢ zero_digit → NoFirst b → (b ≡ minus → m.deletes ≡ true)
+      → IsRefused (pending m ++ b ∷ []) Spelling
   unfolding spot_at
   item_spelling at not_zero never deletes =
-      spelling_at m places.Item at h b (λ signed. item_blocks signed m.deletes m.identity_count b not_zero never (λ e keeps s. let both : true ≡ false = sym (deletes e) ∙ keeps in cc))
+      spelling_at m places.Item at h b (λ signed. item_blocks signed m.deletes m.identity_count b not_zero never
+      (λ e keeps s. let both : true ≡ false = sym (deletes e) ∙ keeps in cc))
 
   -- Number
 
-  pub number_digit_goes_on : m.place ≡ places.Number → IsDigit b → m.digits < 18 → GoesOn m b (record m { number = m.number * 10 + (b - 48); digits = m.digits + 1 })
+  pub number_digit_goes_on : m.place ≡ places.Number → IsDigit b → m.digits < 18
+      → GoesOn m b (record m { number = m.number * 10 + (b - 48); digits = m.digits + 1 })
   unfolding pending_at spot_at IsRoomy
   number_digit_goes_on at digit few =
       let next : PartialLine = record m { number = m.number * 10 + (b - 48); digits = m.digits + 1; place = places.Number } in
       let is : pending next ≡ (item_front m ++ space ∷ decimal m.number) ++ b ∷ [] =
-      ap (λ t. item_front m ++ space ∷ t) (decimal_next m.number m.digits b h.number few digit) ∙ sym (append_assoc (item_front m) (space ∷ decimal m.number) (b ∷ [])) in
+      ap (λ t. item_front m ++ space ∷ t) (decimal_next m.number m.digits b h.number few digit)
+      ∙ sym (append_assoc (item_front m) (space ∷ decimal m.number) (b ∷ [])) in
       let goes : GoesOn m b next = (
         record {
           room = h.room;
@@ -595,7 +687,8 @@ module _ (m : PartialLine) (b : ℕ) (h : IsPartialLine m) where
       omega (arith, h.room.identities, m.identities.ok.0)
 
   pub number_space_goes_on : (v : Vec ℕ Global) → v.items ≡ slice_set m.identities.items m.identity_count m.number
-      → m.place ≡ places.Number → b ≡ space → GoesOn m b (record m { identities = v; identity_count = m.identity_count + 1; place = places.Item })
+      → m.place ≡ places.Number → b ≡ space
+      → GoesOn m b (record m { identities = v; identity_count = m.identity_count + 1; place = places.Item })
   unfolding pending_at spot_at IsRoomy items_text
   number_space_goes_on v items at e =
       let next : PartialLine = record m { identities = v; identity_count = m.identity_count + 1; place = places.Item } in
@@ -612,7 +705,10 @@ module _ (m : PartialLine) (b : ℕ) (h : IsPartialLine m) where
       ∙ ap (λ t. t ++ space ∷ []) (sym (append_assoc front (items_text (identities_read m)) word))
       ∙ ap (λ x. (item_front m ++ word) ++ x ∷ []) (sym e) in (
         record {
-          room = record { literals = h.room.literals; identities = ap length items ∙ length-set m.identities.items m.identity_count m.number ∙ count };
+          room = record {
+            literals = h.room.literals;
+            identities = ap length items ∙ length-set m.identities.items m.identity_count m.number ∙ count;
+          };
           kept = record {
             lead = h.kept.lead;
             few_literals = h.kept.few_literals;
@@ -624,7 +720,8 @@ module _ (m : PartialLine) (b : ℕ) (h : IsPartialLine m) where
           number = h.number;
           roomy = roomy.1;
           tracks = tracks_next m next places.Number at h b is
-              (subst (λ x. Moves (InItem m.deletes m.digits m.identity_count) x (BeforeItem m.deletes (m.identity_count + 1))) (sym e) (number_space m.deletes m.digits m.identity_count h.number.few));
+              (subst (λ x. Moves (InItem m.deletes m.digits m.identity_count) x (BeforeItem m.deletes (m.identity_count + 1))) (sym e)
+              (number_space m.deletes m.digits m.identity_count h.number.few));
         },
         pending_next m next places.Number at h b is,
       )
@@ -634,11 +731,13 @@ module _ (m : PartialLine) (b : ℕ) (h : IsPartialLine m) where
   number_too_long at digit many =
       let e : m.digits ≡ 18 = omega (arith, h.number.few) in
       let roomy : (m.identity_count < 65536) × (m.imports ≡ false) = subst (λ p. IsRoomy p m) at h.roomy in
-      long_at m places.Number at h b (subst (λ k. Exceeds (InItem m.deletes k m.identity_count) b) (sym e) (number_exceeds m.deletes m.identity_count b roomy.0 digit))
+      long_at m places.Number at h b
+      (subst (λ k. Exceeds (InItem m.deletes k m.identity_count) b) (sym e) (number_exceeds m.deletes m.identity_count b roomy.0 digit))
 
   pub number_spelling : m.place ≡ places.Number → NoDigit b → b ≢ space → IsRefused (pending m ++ b ∷ []) Spelling
   unfolding spot_at
-  number_spelling at never ne = spelling_at m places.Number at h b (λ signed. number_blocks signed m.deletes m.digits m.identity_count b never ne)
+  number_spelling at never ne =
+      spelling_at m places.Number at h b (λ signed. number_blocks signed m.deletes m.digits m.identity_count b never ne)
 
   -- LineEnd
 
@@ -648,7 +747,8 @@ module _ (m : PartialLine) (b : ℕ) (h : IsPartialLine m) where
 
   -- the line is whole, and the next may begin
   pub end_ends : m.place ≡ places.LineEnd → b ≡ line_feed
-      → let next : PartialLine = record m { place = places.Start } in IsPartialLine next × (pending next ≡ []) × LineText (line_so_far next) (pending m ++ b ∷ [])
+      → let next : PartialLine = record m { place = places.Start } in
+      IsPartialLine next × (pending next ≡ []) × LineText (line_so_far next) (pending m ++ b ∷ [])
   unfolding pending_at spot_at IsRoomy
   end_ends at e = (
     record { room = h.room; kept = h.kept; number = h.number; roomy = tt; tracks = at_start },
@@ -656,7 +756,8 @@ module _ (m : PartialLine) (b : ℕ) (h : IsPartialLine m) where
     (
       line_fits m.imports m.deletes m.lead m.literals.items m.literal_count m.identities.items m.identity_count h.kept
           (omega (arith, h.room.literals, h.kept.few_literals)) (omega (arith, h.room.identities, h.kept.few_identities)),
-      ap (λ p. pending_at p m ++ b ∷ []) at ∙ ap (λ x. end_front m.imports m.deletes m.lead (literals_read m) (identities_read m) ++ x ∷ []) e
+      ap (λ p. pending_at p m ++ b ∷ []) at
+          ∙ ap (λ x. end_front m.imports m.deletes m.lead (literals_read m) (identities_read m) ++ x ∷ []) e
           ∙ line_end m.imports m.deletes m.lead (literals_read m) (identities_read m),
     ),
   )

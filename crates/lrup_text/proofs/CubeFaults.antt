@@ -13,7 +13,8 @@ use Rattle.lrup_text.specs.ByteNames.{line_feed, space, letter_i, zero_digit}
 use Rattle.lrup_text.specs.Grammar.{Limits, AreLifted, standard, IsLine, clause_text}
 use Rattle.lrup_text.specs.Rests.{Spot, AtStart, InLead, AfterImport, BeforeLiteral, AtEnd, BodyFollows, Moves, Blocks}
 use Rattle.lrup_text.proofs.Decisions.{decides_spelling, decides_long}
-use Rattle.lrup_text.proofs.Steps.{IsBounded, Exceeds, tracks_more, tracks_begins, standard_lifted, at_start, start_digit, lead_space, body_import, import_space, body_end, end_blocks}
+use Rattle.lrup_text.proofs.Steps.{IsBounded, Exceeds, tracks_more, tracks_begins, standard_lifted, at_start, start_digit, lead_space}
+use Rattle.lrup_text.proofs.Steps.{body_import, import_space, body_end, end_blocks}
 use Rattle.lrup_text.proofs.Streams.{texts_are_lines}
 use Rattle.lrup_text.proofs.TextLaws.{tracks_pending}
 
@@ -30,25 +31,30 @@ module _ (limits : Limits) (lifted : AreLifted false limits) (bytes : List ℕ) 
   line_of_cube : IsCubeLine limits bytes → IsLine limits (import_front ++ bytes)
   line_of_cube h =
       let few : length h.0 ≤ limits.literals = h.1.count in
-      nothing_read.line false limits lifted bytes (inl (record { words = h.0; count = omega arith; each = h.1.each; after = line_feed ∷ []; is = h.2; end = refl }))
+      nothing_read.line false limits lifted bytes
+      (inl (record { words = h.0; count = omega arith; each = h.1.each; after = line_feed ∷ []; is = h.2; end = refl }))
 
   cube_of_line : IsLine limits (import_front ++ bytes) → IsCubeLine limits bytes
   cube_of_line h = list (nothing_read.completes false limits lifted bytes h)
     where
       list : BodyFollows limits true 0 bytes → IsCubeLine limits bytes
-      list (inl c) = let few : 0 + length c.words ≤ limits.literals = c.count in (c.words, record { count = omega arith; each = c.each }, c.is ∙ ap (clause_text c.words) c.end)
+      list (inl c) = let few : 0 + length c.words ≤ limits.literals = c.count in
+          (c.words, record { count = omega arith; each = c.each }, c.is ∙ ap (clause_text c.words) c.end)
       list (inr c) = let e : true ≡ false = c.1 in cc
 
-begins_line : (limits : Limits) → AreLifted false limits → (bytes : List ℕ) → BeginsOne IsCubeLine limits bytes → (rest : List ℕ) × IsLine limits ((import_front ++ bytes) ++ rest)
+begins_line : (limits : Limits) → AreLifted false limits → (bytes : List ℕ) → BeginsOne IsCubeLine limits bytes
+    → (rest : List ℕ) × IsLine limits ((import_front ++ bytes) ++ rest)
 begins_line limits lifted bytes h = (h.0, line_of_cube limits lifted (bytes ++ h.0) h.1)
 
-begins_cube : (limits : Limits) → AreLifted false limits → (bytes : List ℕ) → ((rest : List ℕ) × IsLine limits ((import_front ++ bytes) ++ rest)) → BeginsOne IsCubeLine limits bytes
+begins_cube : (limits : Limits) → AreLifted false limits → (bytes : List ℕ)
+    → ((rest : List ℕ) × IsLine limits ((import_front ++ bytes) ++ rest)) → BeginsOne IsCubeLine limits bytes
 begins_cube limits lifted bytes h = (h.0, cube_of_line limits lifted (bytes ++ h.0) h.1)
 
 -- A byte that decides it of the line decides it of the text.
 
 module _ (read : List ℕ) (spot : Spot) (byte : ℕ) (after : List ℕ) (stands : EndsAtSpot read spot) (bounded : IsBounded spot) where
-  none : (fault : LineFault) (Shortest : List ℕ → Type 0) → IsRefused ((import_front ++ read) ++ byte ∷ []) fault → Shortest (read ++ byte ∷ []) → BeginsNone IsCubeLine (read ++ byte ∷ after) Shortest
+  none : (fault : LineFault) (Shortest : List ℕ → Type 0) → IsRefused ((import_front ++ read) ++ byte ∷ []) fault
+      → Shortest (read ++ byte ∷ []) → BeginsNone IsCubeLine (read ++ byte ∷ after) Shortest
   none fault Shortest h shortest = record {
     read = read;
     byte = byte;
@@ -62,17 +68,21 @@ module _ (read : List ℕ) (spot : Spot) (byte : ℕ) (after : List ℕ) (stands
   pub misspelled : ((signed : Bool) → Blocks signed spot byte) → IsTextFault IsCubeLine (read ++ byte ∷ after) Spelling
   misspelled blocks =
       let h = decides_spelling (import_front ++ read) spot byte stands bounded blocks in
-      inr (none lines.Spelling (λ s. ¬ BeginsOneLifted IsCubeLine s) h (λ l. let line = begins_line l.0 l.1 (read ++ byte ∷ []) l.2 in h.why.0 (l.0, line.0, l.1, line.1)))
+      inr (none lines.Spelling (λ s. ¬ BeginsOneLifted IsCubeLine s) h
+      (λ l. let line = begins_line l.0 l.1 (read ++ byte ∷ []) l.2 in h.why.0 (l.0, line.0, l.1, line.1)))
 
   pub too_long : Exceeds spot byte → IsTextFault IsCubeLine (read ++ byte ∷ after) TooLong
   too_long exceeds =
       let h = decides_long (import_front ++ read) spot byte stands bounded exceeds in
-      none lines.TooLong (BeginsOneLifted IsCubeLine) h (h.why.0, h.why.2, begins_cube h.why.0 h.why.2 (read ++ byte ∷ []) (h.why.1, h.why.3))
+      none lines.TooLong (BeginsOneLifted IsCubeLine) h
+      (h.why.0, h.why.2, begins_cube h.why.0 h.why.2 (read ++ byte ∷ []) (h.why.1, h.why.3))
 
 -- the fault of the rest after a byte
-pub rest_fault : (spot next : ℕ → Spot) (byte : ℕ) (after : List ℕ) (fault : CubeFault) → ((n : ℕ) → Moves (spot n) byte (next n)) → IsRestFault next after fault → IsRestFault spot (byte ∷ after) fault
+pub rest_fault : (spot next : ℕ → Spot) (byte : ℕ) (after : List ℕ) (fault : CubeFault) → ((n : ℕ) → Moves (spot n) byte (next n))
+    → IsRestFault next after fault → IsRestFault spot (byte ∷ after) fault
 rest_fault spot next byte after fault moves h read n few stands =
-    subst (λ t. IsTextFault IsCubeLine t fault) (append_assoc read (byte ∷ []) after) (h (read ++ byte ∷ []) n few (tracks_more (import_front ++ read) (spot n) (next n) byte stands (moves n)))
+    subst (λ t. IsTextFault IsCubeLine t fault) (append_assoc read (byte ∷ []) after)
+    (h (read ++ byte ∷ []) n few (tracks_more (import_front ++ read) (spot n) (next n) byte stands (moves n)))
 
 -- the text ends inside the line
 pub too_short : (read : List ℕ) (spot : Spot) → EndsAtSpot read spot → IsBounded spot → IsTextFault IsCubeLine (read ++ []) Spelling
@@ -87,13 +97,18 @@ too_short read spot stands bounded =
     ))
 
 -- more follows its LF
-too_much : (read : List ℕ) (byte : ℕ) (after : List ℕ) → EndsAtSpot read AtEnd → IsTextFault IsCubeLine (read ++ line_feed ∷ byte ∷ after) Spelling
+too_much : (read : List ℕ) (byte : ℕ) (after : List ℕ) → EndsAtSpot read AtEnd
+    → IsTextFault IsCubeLine (read ++ line_feed ∷ byte ∷ after) Spelling
 too_much read byte after stands = inr (record {
   read = line;
   byte = byte;
   after = after;
   is = sym (append_assoc read (line_feed ∷ []) (byte ∷ after));
-  before = begins_cube standard standard_lifted line ([], subst (λ t. IsLine standard (import_front ++ t)) (sym (append-nil line)) (stands.line false standard standard_lifted (line_feed ∷ []) refl));
+  before = begins_cube standard standard_lifted line (
+    [],
+    subst (λ t. IsLine standard (import_front ++ t)) (sym (append-nil line))
+        (stands.line false standard standard_lifted (line_feed ∷ []) refl),
+  );
   none = λ h. never standard standard_lifted h.0 h.1;
   shortest = λ l. never l.0 l.1 l.2.0 l.2.1;
 })
@@ -103,13 +118,17 @@ too_much read byte after stands = inr (record {
 
     never : (limits : Limits) → AreLifted false limits → (rest : List ℕ) → ¬ IsCubeLine limits ((line ++ byte ∷ []) ++ rest)
     never limits lifted rest h =
-        let longer : (line ++ byte ∷ []) ++ rest ≡ read ++ line_feed ∷ byte ∷ rest = append_assoc line (byte ∷ []) rest ∙ append_assoc read (line_feed ∷ []) (byte ∷ rest) in
-        let end : line_feed ∷ byte ∷ rest ≡ line_feed ∷ [] = stands.completes false limits lifted _ (subst (λ t. IsLine limits (import_front ++ t)) longer (line_of_cube limits lifted _ h)) in
+        let longer : (line ++ byte ∷ []) ++ rest ≡ read ++ line_feed ∷ byte ∷ rest = append_assoc line (byte ∷ []) rest
+        ∙ append_assoc read (line_feed ∷ []) (byte ∷ rest) in
+        let end : line_feed ∷ byte ∷ rest ≡ line_feed ∷ [] =
+        stands.completes false limits lifted _ (subst (λ t. IsLine limits (import_front ++ t)) longer (line_of_cube limits lifted _ h)) in
         cc
 
 -- the end isn't LF alone
-pub wrong_end : (read : List ℕ) (n : ℕ) (after : List ℕ) → EndsAtSpot read (BeforeLiteral true n) → n ≤ 65535 → ¬ (after ≡ line_feed ∷ []) → IsTextFault IsCubeLine (read ++ zero_digit ∷ after) Spelling
-wrong_end read n after stands few other = subst (λ t. IsTextFault IsCubeLine t Spelling) (append_assoc read (zero_digit ∷ []) after) (cases after other)
+pub wrong_end : (read : List ℕ) (n : ℕ) (after : List ℕ) → EndsAtSpot read (BeforeLiteral true n) → n ≤ 65535 → ¬ (after ≡ line_feed ∷ [])
+    → IsTextFault IsCubeLine (read ++ zero_digit ∷ after) Spelling
+wrong_end read n after stands few other =
+    subst (λ t. IsTextFault IsCubeLine t Spelling) (append_assoc read (zero_digit ∷ []) after) (cases after other)
   where
     closed : List ℕ
     closed = read ++ zero_digit ∷ []
@@ -120,7 +139,8 @@ wrong_end read n after stands few other = subst (λ t. IsTextFault IsCubeLine t 
     cases : (after : List ℕ) → ¬ (after ≡ line_feed ∷ []) → IsTextFault IsCubeLine (closed ++ after) Spelling
     cases [] other = too_short closed AtEnd ends tt
     cases (c ∷ more) other = elim (cases_eq c line_feed) [
-      | inl e ↦ subst (λ x. IsTextFault IsCubeLine (closed ++ x ∷ more) Spelling) (sym e) (follows more (λ is. other (ap (λ x. x ∷ more) e ∙ ap (λ t. line_feed ∷ t) is)))
+      | inl e ↦ subst (λ x. IsTextFault IsCubeLine (closed ++ x ∷ more) Spelling) (sym e)
+          (follows more (λ is. other (ap (λ x. x ∷ more) e ∙ ap (λ t. line_feed ∷ t) is)))
       | inr ne ↦ misspelled closed AtEnd c more ends tt (λ signed. end_blocks signed c ne)
     ]
       where

@@ -9,11 +9,13 @@ use Rattle.lrup_text.specs.Lines.{IsStreamLiteral}
 use Rattle.lrup_text.proofs.TextLaws.{signed_word, few_map}
 
 text_is_line : (literals : List ℤ) (bytes : List ℕ) → IsLiteralsText literals bytes → IsCubeLine standard bytes
-text_is_line literals bytes text = (map signed_decimal literals, few_map 65535 signed_decimal IsStreamLiteral (SpellsLiteral 18) signed_word literals text.few, text.is)
+text_is_line literals bytes text =
+    (map signed_decimal literals, few_map 65535 signed_decimal IsStreamLiteral (SpellsLiteral 18) signed_word literals text.few, text.is)
 
 -- no beginning of a line begins none
 none_breaks : (bytes : List ℕ) (Shortest : List ℕ → Type 0) → IsCubeLine standard bytes → BeginsNone IsCubeLine bytes Shortest → ⊥
-none_breaks bytes Shortest line h = h.none (h.after, subst (IsCubeLine standard) (h.is ∙ sym (append_assoc h.read (h.byte ∷ []) h.after)) line)
+none_breaks bytes Shortest line h =
+    h.none (h.after, subst (IsCubeLine standard) (h.is ∙ sym (append_assoc h.read (h.byte ∷ []) h.after)) line)
 
 pub text_has_no_fault : TextHasNoFault
 text_has_no_fault literals bytes Spelling text (inl early) = early.1 (text_is_line literals bytes text)

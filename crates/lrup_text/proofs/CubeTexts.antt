@@ -13,7 +13,8 @@ stream_literal : (vars : ℕ) → vars < 10 ^ 18 → (z : ℤ) → IsLiteral var
 stream_literal vars few (pos n) is = (is.0, omega (arith, few, is.1))
 stream_literal vars few (negsuc n) is = (is.0, omega (arith, few, is.1))
 
-pub printed_cube : (vars : ℕ) (literals : List ℤ) (bytes : List ℕ) (cube : CubeValue) → IsLiteralsText literals bytes → IsCubeOver vars literals → IsCubeOf literals cube → IsCubeText vars bytes cube
+pub printed_cube : (vars : ℕ) (literals : List ℤ) (bytes : List ℕ) (cube : CubeValue) → IsLiteralsText literals bytes
+    → IsCubeOver vars literals → IsCubeOf literals cube → IsCubeText vars bytes cube
 unfolding literals_text
 printed_cube vars literals bytes cube text over set = record {
   literals = literals;
@@ -23,7 +24,8 @@ printed_cube vars literals bytes cube text over set = record {
   set = set;
 }
 
-read_cube : (vars : ℕ) (bytes : List ℕ) (cube : CubeValue) → vars < 10 ^ 18 → (h : IsCubeText vars bytes cube) → IsLiteralsText h.literals bytes
+read_cube : (vars : ℕ) (bytes : List ℕ) (cube : CubeValue) → vars < 10 ^ 18 → (h : IsCubeText vars bytes cube)
+    → IsLiteralsText h.literals bytes
 unfolding literals_text
 read_cube vars bytes cube few h = record {
   few = record { count = h.few; each = All-map (IsLiteral vars) IsStreamLiteral (stream_literal vars few) h.literals h.over };

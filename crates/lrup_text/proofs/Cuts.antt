@@ -1,5 +1,6 @@
 -- Every list of bytes is cut into lines: bytes are taken one by one, up to the end of a line or the byte that decides.
-use Rattle.std.proofs.Common.{◌≡◌, ◌≢◌, ℕ, suc, zero, ◌+◌, ◌<◌, ◌≤◌, ◌⊎◌, inl, inr, Bool, true, false, List, [], ◌∷◌, ◌++◌, length, refl, sym, ◌∙◌, ap, subst, arith}
+use Rattle.std.proofs.Common.{◌≡◌, ◌≢◌, ℕ, suc, zero, ◌+◌, ◌<◌, ◌≤◌, ◌⊎◌, inl, inr, Bool, true, false, List, [], ◌∷◌, ◌++◌, length, refl}
+use Rattle.std.proofs.Common.{sym, ◌∙◌, ap, subst, arith}
 use Rattle.std.specs.List.{flat_map}
 use Rattle.std.proofs.lemmas.Bool.{cases_eq, cases_lt}
 use Rattle.std.proofs.lemmas.Grind.{flat_map-append}
@@ -12,9 +13,15 @@ use Rattle.lrup_text.specs.ByteNames.{line_feed, space, minus, zero_digit, lette
 use Rattle.lrup_text.specs.Grammar.{IsDigit, IsLine, standard}
 use Rattle.lrup_text.specs.Laws.{BeginningCut, CutGoesOn, EveryCut, PendingOrFaulty}
 use Rattle.lrup_text.specs.Lines.{StreamLine, IsWithinLimits, line_text, HasNoLine, Cut, IsPending}
-use Rattle.lrup_text.specs.Rests.{Spot, AtStart, InLead, AfterImport, BeforeLiteral, AfterMinus, InLiteral, BeforeList, BeforeItem, InItem, AtEnd, MayComplete, Tracks, Moves, Blocks, Allows}
+use Rattle.lrup_text.specs.Rests.{Spot, AtStart, InLead, AfterImport, BeforeLiteral, AfterMinus, InLiteral, BeforeList, BeforeItem, InItem}
+use Rattle.lrup_text.specs.Rests.{AtEnd, MayComplete, Tracks, Moves, Blocks, Allows}
 use Rattle.lrup_text.proofs.Decisions.{decides_spelling, decides_long, decides_rat}
-use Rattle.lrup_text.proofs.Steps.{IsBounded, Exceeds, NoFirst, NoDigit, at_start, start_digit, lead_digit, lead_space, body_hints, body_end, body_deletion, body_import, import_space, import_blocks, body_minus, body_digit, minus_digit, literal_digit, literal_space, list_space, item_zero, item_digit, number_digit, number_space, start_blocks, lead_blocks, body_blocks, minus_blocks, literal_blocks, list_blocks, item_blocks, number_blocks, end_blocks, lead_exceeds, literal_exceeds, number_exceeds, body_exceeds_digit, body_exceeds_minus, item_exceeds, hint_allows, standard_lifted, one_more, tracks_more}
+use Rattle.lrup_text.proofs.Steps.{IsBounded, Exceeds, NoFirst, NoDigit, at_start, start_digit, lead_digit, lead_space, body_hints}
+use Rattle.lrup_text.proofs.Steps.{body_end, body_deletion, body_import, import_space, import_blocks, body_minus, body_digit, minus_digit}
+use Rattle.lrup_text.proofs.Steps.{literal_digit, literal_space, list_space, item_zero, item_digit, number_digit, number_space}
+use Rattle.lrup_text.proofs.Steps.{start_blocks, lead_blocks, body_blocks, minus_blocks, literal_blocks, list_blocks, item_blocks}
+use Rattle.lrup_text.proofs.Steps.{number_blocks, end_blocks, lead_exceeds, literal_exceeds, number_exceeds, body_exceeds_digit}
+use Rattle.lrup_text.proofs.Steps.{body_exceeds_minus, item_exceeds, hint_allows, standard_lifted, one_more, tracks_more}
 use Rattle.lrup_text.proofs.Streams.{one_cut, texts_are_lines, refused_stays}
 use Rattle.lrup_text.proofs.TextLaws.{empty_pending, tracks_pending}
 
@@ -44,7 +51,8 @@ less_or_same n most few = elim (cases_lt n most) [ inl less ↦ inl less | inr m
 
 -- inside a number: a digit, a space, or another byte
 number_byte : (spot : Spot) (k b : ℕ) → k ≤ 18
-    → (IsDigit b → k < 18 → ByteAt spot b) → (IsDigit b → k ≡ 18 → ByteAt spot b) → ByteAt spot space → (NoDigit b → b ≢ space → ByteAt spot b) → ByteAt spot b
+    → (IsDigit b → k < 18 → ByteAt spot b) → (IsDigit b → k ≡ 18 → ByteAt spot b) → ByteAt spot space
+    → (NoDigit b → b ≢ space → ByteAt spot b) → ByteAt spot b
 number_byte spot k b few digit digit_more closes none = elim (digit_or_not b) [
   | inl d ↦ elim (less_or_same k 18 few) [ inl less ↦ digit d less | inr same ↦ digit_more d same ]
   | inr never ↦ elim (cases_eq b space) [ inl is ↦ subst (ByteAt spot) (sym is) closes | inr ne ↦ none never ne ]
@@ -73,18 +81,22 @@ body_byte imports n b few = elim (cases_eq b zero_digit) [
 
     digit : (49 ≤ b) × (b ≤ 57) → (n < 65535) ⊎ (n ≡ 65535) → ByteAt (BeforeLiteral imports n) b
     digit first (inl less) = moves (InLiteral imports 1 n) (body_digit imports n b first.0 first.1) (omega arith, less)
-    digit first (inr same) = subst (λ k. ByteAt (BeforeLiteral imports k) b) (sym same) (exceeds (body_exceeds_digit imports b first.0 first.1))
+    digit first (inr same) =
+        subst (λ k. ByteAt (BeforeLiteral imports k) b) (sym same) (exceeds (body_exceeds_digit imports b first.0 first.1))
 
     letter : (kind : Bool) → b ≢ zero_digit → b ≢ minus → NoFirst b → (n ≡ 0) ⊎ (n ≢ 0) → ByteAt (BeforeLiteral kind n) b
-    letter true not_zero not_minus never any = blocked (λ signed. body_blocks signed true n b not_zero not_minus never (λ none adds. let e : true ≡ false = adds in cc))
-    letter false not_zero not_minus never (inr some) = blocked (λ signed. body_blocks signed false n b not_zero not_minus never (λ none adds. absurd (some none)))
-    letter false not_zero not_minus never (inl none) = subst (λ k. ByteAt (BeforeLiteral false k) b) (sym none) (elim (cases_eq b letter_d) [
-      | inl is ↦ subst (ByteAt (BeforeLiteral false 0)) (sym is) (moves (BeforeList true) body_deletion tt)
-      | inr not_d ↦ elim (cases_eq b letter_i) [
-        | inl is ↦ subst (ByteAt (BeforeLiteral false 0)) (sym is) (moves AfterImport body_import tt)
-        | inr not_i ↦ blocked (λ signed. body_blocks signed false 0 b not_zero not_minus never (λ _ _. (not_d, not_i)))
-      ]
-    ])
+    letter true not_zero not_minus never any =
+        blocked (λ signed. body_blocks signed true n b not_zero not_minus never (λ none adds. let e : true ≡ false = adds in cc))
+    letter false not_zero not_minus never (inr some) =
+        blocked (λ signed. body_blocks signed false n b not_zero not_minus never (λ none adds. absurd (some none)))
+    letter false not_zero not_minus never (inl none) =
+        subst (λ k. ByteAt (BeforeLiteral false k) b) (sym none) (elim (cases_eq b letter_d) [
+          | inl is ↦ subst (ByteAt (BeforeLiteral false 0)) (sym is) (moves (BeforeList true) body_deletion tt)
+          | inr not_d ↦ elim (cases_eq b letter_i) [
+            | inl is ↦ subst (ByteAt (BeforeLiteral false 0)) (sym is) (moves AfterImport body_import tt)
+            | inr not_i ↦ blocked (λ signed. body_blocks signed false 0 b not_zero not_minus never (λ _ _. (not_d, not_i)))
+          ]
+        ])
 
 item_byte : (deletes : Bool) (j b : ℕ) → j ≤ 65536 → ByteAt (BeforeItem deletes j) b
 item_byte deletes j b few = elim (cases_eq b zero_digit) [
@@ -103,9 +115,11 @@ item_byte deletes j b few = elim (cases_eq b zero_digit) [
     digit first (inr same) = subst (λ k. ByteAt (BeforeItem deletes k) b) (sym same) (exceeds (item_exceeds deletes b first.0 first.1))
 
     sign : (kind : Bool) → ByteAt (BeforeItem kind j) minus
-    sign true = blocked (λ signed. item_blocks signed true j minus (λ e. let e' : minus ≡ zero_digit = e in omega arith) (λ low high. omega arith) (λ e d s. let d' : true ≡ false = d in cc))
+    sign true = blocked (λ signed. item_blocks signed true j minus (λ e. let e' : minus ≡ zero_digit = e in omega arith)
+        (λ low high. omega arith) (λ e d s. let d' : true ≡ false = d in cc))
     sign false = signed_hint
-        (item_blocks false false j minus (λ e. let e' : minus ≡ zero_digit = e in omega arith) (λ low high. omega arith) (λ e d s. let s' : false ≡ true = s in cc))
+        (item_blocks false false j minus (λ e. let e' : minus ≡ zero_digit = e in omega arith) (λ low high. omega arith)
+        (λ e d s. let s' : false ≡ true = s in cc))
         (hint_allows j few)
 
 byte_at : (spot : Spot) (b : ℕ) → IsBounded spot → ByteAt spot b
@@ -157,11 +171,13 @@ data Front (bytes : List ℕ) : Type 0 where
 front_from : (read : List ℕ) (spot : Spot) → Tracks read spot → IsBounded spot → (bytes : List ℕ) → Front (read ++ bytes)
 front_from read spot tracks bounded [] = subst Front (sym (append-nil read)) (part (tracks_pending read spot tracks bounded))
 front_from read spot tracks bounded (b ∷ bytes) = elim (byte_at spot b bounded) [
-  | moves next step small ↦ subst Front (one_more read b bytes) (front_from (read ++ b ∷ []) next (tracks_more read spot next b tracks step) small bytes)
+  | moves next step small ↦
+      subst Front (one_more read b bytes) (front_from (read ++ b ∷ []) next (tracks_more read spot next b tracks step) small bytes)
   | blocked stops ↦ decided Spelling (decides_spelling read spot b tracks bounded stops)
   | exceeds long ↦ decided TooLong (decides_long read spot b tracks bounded long)
   | signed_hint stops allows ↦ decided RatHint (decides_rat read spot b tracks bounded stops allows)
-  | ends_line here is ↦ line (tracks.line false standard standard_lifted (b ∷ []) (subst (λ s. MayComplete standard s (b ∷ [])) (sym here) (ap (λ x. x ∷ []) is)))
+  | ends_line here is ↦ line
+      (tracks.line false standard standard_lifted (b ∷ []) (subst (λ s. MayComplete standard s (b ∷ [])) (sym here) (ap (λ x. x ∷ []) is)))
 ]
   where
     decided : (fault : LineFault) → IsRefused (read ++ b ∷ []) fault → Front (read ++ b ∷ bytes)
@@ -191,7 +207,8 @@ text_some line fits = elim (cases_eq (length (line_text line)) 0) [
 ]
 
 -- a line, and the cut of what follows it
-cut_more : (line : StreamLine) (stream more : List ℕ) → IsWithinLimits line → stream ≡ line_text line ++ more → (lines : List StreamLine) × (rest : List ℕ) × Cut more lines rest
+cut_more : (line : StreamLine) (stream more : List ℕ) → IsWithinLimits line → stream ≡ line_text line ++ more
+    → (lines : List StreamLine) × (rest : List ℕ) × Cut more lines rest
     → (lines : List StreamLine) × (rest : List ℕ) × Cut stream lines rest
 cut_more line stream more fits is cut = (
   line ∷ cut.0,
@@ -224,7 +241,8 @@ every_cut stream = cut_up_to (length stream) stream (omega arith)
 pub cut_goes_on : CutGoesOn
 cut_goes_on bytes more lines others rest left a b = record {
   bytes = ap (λ l. l ++ more) a.bytes ∙ append_assoc (flat_map line_text lines) rest more ∙ ap (λ l. flat_map line_text lines ++ l) b.bytes
-      ∙ sym (append_assoc (flat_map line_text lines) (flat_map line_text others) left) ∙ ap (λ l. l ++ left) (sym (flat_map-append line_text lines others));
+      ∙ sym (append_assoc (flat_map line_text lines) (flat_map line_text others) left)
+      ∙ ap (λ l. l ++ left) (sym (flat_map-append line_text lines others));
   each = All-append IsWithinLimits lines others a.each b.each;
   last = b.last;
 }
@@ -232,5 +250,6 @@ cut_goes_on bytes more lines others rest left a b = record {
 pub beginning_cut : BeginningCut
 beginning_cut bytes more lines all rest left a whole =
     let after = every_cut (rest ++ more) in
-    let same = one_cut (bytes ++ more) all (lines ++ after.0) left after.1 whole (cut_goes_on bytes more lines after.0 rest after.1 a after.2) in
+    let same =
+    one_cut (bytes ++ more) all (lines ++ after.0) left after.1 whole (cut_goes_on bytes more lines after.0 rest after.1 a after.2) in
     (after.0, same.0, subst (Cut (rest ++ more) after.0) (sym same.1) after.2)

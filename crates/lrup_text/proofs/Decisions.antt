@@ -13,8 +13,13 @@ module _ (read : List ℕ) (spot : Spot) (b : ℕ) (tracks : Tracks read spot) (
       blocks h.0 h.2 h.1 (tracks.completes signed h.0 h.2 (b ∷ h.1) (subst (IsLine h.0) (one_more read b h.1) h.3))
 
   begins_lifted : (signed : Bool) → Allows signed spot b → BeginsLifted signed (read ++ b ∷ [])
-  begins_lifted signed allows =
-      (allows.limits, allows.rest, allows.lifted, subst (IsLine allows.limits) (sym (one_more read b allows.rest)) (tracks.line signed allows.limits allows.lifted (b ∷ allows.rest) allows.completes))
+  begins_lifted signed allows = (
+    allows.limits,
+    allows.rest,
+    allows.lifted,
+    subst (IsLine allows.limits) (sym (one_more read b allows.rest))
+        (tracks.line signed allows.limits allows.lifted (b ∷ allows.rest) allows.completes),
+  )
 
   ends : ((rest : List ℕ) → ¬ MayComplete standard spot (b ∷ rest)) → ¬ Begins (read ++ b ∷ [])
   ends stops h = stops h.0 (tracks.completes false standard standard_lifted (b ∷ h.0) (subst (IsLine standard) (one_more read b h.0) h.1))

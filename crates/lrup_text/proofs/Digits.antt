@@ -45,17 +45,22 @@ decimal_fours n low high =
     let two = decimal_step (n / 10) (omega arith) (omega arith) ∙ ap (λ m. decimal m ++ (48 + n / 10 % 10) ∷ []) hundreds in
     let three = decimal_step (n / 100) (omega arith) (omega arith) ∙ ap (λ m. decimal m ++ (48 + n / 100 % 10) ∷ []) thousands in
     let four = decimal_step (n / 1000) (omega arith) (omega arith) ∙ ap (λ m. decimal m ++ (48 + n / 1000 % 10) ∷ []) front in
-    let three' = more (decimal (n / 100)) (decimal (n / 1000)) (decimal (n / 10000)) ((48 + n / 1000 % 10) ∷ []) ((48 + n / 100 % 10) ∷ []) three four in
-    let two' = more (decimal (n / 10)) (decimal (n / 100)) (decimal (n / 10000)) ((48 + n / 1000 % 10) ∷ (48 + n / 100 % 10) ∷ []) ((48 + n / 10 % 10) ∷ []) two three' in
-    more (decimal n) (decimal (n / 10)) (decimal (n / 10000)) ((48 + n / 1000 % 10) ∷ (48 + n / 100 % 10) ∷ (48 + n / 10 % 10) ∷ []) ((48 + n % 10) ∷ []) one two'
+    let three' =
+    more (decimal (n / 100)) (decimal (n / 1000)) (decimal (n / 10000)) ((48 + n / 1000 % 10) ∷ []) ((48 + n / 100 % 10) ∷ []) three four in
+    let two' = more (decimal (n / 10)) (decimal (n / 100)) (decimal (n / 10000)) ((48 + n / 1000 % 10) ∷ (48 + n / 100 % 10) ∷ [])
+    ((48 + n / 10 % 10) ∷ []) two three' in
+    more (decimal n) (decimal (n / 10)) (decimal (n / 10000)) ((48 + n / 1000 % 10) ∷ (48 + n / 100 % 10) ∷ (48 + n / 10 % 10) ∷ [])
+    ((48 + n % 10) ∷ []) one two'
     ∙ ap (λ t. decimal (n / 10000) ++ t) (sym (four_digits-rest n))
   where
     more : (whole most front digits last : List ℕ) → whole ≡ most ++ last → most ≡ front ++ digits → whole ≡ front ++ (digits ++ last)
     more whole most front digits last is most_is = is ∙ ap (λ t. t ++ last) most_is ∙ append_assoc front digits last
 
 -- what is written after what was written before
-pub written_more : (begun : List ℕ) (front more all : List ℕ) {before after : List ℕ} → before ≡ begun ++ front → after ≡ before ++ more → all ≡ front ++ more → after ≡ begun ++ all
-written_more begun front more all before_is after_is is = after_is ∙ ap (λ t. t ++ more) before_is ∙ append_assoc begun front more ∙ ap (λ t. begun ++ t) (sym is)
+pub written_more : (begun : List ℕ) (front more all : List ℕ) {before after : List ℕ} → before ≡ begun ++ front → after ≡ before ++ more
+    → all ≡ front ++ more → after ≡ begun ++ all
+written_more begun front more all before_is after_is is = after_is ∙ ap (λ t. t ++ more) before_is ∙ append_assoc begun front more
+    ∙ ap (λ t. begun ++ t) (sym is)
 
 pub length-decimal_fours : (n : ℕ) → 10000 ≤ n → n < 2 ^ 64 → length (decimal n) ≡ length (decimal (n / 10000)) + 4
 length-decimal_fours n low high = ap length (decimal_fours n low high) ∙ length-append (decimal (n / 10000)) (four_digits (n % 10000))

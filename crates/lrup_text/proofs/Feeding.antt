@@ -21,19 +21,27 @@ module _ (m next : PartialLine) (piece : List ℕ) (used : ℕ) where
   pub fed_more : StepsThrough m piece used More next → Fed (Ok (pending m)) piece used turns.NeedMore (Ok (pending next))
   fed_more h = record { leaves = (ap Ok h.2, subst IsPending h.2 (reads_pending next h.1)); gives = h.0 }
 
-  pub fed_line : (line : Line) → line_of line ≡ line_so_far next → StepsThrough m piece used Done next → Fed (Ok (pending m)) piece used (turns.Line line) (Ok (pending next))
-  fed_line line is h = record { leaves = (ap Ok h.3, empty_pending); gives = (h.0, h.1, subst (λ l. LineText l (pending m ++ take used piece)) (sym is) h.4) }
+  pub fed_line : (line : Line) → line_of line ≡ line_so_far next → StepsThrough m piece used Done next
+      → Fed (Ok (pending m)) piece used (turns.Line line) (Ok (pending next))
+  fed_line line is h = record {
+    leaves = (ap Ok h.3, empty_pending);
+    gives = (h.0, h.1, subst (λ l. LineText l (pending m ++ take used piece)) (sym is) h.4);
+  }
 
-  pub fed_fault : (fault : LineFault) → StepsThrough m piece used (Refused fault) next → Fed (Ok (pending m)) piece used (turns.Fault fault) (Err fault)
+  pub fed_fault : (fault : LineFault) → StepsThrough m piece used (Refused fault) next
+      → Fed (Ok (pending m)) piece used (turns.Fault fault) (Err fault)
   fed_fault fault h = record { leaves = refl; gives = h }
 
 -- the same at equal values
-pub fed_at : {old old' new new' : ReaderState} {turn turn' : ReaderTurn} (piece : List ℕ) (used : ℕ) → Fed old' piece used turn' new' → old' ≡ old → turn ≡ turn' → new ≡ new' → Fed old piece used turn new
+pub fed_at : {old old' new new' : ReaderState} {turn turn' : ReaderTurn} (piece : List ℕ) (used : ℕ) → Fed old' piece used turn' new'
+    → old' ≡ old → turn ≡ turn' → new ≡ new' → Fed old piece used turn new
 fed_at {old} {old'} {new} {new'} {turn} {turn'} piece used h o t n =
-    subst (λ x. Fed x piece used turn new) o (subst (λ x. Fed old' piece used x new) (sym t) (subst (λ x. Fed old' piece used turn' x) (sym n) h))
+    subst (λ x. Fed x piece used turn new) o
+    (subst (λ x. Fed old' piece used x new) (sym t) (subst (λ x. Fed old' piece used turn' x) (sym n) h))
 
 -- a reader with no fault is the text that it has read
-pub no_fault : {state : ReaderState} {fault : Option LineFault} (m : PartialLine) → reader_state fault (pending m) ≡ state → fault ≡ None → Ok (pending m) ≡ state
+pub no_fault : {state : ReaderState} {fault : Option LineFault} (m : PartialLine) → reader_state fault (pending m) ≡ state → fault ≡ None
+    → Ok (pending m) ≡ state
 no_fault m view none = sym (ap (λ f. reader_state f (pending m)) none) ∙ view
 
 -- no more is used than is there

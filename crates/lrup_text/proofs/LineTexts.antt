@@ -10,21 +10,25 @@ use Rattle.lrup_text.proofs.Bytes.{literals_end}
 use Rattle.lrup_text.proofs.Rests.{list_is_clause}
 
 pub addition_text : (id : ℕ) (lits : List ℤ) (hints : List ℕ)
-    → line_text (Addition id lits hints) ≡ (((decimal id ++ space ∷ []) ++ literals_text lits) ++ zero_digit ∷ []) ++ list_text (map decimal hints)
+    → line_text (Addition id lits hints) ≡ (((decimal id ++ space ∷ []) ++ literals_text lits) ++ zero_digit ∷ [])
+    ++ list_text (map decimal hints)
 addition_text id lits hints =
     sym (append_assoc ((decimal id ++ space ∷ []) ++ literals_text lits) (zero_digit ∷ []) (list_text (map decimal hints))
     ∙ append_assoc (decimal id ++ space ∷ []) (literals_text lits) (zero_digit ∷ list_text (map decimal hints))
     ∙ append_assoc (decimal id) (space ∷ []) (literals_text lits ++ zero_digit ∷ list_text (map decimal hints))
     ∙ ap (λ t. decimal id ++ space ∷ t) (literals_end lits (list_text (map decimal hints))))
 
-pub deletion_text : (lead : ℕ) (ids : List ℕ) → line_text (Deletion lead ids) ≡ ((decimal lead ++ space ∷ []) ++ letter_d ∷ []) ++ list_text (map decimal ids)
+pub deletion_text : (lead : ℕ) (ids : List ℕ)
+    → line_text (Deletion lead ids) ≡ ((decimal lead ++ space ∷ []) ++ letter_d ∷ []) ++ list_text (map decimal ids)
 deletion_text lead ids =
     sym (append_assoc (decimal lead ++ space ∷ []) (letter_d ∷ []) (list_text (map decimal ids))
     ∙ append_assoc (decimal lead) (space ∷ []) (letter_d ∷ list_text (map decimal ids)))
 
-pub import_text : (id : ℕ) (lits : List ℤ) → line_text (Import id lits) ≡ (((decimal id ++ space ∷ []) ++ letter_i ∷ space ∷ []) ++ literals_text lits) ++ zero_digit ∷ line_feed ∷ []
+pub import_text : (id : ℕ) (lits : List ℤ) → line_text (Import id lits)
+    ≡ (((decimal id ++ space ∷ []) ++ letter_i ∷ space ∷ []) ++ literals_text lits) ++ zero_digit ∷ line_feed ∷ []
 import_text id lits =
     sym (append_assoc ((decimal id ++ space ∷ []) ++ letter_i ∷ space ∷ []) (literals_text lits) (zero_digit ∷ line_feed ∷ [])
     ∙ append_assoc (decimal id ++ space ∷ []) (letter_i ∷ space ∷ []) (literals_text lits ++ zero_digit ∷ line_feed ∷ [])
     ∙ append_assoc (decimal id) (space ∷ []) (letter_i ∷ space ∷ (literals_text lits ++ zero_digit ∷ line_feed ∷ []))
-    ∙ ap (λ t. decimal id ++ space ∷ letter_i ∷ t) (ap (λ t. space ∷ t) (literals_end lits (line_feed ∷ [])) ∙ sym (list_is_clause (map signed_decimal lits))))
+    ∙ ap (λ t. decimal id ++ space ∷ letter_i ∷ t) (ap (λ t. space ∷ t) (literals_end lits (line_feed ∷ []))
+    ∙ sym (list_is_clause (map signed_decimal lits))))

@@ -1,5 +1,6 @@
 -- The decimal text of a number of at most 18 digits.
-use Rattle.std.proofs.Common.{◌≡◌, ℕ, ◌+◌, ◌-◌, ◌*◌, ◌/◌, ◌%◌, ◌^◌, ◌<◌, ◌≤◌, List, [], ◌∷◌, ◌++◌, length, get_or, map, sym, ◌∙◌, ap, subst, arith}
+use Rattle.std.proofs.Common.{◌≡◌, ℕ, ◌+◌, ◌-◌, ◌*◌, ◌/◌, ◌%◌, ◌^◌, ◌<◌, ◌≤◌, List, [], ◌∷◌, ◌++◌, length, get_or, map, sym, ◌∙◌, ap, subst}
+use Rattle.std.proofs.Common.{arith}
 use Rattle.std.specs.Fmt.{decimal}
 use Rattle.std.specs.Int.Digits.{digits_of}
 use Rattle.std.specs.List.{AllByRecursion}
@@ -15,8 +16,10 @@ pub decimal_more : (n d : ℕ) → 0 < n → d < 10 → n * 10 + d < 2 ^ 64 → 
 decimal_more n d some digit fits =
     let quotient : (n * 10 + d) / 10 ≡ n = omega arith in
     let remainder : (n * 10 + d) % 10 ≡ d = omega arith in
-    let step : digits_of 10 (n * 10 + d) ≡ digits_of 10 ((n * 10 + d) / 10) ++ ((n * 10 + d) % 10) ∷ [] = digits_of_step 10 (n * 10 + d) (omega arith) (omega arith) in
-    let step' : digits_of 10 (n * 10 + d) ≡ digits_of 10 n ++ d ∷ [] = step ∙ ap (λ q. digits_of 10 q ++ ((n * 10 + d) % 10) ∷ []) quotient ∙ ap (λ r. digits_of 10 n ++ r ∷ []) remainder in
+    let step : digits_of 10 (n * 10 + d) ≡ digits_of 10 ((n * 10 + d) / 10) ++ ((n * 10 + d) % 10) ∷ [] =
+    digits_of_step 10 (n * 10 + d) (omega arith) (omega arith) in
+    let step' : digits_of 10 (n * 10 + d) ≡ digits_of 10 n ++ d ∷ [] = step ∙ ap (λ q. digits_of 10 q ++ ((n * 10 + d) % 10) ∷ []) quotient
+    ∙ ap (λ r. digits_of 10 n ++ r ∷ []) remainder in
     decimal-digits_of (n * 10 + d) (omega arith) fits ∙ ap (map (λ x. 48 + x)) step' ∙ map-append (λ x. 48 + x) (digits_of 10 n) (d ∷ [])
     ∙ ap (λ t. t ++ (48 + d) ∷ []) (sym (decimal-digits_of n some (omega arith)))
 
@@ -25,7 +28,8 @@ decimal_one b digit =
     let is : 48 + (b - 48) ≡ b = omega arith in
     decimal_digit (b - 48) (omega arith) ∙ ap (λ x. x ∷ []) is
 
-pub decimal_byte : (n b : ℕ) → 0 < n → n < 10 ^ 18 → IsDigit b → n * 10 + (b - 48) < 2 ^ 64 → decimal (n * 10 + (b - 48)) ≡ decimal n ++ b ∷ []
+pub decimal_byte : (n b : ℕ) → 0 < n → n < 10 ^ 18 → IsDigit b → n * 10 + (b - 48) < 2 ^ 64
+    → decimal (n * 10 + (b - 48)) ≡ decimal n ++ b ∷ []
 decimal_byte n b some few digit fits =
     let is : 48 + (b - 48) ≡ b = omega arith in
     decimal_more n (b - 48) some (omega arith) fits ∙ ap (λ x. decimal n ++ x ∷ []) is
@@ -53,4 +57,5 @@ digits_word (d ∷ ds) h some few =
 pub number_word : (n : ℕ) → 0 < n → n < 10 ^ 18 → SpellsNumber 18 (decimal n)
 number_word n some few =
     subst (SpellsNumber 18) (sym (decimal-digits_of n some (omega arith)))
-    (digits_word (digits_of 10 n) (all_below_base_digits_of 10 n (omega arith)) (first_digits_of 10 n (omega arith) some) (length-digits_of-le 10 18 n (omega arith) few))
+    (digits_word (digits_of 10 n) (all_below_base_digits_of 10 n (omega arith)) (first_digits_of 10 n (omega arith) some)
+    (length-digits_of-le 10 18 n (omega arith) few))

@@ -1,5 +1,6 @@
 -- A line that is read in part, as a whole: at its beginning, between pieces, and over a piece.
-use Rattle.std.proofs.Common.{◌≡◌, ◌≢◌, ℕ, ℤ, ◌+◌, ◌<◌, ◌≤◌, Bool, true, false, List, [], ◌∷◌, ◌++◌, length, take, drop, get_or, refl, sym, ◌∙◌, ap, subst, arith}
+use Rattle.std.proofs.Common.{◌≡◌, ◌≢◌, ℕ, ℤ, ◌+◌, ◌<◌, ◌≤◌, Bool, true, false, List, [], ◌∷◌, ◌++◌, length, take, drop, get_or, refl, sym}
+use Rattle.std.proofs.Common.{◌∙◌, ap, subst, arith}
 use Rattle.std.specs.Fmt.{decimal}
 use Rattle.std.proofs.lemmas.List.{append_assoc, append-nil, length-drop, take_more, take_all}
 use Rattle.std.proofs.Math.Seq.{take-add}
@@ -12,7 +13,9 @@ use Rattle.lrup_text.specs.declared.machine.PartialLine.{PartialLine}
 use Rattle.lrup_text.specs.ByteNames.{space, minus, zero_digit, letter_i}
 use Rattle.lrup_text.specs.Grammar.{SpellsNumber}
 use Rattle.lrup_text.specs.Lines.{IsPending, IsStreamNumber, LineText}
-use Rattle.lrup_text.specs.Reading.{HasRoom, FitsDigits, CanStandInLine, IsPartialLine, ReadsAhead, ReadsByte, StepsThrough, pending_at, spot_at, pending, IsRoomy, line_so_far, clause_front, list_front, item_front, end_front, literal_front, literals_text, items_text, literals_read, identities_read}
+use Rattle.lrup_text.specs.Reading.{HasRoom, FitsDigits, CanStandInLine, IsPartialLine, ReadsAhead, ReadsByte, StepsThrough, pending_at}
+use Rattle.lrup_text.specs.Reading.{spot_at, pending, IsRoomy, line_so_far, clause_front, list_front, item_front, end_front, literal_front}
+use Rattle.lrup_text.specs.Reading.{literals_text, items_text, literals_read, identities_read}
 use Rattle.lrup_text.proofs.Bytes.{bounded, below_limit}
 use Rattle.lrup_text.proofs.TextLaws.{tracks_pending}
 use Rattle.lrup_text.proofs.Numerals.{number_word}
@@ -23,7 +26,8 @@ pub reads_pending : (m : PartialLine) → IsPartialLine m → IsPending (pending
 reads_pending m h = tracks_pending (pending m) (spot_at m.place m) h.tracks (bounded m h)
 
 -- before the first byte
-pub start_reads : (m : PartialLine) → m.place ≡ places.Start → HasRoom m.literals.items m.identities.items → CanStandInLine m.lead m.literals.items m.literal_count m.identities.items m.identity_count
+pub start_reads : (m : PartialLine) → m.place ≡ places.Start → HasRoom m.literals.items m.identities.items
+    → CanStandInLine m.lead m.literals.items m.literal_count m.identities.items m.identity_count
     → FitsDigits m.number m.digits → IsPartialLine m × (pending m ≡ [])
 unfolding pending_at spot_at IsRoomy
 start_reads m at room kept number = (
@@ -66,7 +70,8 @@ unfolding pending_at
 started m places.Start ne h e = ne refl
 started m places.Lead ne h e = word_some (decimal m.number) (number_word m.number h.low (below_limit m.number m.digits h)) e
 started m places.Import ne h e = some_byte (decimal m.lead) space _ e
-started m places.Body ne h e = clause_started m.imports m.lead (literals_read m) [] (append-nil (clause_front m.imports m.lead (literals_read m)) ∙ e)
+started m places.Body ne h e =
+    clause_started m.imports m.lead (literals_read m) [] (append-nil (clause_front m.imports m.lead (literals_read m)) ∙ e)
 started m places.Minus ne h e = clause_started m.imports m.lead (literals_read m) (minus ∷ []) e
 started m places.Literal ne h e = clause_started m.imports m.lead (literals_read m) (literal_front m.negative m.number) e
 started m places.List ne h e = list_started m.deletes m.lead (literals_read m) e
@@ -82,31 +87,37 @@ unfolding pending_at
 is_empty m at = ap (λ p. pending_at p m) at
 
 -- over a piece
-pub read_more : (read before : List ℕ) (piece : List ℕ) (i : ℕ) (byte : ℕ) (now : List ℕ) → i < length piece → byte ≡ get_or piece i 0 → before ≡ read ++ take i piece → now ≡ before ++ byte ∷ []
-    → now ≡ read ++ take (i + 1) piece
+pub read_more : (read before : List ℕ) (piece : List ℕ) (i : ℕ) (byte : ℕ) (now : List ℕ) → i < length piece → byte ≡ get_or piece i 0
+    → before ≡ read ++ take i piece → now ≡ before ++ byte ∷ [] → now ≡ read ++ take (i + 1) piece
 read_more read before piece i byte now h is so step =
-    step ∙ ap (λ t. t ++ byte ∷ []) so ∙ append_assoc read (take i piece) (byte ∷ []) ∙ ap (λ x. read ++ (take i piece ++ x ∷ [])) is ∙ ap (λ t. read ++ t) (sym (take_more piece i 0 h))
+    step ∙ ap (λ t. t ++ byte ∷ []) so ∙ append_assoc read (take i piece) (byte ∷ []) ∙ ap (λ x. read ++ (take i piece ++ x ∷ [])) is
+    ∙ ap (λ t. read ++ t) (sym (take_more piece i 0 h))
 
 -- no list is kept
 pub kept_none : (first : ℕ) (lits : List ℤ) (ids : List ℕ) → IsStreamNumber first → CanStandInLine first lits 0 ids 0
 kept_none first lits ids h = record { lead = h; few_literals = omega arith; few_identities = omega arith; literals = tt; identities = tt }
 
 -- with other lists
-pub restarts : (next : PartialLine) (lits : List ℤ) (ids : List ℕ) → next.place ≡ places.Start → next.literals.items ≡ lits → next.identities.items ≡ ids → length lits ≡ 65535 → length ids ≡ 65536
-    → CanStandInLine next.lead lits next.literal_count ids next.identity_count → FitsDigits next.number next.digits → IsPartialLine next × (pending next ≡ [])
+pub restarts : (next : PartialLine) (lits : List ℤ) (ids : List ℕ) → next.place ≡ places.Start → next.literals.items ≡ lits
+    → next.identities.items ≡ ids → length lits ≡ 65535 → length ids ≡ 65536
+    → CanStandInLine next.lead lits next.literal_count ids next.identity_count → FitsDigits next.number next.digits
+    → IsPartialLine next × (pending next ≡ [])
 restarts next lits ids at lits_are ids_are room_lits room_ids kept number =
     start_reads next at (record { literals = ap length lits_are ∙ room_lits; identities = ap length ids_are ∙ room_ids })
     (subst (λ x. CanStandInLine next.lead x next.literal_count next.identities.items next.identity_count) (sym lits_are)
     (subst (λ x. CanStandInLine next.lead lits next.literal_count x next.identity_count) (sym ids_are) kept)) number
 
 -- nothing but the pending text says what a piece does
-pub steps_from : (old other : PartialLine) (piece : List ℕ) (used : ℕ) (step : ByteStep) (new : PartialLine) → pending other ≡ pending old → StepsThrough other piece used step new → StepsThrough old piece used step new
+pub steps_from : (old other : PartialLine) (piece : List ℕ) (used : ℕ) (step : ByteStep) (new : PartialLine) → pending other ≡ pending old
+    → StepsThrough other piece used step new → StepsThrough old piece used step new
 steps_from old other piece used More new same h = (h.0, h.1, h.2 ∙ ap (λ t. t ++ piece) same)
-steps_from old other piece used Done new same h = (h.0, h.1, h.2, h.3, subst (λ t. LineText (line_so_far new) (t ++ take used piece)) same h.4)
+steps_from old other piece used Done new same h =
+    (h.0, h.1, h.2, h.3, subst (λ t. LineText (line_so_far new) (t ++ take used piece)) same h.4)
 steps_from old other piece used (Refused fault) new same h = (h.0, h.1, subst (λ t. IsRefused (t ++ take used piece) fault) same h.2)
 
 -- a part of a piece, and then the next
-pub ahead_then : (old mid new : PartialLine) (piece rest : List ℕ) (used more : ℕ) → ReadsAhead old piece used mid → rest ≡ drop used piece → ReadsAhead mid rest more new → ReadsAhead old piece (used + more) new
+pub ahead_then : (old mid new : PartialLine) (piece rest : List ℕ) (used more : ℕ) → ReadsAhead old piece used mid → rest ≡ drop used piece
+    → ReadsAhead mid rest more new → ReadsAhead old piece (used + more) new
 ahead_then old mid new piece rest used more h is k = record {
   bound = omega (arith, h.bound, k.bound, ap length is, length-drop used piece);
   reads = k.reads;
@@ -115,19 +126,30 @@ ahead_then old mid new piece rest used more h is k = record {
 }
 
 -- the next byte of a piece
-byte_after : (old mid : PartialLine) (piece : List ℕ) (used byte : ℕ) → pending mid ≡ pending old ++ take used piece → used < length piece → byte ≡ get_or piece used 0 → pending mid ++ byte ∷ [] ≡ pending old ++ take (used + 1) piece
+byte_after : (old mid : PartialLine) (piece : List ℕ) (used byte : ℕ) → pending mid ≡ pending old ++ take used piece → used < length piece
+    → byte ≡ get_or piece used 0 → pending mid ++ byte ∷ [] ≡ pending old ++ take (used + 1) piece
 byte_after old mid piece used byte same inside is =
-    ap (λ t. t ++ byte ∷ []) same ∙ append_assoc (pending old) (take used piece) (byte ∷ []) ∙ ap (λ x. pending old ++ (take used piece ++ x ∷ [])) is
+    ap (λ t. t ++ byte ∷ []) same ∙ append_assoc (pending old) (take used piece) (byte ∷ [])
+    ∙ ap (λ x. pending old ++ (take used piece ++ x ∷ [])) is
     ∙ ap (λ t. pending old ++ t) (sym (take_more piece used 0 inside))
 
-pub ahead_byte : (old mid new : PartialLine) (piece : List ℕ) (used byte : ℕ) → ReadsAhead old piece used mid → used < length piece → byte ≡ get_or piece used 0 → ReadsByte mid byte More new → ReadsAhead old piece (used + 1) new
-ahead_byte old mid new piece used byte h inside is k = record { bound = omega arith; reads = k.0; is = k.1 ∙ byte_after old mid piece used byte h.is inside is }
+pub ahead_byte : (old mid new : PartialLine) (piece : List ℕ) (used byte : ℕ) → ReadsAhead old piece used mid → used < length piece
+    → byte ≡ get_or piece used 0 → ReadsByte mid byte More new → ReadsAhead old piece (used + 1) new
+ahead_byte old mid new piece used byte h inside is k = record {
+  bound = omega arith;
+  reads = k.0;
+  is = k.1 ∙ byte_after old mid piece used byte h.is inside is;
+}
 
-pub steps_byte : (old mid new : PartialLine) (piece : List ℕ) (used byte : ℕ) (step : ByteStep) → ReadsAhead old piece used mid → used < length piece → byte ≡ get_or piece used 0 → (step ≡ More → ⊥) → ReadsByte mid byte step new
+pub steps_byte : (old mid new : PartialLine) (piece : List ℕ) (used byte : ℕ) (step : ByteStep) → ReadsAhead old piece used mid
+    → used < length piece → byte ≡ get_or piece used 0 → (step ≡ More → ⊥) → ReadsByte mid byte step new
     → StepsThrough old piece (used + 1) step new
 steps_byte old mid new piece used byte More h inside is ends k = absurd (ends refl)
-steps_byte old mid new piece used byte Done h inside is ends k = (omega arith, omega arith, k.0, k.1, subst (LineText (line_so_far new)) (byte_after old mid piece used byte h.is inside is) k.2)
-steps_byte old mid new piece used byte (Refused fault) h inside is ends k = (omega arith, omega arith, subst (λ t. IsRefused t fault) (byte_after old mid piece used byte h.is inside is) k)
+steps_byte old mid new piece used byte Done h inside is ends k =
+    (omega arith, omega arith, k.0, k.1, subst (LineText (line_so_far new)) (byte_after old mid piece used byte h.is inside is) k.2)
+steps_byte old mid new piece used byte (Refused fault) h inside is ends k =
+    (omega arith, omega arith, subst (λ t. IsRefused t fault) (byte_after old mid piece used byte h.is inside is) k)
 
-pub takes_all : (old new : PartialLine) (piece : List ℕ) (used : ℕ) → ReadsAhead old piece used new → length piece ≤ used → StepsThrough old piece used More new
+pub takes_all : (old new : PartialLine) (piece : List ℕ) (used : ℕ) → ReadsAhead old piece used new → length piece ≤ used
+    → StepsThrough old piece used More new
 takes_all old new piece used h all = (omega (arith, h.bound), h.reads, h.is ∙ ap (λ t. pending old ++ t) (take_all used piece all))

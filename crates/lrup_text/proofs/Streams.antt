@@ -1,21 +1,26 @@
 -- The laws of lines and streams.
-use Rattle.std.proofs.Common.{◌≡◌, ℕ, suc, zero, ℤ, pos, negsuc, ◌+◌, ◌-◌, ◌*◌, ◌<◌, ◌≤◌, ◌^◌, ◌⊎◌, inl, inr, List, [], ◌∷◌, ◌++◌, length, take, map, Ok, Err, refl, sym, ◌∙◌, ap, subst, arith}
+use Rattle.std.proofs.Common.{◌≡◌, ℕ, suc, zero, ℤ, pos, negsuc, ◌+◌, ◌-◌, ◌*◌, ◌<◌, ◌≤◌, ◌^◌, ◌⊎◌, inl, inr, List, [], ◌∷◌, ◌++◌, length}
+use Rattle.std.proofs.Common.{take, map, Ok, Err, refl, sym, ◌∙◌, ap, subst, arith}
 use Rattle.std.specs.Fmt.{decimal, signed_decimal}
 use Rattle.std.specs.List.{AllByRecursion, flat_map}
 use Rattle.std.proofs.lemmas.Fmt.{decimal_injective, signed_decimal_injective}
-use Rattle.std.proofs.lemmas.List.{append_assoc, length-append, length-map, append-nil, append_cancel_left, nil_from_length, take_all, flat_map_more}
+use Rattle.std.proofs.lemmas.List.{append_assoc, length-append, length-map, append-nil, append_cancel_left, nil_from_length, take_all}
+use Rattle.std.proofs.lemmas.List.{flat_map_more}
 use Rattle.lrup_model.specs.ListLemmas.{All-push}
 use Rattle.lrup_text.specs.declared.LineFault.{LineFault}
 use Rattle.lrup_text.specs.declared.LineFault.TheVariants.{Spelling, TooLong, Truncated, RatHint}
 use Rattle.lrup_text.specs.declared.reader.ReaderTurn.{ReaderTurn}
 use Rattle.lrup_text.specs.declared.reader.ReaderTurn.TheVariants.{Line, NeedMore, Fault}
 use Rattle.lrup_text.specs.ByteNames.{minus}
-use Rattle.lrup_text.specs.Grammar.{standard, IsDigit, SpellsNumber, SpellsLiteral, AreFew, Words, Adds, Deletes, Imports, AreWordsWithin, IsLine, text, Begins}
-use Rattle.lrup_text.specs.Lines.{StreamLine, Addition, Deletion, Import, IsStreamNumber, IsStreamLiteral, IsWithinLimits, LineText, words_of, line_text, HasNoLine, Cut, line_of}
+use Rattle.lrup_text.specs.Grammar.{standard, IsDigit, SpellsNumber, SpellsLiteral, AreFew, Words, Adds, Deletes, Imports, AreWordsWithin}
+use Rattle.lrup_text.specs.Grammar.{IsLine, text, Begins}
+use Rattle.lrup_text.specs.Lines.{StreamLine, Addition, Deletion, Import, IsStreamNumber, IsStreamLiteral, IsWithinLimits, LineText}
+use Rattle.lrup_text.specs.Lines.{words_of, line_text, HasNoLine, Cut, line_of}
 use Rattle.lrup_text.specs.Faults.{IsLineFaultOf, IsRefused}
 use Rattle.lrup_text.specs.Feeding.{ReaderState, Feeds, ReaderLeaves}
 use Rattle.lrup_text.specs.Cutting.{used_bytes, line_given, lines_given, IsCut}
-use Rattle.lrup_text.specs.Laws.{OneText, OneLine, NoTextBegins, TextsAreLines, OneCut, OneFault, EmptyCut, CallCuts, CallsCut, RefusedStays, OneFirstLine}
+use Rattle.lrup_text.specs.Laws.{OneText, OneLine, NoTextBegins, TextsAreLines, OneCut, OneFault, EmptyCut, CallCuts, CallsCut}
+use Rattle.lrup_text.specs.Laws.{RefusedStays, OneFirstLine}
 use Rattle.lrup_text.proofs.Numerals.{decimal_byte, decimal_one, power_more, power_below}
 use Rattle.lrup_text.proofs.Rests.{same_head, same_tail}
 use Rattle.lrup_text.proofs.TextLaws.{fits_within, words_apart, empty_pending}
@@ -27,7 +32,8 @@ one_text line bytes others a b = a.1 ∙ sym b.1
 
 -- A text spells one line.
 
-numbers_same : (ms ns : List ℕ) → AllByRecursion IsStreamNumber ms → AllByRecursion IsStreamNumber ns → map decimal ms ≡ map decimal ns → ms ≡ ns
+numbers_same : (ms ns : List ℕ) → AllByRecursion IsStreamNumber ms → AllByRecursion IsStreamNumber ns
+    → map decimal ms ≡ map decimal ns → ms ≡ ns
 numbers_same [] [] hm hn e = refl
 numbers_same [] (n ∷ ns) hm hn e = cc
 numbers_same (m ∷ ms) [] hm hn e = cc
@@ -38,7 +44,8 @@ numbers_same (m ∷ ms) (n ∷ ns) hm hn e =
     let rest : ms ≡ ns = numbers_same ms ns hm.1 hn.1 tail in
     cc
 
-literals_same : (ys zs : List ℤ) → AllByRecursion IsStreamLiteral ys → AllByRecursion IsStreamLiteral zs → map signed_decimal ys ≡ map signed_decimal zs → ys ≡ zs
+literals_same : (ys zs : List ℤ) → AllByRecursion IsStreamLiteral ys → AllByRecursion IsStreamLiteral zs
+    → map signed_decimal ys ≡ map signed_decimal zs → ys ≡ zs
 literals_same [] [] hy hz e = refl
 literals_same [] (z ∷ zs) hy hz e = cc
 literals_same (y ∷ ys) [] hy hz e = cc
@@ -106,7 +113,8 @@ spelled_from n k (c ∷ cs) low high h few =
     let digit : IsDigit c = h.0 in
     let next : n * 10 + (c - 48) < 10 ^ (k + 1) = power_more k n (c - 48) high (omega (arith, h.0)) in
     let fits : 10 ^ (k + 1) ≤ 10 ^ 18 = power_below (k + 1) (omega arith) in
-    let longer : decimal (n * 10 + (c - 48)) ≡ decimal n ++ c ∷ [] = decimal_byte n c low (omega (arith, high, power_below k (omega arith))) digit (omega arith) in
+    let longer : decimal (n * 10 + (c - 48)) ≡ decimal n ++ c ∷ [] =
+    decimal_byte n c low (omega (arith, high, power_below k (omega arith))) digit (omega arith) in
     let word = spelled_from (n * 10 + (c - 48)) (k + 1) cs (omega arith) next h.1 (omega arith) in
     (word.0, word.1, word.2 ∙ ap (λ t. t ++ cs) longer ∙ append_assoc (decimal n) (c ∷ []) cs)
 
@@ -131,15 +139,16 @@ spelled_signed (c ∷ cs) (inr h) =
     let word = negative cs (spelled cs h.1) in
     (word.0, word.1, word.2 ∙ ap (λ x. x ∷ cs) (sym h.0))
 
-all_spelled : {X : Type 0} (f : X → List ℕ) (P : X → Type 0) (Q : List ℕ → Type 0) → ((w : List ℕ) → Q w → (x : X) × P x × (f x ≡ w)) → (ws : List (List ℕ)) → AllByRecursion Q ws
-    → (xs : List X) × AllByRecursion P xs × (map f xs ≡ ws)
+all_spelled : {X : Type 0} (f : X → List ℕ) (P : X → Type 0) (Q : List ℕ → Type 0) → ((w : List ℕ) → Q w → (x : X) × P x × (f x ≡ w))
+    → (ws : List (List ℕ)) → AllByRecursion Q ws → (xs : List X) × AllByRecursion P xs × (map f xs ≡ ws)
 all_spelled f P Q each [] h = ([], tt, refl)
 all_spelled {X} f P Q each (w ∷ ws) h =
     let one : (x : X) × P x × (f x ≡ w) = each w h.0 in
     let rest : (xs : List X) × AllByRecursion P xs × (map f xs ≡ ws) = all_spelled f P Q each ws h.1 in
     (one.0 ∷ rest.0, (one.1, rest.1), ap (λ x. x ∷ map f rest.0) one.2 ∙ ap (λ t. w ∷ t) rest.2)
 
-few_spelled : {X : Type 0} (most : ℕ) (f : X → List ℕ) (P : X → Type 0) (Q : List ℕ → Type 0) → ((w : List ℕ) → Q w → (x : X) × P x × (f x ≡ w)) → (ws : List (List ℕ)) → AreFew most Q ws
+few_spelled : {X : Type 0} (most : ℕ) (f : X → List ℕ) (P : X → Type 0) (Q : List ℕ → Type 0)
+    → ((w : List ℕ) → Q w → (x : X) × P x × (f x ≡ w)) → (ws : List (List ℕ)) → AreFew most Q ws
     → (xs : List X) × AreFew most P xs × (map f xs ≡ ws)
 few_spelled {X} most f P Q each ws h =
     let all : (xs : List X) × AllByRecursion P xs × (map f xs ≡ ws) = all_spelled f P Q each ws h.each in
@@ -152,7 +161,8 @@ line_spelled (Adds id lits hints) h =
     let third = few_spelled 65536 decimal IsStreamNumber (SpellsNumber 18) spelled hints h.2 in (
       Addition first.0 second.0 third.0,
       (first.1, second.1, third.1),
-      ap (λ x. Adds x (map signed_decimal second.0) (map decimal third.0)) first.2 ∙ ap (λ x. Adds id x (map decimal third.0)) second.2 ∙ ap (λ x. Adds id lits x) third.2,
+      ap (λ x. Adds x (map signed_decimal second.0) (map decimal third.0)) first.2 ∙ ap (λ x. Adds id x (map decimal third.0)) second.2
+          ∙ ap (λ x. Adds id lits x) third.2,
     )
 line_spelled (Deletes lead ids) h =
     let first = spelled lead h.0 in
@@ -160,8 +170,11 @@ line_spelled (Deletes lead ids) h =
     (Deletion first.0 second.0, (first.1, second.1), ap (λ x. Deletes x (map decimal second.0)) first.2 ∙ ap (λ x. Deletes lead x) second.2)
 line_spelled (Imports id lits) h =
     let first = spelled id h.0 in
-    let second = few_spelled 65535 signed_decimal IsStreamLiteral (SpellsLiteral 18) spelled_signed lits h.1 in
-    (Import first.0 second.0, (first.1, second.1), ap (λ x. Imports x (map signed_decimal second.0)) first.2 ∙ ap (λ x. Imports id x) second.2)
+    let second = few_spelled 65535 signed_decimal IsStreamLiteral (SpellsLiteral 18) spelled_signed lits h.1 in (
+      Import first.0 second.0,
+      (first.1, second.1),
+      ap (λ x. Imports x (map signed_decimal second.0)) first.2 ∙ ap (λ x. Imports id x) second.2,
+    )
 
 pub texts_are_lines : TextsAreLines
 texts_are_lines bytes = (
@@ -173,12 +186,19 @@ texts_are_lines bytes = (
 
 pub one_cut : OneCut
 one_cut stream [] [] rest left a b = (refl, sym a.bytes ∙ b.bytes)
-one_cut stream [] (m ∷ ms) rest left a b = absurd (a.last m (flat_map line_text ms ++ left) b.each.0 (sym a.bytes ∙ b.bytes ∙ append_assoc (line_text m) (flat_map line_text ms) left))
-one_cut stream (l ∷ ls) [] rest left a b = absurd (b.last l (flat_map line_text ls ++ rest) a.each.0 (sym b.bytes ∙ a.bytes ∙ append_assoc (line_text l) (flat_map line_text ls) rest))
+one_cut stream [] (m ∷ ms) rest left a b = absurd
+    (a.last m (flat_map line_text ms ++ left) b.each.0 (sym a.bytes ∙ b.bytes ∙ append_assoc (line_text m) (flat_map line_text ms) left))
+one_cut stream (l ∷ ls) [] rest left a b = absurd
+    (b.last l (flat_map line_text ls ++ rest) a.each.0 (sym b.bytes ∙ a.bytes ∙ append_assoc (line_text l) (flat_map line_text ls) rest))
 one_cut stream (l ∷ ls) (m ∷ ms) rest left a b =
     let here = texts_apart l m (flat_map line_text ls ++ rest) (flat_map line_text ms ++ left) a.each.0 b.each.0
-    (sym (append_assoc (line_text l) (flat_map line_text ls) rest) ∙ sym a.bytes ∙ b.bytes ∙ append_assoc (line_text m) (flat_map line_text ms) left) in
-    let others = one_cut (flat_map line_text ls ++ rest) ls ms rest left (record { bytes = refl; each = a.each.1; last = a.last }) (record { bytes = here.1; each = b.each.1; last = b.last }) in
+    (sym (append_assoc (line_text l) (flat_map line_text ls) rest) ∙ sym a.bytes ∙ b.bytes
+    ∙ append_assoc (line_text m) (flat_map line_text ms) left) in
+    let others = one_cut (flat_map line_text ls ++ rest) ls ms rest left (record { bytes = refl; each = a.each.1; last = a.last }) (record {
+      bytes = here.1;
+      each = b.each.1;
+      last = b.last;
+    }) in
     (ap (λ x. x ∷ ls) here.0 ∙ ap (λ t. m ∷ t) others.0, others.1)
 
 -- A rest has one fault.
@@ -187,7 +207,8 @@ begins_before : (bytes more : List ℕ) → Begins (bytes ++ more) → Begins by
 begins_before bytes more h = (more ++ h.0, subst (IsLine standard) (append_assoc bytes more h.0) h.1)
 
 -- of two beginnings of a text, the one that ends in a byte more than the other's is no shorter
-pub shorter : (p q : List ℕ) (x y : List ℕ) (b : ℕ) → p ++ x ≡ q ++ b ∷ y → ((more : List ℕ) × (p ≡ (q ++ b ∷ []) ++ more)) ⊎ ((more : List ℕ) × (q ≡ p ++ more))
+pub shorter : (p q : List ℕ) (x y : List ℕ) (b : ℕ) → p ++ x ≡ q ++ b ∷ y
+    → ((more : List ℕ) × (p ≡ (q ++ b ∷ []) ++ more)) ⊎ ((more : List ℕ) × (q ≡ p ++ more))
 shorter [] q x y b e = inr (q, refl)
 shorter (c ∷ p) [] x y b e = inl (p, ap (λ z. z ∷ p) (same_head e))
 shorter (c ∷ p) (d ∷ q) x y b e = elim (shorter p q x y b (same_tail e)) [
@@ -214,12 +235,15 @@ faults_same bytes RatHint RatHint a b = refl
 last_apart : (bytes p : List ℕ) (b : ℕ) (x : List ℕ) → bytes ≡ p ++ b ∷ [] → bytes ++ x ≡ p ++ b ∷ x
 last_apart bytes p b x is = ap (λ t. t ++ x) is ∙ append_assoc p (b ∷ []) x
 
-refused_same : (bytes others x y : List ℕ) (fault other : LineFault) → IsRefused bytes fault → IsRefused others other → bytes ++ x ≡ others ++ y → fault ≡ other
+refused_same : (bytes others x y : List ℕ) (fault other : LineFault) → IsRefused bytes fault → IsRefused others other
+    → bytes ++ x ≡ others ++ y → fault ≡ other
 refused_same bytes others x y fault other h k e =
     elim (shorter h.read k.read (h.byte ∷ x) y k.byte e') [
-      | inl longer ↦ absurd (k.after (subst Begins (sym k.is) (begins_before (k.read ++ k.byte ∷ []) longer.0 (subst Begins longer.1 h.before.begins))))
+      | inl longer ↦ absurd
+          (k.after (subst Begins (sym k.is) (begins_before (k.read ++ k.byte ∷ []) longer.0 (subst Begins longer.1 h.before.begins))))
       | inr more ↦ elim (shorter k.read h.read (k.byte ∷ y) x h.byte (sym e')) [
-        | inl longer ↦ absurd (h.after (subst Begins (sym h.is) (begins_before (h.read ++ h.byte ∷ []) longer.0 (subst Begins longer.1 k.before.begins))))
+        | inl longer ↦ absurd
+            (h.after (subst Begins (sym h.is) (begins_before (h.read ++ h.byte ∷ []) longer.0 (subst Begins longer.1 k.before.begins))))
         | inr back ↦ alike more.0 back.0 more.1 back.1
       ]
     ]
@@ -235,7 +259,8 @@ refused_same bytes others x y fault other h k e =
         let empty : more ≡ [] = nil_from_length more none in
         let same : k.read ≡ h.read = to ∙ ap (λ t. h.read ++ t) empty ∙ append-nil h.read in
         let rest : h.byte ∷ x ≡ k.byte ∷ y = append_cancel_left h.read (h.byte ∷ x) (k.byte ∷ y) (e' ∙ ap (λ t. t ++ k.byte ∷ y) same) in
-        let texts : others ≡ bytes = k.is ∙ ap (λ t. t ++ k.byte ∷ []) same ∙ ap (λ z. h.read ++ z ∷ []) (sym (same_head rest)) ∙ sym h.is in
+        let texts : others ≡ bytes = k.is ∙ ap (λ t. t ++ k.byte ∷ []) same
+        ∙ ap (λ z. h.read ++ z ∷ []) (sym (same_head rest)) ∙ sym h.is in
         faults_same bytes fault other h.why (subst (λ t. IsLineFaultOf t other) texts k.why)
 
 pub one_fault : OneFault
@@ -248,23 +273,25 @@ one_fault rest fault other h = (
 
 -- a text that was refused has no line in it, whatever follows
 pub refused_stays : RefusedStays
-refused_stays bytes more fault h line rest fits e = elim (shorter (line_text line) h.read rest more h.byte (sym e ∙ last_apart bytes h.read h.byte more h.is)) [
-  | inl longer ↦ h.after (subst Begins (sym h.is) (longer.0, (words_of line, fits_within line fits, sym longer.1)))
-  | inr less ↦ h.before.whole line less.0 fits less.1
-]
+refused_stays bytes more fault h line rest fits e =
+    elim (shorter (line_text line) h.read rest more h.byte (sym e ∙ last_apart bytes h.read h.byte more h.is)) [
+      | inl longer ↦ h.after (subst Begins (sym h.is) (longer.0, (words_of line, fits_within line fits, sym longer.1)))
+      | inr less ↦ h.before.whole line less.0 fits less.1
+    ]
 
 refused_no_line : (bytes : List ℕ) (fault : LineFault) → IsRefused bytes fault → HasNoLine bytes
 refused_no_line bytes fault h = subst HasNoLine (append-nil bytes) (refused_stays bytes [] fault h)
 
 -- a longer rest of the same lines
-cut_longer : (stream : List ℕ) (lines : List StreamLine) (read more : List ℕ) → Cut stream lines read → HasNoLine (read ++ more) → Cut (stream ++ more) (lines ++ []) (read ++ more)
+cut_longer : (stream : List ℕ) (lines : List StreamLine) (read more : List ℕ) → Cut stream lines read → HasNoLine (read ++ more)
+    → Cut (stream ++ more) (lines ++ []) (read ++ more)
 cut_longer stream lines read more cut last =
     subst (λ ls. Cut (stream ++ more) ls (read ++ more)) (sym (append-nil lines))
     (record { bytes = ap (λ t. t ++ more) cut.bytes ∙ append_assoc (flat_map line_text lines) read more; each = cut.each; last = last })
 
 -- one more line
-cut_line : (stream : List ℕ) (lines : List StreamLine) (read more : List ℕ) (line : StreamLine) → Cut stream lines read → LineText line (read ++ more) → HasNoLine []
-    → Cut (stream ++ more) (lines ++ line ∷ []) []
+cut_line : (stream : List ℕ) (lines : List StreamLine) (read more : List ℕ) (line : StreamLine) → Cut stream lines read
+    → LineText line (read ++ more) → HasNoLine [] → Cut (stream ++ more) (lines ++ line ∷ []) []
 cut_line stream lines read more line cut text none = record {
   bytes = ap (λ t. t ++ more) cut.bytes ∙ append_assoc (flat_map line_text lines) read more ∙ ap (λ t. flat_map line_text lines ++ t) text.1
       ∙ flat_map_more line_text [] lines line ∙ sym (append-nil (flat_map line_text (lines ++ line ∷ [])));
@@ -272,7 +299,8 @@ cut_line stream lines read more line cut text none = record {
   last = none;
 }
 
-cut_call : (stream : List ℕ) (lines : List StreamLine) (old new : ReaderState) (piece : List ℕ) (used : ℕ) (turn : ReaderTurn) → IsCut stream lines old → Feeds old piece used turn → ReaderLeaves old piece turn new
+cut_call : (stream : List ℕ) (lines : List StreamLine) (old new : ReaderState) (piece : List ℕ) (used : ℕ) (turn : ReaderTurn)
+    → IsCut stream lines old → Feeds old piece used turn → ReaderLeaves old piece turn new
     → IsCut (stream ++ take used piece) (lines ++ line_given turn) new
 cut_call stream lines (Err fault) new piece used turn cut gives leaves =
     let given : new ≡ Err fault = subst (λ t. ReaderLeaves (Err fault) piece t new) gives.1 leaves in
@@ -299,9 +327,12 @@ empty_cut = record { bytes = refl; each = tt; last = empty_pending.whole }
 
 pub calls_cut : CallsCut
 calls_cut stream lines old new [] cut same =
-    subst (λ x. IsCut (stream ++ []) (lines ++ []) x) (sym same) (subst (λ x. IsCut x (lines ++ []) old) (sym (append-nil stream)) (subst (λ x. IsCut stream x old) (sym (append-nil lines)) cut))
+    subst (λ x. IsCut (stream ++ []) (lines ++ []) x) (sym same)
+    (subst (λ x. IsCut x (lines ++ []) old) (sym (append-nil stream)) (subst (λ x. IsCut stream x old) (sym (append-nil lines)) cut))
 calls_cut stream lines old new (call ∷ calls) cut h =
     let next = cut_call stream lines old h.0 call.piece call.used call.turn cut h.1 h.2 in
     let all = calls_cut (stream ++ take call.used call.piece) (lines ++ line_given call.turn) h.0 new calls next h.3 in
-    subst (λ x. IsCut x (lines ++ (line_given call.turn ++ lines_given calls)) new) (append_assoc stream (take call.used call.piece) (used_bytes calls))
-    (subst (λ x. IsCut ((stream ++ take call.used call.piece) ++ used_bytes calls) x new) (append_assoc lines (line_given call.turn) (lines_given calls)) all)
+    subst (λ x. IsCut x (lines ++ (line_given call.turn ++ lines_given calls)) new)
+    (append_assoc stream (take call.used call.piece) (used_bytes calls))
+    (subst (λ x. IsCut ((stream ++ take call.used call.piece) ++ used_bytes calls) x new)
+    (append_assoc lines (line_given call.turn) (lines_given calls)) all)

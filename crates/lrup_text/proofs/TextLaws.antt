@@ -1,12 +1,15 @@
 -- Texts of lines: a text spells one line, and no line's text begins another's.
-use Rattle.std.proofs.Common.{◌≡◌, ◌≢◌, ℕ, suc, ℤ, pos, negsuc, ◌<◌, ◌≤◌, inl, inr, false, List, [], ◌∷◌, ◌++◌, length, map, refl, sym, ◌∙◌, ap, arith}
+use Rattle.std.proofs.Common.{◌≡◌, ◌≢◌, ℕ, suc, ℤ, pos, negsuc, ◌<◌, ◌≤◌, inl, inr, false, List, [], ◌∷◌, ◌++◌, length, map, refl, sym, ◌∙◌}
+use Rattle.std.proofs.Common.{ap, arith}
 use Rattle.std.specs.Fmt.{decimal, signed_decimal}
 use Rattle.std.specs.List.{AllByRecursion}
 use Rattle.std.proofs.lemmas.List.{append_assoc, length-append, length-map, append-nil}
 use Rattle.lrup_text.specs.ByteNames.{space, minus, zero_digit, letter_d, letter_i, line_feed}
-use Rattle.lrup_text.specs.Grammar.{standard, IsDigit, SpellsNumber, SpellsLiteral, AreFew, Words, Adds, Deletes, Imports, AreWordsWithin, IsLine, text, list_text, clause_text}
+use Rattle.lrup_text.specs.Grammar.{standard, IsDigit, SpellsNumber, SpellsLiteral, AreFew, Words, Adds, Deletes, Imports, AreWordsWithin}
+use Rattle.lrup_text.specs.Grammar.{IsLine, text, list_text, clause_text}
 use Rattle.lrup_text.specs.Laws.{EmptyPending}
-use Rattle.lrup_text.specs.Lines.{StreamLine, Addition, Deletion, Import, IsStreamNumber, IsStreamLiteral, IsWithinLimits, words_of, line_text, HasNoLine, IsPending}
+use Rattle.lrup_text.specs.Lines.{StreamLine, Addition, Deletion, Import, IsStreamNumber, IsStreamLiteral, IsWithinLimits, words_of}
+use Rattle.lrup_text.specs.Lines.{line_text, HasNoLine, IsPending}
 use Rattle.lrup_text.specs.Rests.{Spot, AtStart, Tracks}
 use Rattle.lrup_text.proofs.Numerals.{number_word}
 use Rattle.lrup_text.proofs.Rests.{same_head, same_tail, literal_of_number, list_rest, list_text-space, list_is_clause}
@@ -28,7 +31,10 @@ number_no_space most (c ∷ cs) h = ((λ e. let low : 49 ≤ c = h.0 in let e' :
 literal_no_space : (most : ℕ) (word : List ℕ) → SpellsLiteral most word → NoSpace word
 literal_no_space most [] h = tt
 literal_no_space most (c ∷ cs) (inl h) = number_no_space most (c ∷ cs) h
-literal_no_space most (c ∷ cs) (inr h) = ((λ e. let e' : c ≡ space = e in let m : c ≡ minus = h.0 in omega arith), number_no_space most cs h.1)
+literal_no_space most (c ∷ cs) (inr h) = (
+  (λ e. let e' : c ≡ space = e in let m : c ≡ minus = h.0 in omega arith),
+  number_no_space most cs h.1,
+)
 
 word_apart : (v w x y : List ℕ) → NoSpace v → NoSpace w → v ++ space ∷ x ≡ w ++ space ∷ y → (v ≡ w) × (x ≡ y)
 word_apart [] [] x y hv hw e = (refl, same_tail e)
@@ -60,7 +66,8 @@ literal_no_letter (c ∷ cs) b x y letter (inr h) e = let m : c ≡ minus = h.0 
 after_word : (w : List ℕ) (ws : List (List ℕ)) (x : List ℕ) → (w ++ list_text ws) ++ x ≡ w ++ space ∷ (list_rest ws ++ x)
 after_word w ws x = append_assoc w (list_text ws) x ∙ ap (λ t. w ++ (t ++ x)) (list_text-space ws)
 
-list_apart : (vs ws : List (List ℕ)) (x y : List ℕ) → AreNumbers vs → AreNumbers ws → list_text vs ++ x ≡ list_text ws ++ y → (vs ≡ ws) × (x ≡ y)
+list_apart : (vs ws : List (List ℕ)) (x y : List ℕ) → AreNumbers vs → AreNumbers ws → list_text vs ++ x ≡ list_text ws ++ y
+    → (vs ≡ ws) × (x ≡ y)
 list_apart [] [] x y hv hw e = (refl, same_tail (same_tail (same_tail e)))
 list_apart [] (w ∷ ws) x y hv hw e = absurd (number_no_zero w _ _ hw.0 (sym (same_tail e ∙ append_assoc w (list_text ws) y)))
 list_apart (v ∷ vs) [] x y hv hw e = absurd (number_no_zero v _ _ hv.0 (sym (append_assoc v (list_text vs) x) ∙ same_tail e))
@@ -72,7 +79,8 @@ list_apart (v ∷ vs) (w ∷ ws) x y hv hw e =
     let rest = list_apart vs ws x y hv.1 hw.1 both in
     (ap (λ z. z ∷ vs) one.0 ∙ ap (λ t. w ∷ t) rest.0, rest.1)
 
-clause_apart : (vs ws : List (List ℕ)) (x y : List ℕ) → AllByRecursion (SpellsLiteral 18) vs → AllByRecursion (SpellsLiteral 18) ws → clause_text vs x ≡ clause_text ws y → (vs ≡ ws) × (x ≡ y)
+clause_apart : (vs ws : List (List ℕ)) (x y : List ℕ) → AllByRecursion (SpellsLiteral 18) vs → AllByRecursion (SpellsLiteral 18) ws
+    → clause_text vs x ≡ clause_text ws y → (vs ≡ ws) × (x ≡ y)
 clause_apart [] [] x y hv hw e = (refl, same_tail e)
 clause_apart [] (w ∷ ws) x y hv hw e = absurd (literal_no_zero w _ _ hw.0 (sym e))
 clause_apart (v ∷ vs) [] x y hv hw e = absurd (literal_no_zero v _ _ hv.0 e)
@@ -85,7 +93,8 @@ clause_append : (ws : List (List ℕ)) (x y : List ℕ) → clause_text ws x ++ 
 clause_append [] x y = refl
 clause_append (w ∷ ws) x y = append_assoc w (space ∷ clause_text ws x) y ∙ ap (λ t. w ++ space ∷ t) (clause_append ws x y)
 
-clause_no_letter : (ws : List (List ℕ)) (b : ℕ) (x y : List ℕ) → 57 < b → AllByRecursion (SpellsLiteral 18) ws → clause_text ws x ≡ b ∷ y → ⊥
+clause_no_letter : (ws : List (List ℕ)) (b : ℕ) (x y : List ℕ) → 57 < b → AllByRecursion (SpellsLiteral 18) ws
+    → clause_text ws x ≡ b ∷ y → ⊥
 clause_no_letter [] b x y letter h e = let e' : zero_digit ≡ b = same_head e in omega arith
 clause_no_letter (w ∷ ws) b x y letter h e = literal_no_letter w b _ _ letter h.0 e
 
@@ -111,13 +120,16 @@ text_parts (Deletes lead ids) x = append_assoc lead (space ∷ letter_d ∷ list
 text_parts (Imports id lits) x = append_assoc id (space ∷ letter_i ∷ list_text lits) x
 
 -- the literals of an import
-lits_apart : (vs ws : List (List ℕ)) (x y : List ℕ) → AllByRecursion (SpellsLiteral 18) vs → AllByRecursion (SpellsLiteral 18) ws → list_text vs ++ x ≡ list_text ws ++ y → (vs ≡ ws) × (x ≡ y)
+lits_apart : (vs ws : List (List ℕ)) (x y : List ℕ) → AllByRecursion (SpellsLiteral 18) vs → AllByRecursion (SpellsLiteral 18) ws
+    → list_text vs ++ x ≡ list_text ws ++ y → (vs ≡ ws) × (x ≡ y)
 lits_apart vs ws x y hv hw e =
     let one = clause_apart vs ws ((line_feed ∷ []) ++ x) ((line_feed ∷ []) ++ y) hv hw
-    (sym (clause_append vs (line_feed ∷ []) x) ∙ same_tail (ap (λ t. t ++ x) (sym (list_is_clause vs)) ∙ e ∙ ap (λ t. t ++ y) (list_is_clause ws)) ∙ clause_append ws (line_feed ∷ []) y) in
+    (sym (clause_append vs (line_feed ∷ []) x) ∙ same_tail (ap (λ t. t ++ x) (sym (list_is_clause vs)) ∙ e
+    ∙ ap (λ t. t ++ y) (list_is_clause ws)) ∙ clause_append ws (line_feed ∷ []) y) in
     (one.0, same_tail one.1)
 
-rests_apart : (v w : Words) (x y : List ℕ) → AreWordsWithin standard v → AreWordsWithin standard w → lead_word v ≡ lead_word w → after_lead v ++ x ≡ after_lead w ++ y → (v ≡ w) × (x ≡ y)
+rests_apart : (v w : Words) (x y : List ℕ) → AreWordsWithin standard v → AreWordsWithin standard w → lead_word v ≡ lead_word w
+    → after_lead v ++ x ≡ after_lead w ++ y → (v ≡ w) × (x ≡ y)
 rests_apart (Adds i ls hs) (Adds j ms gs) x y hv hw lead e =
     let clause = clause_apart ls ms (list_text hs ++ x) (list_text gs ++ y) hv.1.each hw.1.each
     (sym (clause_append ls (list_text hs) x) ∙ e ∙ clause_append ms (list_text gs) y) in
@@ -141,9 +153,11 @@ rests_apart (Imports i ls) (Imports j ms) x y hv hw lead e =
     (ap (λ z. Imports z ls) lead ∙ ap (λ z. Imports j z) list.0, list.1)
 
 -- the text of words begins no other
-pub words_apart : (v w : Words) (x y : List ℕ) → AreWordsWithin standard v → AreWordsWithin standard w → text v ++ x ≡ text w ++ y → (v ≡ w) × (x ≡ y)
+pub words_apart : (v w : Words) (x y : List ℕ) → AreWordsWithin standard v → AreWordsWithin standard w → text v ++ x ≡ text w ++ y
+    → (v ≡ w) × (x ≡ y)
 words_apart v w x y hv hw e =
-    let one = word_apart (lead_word v) (lead_word w) (after_lead v ++ x) (after_lead w ++ y) (number_no_space 18 (lead_word v) (lead_is_number v hv)) (number_no_space 18 (lead_word w) (lead_is_number w hw))
+    let one = word_apart (lead_word v) (lead_word w) (after_lead v ++ x) (after_lead w ++ y)
+    (number_no_space 18 (lead_word v) (lead_is_number v hv)) (number_no_space 18 (lead_word w) (lead_is_number w hw))
     (sym (text_parts v x) ∙ e ∙ text_parts w y) in
     rests_apart v w x y hv hw one.0 one.1
 
@@ -153,19 +167,24 @@ pub signed_word : (z : ℤ) → IsStreamLiteral z → SpellsLiteral 18 (signed_d
 signed_word (pos n) h = literal_of_number 18 (decimal n) (number_word n h.0 h.1)
 signed_word (negsuc n) h = inr (refl, number_word (suc n) h.0 h.1)
 
-all_map : {X : Type 0} (f : X → List ℕ) (P : X → Type 0) (Q : List ℕ → Type 0) → ((x : X) → P x → Q (f x)) → (xs : List X) → AllByRecursion P xs → AllByRecursion Q (map f xs)
+all_map : {X : Type 0} (f : X → List ℕ) (P : X → Type 0) (Q : List ℕ → Type 0) → ((x : X) → P x → Q (f x)) → (xs : List X)
+    → AllByRecursion P xs → AllByRecursion Q (map f xs)
 all_map f P Q each [] h = tt
 all_map f P Q each (x ∷ xs) h = (each x h.0, all_map f P Q each xs h.1)
 
-pub few_map : {X : Type 0} (most : ℕ) (f : X → List ℕ) (P : X → Type 0) (Q : List ℕ → Type 0) → ((x : X) → P x → Q (f x)) → (xs : List X) → AreFew most P xs → AreFew most Q (map f xs)
+pub few_map : {X : Type 0} (most : ℕ) (f : X → List ℕ) (P : X → Type 0) (Q : List ℕ → Type 0) → ((x : X) → P x → Q (f x)) → (xs : List X)
+    → AreFew most P xs → AreFew most Q (map f xs)
 few_map most f P Q each xs h = record { count = omega (arith, length-map xs f, h.count); each = all_map f P Q each xs h.each }
 
 pub decimal_word : (n : ℕ) → IsStreamNumber n → SpellsNumber 18 (decimal n)
 decimal_word n h = number_word n h.0 h.1
 
 pub fits_within : (line : StreamLine) → IsWithinLimits line → AreWordsWithin standard (words_of line)
-fits_within (Addition id lits hints) h =
-    (decimal_word id h.0, few_map 65535 signed_decimal IsStreamLiteral (SpellsLiteral 18) signed_word lits h.1, few_map 65536 decimal IsStreamNumber (SpellsNumber 18) decimal_word hints h.2)
+fits_within (Addition id lits hints) h = (
+  decimal_word id h.0,
+  few_map 65535 signed_decimal IsStreamLiteral (SpellsLiteral 18) signed_word lits h.1,
+  few_map 65536 decimal IsStreamNumber (SpellsNumber 18) decimal_word hints h.2,
+)
 fits_within (Import id lits) h = (decimal_word id h.0, few_map 65535 signed_decimal IsStreamLiteral (SpellsLiteral 18) signed_word lits h.1)
 fits_within (Deletion lead ids) h = (decimal_word lead h.0, few_map 65536 decimal IsStreamNumber (SpellsNumber 18) decimal_word ids h.1)
 
@@ -175,7 +194,8 @@ fits_within (Deletion lead ids) h = (decimal_word lead h.0, few_map 65536 decima
 within_line : (read : List ℕ) (first : ℕ) (rest : List ℕ) → IsLine standard (read ++ first ∷ rest) → HasNoLine read
 within_line read first rest longer line more fits e =
     let same = words_apart (words_of line) longer.0 (more ++ first ∷ rest) [] (fits_within line fits) longer.1
-    (sym (append_assoc (line_text line) more (first ∷ rest)) ∙ ap (λ t. t ++ first ∷ rest) (sym e) ∙ longer.2 ∙ sym (append-nil (text longer.0))) in
+    (sym (append_assoc (line_text line) more (first ∷ rest)) ∙ ap (λ t. t ++ first ∷ rest) (sym e) ∙ longer.2
+    ∙ sym (append-nil (text longer.0))) in
     let none : length (more ++ first ∷ rest) ≡ 0 = ap length same.1 in
     omega (arith, none, length-append more (first ∷ rest))
 

@@ -1,5 +1,6 @@
 -- A whole line, read without a stop.
-use Rattle.std.proofs.Common.{◌≡◌, ◌≢◌, ℕ, ℤ, unsigned_abs, ◌+◌, ◌-◌, ◌*◌, ◌%◌, ◌^◌, ◌<◌, ◌≤◌, inl, inr, Bool, true, false, List, [], ◌∷◌, ◌++◌, length, take, get_or, set, refl, sym, ◌∙◌, ap, subst, arith}
+use Rattle.std.proofs.Common.{◌≡◌, ◌≢◌, ℕ, ℤ, unsigned_abs, ◌+◌, ◌-◌, ◌*◌, ◌%◌, ◌^◌, ◌<◌, ◌≤◌, inl, inr, Bool, true, false, List, [], ◌∷◌}
+use Rattle.std.proofs.Common.{◌++◌, length, take, get_or, set, refl, sym, ◌∙◌, ap, subst, arith}
 use Rattle.std.specs.Fmt.{decimal, signed_decimal}
 use Rattle.std.specs.List.{AllByRecursion}
 use Rattle.std.proofs.Math.Nat.{mod-eq_of_lt}
@@ -8,7 +9,8 @@ use Rattle.std.proofs.lemmas.List.{append_assoc, take_more, take_more_set, lengt
 use Rattle.lrup_model.specs.ListLemmas.{All-push}
 use Rattle.lrup_text.specs.ByteNames.{space, minus, zero_digit, letter_d, letter_i, line_feed}
 use Rattle.lrup_text.specs.Lines.{IsStreamNumber, IsStreamLiteral}
-use Rattle.lrup_text.specs.Kernel.{EndsLine, EndsWord, ReadsNumber, ReadsLiterals, ReadsItems, ReadsList, ReadsClause, IsWhole, numbers_text}
+use Rattle.lrup_text.specs.Kernel.{EndsLine, EndsWord, ReadsNumber, ReadsLiterals, ReadsItems, ReadsList, ReadsClause, IsWhole}
+use Rattle.lrup_text.specs.Kernel.{numbers_text}
 use Rattle.lrup_text.specs.Reading.{FitsDigits, CanStandInLine, literals_text, items_text, literal_front, clause_front, list_front}
 use Rattle.lrup_text.proofs.Numerals.{decimal_one}
 use Rattle.lrup_text.proofs.Bytes.{first_digit, more_digits, decimal_next, below_limit, positive, text_more, line_end, line_fits}
@@ -17,7 +19,8 @@ use Rattle.lrup_text.proofs.Bytes.{first_digit, more_digits, decimal_next, below
 pub inside_word : (text : List ℕ) (at : ℕ) → EndsWord text → at < length text → space < get_or text at 0 → at + 1 < length text
 inside_word text at ends inside above = elim (cases_lt (at + 1) (length text)) [
   | inl less ↦ less
-  | inr least ↦ let last : at ≡ length text - 1 = omega arith in absurd (omega (arith, ends.1, subst (λ k. space < get_or text k 0) last above))
+  | inr least ↦ let last : at ≡ length text - 1 = omega arith in
+      absurd (omega (arith, ends.1, subst (λ k. space < get_or text k 0) last above))
 ]
 
 pub line_ends_word : (line : List ℕ) → EndsLine line → EndsWord line
@@ -36,7 +39,8 @@ pub record SoFar (line : List ℕ) (start number end : ℕ) : Type 0 where
   pub inside : end < length line
   pub exact : end - start ≤ 18 → FitsDigits number (end - start) × (take end line ≡ take start line ++ decimal number)
 
-pub first_so_far : (line : List ℕ) (start : ℕ) → EndsWord line → start < length line → 49 ≤ get_or line start 0 → get_or line start 0 ≤ 57 → SoFar line start (get_or line start 0 - 48) (start + 1)
+pub first_so_far : (line : List ℕ) (start : ℕ) → EndsWord line → start < length line → 49 ≤ get_or line start 0 → get_or line start 0 ≤ 57
+    → SoFar line start (get_or line start 0 - 48) (start + 1)
 first_so_far line start ends inside low high =
     let byte = get_or line start 0 in
     let one : (start + 1) - start ≡ 1 = omega arith in
@@ -49,8 +53,8 @@ first_so_far line start ends inside low high =
       );
     }
 
-pub more_so_far : (line : List ℕ) (start number end next : ℕ) → EndsWord line → SoFar line start number end → 48 ≤ get_or line end 0 → get_or line end 0 ≤ 57
-    → (end - start < 18 → next ≡ number * 10 + (get_or line end 0 - 48)) → SoFar line start next (end + 1)
+pub more_so_far : (line : List ℕ) (start number end next : ℕ) → EndsWord line → SoFar line start number end → 48 ≤ get_or line end 0
+    → get_or line end 0 ≤ 57 → (end - start < 18 → next ≡ number * 10 + (get_or line end 0 - 48)) → SoFar line start next (end + 1)
 more_so_far line start number end next ends so low high is =
     let byte = get_or line end 0 in
     let one : (end + 1) - start ≡ (end - start) + 1 = omega (arith, so.after) in
@@ -61,15 +65,17 @@ more_so_far line start number end next ends so low high is =
           let less : end - start < 18 = omega (arith, one) in
           let old = so.exact (omega (arith, less)) in
           let number_is = is less in (
-            subst (FitsDigits next) (sym one) (subst (λ n. FitsDigits n ((end - start) + 1)) (sym number_is) (more_digits number (end - start) byte old.0 less (low, high))),
+            subst (FitsDigits next) (sym one) (subst (λ n. FitsDigits n ((end - start) + 1)) (sym number_is)
+                (more_digits number (end - start) byte old.0 less (low, high))),
             take_more line end 0 so.inside ∙ ap (λ t. t ++ byte ∷ []) old.1 ∙ append_assoc (take start line) (decimal number) (byte ∷ [])
-                ∙ ap (λ t. take start line ++ t) (sym (ap decimal number_is ∙ decimal_next number (end - start) byte old.0 less (low, high))),
+                ∙ ap (λ t. take start line ++ t)
+                (sym (ap decimal number_is ∙ decimal_next number (end - start) byte old.0 less (low, high))),
           );
     }
 
 -- the number doesn't wrap while it has few digits
-pub wrapped : (line : List ℕ) (start number end digit : ℕ) → SoFar line start number end → 48 ≤ get_or line end 0 → get_or line end 0 ≤ 57 → digit ≡ get_or line end 0 - 48
-    → end - start < 18 → (number * 10 % 2 ^ 64 + digit) % 2 ^ 64 ≡ number * 10 + (get_or line end 0 - 48)
+pub wrapped : (line : List ℕ) (start number end digit : ℕ) → SoFar line start number end → 48 ≤ get_or line end 0 → get_or line end 0 ≤ 57
+    → digit ≡ get_or line end 0 - 48 → end - start < 18 → (number * 10 % 2 ^ 64 + digit) % 2 ^ 64 ≡ number * 10 + (get_or line end 0 - 48)
 wrapped line start number end digit so low high is few =
     let byte = get_or line end 0 in
     let old = (so.exact (omega (arith, few))).0 in
@@ -78,8 +84,14 @@ wrapped line start number end digit so low high is few =
     let product : number * 10 % 2 ^ 64 ≡ number * 10 = mod-eq_of_lt (omega (arith, fits)) in
     ap (λ x. (number * 10 % 2 ^ 64 + x) % 2 ^ 64) is ∙ ap (λ x. (x + (byte - 48)) % 2 ^ 64) product ∙ mod-eq_of_lt (omega (arith, fits))
 
-pub number_read : (line : List ℕ) (start number end : ℕ) → SoFar line start number end → end - start ≤ 18 → ReadsNumber line start number end
-number_read line start number end so few = record { positive = positive number (end - start) (so.exact few).0; after = so.after; inside = so.inside; is = (so.exact few).1 }
+pub number_read : (line : List ℕ) (start number end : ℕ) → SoFar line start number end → end - start ≤ 18
+    → ReadsNumber line start number end
+number_read line start number end so few = record {
+  positive = positive number (end - start) (so.exact few).0;
+  after = so.after;
+  inside = so.inside;
+  is = (so.exact few).1;
+}
 
 -- the sign before a literal's number
 abbrev pub sign_text : Bool → List ℕ
@@ -90,22 +102,35 @@ sign_literal : (negative : Bool) (n : ℕ) → sign_text negative ++ decimal n �
 sign_literal true n = refl
 sign_literal false n = refl
 
-pub sign_there : (line : List ℕ) (at digits : ℕ) (negative : Bool) → at < length line → negative ≡ true → get_or line at 0 ≡ minus → digits ≡ at + 1 → take digits line ≡ take at line ++ sign_text negative
+pub sign_there : (line : List ℕ) (at digits : ℕ) (negative : Bool) → at < length line → negative ≡ true → get_or line at 0 ≡ minus
+    → digits ≡ at + 1 → take digits line ≡ take at line ++ sign_text negative
 sign_there line at digits negative inside signed is e =
-    ap (λ k. take k line) e ∙ take_more line at 0 inside ∙ ap (λ x. take at line ++ x ∷ []) is ∙ ap (λ b. take at line ++ sign_text b) (sym signed)
+    ap (λ k. take k line) e ∙ take_more line at 0 inside ∙ ap (λ x. take at line ++ x ∷ []) is
+    ∙ ap (λ b. take at line ++ sign_text b) (sym signed)
 
-pub sign_absent : (line : List ℕ) (at digits : ℕ) (negative : Bool) → negative ≡ false → digits ≡ at → take digits line ≡ take at line ++ sign_text negative
-sign_absent line at digits negative none e = ap (λ k. take k line) e ∙ sym (append-nil (take at line)) ∙ ap (λ b. take at line ++ sign_text b) (sym none)
+pub sign_absent : (line : List ℕ) (at digits : ℕ) (negative : Bool) → negative ≡ false → digits ≡ at
+    → take digits line ≡ take at line ++ sign_text negative
+sign_absent line at digits negative none e = ap (λ k. take k line) e ∙ sym (append-nil (take at line))
+    ∙ ap (λ b. take at line ++ sign_text b) (sym none)
 
 -- literals from one place up to another, with the space after each
-pub literals_start : (text : List ℕ) (start : ℕ) (lits : List ℤ) (first : ℕ) → start ≤ length text → first ≤ length lits → ReadsLiterals text start lits first lits first start
+pub literals_start : (text : List ℕ) (start : ℕ) (lits : List ℤ) (first : ℕ) → start ≤ length text → first ≤ length lits
+    → ReadsLiterals text start lits first lits first start
 unfolding literals_text
-literals_start text start lits first inside room = record { more = []; few = room; lits = sym (append-nil (take first lits)); each = tt; inside = inside; is = sym (append-nil (take start text)) }
+literals_start text start lits first inside room = record {
+  more = [];
+  few = room;
+  lits = sym (append-nil (take first lits));
+  each = tt;
+  inside = inside;
+  is = sym (append-nil (take start text));
+}
 
 -- one more literal: a sign or none, a number, a space
-pub literals_next : (text : List ℕ) (start : ℕ) (old lits : List ℤ) (first count at : ℕ) (negative : Bool) (digits magnitude end : ℕ) (z : ℤ) → ReadsLiterals text start old first lits count at
-    → take digits text ≡ take at text ++ sign_text negative → ReadsNumber text digits magnitude end → get_or text end 0 ≡ space → count < length lits
-    → signed_decimal z ≡ literal_front negative magnitude → unsigned_abs z ≡ magnitude
+pub literals_next : (text : List ℕ) (start : ℕ) (old lits : List ℤ) (first count at : ℕ) (negative : Bool) (digits magnitude end : ℕ)
+    (z : ℤ) → ReadsLiterals text start old first lits count at
+    → take digits text ≡ take at text ++ sign_text negative → ReadsNumber text digits magnitude end → get_or text end 0 ≡ space
+    → count < length lits → signed_decimal z ≡ literal_front negative magnitude → unsigned_abs z ≡ magnitude
     → ReadsLiterals text start old first (set lits count z) (count + 1) (end + 1)
 unfolding literals_text
 literals_next text start old lits first count at negative digits magnitude end z so sign number is room value size =
@@ -119,7 +144,8 @@ literals_next text start old lits first count at negative digits magnitude end z
       is =
           take_more text end 0 number.inside
           ∙ ap (λ x. take end text ++ x ∷ []) is
-          ∙ ap (λ t. t ++ space ∷ []) (number.is ∙ ap (λ t. t ++ decimal magnitude) (sign ∙ ap (λ t. t ++ sign_text negative) so.is) ∙ append_assoc front (sign_text negative) (decimal magnitude)
+          ∙ ap (λ t. t ++ space ∷ []) (number.is ∙ ap (λ t. t ++ decimal magnitude) (sign ∙ ap (λ t. t ++ sign_text negative) so.is)
+          ∙ append_assoc front (sign_text negative) (decimal magnitude)
           ∙ ap (λ t. front ++ t) (sign_literal negative magnitude ∙ sym value))
           ∙ append_assoc front (signed_decimal z) (space ∷ [])
           ∙ append_assoc (take start text) (literals_text so.more) (signed_decimal z ++ space ∷ [])
@@ -127,11 +153,20 @@ literals_next text start old lits first count at negative digits magnitude end z
     }
 
 -- numbers from one place up to another, with the space after each
-pub items_start : (text : List ℕ) (start : ℕ) (ids : List ℕ) (first : ℕ) → start ≤ length text → first ≤ length ids → ReadsItems text start ids first ids first start
+pub items_start : (text : List ℕ) (start : ℕ) (ids : List ℕ) (first : ℕ) → start ≤ length text → first ≤ length ids
+    → ReadsItems text start ids first ids first start
 unfolding numbers_text
-items_start text start ids first inside room = record { more = []; few = room; ids = sym (append-nil (take first ids)); each = tt; inside = inside; is = sym (append-nil (take start text)) }
+items_start text start ids first inside room = record {
+  more = [];
+  few = room;
+  ids = sym (append-nil (take first ids));
+  each = tt;
+  inside = inside;
+  is = sym (append-nil (take start text));
+}
 
-pub items_next : (text : List ℕ) (start : ℕ) (old ids : List ℕ) (first count at identity end : ℕ) → ReadsItems text start old first ids count at → ReadsNumber text at identity end → get_or text end 0 ≡ space
+pub items_next : (text : List ℕ) (start : ℕ) (old ids : List ℕ) (first count at identity end : ℕ)
+    → ReadsItems text start old first ids count at → ReadsNumber text at identity end → get_or text end 0 ≡ space
     → count < length ids → ReadsItems text start old first (set ids count identity) (count + 1) (end + 1)
 unfolding numbers_text
 items_next text start old ids first count at identity end so number is room =
@@ -139,7 +174,8 @@ items_next text start old ids first count at identity end so number is room =
     record {
       more = so.more ++ identity ∷ [];
       few = omega (arith, length-set ids count identity, room);
-      ids = take_more_set ids count identity room ∙ ap (λ t. t ++ identity ∷ []) so.ids ∙ append_assoc (take first old) so.more (identity ∷ []);
+      ids = take_more_set ids count identity room ∙ ap (λ t. t ++ identity ∷ []) so.ids
+          ∙ append_assoc (take first old) so.more (identity ∷ []);
       each = All-push IsStreamNumber so.more identity so.each number.positive;
       inside = omega (arith, number.inside);
       is =
@@ -156,11 +192,13 @@ pub spaces_move : (ns : List ℕ) (after : List ℕ) → space ∷ (numbers_text
 unfolding numbers_text items_text
 spaces_move [] after = refl
 spaces_move (n ∷ ns) after =
-    ap (λ t. space ∷ t) (append_assoc (decimal n ++ space ∷ []) (numbers_text ns) after ∙ append_assoc (decimal n) (space ∷ []) (numbers_text ns ++ after)
+    ap (λ t. space ∷ t)
+    (append_assoc (decimal n ++ space ∷ []) (numbers_text ns) after ∙ append_assoc (decimal n) (space ∷ []) (numbers_text ns ++ after)
     ∙ ap (λ t. decimal n ++ t) (spaces_move ns after) ∙ sym (append_assoc (decimal n) (items_text ns) (space ∷ after)))
 
 -- A list: a space, its numbers, a 0 and the LF.
-pub list_read : (line : List ℕ) (start : ℕ) (old new : List ℕ) (count close : ℕ) → EndsLine line → start < length line → get_or line start 0 ≡ space → ReadsItems line (start + 1) old 0 new count close
+pub list_read : (line : List ℕ) (start : ℕ) (old new : List ℕ) (count close : ℕ) → EndsLine line → start < length line
+    → get_or line start 0 ≡ space → ReadsItems line (start + 1) old 0 new count close
     → close + 2 ≡ length line → get_or line close 0 ≡ zero_digit → ReadsList line start new count
 list_read line start old new count close ends inside is items size nought =
     let last : length line - 1 ≡ close + 1 = omega arith in
@@ -168,7 +206,8 @@ list_read line start old new count close ends inside is items size nought =
     let front = take start line in
     let end = zero_digit ∷ line_feed ∷ [] in
     let one : take (start + 1) line ≡ front ++ space ∷ [] = take_more line start 0 inside ∙ ap (λ x. front ++ x ∷ []) is in
-    let two : take (close + 1) line ≡ take close line ++ zero_digit ∷ [] = take_more line close 0 (omega arith) ∙ ap (λ x. take close line ++ x ∷ []) nought in
+    let two : take (close + 1) line ≡ take close line ++ zero_digit ∷ [] = take_more line close 0 (omega arith)
+    ∙ ap (λ x. take close line ++ x ∷ []) nought in
     let three : take ((close + 1) + 1) line ≡ (take close line ++ zero_digit ∷ []) ++ line_feed ∷ [] =
     take_more line (close + 1) 0 (omega arith) ∙ ap (λ x. take (close + 1) line ++ x ∷ []) feed ∙ ap (λ t. t ++ line_feed ∷ []) two in
     record {
@@ -185,7 +224,8 @@ list_read line start old new count close ends inside is items size nought =
     }
 
 -- the literals of an import, and the end of the line
-pub clause_read : (line : List ℕ) (start : ℕ) (old new : List ℤ) (count close : ℕ) → EndsLine line → start < length line → get_or line start 0 ≡ space → ReadsLiterals line (start + 1) old 0 new count close
+pub clause_read : (line : List ℕ) (start : ℕ) (old new : List ℤ) (count close : ℕ) → EndsLine line → start < length line
+    → get_or line start 0 ≡ space → ReadsLiterals line (start + 1) old 0 new count close
     → close + 2 ≡ length line → get_or line close 0 ≡ zero_digit → ReadsClause line start new count
 clause_read line start old new count close ends inside is lits size nought =
     let last : length line - 1 ≡ close + 1 = omega arith in
@@ -193,7 +233,8 @@ clause_read line start old new count close ends inside is lits size nought =
     let front = take start line in
     let end = zero_digit ∷ line_feed ∷ [] in
     let one : take (start + 1) line ≡ front ++ space ∷ [] = take_more line start 0 inside ∙ ap (λ x. front ++ x ∷ []) is in
-    let two : take (close + 1) line ≡ take close line ++ zero_digit ∷ [] = take_more line close 0 (omega arith) ∙ ap (λ x. take close line ++ x ∷ []) nought in
+    let two : take (close + 1) line ≡ take close line ++ zero_digit ∷ [] = take_more line close 0 (omega arith)
+    ∙ ap (λ x. take close line ++ x ∷ []) nought in
     let three : take ((close + 1) + 1) line ≡ (take close line ++ zero_digit ∷ []) ++ line_feed ∷ [] =
     take_more line (close + 1) 0 (omega arith) ∙ ap (λ x. take (close + 1) line ++ x ∷ []) feed ∙ ap (λ t. t ++ line_feed ∷ []) two in
     record {
@@ -201,22 +242,31 @@ clause_read line start old new count close ends inside is lits size nought =
       each = subst (AllByRecursion IsStreamLiteral) (sym lits.lits) lits.each;
       text =
           sym (take_all ((close + 1) + 1) line (omega arith)) ∙ three ∙ append_assoc (take close line) (zero_digit ∷ []) (line_feed ∷ [])
-          ∙ ap (λ t. t ++ end) (lits.is ∙ ap (λ t. t ++ literals_text lits.more) one ∙ append_assoc front (space ∷ []) (literals_text lits.more))
+          ∙ ap (λ t. t ++ end) (lits.is ∙ ap (λ t. t ++ literals_text lits.more) one
+          ∙ append_assoc front (space ∷ []) (literals_text lits.more))
           ∙ ap (λ zs. (front ++ space ∷ literals_text zs) ++ end) (sym lits.lits);
     }
 
 -- An import: a number, a space, the letter i, literals.
-pub whole_import : (line : List ℕ) (lits : List ℤ) (ids : List ℕ) (lead end count : ℕ) → length lits ≡ 65535 → ReadsNumber line 0 lead end → get_or line end 0 ≡ space → end + 1 < length line
-    → get_or line (end + 1) 0 ≡ letter_i → ReadsClause line ((end + 1) + 1) lits count
+pub whole_import : (line : List ℕ) (lits : List ℤ) (ids : List ℕ) (lead end count : ℕ) → length lits ≡ 65535 → ReadsNumber line 0 lead end
+    → get_or line end 0 ≡ space → end + 1 < length line → get_or line (end + 1) 0 ≡ letter_i → ReadsClause line ((end + 1) + 1) lits count
     → IsWhole line lits ids (record { lead = lead; imports = true; deletes = false; literal_count = count; identity_count = 0 })
 whole_import line lits ids lead end count room number is inside letter clause =
-    let kept : CanStandInLine lead lits count ids 0 = record { lead = number.positive; few_literals = omega (arith, clause.few, room); few_identities = omega arith; literals = clause.each; identities = tt } in
+    let kept : CanStandInLine lead lits count ids 0 = record {
+      lead = number.positive;
+      few_literals = omega (arith, clause.few, room);
+      few_identities = omega arith;
+      literals = clause.each;
+      identities = tt;
+    } in
     let mark : take ((end + 1) + 1) line ≡ decimal lead ++ space ∷ letter_i ∷ [] =
     take_more line (end + 1) 0 inside ∙ ap (λ x. take (end + 1) line ++ x ∷ []) letter
-    ∙ ap (λ t. t ++ letter_i ∷ []) (take_more line end 0 number.inside ∙ ap (λ x. take end line ++ x ∷ []) is ∙ ap (λ t. t ++ space ∷ []) number.is)
+    ∙ ap (λ t. t ++ letter_i ∷ []) (take_more line end 0 number.inside ∙ ap (λ x. take end line ++ x ∷ []) is
+    ∙ ap (λ t. t ++ space ∷ []) number.is)
     ∙ append_assoc (decimal lead) (space ∷ []) (letter_i ∷ []) in
     let front : take ((end + 1) + 1) line ++ space ∷ literals_text (take count lits) ≡ clause_front true lead (take count lits) =
-    ap (λ t. t ++ space ∷ literals_text (take count lits)) mark ∙ append_assoc (decimal lead) (space ∷ letter_i ∷ []) (space ∷ literals_text (take count lits)) in
+    ap (λ t. t ++ space ∷ literals_text (take count lits)) mark
+    ∙ append_assoc (decimal lead) (space ∷ letter_i ∷ []) (space ∷ literals_text (take count lits)) in
     record {
       kept = kept;
       text = (
@@ -228,14 +278,21 @@ whole_import line lits ids lead end count room number is inside letter clause =
     }
 
 -- A deletion: a number, a space, the letter d, a list.
-pub whole_deletion : (line : List ℕ) (lits : List ℤ) (ids : List ℕ) (lead end count : ℕ) → length ids ≡ 65536 → ReadsNumber line 0 lead end → get_or line end 0 ≡ space → end + 1 < length line
-    → get_or line (end + 1) 0 ≡ letter_d → ReadsList line ((end + 1) + 1) ids count
+pub whole_deletion : (line : List ℕ) (lits : List ℤ) (ids : List ℕ) (lead end count : ℕ) → length ids ≡ 65536 → ReadsNumber line 0 lead end
+    → get_or line end 0 ≡ space → end + 1 < length line → get_or line (end + 1) 0 ≡ letter_d → ReadsList line ((end + 1) + 1) ids count
     → IsWhole line lits ids (record { lead = lead; imports = false; deletes = true; literal_count = 0; identity_count = count })
 whole_deletion line lits ids lead end count room number is inside letter list =
-    let kept : CanStandInLine lead lits 0 ids count = record { lead = number.positive; few_literals = omega arith; few_identities = omega (arith, list.few, room); literals = tt; identities = list.each } in
+    let kept : CanStandInLine lead lits 0 ids count = record {
+      lead = number.positive;
+      few_literals = omega arith;
+      few_identities = omega (arith, list.few, room);
+      literals = tt;
+      identities = list.each;
+    } in
     let front : take ((end + 1) + 1) line ≡ list_front true lead [] =
     take_more line (end + 1) 0 inside ∙ ap (λ x. take (end + 1) line ++ x ∷ []) letter
-    ∙ ap (λ t. t ++ letter_d ∷ []) (take_more line end 0 number.inside ∙ ap (λ x. take end line ++ x ∷ []) is ∙ ap (λ t. t ++ space ∷ []) number.is)
+    ∙ ap (λ t. t ++ letter_d ∷ []) (take_more line end 0 number.inside ∙ ap (λ x. take end line ++ x ∷ []) is
+    ∙ ap (λ t. t ++ space ∷ []) number.is)
     ∙ append_assoc (decimal lead) (space ∷ []) (letter_d ∷ []) in
     record {
       kept = kept;
@@ -248,8 +305,10 @@ whole_deletion line lits ids lead end count room number is inside letter list =
     }
 
 -- An addition: a number, a space, literals, a 0, a list.
-pub whole_addition : (line : List ℕ) (old lits : List ℤ) (ids : List ℕ) (lead end literals close count : ℕ) → length lits ≡ 65535 → length ids ≡ 65536 → ReadsNumber line 0 lead end → get_or line end 0 ≡ space
-    → ReadsLiterals line (end + 1) old 0 lits literals close → close < length line → get_or line close 0 ≡ zero_digit → ReadsList line (close + 1) ids count
+pub whole_addition : (line : List ℕ) (old lits : List ℤ) (ids : List ℕ) (lead end literals close count : ℕ) → length lits ≡ 65535
+    → length ids ≡ 65536 → ReadsNumber line 0 lead end → get_or line end 0 ≡ space
+    → ReadsLiterals line (end + 1) old 0 lits literals close → close < length line → get_or line close 0 ≡ zero_digit
+    → ReadsList line (close + 1) ids count
     → IsWhole line lits ids (record { lead = lead; imports = false; deletes = false; literal_count = literals; identity_count = count })
 whole_addition line old lits ids lead end literals close count room_lits room_ids number is clause inside nought list =
     let kept : CanStandInLine lead lits literals ids count = record {
@@ -262,7 +321,8 @@ whole_addition line old lits ids lead end literals close count room_lits room_id
     let front : take (close + 1) line ≡ list_front false lead (take literals lits) =
     take_more line close 0 inside ∙ ap (λ x. take close line ++ x ∷ []) nought
     ∙ ap (λ t. t ++ zero_digit ∷ []) (clause.is
-    ∙ ap (λ t. t ++ literals_text clause.more) (take_more line end 0 number.inside ∙ ap (λ x. take end line ++ x ∷ []) is ∙ ap (λ t. t ++ space ∷ []) number.is)
+    ∙ ap (λ t. t ++ literals_text clause.more) (take_more line end 0 number.inside ∙ ap (λ x. take end line ++ x ∷ []) is
+    ∙ ap (λ t. t ++ space ∷ []) number.is)
     ∙ append_assoc (decimal lead) (space ∷ []) (literals_text clause.more)
     ∙ ap (λ zs. decimal lead ++ space ∷ literals_text zs) (sym clause.lits)) in
     record {
@@ -270,7 +330,8 @@ whole_addition line old lits ids lead end literals close count room_lits room_id
       text = (
         line_fits false false lead lits literals ids count kept clause.few list.few,
         list.text ∙ ap (λ t. (t ++ items_text (take count ids)) ++ space ∷ zero_digit ∷ line_feed ∷ []) front
-            ∙ sym (append_assoc (list_front false lead (take literals lits) ++ items_text (take count ids)) (space ∷ zero_digit ∷ []) (line_feed ∷ []))
+            ∙ sym (append_assoc (list_front false lead (take literals lits) ++ items_text (take count ids)) (space ∷ zero_digit ∷ [])
+            (line_feed ∷ []))
             ∙ line_end false false lead (take literals lits) (take count ids),
       );
     }

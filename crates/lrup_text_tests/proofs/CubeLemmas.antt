@@ -1,5 +1,6 @@
 -- A few texts, by the definition of a cube's text.
-use Rattle.std.proofs.Common.{append_assoc, length-append, ◌≡◌, ◌<◌, ◌≤◌, ℕ, ℤ, pos, negsuc, zero, suc, List, [], ◌∷◌, ◌++◌, codes, flat_map, length, get_or, refl, ap, inl, inr, arith}
+use Rattle.std.proofs.Common.{append_assoc, length-append, ◌≡◌, ◌<◌, ◌≤◌, ℕ, ℤ, pos, negsuc, zero, suc, List, [], ◌∷◌, ◌++◌, codes}
+use Rattle.std.proofs.Common.{flat_map, length, get_or, refl, ap, inl, inr, arith}
 use Rattle.std.specs.Fmt.{decimal, signed_decimal}
 use Rattle.std.proofs.lemmas.Fmt.{decimal_digit, first_decimal}
 use Rattle.lrup_model.specs.Clause.{Has}
@@ -14,16 +15,19 @@ count_begins (b ∷ text) rest bytes some e =
     let low : 48 < b = some in
     omega (arith, low, ap (λ (x : List ℕ). get_or x 0 0) e)
 
-number_begins : (z : ℤ) (vars : ℕ) (rest bytes : List ℕ) → vars ≤ max_variable → IsLiteral vars z → 48 ∷ bytes ≡ signed_decimal z ++ rest → ⊥
+number_begins : (z : ℤ) (vars : ℕ) (rest bytes : List ℕ) → vars ≤ max_variable → IsLiteral vars z
+    → 48 ∷ bytes ≡ signed_decimal z ++ rest → ⊥
 number_begins (pos zero) vars rest bytes few is e = omega (arith, is.0)
 number_begins (pos (suc n)) vars rest bytes few is e =
     count_begins (decimal (suc n)) rest bytes (first_decimal (suc n) (omega arith) (omega (arith, few, is.1))) e
 number_begins (negsuc n) vars rest bytes few is e = omega (arith, ap (λ (x : List ℕ). get_or x 0 0) e)
 
-cube_begins : (vars : ℕ) (literals : List ℤ) → vars ≤ max_variable → IsCubeOver vars literals → codes "01 0\n" ≡ flat_map (λ l. signed_decimal l ++ codes " ") literals ++ codes "0\n" → ⊥
+cube_begins : (vars : ℕ) (literals : List ℤ) → vars ≤ max_variable → IsCubeOver vars literals
+    → codes "01 0\n" ≡ flat_map (λ l. signed_decimal l ++ codes " ") literals ++ codes "0\n" → ⊥
 cube_begins vars [] few over e = omega (arith, ap (λ (x : List ℕ). get_or x 1 0) e)
 cube_begins vars (z ∷ literals) few over e =
-    number_begins z vars (codes " " ++ flat_map (λ l. signed_decimal l ++ codes " ") literals ++ codes "0\n") (codes "1 0\n") few over.0 (simp append_assoc at e)
+    number_begins z vars (codes " " ++ flat_map (λ l. signed_decimal l ++ codes " ") literals ++ codes "0\n") (codes "1 0\n") few over.0
+    (simp append_assoc at e)
 
 pub zero_in_front : (vars : ℕ) (cube : CubeValue) → vars ≤ max_variable → ¬ IsCubeText vars (codes "01 0\n") cube
 zero_in_front vars cube few h = cube_begins vars h.literals few h.over h.text

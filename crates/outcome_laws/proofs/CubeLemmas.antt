@@ -28,7 +28,8 @@ use Rattle.outcome_laws.specs.Laws.{NoCubeJudgesAlike}
 
 -- Lines
 
-test_maps : (Holds : Type 0) (fault : Fault) (es : History) (v : LineVerdict) (A B : Type 0) → (A → B) → Test Holds fault es v A → Test Holds fault es v B
+test_maps : (Holds : Type 0) (fault : Fault) (es : History) (v : LineVerdict) (A B : Type 0) → (A → B) → Test Holds fault es v A
+    → Test Holds fault es v B
 test_maps Holds fault es v A B next (inl bad) = inl bad
 test_maps Holds fault es v A B next (inr good) = inr (good.0, next good.1)
 
@@ -54,15 +55,18 @@ reply_maps : (x : Reply) (n : List ℤ) (h : ℕ) (hints : List ℕ) (published 
 reply_maps events.vacant n h hints published es v A B next at = at
 reply_maps events.retired n h hints published es v A B next at = at
 reply_maps (events.live d) n h hints published es v A B next (inl conflict) = inl conflict
-reply_maps (events.live d) n h hints published es v A B next (inr (inl unit)) = inr (inl (unit.0, unit.1, next (n ++ neg_ℤ unit.0 ∷ []) unit.2))
+reply_maps (events.live d) n h hints published es v A B next (inr (inl unit)) =
+    inr (inl (unit.0, unit.1, next (n ++ neg_ℤ unit.0 ∷ []) unit.2))
 reply_maps (events.live d) n h hints published es v A B next (inr (inr neither)) = inr (inr neither)
 
 hints_bare : (c : Setting) (gone : ℕ → Bool) (published : Event) (n : List ℤ) (hints : List ℕ) (es : History) (v : LineVerdict)
     → JudgesHints c gone published n hints es v → JudgesHints (bare_setting c) gone published n hints es v
 hints_bare c gone published n [] es v judged = judged
 hints_bare c gone published n (h ∷ hints) es v judged =
-    let Old : Reply → History → Type 0 = λ x rest. AtReply x n h hints published rest v (λ m. JudgesHints c gone published m hints rest v) in
-    let New : Reply → History → Type 0 = λ x rest. AtReply x n h hints published rest v (λ m. JudgesHints (bare_setting c) gone published m hints rest v) in
+    let Old : Reply → History
+    → Type 0 = λ x rest. AtReply x n h hints published rest v (λ m. JudgesHints c gone published m hints rest v) in
+    let New : Reply → History
+    → Type 0 = λ x rest. AtReply x n h hints published rest v (λ m. JudgesHints (bare_setting c) gone published m hints rest v) in
     test_maps (gone h ≡ false) (faults.Dropped h) es v (AsksThen c h es Old) (AsksThen (bare_setting c) h es New)
     (λ a. then_bare c h es Old New
     (λ x rest at. reply_maps x n h hints published rest v
@@ -91,8 +95,10 @@ drops_map : (gone : ℕ → Bool) (earlier : List ℕ) (id : ℕ) (es : History)
 drops_map gone earlier id es v A B next (inl bad) = inl bad
 drops_map gone earlier id es v A B next (inr good) = inr (good.0, next good.1)
 
-deletes_bare : (side : Side) (c : Setting) (gone : ℕ → Bool) (earlier : List ℕ) (id : ℕ) (es : History) (v : LineVerdict) (A B : History → Type 0)
-    → ((rest : History) → A rest → B rest) → DeletesAt side c gone earlier id es v A → DeletesAt side (bare_setting c) gone earlier id es v B
+deletes_bare : (side : Side) (c : Setting) (gone : ℕ → Bool) (earlier : List ℕ) (id : ℕ) (es : History) (v : LineVerdict)
+    (A B : History → Type 0)
+    → ((rest : History) → A rest → B rest) → DeletesAt side c gone earlier id es v A
+    → DeletesAt side (bare_setting c) gone earlier id es v B
 deletes_bare sides.Formula c gone earlier id es v A B next at = drops_map gone earlier id es v A B (next es) at
 deletes_bare sides.Own c gone earlier id es v A B next at = retires_bare c earlier id es v A B next at
 deletes_bare sides.Foreign c gone earlier id es v A B next at = drops_map gone earlier id es v A B (next es) at
@@ -103,7 +109,8 @@ identities_bare : (c : Setting) (gone : ℕ → Bool) (earlier ids : List ℕ) (
 identities_bare c gone earlier [] es v judged = judged
 identities_bare c gone earlier (id ∷ ids) es v judged =
     deletes_bare (side_of c id) c gone earlier id es v
-    (λ rest. JudgesDeletion c gone (earlier ++ id ∷ []) ids rest v) (λ rest. JudgesDeletion (bare_setting c) gone (earlier ++ id ∷ []) ids rest v)
+    (λ rest. JudgesDeletion c gone (earlier ++ id ∷ []) ids rest v)
+    (λ rest. JudgesDeletion (bare_setting c) gone (earlier ++ id ∷ []) ids rest v)
     (λ rest k. identities_bare c gone (earlier ++ id ∷ []) ids rest v k) judged
 
 import_bare : (c : Setting) (st : Standing) (id : ℕ) (lits : List ℤ) (es : History) (v : LineVerdict)
@@ -121,11 +128,13 @@ line_bare c before (Addition id lits hints) es v judged = addition_bare c (stand
 line_bare c before (Deletion lead ids) es v judged = identities_bare c (standing_of c before).gone [] ids es v judged
 line_bare c before (Import id lits) es v judged = import_bare c (standing_of c before) id lits es v judged
 
-good_bare : (c : Setting) (before lines : List StreamLine) (blocks : List History) → AreGood c before lines blocks → AreGood (bare_setting c) before lines blocks
+good_bare : (c : Setting) (before lines : List StreamLine) (blocks : List History) → AreGood c before lines blocks
+    → AreGood (bare_setting c) before lines blocks
 good_bare c before [] [] good = tt
 good_bare c before [] (block ∷ blocks) good = absurd good
 good_bare c before (line ∷ lines) [] good = absurd good
-good_bare c before (line ∷ lines) (block ∷ blocks) good = (line_bare c before line block Good good.0, good_bare c (before ++ line ∷ []) lines blocks good.1)
+good_bare c before (line ∷ lines) (block ∷ blocks) good =
+    (line_bare c before line block Good good.0, good_bare c (before ++ line ∷ []) lines blocks good.1)
 
 -- Reports
 
@@ -134,13 +143,16 @@ says_bare : (c : Setting) (lines : List StreamLine) (deleted : ℕ) (ending : En
 says_bare c lines deleted ending report says =
     let r = report_of c lines deleted ending in
     ap bare_report says
-    ∙ ap (λ (w : Bool). record { added = r.added; deleted = r.deleted; empty = r.empty; within = w; ending = r.ending }) (sym (all_only_empty (additions_of lines)))
+    ∙ ap (λ (w : Bool). record { added = r.added; deleted = r.deleted; empty = r.empty; within = w; ending = r.ending })
+    (sym (all_only_empty (additions_of lines)))
 
 ends_bare : (c : Setting) (lines : List StreamLine) (rest : List ℕ) (end : StreamEnd) (back : List History) (report : Report)
     → EndsAfter c lines rest end back report → EndsAfter (bare_setting c) lines rest end back (bare_report report)
 ends_bare c lines rest end back report (at_bad_line line more text fits block one_block deleted fault bad says) =
-    at_bad_line line more text fits block one_block deleted fault (line_bare c lines line block (Bad deleted fault) bad) (says_bare c lines _ _ report says)
-ends_bare c lines rest end back report (at_bad_text fault text no_block says) = at_bad_text fault text no_block (says_bare c lines _ _ report says)
+    at_bad_line line more text fits block one_block deleted fault (line_bare c lines line block (Bad deleted fault) bad)
+    (says_bare c lines _ _ report says)
+ends_bare c lines rest end back report (at_bad_text fault text no_block says) =
+    at_bad_text fault text no_block (says_bare c lines _ _ report says)
 ends_bare c lines rest end back report (at_memory lead ids more text fits block one_block earlier stops says) =
     at_memory lead ids more text fits block one_block earlier
     (record {

@@ -5,7 +5,8 @@ use Rattle.lrup_model.specs.Formula.{Cnf}
 use Rattle.dimacs.specs.FormulaText.{IsFormulaText}
 use Rattle.portfolio.specs.declared.outcome.Verdict.{Verdict}
 use Rattle.portfolio.specs.declared.outcome.Verdict.TheVariants.{Unsatisfiable, UnsatisfiableUnder, Unknown}
-use Rattle.checkpoint.specs.Checkpoints.{AreCheckpoints, FilesRefute, FilesRefuteUnder, IsCheckpoint, IsUnsatisfiableText, IsUnsatisfiableTextUnder, last_file}
+use Rattle.checkpoint.specs.Checkpoints.{AreCheckpoints, FilesRefute, FilesRefuteUnder, IsCheckpoint, IsUnsatisfiableText}
+use Rattle.checkpoint.specs.Checkpoints.{IsUnsatisfiableTextUnder, last_file}
 use Rattle.checkpoint.specs.declared.saving.SaveFault.{SaveFault}
 use Rattle.command.specs.Commands.{FilesView, LeavesCheckpoint, Text, checkpoint_at, report_status}
 use Rattle.outcome_laws.specs.Refuting.{AreRuns, IsRunOn, OutcomesRefute, OutcomesRefuteUnder, saved_by, saved_bytes}
@@ -13,16 +14,20 @@ use Rattle.outcome_laws.proofs.StatusLemmas.{refuted}
 
 -- what was saved is a checkpoint
 is_saved : (files : FilesView) (path : Option Text) (f : Cnf) (verdict : Verdict) (unsaved : Option SaveFault) (before after : files.State)
-    (leaves : LeavesCheckpoint files path f verdict unsaved before after) (saved : List ℕ) → saved_bytes files path f verdict unsaved before after leaves ≡ Some saved → IsCheckpoint f saved
+    (leaves : LeavesCheckpoint files path f verdict unsaved before after) (saved : List ℕ)
+    → saved_bytes files path f verdict unsaved before after leaves ≡ Some saved → IsCheckpoint f saved
 is_saved files None f verdict unsaved before after leaves saved is = absurd (let no : None ≡ Some saved = is in cc)
 is_saved files (Some path) f Unsatisfiable unsaved before after leaves saved is = absurd (let no : None ≡ Some saved = is in cc)
-is_saved files (Some path) f UnsatisfiableUnder None before after leaves saved is = let same : leaves.0 ≡ saved = cc in subst (IsCheckpoint f) same leaves.2
+is_saved files (Some path) f UnsatisfiableUnder None before after leaves saved is =
+    let same : leaves.0 ≡ saved = cc in subst (IsCheckpoint f) same leaves.2
 is_saved files (Some path) f UnsatisfiableUnder (Some fault) before after leaves saved is = absurd (let no : None ≡ Some saved = is in cc)
-is_saved files (Some path) f Unknown None before after leaves saved is = let same : leaves.0 ≡ saved = cc in subst (IsCheckpoint f) same leaves.2
+is_saved files (Some path) f Unknown None before after leaves saved is =
+    let same : leaves.0 ≡ saved = cc in subst (IsCheckpoint f) same leaves.2
 is_saved files (Some path) f Unknown (Some fault) before after leaves saved is = absurd (let no : None ≡ Some saved = is in cc)
 
 -- what a run read is a text of its formula
-is_read : (files : FilesView) (bytes : List ℕ) (status : ℕ) (run : IsRunOn files bytes status) → IsFormulaText bytes run.ends.outcome.formula
+is_read : (files : FilesView) (bytes : List ℕ) (status : ℕ) (run : IsRunOn files bytes status)
+    → IsFormulaText bytes run.ends.outcome.formula
 is_read files bytes status run = subst (λ (b : List ℕ). IsFormulaText b run.ends.outcome.formula) run.read run.ends.outcome.is_formula.2
 
 module _ {F : Type 0} (view : F → FilesView) (IsLast : F → List ℕ → Type 0) where
@@ -36,7 +41,8 @@ module _ {F : Type 0} (view : F → FilesView) (IsLast : F → List ℕ → Type
         (
           o.formula,
           is_read files bytes runs.0.1 run,
-          is_saved files (checkpoint_at o.given) o.formula run.ends.verdict run.ends.unsaved o.last run.after run.ends.checkpoint next runs.0.3,
+          is_saved files (checkpoint_at o.given) o.formula run.ends.verdict run.ends.unsaved o.last run.after
+              run.ends.checkpoint next runs.0.3,
         ),
         are_checkpoints next more runs.1,
       )
@@ -45,7 +51,8 @@ module _ {F : Type 0} (view : F → FilesView) (IsLast : F → List ℕ → Type
   last_run bytes [] runs = runs
   last_run bytes (next ∷ more) runs = last_run next more runs.1
 
-under : (failed : Bool) (unsaved : Option SaveFault) (verdict : Verdict) → 8 ≡ report_status failed unsaved verdict → verdict ≡ UnsatisfiableUnder
+under : (failed : Bool) (unsaved : Option SaveFault) (verdict : Verdict) → 8 ≡ report_status failed unsaved verdict
+    → verdict ≡ UnsatisfiableUnder
 under true unsaved verdict is = absurd (let no : Path ℕ 8 7 = is in cc)
 under false (Some fault) verdict is = absurd (let no : Path ℕ 8 9 = is in cc)
 under false None Unsatisfiable is = absurd (let no : Path ℕ 8 0 = is in cc)
@@ -58,8 +65,11 @@ outcomes_refute files_refute {F} view bytes more runs =
     let last = last_run view IsLast bytes more runs in
     let run = last.1 in
     let found = run.ends in
-    let text : IsUnsatisfiableText (last_file bytes more) =
-    (found.outcome.formula, is_read (view last.0) (last_file bytes more) 0 run, found.outcome.checked.sound (refuted run.out.failed found.unsaved found.verdict found.status_is)) in
+    let text : IsUnsatisfiableText (last_file bytes more) = (
+      found.outcome.formula,
+      is_read (view last.0) (last_file bytes more) 0 run,
+      found.outcome.checked.sound (refuted run.out.failed found.unsaved found.verdict found.status_is),
+    ) in
     files_refute bytes more (are_checkpoints view IsLast bytes more runs) text
 
 pub outcomes_refute_under : FilesRefuteUnder → {F : Type 0} (view : F → FilesView) → OutcomesRefuteUnder view
@@ -69,6 +79,8 @@ outcomes_refute_under files_refute {F} view cube bytes more runs =
     let run = last.1.0 in
     let found = run.ends in
     let refuted : IsUnsatisfiableUnder found.outcome.formula cube =
-    subst (λ (c : CubeValue). IsUnsatisfiableUnder found.outcome.formula c) last.1.1 (found.outcome.checked.sound_under (under run.out.failed found.unsaved found.verdict found.status_is)) in
-    let text : IsUnsatisfiableTextUnder cube (last_file bytes more) = (found.outcome.formula, is_read (view last.0) (last_file bytes more) 8 run, refuted) in
+    subst (λ (c : CubeValue). IsUnsatisfiableUnder found.outcome.formula c) last.1.1
+    (found.outcome.checked.sound_under (under run.out.failed found.unsaved found.verdict found.status_is)) in
+    let text : IsUnsatisfiableTextUnder cube (last_file bytes more) =
+    (found.outcome.formula, is_read (view last.0) (last_file bytes more) 8 run, refuted) in
     files_refute cube bytes more (are_checkpoints view IsLast bytes more runs) text

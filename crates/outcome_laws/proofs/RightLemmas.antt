@@ -1,5 +1,6 @@
 -- What the program says of a right refutation.
-use Rattle.std.proofs.Common.{◌≡◌, ◌⊎◌, ◌<◌, ◌≤◌, ◌-◌, ◌++◌, ℕ, eqb, ne_eqb, zero, suc, ℤ, Bool, true, false, List, [], ◌∷◌, length, map, Option, None, Some, inl, inr, refl, sym, ap, subst, ◌∙◌, arith}
+use Rattle.std.proofs.Common.{◌≡◌, ◌⊎◌, ◌<◌, ◌≤◌, ◌-◌, ◌++◌, ℕ, eqb, ne_eqb, zero, suc, ℤ, Bool, true, false, List, [], ◌∷◌, length, map}
+use Rattle.std.proofs.Common.{Option, None, Some, inl, inr, refl, sym, ap, subst, ◌∙◌, arith}
 use Rattle.std.specs.Prelude.{IsTrue, slice_get, ◌||◌, if◌then◌else◌}
 use Rattle.std.specs.List.{AllByRecursion, flat_map, list_any}
 use Rattle.std.proofs.lemmas.Bool.{cases_eq, cond-true, cond-false, or_right}
@@ -32,12 +33,15 @@ use Rattle.portfolio.specs.declared.outcome.Verdict.{Verdict}
 use Rattle.portfolio.specs.declared.outcome.Verdict.TheVariants.{Unsatisfiable, UnsatisfiableUnder, Unknown}
 use Rattle.command_line.specs.CommandLine.{AskToSave, IsCommandLineOf}
 use Rattle.command_line.specs.declared.words.CommandLine.{CommandLine}
-use Rattle.command.specs.Commands.{EndsWithFault, EndsWithReport, FilesView, IsAssumeCause, IsCause, IsFormulaAt, IsOutcome, IsReadCause, LeavesCheckpoint, SinkChange, Text, assumed_at, checkpoint_at, layout_at, options_of, report_status, terms_given}
+use Rattle.command.specs.Commands.{EndsWithFault, EndsWithReport, FilesView, IsAssumeCause, IsCause, IsFormulaAt, IsOutcome, IsReadCause}
+use Rattle.command.specs.Commands.{LeavesCheckpoint, SinkChange, Text, assumed_at, checkpoint_at, layout_at, options_of, report_status}
+use Rattle.command.specs.Commands.{terms_given}
 use Rattle.checkpoint.specs.declared.saving.SaveFault.{SaveFault}
 use Rattle.command.specs.Faults.{status_of}
 use Rattle.command.specs.declared.fault.CommandFault.{CommandFault}
 use Rattle.command.specs.declared.fault.CommandFault.TheVariants as faults
-use Rattle.outcome_laws.specs.Right.{AreRightAssumptions, AskWell, AskForRightRefutation, AskForRightOrder, IsOfMachine, IsHeldUp, IsExcused, unwritten, no_report, lost, RightRefutationSays, RightOrderSays}
+use Rattle.outcome_laws.specs.Right.{AreRightAssumptions, AskWell, AskForRightRefutation, AskForRightOrder, IsOfMachine, IsHeldUp}
+use Rattle.outcome_laws.specs.Right.{IsExcused, unwritten, no_report, lost, RightRefutationSays, RightOrderSays}
 use Rattle.outcome_laws.specs.Laws.{SameWordsAskAlike}
 use Rattle.outcome_laws.proofs.OutcomeLemmas.{OneFormula, text_of, is_text, told_in, run_of, telling_of_file}
 
@@ -61,15 +65,18 @@ text_cnf bytes f is = record {
 -- With a report
 
 -- a report of the empty clause comes to 'unsatisfiable'
-one_says : (reports : List Report) (k : ℕ) (report : Report) → slice_get reports k ≡ Some report → report.empty ≡ true → list_any (λ r. r.empty) reports ≡ true
+one_says : (reports : List Report) (k : ℕ) (report : Report) → slice_get reports k ≡ Some report → report.empty ≡ true
+    → list_any (λ r. r.empty) reports ≡ true
 one_says [] k report at is = absurd (cc)
-one_says (r ∷ rs) zero report at is = let same : r ≡ report = cc in ap (λ (x : Report). x.empty || list_any (λ y. y.empty) rs) same ∙ ap (λ (b : Bool). b || list_any (λ y. y.empty) rs) is
+one_says (r ∷ rs) zero report at is = let same : r ≡ report = cc in
+    ap (λ (x : Report). x.empty || list_any (λ y. y.empty) rs) same ∙ ap (λ (b : Bool). b || list_any (λ y. y.empty) rs) is
 one_says (r ∷ rs) (suc k) report at is = or_right r.empty (list_any (λ y. y.empty) rs) (one_says rs k report at is)
 
 -- What streams have
 
 -- what holds of the stream of each step holds of one that has a line
-pub of_some : (s : ℕ) (P : ℕ → Type 0) (steps : List Step) → AllByRecursion (λ step. P step.stream) steps → 0 < length (lines_by s steps) → P s
+pub of_some : (s : ℕ) (P : ℕ → Type 0) (steps : List Step) → AllByRecursion (λ step. P step.stream) steps
+    → 0 < length (lines_by s steps) → P s
 of_some s P [] all some = absurd (omega (arith, some))
 of_some s P (step ∷ steps) all some = elim (cases_eq step.stream s) [
   | inl same ↦ subst P same all.0
@@ -78,50 +85,56 @@ of_some s P (step ∷ steps) all some = elim (cases_eq step.stream s) [
 ]
 
 -- a stream of a run has a report
-pub has_report : (f : Cnf) (terms : TermsValue) (told : List Telling) (reports : List Report) (r : IsRun f terms told reports) (s : ℕ) → IsStream terms.layout s
-    → (report : Report) × IsOfStream reports s report
+pub has_report : (f : Cnf) (terms : TermsValue) (told : List Telling) (reports : List Report) (r : IsRun f terms told reports) (s : ℕ)
+    → IsStream terms.layout s → (report : Report) × IsOfStream reports s report
 has_report f terms told reports r s is =
     elim (slice_get_cases reports (s - 1)).1 [
       | inl has ↦ (has.0, (is.0, has.2))
-      | inr past ↦ absurd (omega (arith, past.0, is.0, is.1, r.count, judged_count terms (λ t. true) r.history 1 r.streams reports r.judged))
+      | inr past ↦
+          absurd (omega (arith, past.0, is.0, is.1, r.count, judged_count terms (λ t. true) r.history 1 r.streams reports r.judged))
     ]
 
 module _ (files : FilesView) where
   -- with 'unsatisfiable' there is nothing to be saved
-  all_saved : (path : Option Text) (f : Cnf) (verdict : Verdict) (unsaved : Option SaveFault) (before after : files.State) → verdict ≡ Unsatisfiable
-      → LeavesCheckpoint files path f verdict unsaved before after → unsaved ≡ None
+  all_saved : (path : Option Text) (f : Cnf) (verdict : Verdict) (unsaved : Option SaveFault) (before after : files.State)
+      → verdict ≡ Unsatisfiable → LeavesCheckpoint files path f verdict unsaved before after → unsaved ≡ None
   all_saved path f UnsatisfiableUnder unsaved before after is leaves = absurd (let no : UnsatisfiableUnder ≡ Unsatisfiable = is in cc)
   all_saved path f Unknown unsaved before after is leaves = absurd (let no : Unknown ≡ Unsatisfiable = is in cc)
   all_saved None f Unsatisfiable unsaved before after is leaves = leaves.0
   all_saved (Some path) f Unsatisfiable unsaved before after is leaves = leaves.0
 
   -- what wasn't saved was asked for
-  asked_for : (path : Option Text) (f : Cnf) (verdict : Verdict) (fault : SaveFault) (before after : files.State) → LeavesCheckpoint files path f verdict (Some fault) before after
-      → (asked : Text) × (path ≡ Some asked)
+  asked_for : (path : Option Text) (f : Cnf) (verdict : Verdict) (fault : SaveFault) (before after : files.State)
+      → LeavesCheckpoint files path f verdict (Some fault) before after → (asked : Text) × (path ≡ Some asked)
   asked_for None f verdict fault before after leaves = absurd (let no : Some fault ≡ None = leaves.0 in cc)
   asked_for (Some path) f verdict fault before after leaves = (path, refl)
 
-  pub asks_to_save : (words : List Text) (given : CommandLine) (f : Cnf) (verdict : Verdict) (fault : SaveFault) (before after : files.State) → IsCommandLineOf words given
+  pub asks_to_save : (words : List Text) (given : CommandLine) (f : Cnf) (verdict : Verdict) (fault : SaveFault)
+      (before after : files.State) → IsCommandLineOf words given
       → LeavesCheckpoint files (checkpoint_at given) f verdict (Some fault) before after → (path : Text) × AskToSave words path
   asks_to_save words given f verdict fault before after line leaves =
       let asked = asked_for (checkpoint_at given) f verdict fault before after leaves in
       (asked.0, record { good = line.good; path_is = sym line.said.checkpoint ∙ asked.1 })
 
 module _ (files : FilesView) (Lost : Report → Type 0) where
-  said_so : (words : List Text) (s : ℕ) (out : SinkChange) (status : ℕ) (unsaved : Option SaveFault) (verdict : Verdict) → verdict ≡ Unsatisfiable → unsaved ≡ None
-      → (failed : Bool) → out.failed ≡ failed → status ≡ report_status failed unsaved verdict → (status ≡ 0) ⊎ IsExcused files words s Lost out status
+  said_so : (words : List Text) (s : ℕ) (out : SinkChange) (status : ℕ) (unsaved : Option SaveFault) (verdict : Verdict)
+      → verdict ≡ Unsatisfiable → unsaved ≡ None
+      → (failed : Bool) → out.failed ≡ failed → status ≡ report_status failed unsaved verdict
+      → (status ≡ 0) ⊎ IsExcused files words s Lost out status
   said_so words s out status unsaved verdict is saved true failed status_is = inr (unwritten failed status_is)
   said_so words s out status None verdict is saved false failed status_is = inl (status_is ∙ ap (report_status false None) is)
   said_so words s out status (Some fault) verdict is saved false failed status_is = absurd (let no : Some fault ≡ None = saved in cc)
 
-  pub when_said : (words : List Text) (after : files.State) (s : ℕ) (out err : SinkChange) (status : ℕ) (ends : EndsWithReport files words after out err status)
+  pub when_said : (words : List Text) (after : files.State) (s : ℕ) (out err : SinkChange) (status : ℕ)
+      (ends : EndsWithReport files words after out err status)
       → ends.verdict ≡ Unsatisfiable → (status ≡ 0) ⊎ IsExcused files words s Lost out status
   when_said words after s out err status ends is =
-      let saved = all_saved files (checkpoint_at ends.outcome.given) ends.outcome.formula ends.verdict ends.unsaved ends.outcome.last after is ends.checkpoint in
+      let saved = all_saved files
+      (checkpoint_at ends.outcome.given) ends.outcome.formula ends.verdict ends.unsaved ends.outcome.last after is ends.checkpoint in
       said_so words s out status ends.unsaved ends.verdict is saved out.failed refl ends.status_is
 
-  lost_so : (words : List Text) (s : ℕ) (out : SinkChange) (status : ℕ) (reports : List Report) (verdict : Verdict) → IsOutcome files words reports verdict
-      → (report : Report) → IsOfStream reports s report → Lost report
+  lost_so : (words : List Text) (s : ℕ) (out : SinkChange) (status : ℕ) (reports : List Report) (verdict : Verdict)
+      → IsOutcome files words reports verdict → (report : Report) → IsOfStream reports s report → Lost report
       → (unsaved : Option SaveFault) → ((fault : SaveFault) → unsaved ≡ Some fault → (path : Text) × AskToSave words path)
       → (other : Verdict) → verdict ≡ other → (failed : Bool) → out.failed ≡ failed → status ≡ report_status failed unsaved other
       → (status ≡ 0) ⊎ IsExcused files words s Lost out status
@@ -130,17 +143,22 @@ module _ (files : FilesView) (Lost : Report → Type 0) where
       let asked = asks fault refl in
       inr (lost reports verdict a report says why (inr (asked.0, asked.1, is)))
   lost_so words s out status reports verdict a report says why None asks Unsatisfiable same false failed is = inl is
-  lost_so words s out status reports verdict a report says why None asks UnsatisfiableUnder same false failed is = inr (lost reports verdict a report says why (inl (inr is)))
-  lost_so words s out status reports verdict a report says why None asks Unknown same false failed is = inr (lost reports verdict a report says why (inl (inl is)))
+  lost_so words s out status reports verdict a report says why None asks UnsatisfiableUnder same false failed is =
+      inr (lost reports verdict a report says why (inl (inr is)))
+  lost_so words s out status reports verdict a report says why None asks Unknown same false failed is =
+      inr (lost reports verdict a report says why (inl (inl is)))
 
-  pub when_lost : (words : List Text) (after : files.State) (s : ℕ) (out err : SinkChange) (status : ℕ) (ends : EndsWithReport files words after out err status)
+  pub when_lost : (words : List Text) (after : files.State) (s : ℕ) (out err : SinkChange) (status : ℕ)
+      (ends : EndsWithReport files words after out err status)
       → (report : Report) → IsOfStream ends.reports s report → Lost report → (status ≡ 0) ⊎ IsExcused files words s Lost out status
   when_lost words after s out err status ends report says why =
       let o = ends.outcome in
       let asks : (fault : SaveFault) → ends.unsaved ≡ Some fault → (path : Text) × AskToSave words path = λ fault is.
       asks_to_save files words o.given o.formula ends.verdict fault o.last after o.command_line
-      (subst (λ (u : Option SaveFault). LeavesCheckpoint files (checkpoint_at o.given) o.formula ends.verdict u o.last after) is ends.checkpoint) in
-      lost_so words s out status ends.reports ends.verdict o report says why ends.unsaved asks ends.verdict refl out.failed refl ends.status_is
+      (subst (λ (u : Option SaveFault). LeavesCheckpoint files (checkpoint_at o.given) o.formula ends.verdict u o.last after) is
+      ends.checkpoint) in
+      lost_so words s out status ends.reports ends.verdict o report says why ends.unsaved asks ends.verdict refl out.failed
+      refl ends.status_is
 
 -- no text of a formula has a fault: the law of `dimacs`
 abbrev pub NoFormulaFault : Type 0
@@ -166,8 +184,8 @@ abbrev IsAnothers : LayoutValue → ℕ → ℕ → Type 0
 IsAnothers p s id = side_of (setting_of (record { layout = p; cube = []; tries = 0 }) s) id ≡ sides.Foreign
 
 -- A report of 'empty' comes to 'unsatisfiable'
-pub comes_to : (reports : List Report) (verdict : Verdict) (s : ℕ) (report : Report) → verdict ≡ verdict_of reports → IsOfStream reports s report → report.empty ≡ true
-    → verdict ≡ Unsatisfiable
+pub comes_to : (reports : List Report) (verdict : Verdict) (s : ℕ) (report : Report) → verdict ≡ verdict_of reports
+    → IsOfStream reports s report → report.empty ≡ true → verdict ≡ Unsatisfiable
 comes_to reports verdict s report is at says =
     is ∙ cond-true (list_any (λ r. r.empty) reports) Unsatisfiable
     (if list_any (λ r. r.within) reports then UnsatisfiableUnder else Unknown) (one_says reports (s - 1) report at.1 says)
@@ -185,19 +203,22 @@ module _ (files : FilesView) (Lost : Report → Type 0) where
 
 module _ (one_formula : OneFormula) (serial : SerialRun) (alike : SameWordsAskAlike) (empty : RightEmpty) (files : FilesView) where
   -- what was asked for is what the outcome is of
-  pub record IsOf (words : List Text) (asks : AskWell files words) (reports : List Report) (verdict : Verdict) (a : IsOutcome files words reports verdict) : Type 0 where
+  pub record IsOf (words : List Text) (asks : AskWell files words) (reports : List Report) (verdict : Verdict)
+      (a : IsOutcome files words reports verdict) : Type 0 where
     pub formulas : a.formula ≡ asks.formula
     pub streams : a.given.streams ≡ asks.given.streams
     pub layouts : layout_at asks.given asks.formula ≡ layout_at a.given a.formula
     pub cnf : IsCnf a.formula
     pub run : IsRun a.formula (terms_given a.given a.cube a.formula) (told_in files words reports verdict a) reports
 
-  pub is_of : (words : List Text) (asks : AskWell files words) (reports : List Report) (verdict : Verdict) (a : IsOutcome files words reports verdict) → IsOf words asks reports verdict a
+  pub is_of : (words : List Text) (asks : AskWell files words) (reports : List Report) (verdict : Verdict)
+      (a : IsOutcome files words reports verdict) → IsOf words asks reports verdict a
   is_of words asks reports verdict a =
       let same = alike words asks.given a.given asks.command_line a.command_line in
       let told : files.tells a.given.formula.now ≡ Some asks.text = ap files.tells same.2 ∙ asks.told in
       let formulas : a.formula ≡ asks.formula =
-      one_formula asks.text a.formula asks.formula (is_text files a.given.formula.now a.formula a.next asks.text told a.is_formula) asks.is_text in
+      one_formula asks.text a.formula asks.formula
+      (is_text files a.given.formula.now a.formula a.next asks.text told a.is_formula) asks.is_text in
       record {
         formulas = formulas;
         streams = same.1;
@@ -208,7 +229,8 @@ module _ (one_formula : OneFormula) (serial : SerialRun) (alike : SameWordsAskAl
         run = run_of serial files words reports verdict a;
       }
 
-  refutation_says : RightBegins → (words : List Text) (s : ℕ) (ask : AskForRightRefutation files words s) (reports : List Report) (verdict : Verdict)
+  refutation_says : RightBegins
+      → (words : List Text) (s : ℕ) (ask : AskForRightRefutation files words s) (reports : List Report) (verdict : Verdict)
       (a : IsOutcome files words reports verdict)
       → (verdict ≡ Unsatisfiable) ⊎ ((report : Report) × IsOfStream reports s report × IsCutOffIn (length ask.right.lines) report)
   refutation_says begins words s ask reports verdict a =
@@ -226,7 +248,8 @@ module _ (one_formula : OneFormula) (serial : SerialRun) (alike : SameWordsAskAl
       let report = has_report a.formula terms (told_in files words reports verdict a) reports is.run s stream in
       elim (begins a.formula terms s ask.bytes lines (told_in files words reports verdict a) here.0 reports report.0
       is.cnf (record { vars = refl; clauses = refl; literals = refl }) stream right is.run here.1 here.2 report.1) [
-        | inl tells ↦ inl (comes_to reports verdict s report.0 a.checked.is_verdict report.1 (tells.empty ((empty terms s lines).1 ask.right.empty)))
+        | inl tells ↦
+            inl (comes_to reports verdict s report.0 a.checked.is_verdict report.1 (tells.empty ((empty terms s lines).1 ask.right.empty)))
         | inr cut ↦ inr (report.0, report.1, cut)
       ]
 
@@ -243,11 +266,13 @@ module _ (one_formula : OneFormula) (serial : SerialRun) (alike : SameWordsAskAl
         | inl has ↦
             let names : IsOfStream a.given.streams t has.0 = (first, has.2) in
             let tells = ask.tells t has.0 member (subst (λ (x : List Text). IsOfStream x t has.0) is.streams names) in
-            let here = telling_of_file files words reports verdict a t has.0 (flat_map line_text (lines_by t ask.steps) ++ tells.0) names tells.1 in
+            let here =
+            telling_of_file files words reports verdict a t has.0 (flat_map line_text (lines_by t ask.steps) ++ tells.0) names tells.1 in
             (tells.0, ap (λ (x : Telling). x.entry) (same_at told t telling here.0 at here.1) ∙ here.2)
       ]
 
-  order_says : TogetherBegins → (words : List Text) (s : ℕ) (ask : AskForRightOrder files words s) (reports : List Report) (verdict : Verdict)
+  order_says : TogetherBegins
+      → (words : List Text) (s : ℕ) (ask : AskForRightOrder files words s) (reports : List Report) (verdict : Verdict)
       (a : IsOutcome files words reports verdict)
       → (verdict ≡ Unsatisfiable)
       ⊎ ((report : Report) × IsOfStream reports s report × IsHeldUp files words ask.asks s (length (lines_by s ask.steps)) report)
@@ -265,7 +290,8 @@ module _ (one_formula : OneFormula) (serial : SerialRun) (alike : SameWordsAskAl
       elim (together a.formula terms ask.set ask.steps (told_in files words reports verdict a) reports s report.0 is.cnf
       (record { vars = refl; clauses = refl; literals = refl }) order ask.members is.run (have_texts words s ask reports verdict a is)
       member report.1) [
-        | inl tells ↦ inl (comes_to reports verdict s report.0 a.checked.is_verdict report.1 (tells.empty ((empty terms s (lines_by s ask.steps)).1 ask.empty)))
+        | inl tells ↦ inl (comes_to reports verdict s report.0 a.checked.is_verdict report.1
+            (tells.empty ((empty terms s (lines_by s ask.steps)).1 ask.empty)))
         | inr (inl cut) ↦ inr (report.0, report.1, inl cut)
         | inr (inr lacks) ↦ inr (
           report.0,
@@ -291,15 +317,18 @@ module _ (one_formula : OneFormula) (no_fault : NoFormulaFault) (alike : SameWor
       let same = text_of (files.tells path) right.0 cause.1.0 right.1 cause.1.2.told in
       right.2 fault cause.0 (subst (λ (b : List ℕ). IsCubeFault vars b fault) (sym same) cause.1.3)
 
-  no_usage : (before : files.State) (path : Option Text) (vars : ℕ) (fault : DimacsFault) → ¬ IsAssumeCause files vars before path (faults.Refused fault)
+  no_usage : (before : files.State) (path : Option Text) (vars : ℕ) (fault : DimacsFault)
+      → ¬ IsAssumeCause files vars before path (faults.Refused fault)
   no_usage before None vars fault cause = cause
   no_usage before (Some path) vars fault cause = cause
 
-  no_layout : (before : files.State) (path : Option Text) (vars : ℕ) (fault : LayoutFault) → ¬ IsAssumeCause files vars before path (faults.Layout fault)
+  no_layout : (before : files.State) (path : Option Text) (vars : ℕ) (fault : LayoutFault)
+      → ¬ IsAssumeCause files vars before path (faults.Layout fault)
   no_layout before None vars fault cause = cause
   no_layout before (Some path) vars fault cause = cause
 
-  never_unsaved : (before : files.State) (path : Option Text) (vars : ℕ) (fault : SaveFault) → ¬ IsAssumeCause files vars before path (faults.NotSaved fault)
+  never_unsaved : (before : files.State) (path : Option Text) (vars : ℕ) (fault : SaveFault)
+      → ¬ IsAssumeCause files vars before path (faults.NotSaved fault)
   never_unsaved before None vars fault cause = cause
   never_unsaved before (Some path) vars fault cause = cause
 
@@ -402,4 +431,5 @@ right_order_says one_formula no_fault serial alike together empty files words af
     with_report files (IsHeldUp files words ask.asks s (length (lines_by s ask.steps))) words after s out err status
     (order_says one_formula serial alike empty files together words s ask) report
 right_order_says one_formula no_fault serial alike together empty files words after s out err status ask (inr fault) =
-    inr (without_report one_formula no_fault alike files (IsHeldUp files words ask.asks s (length (lines_by s ask.steps))) words s out err status ask.asks fault)
+    inr (without_report one_formula no_fault alike files
+    (IsHeldUp files words ask.asks s (length (lines_by s ask.steps))) words s out err status ask.asks fault)

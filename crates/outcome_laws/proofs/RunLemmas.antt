@@ -18,7 +18,8 @@ judges_bare : NoCubeJudgesAlike → (c : Setting) (stream : Stream) (blocks : Li
     → JudgesStream c stream blocks report → JudgesStream (bare_setting c) stream blocks (bare_report report)
 judges_bare law c stream blocks report judged = λ end its. law c stream.bytes end blocks report (judged end its)
 
-judged_bare : NoCubeJudgesAlike → (terms : TermsValue) (set : ℕ → Bool) (h : History) (s : ℕ) (streams : List Stream) (reports : List Report)
+judged_bare : NoCubeJudgesAlike
+    → (terms : TermsValue) (set : ℕ → Bool) (h : History) (s : ℕ) (streams : List Stream) (reports : List Report)
     → AreJudgedIn terms set h s streams reports → AreJudgedIn (bare_terms terms) set h s streams (map bare_report reports)
 judged_bare law terms set h s [] [] judged = tt
 judged_bare law terms set h s [] (r ∷ rs) judged = absurd judged
@@ -39,7 +40,8 @@ run_bare law f terms told reports a = record {
   judged = judged_bare law terms (λ s. true) a.history 1 a.streams reports a.judged;
 }
 
-at_bare : (reports : List Report) (s : ℕ) (report : Report) → IsOfStream reports s report → IsOfStream (map bare_report reports) s (bare_report report)
+at_bare : (reports : List Report) (s : ℕ) (report : Report) → IsOfStream reports s report
+    → IsOfStream (map bare_report reports) s (bare_report report)
 at_bare reports s report at = (at.0, slice_get-map bare_report reports (s - 1) ∙ ap (option_map bare_report) at.1)
 
 same_terms : (terms other : TermsValue) → other.layout ≡ terms.layout → other.tries ≡ terms.tries → bare_terms other ≡ bare_terms terms
@@ -55,7 +57,8 @@ same_bytes_say_the_same law agree f terms other_terms s whole told other_told te
     (same_terms terms other_terms layout tries) (run_bare law f other_terms other_told other_reports b) in
     let same : bare_report report ≡ bare_report other =
     agree f (bare_terms terms) s whole told other_told telling other_telling (map bare_report reports) (map bare_report other_reports)
-    (bare_report report) (bare_report other) fits cites mine theirs here entry there known (at_bare reports s report says) (at_bare other_reports s other too)
+    (bare_report report) (bare_report other) fits cites mine theirs here entry there known (at_bare reports s report says)
+    (at_bare other_reports s other too)
     memory failure none never in
     record {
       added = ap (λ (r : Report). r.added) same;

@@ -1,5 +1,6 @@
 -- Outcomes of the program on one thread.
-use Rattle.std.proofs.Common.{◌≡◌, ◌⊎◌, ◌-◌, ◌+◌, ◌<◌, ℕ, zero, suc, true, List, [], ◌∷◌, length, Some, inl, inr, refl, sym, ap, subst, ◌∙◌, arith}
+use Rattle.std.proofs.Common.{◌≡◌, ◌⊎◌, ◌-◌, ◌+◌, ◌<◌, ℕ, zero, suc, true, List, [], ◌∷◌, length, Some, inl, inr, refl, sym, ap, subst, ◌∙◌}
+use Rattle.std.proofs.Common.{arith}
 use Rattle.std.specs.Prelude.{slice_get}
 use Rattle.std.specs.List.{flat_map}
 use Rattle.std.proofs.lemmas.Option.{slice_get_within, slice_get_cases}
@@ -28,11 +29,13 @@ use Rattle.outcome_laws.specs.Laws.{SameWordsAskAlike}
 use Rattle.outcome_laws.specs.Right.{IsExcused}
 use Rattle.outcome_laws.specs.Serial.{AskForRightTurns, IsCutOff, RightTurnsSay, SerialOutcomesAgree}
 use Rattle.outcome_laws.proofs.OutcomeLemmas.{OneFormula, is_text, told_in, telling_of_file, told_length, turns_of}
-use Rattle.outcome_laws.proofs.RightLemmas.{NoFormulaFault, IsOf, is_of, of_some, comes_to, has_report, when_said, when_lost, without_report}
+use Rattle.outcome_laws.proofs.RightLemmas.{NoFormulaFault, IsOf, is_of, of_some, comes_to, has_report, when_said, when_lost}
+use Rattle.outcome_laws.proofs.RightLemmas.{without_report}
 
 -- a stream that told something has a path
 path_at : (files : FilesView) (words : List Text) (reports : List Report) (verdict : Verdict) (a : IsOutcome files words reports verdict)
-    (s : ℕ) (telling : Telling) → IsOfStream (told_in files words reports verdict a) s telling → (path : Text) × IsOfStream a.given.streams s path
+    (s : ℕ) (telling : Telling) → IsOfStream (told_in files words reports verdict a) s telling
+    → (path : Text) × IsOfStream a.given.streams s path
 path_at files words reports verdict a s telling at =
     let within = slice_get_within (told_in files words reports verdict a) (s - 1) telling at.1 in
     elim (slice_get_cases a.given.streams (s - 1)).1 [
@@ -49,7 +52,8 @@ entry_at files words reports verdict a s telling path whole at names tells =
     ap (λ (x : Telling). x.entry) (same_at (told_in files words reports verdict a) s telling here.0 at here.1) ∙ here.2
 
 pub serial_outcomes_agree : OneFormula → BytesDecide → (files : FilesView) (others : FilesView) → SerialOutcomesAgree files others
-serial_outcomes_agree one_formula decide files others words other_words reports other_reports verdict other_verdict a b ask cubes fine good =
+serial_outcomes_agree one_formula decide files others words other_words reports other_reports verdict other_verdict a b ask
+    cubes fine good =
     let formulas : b.formula ≡ a.formula =
     one_formula ask.text b.formula a.formula (is_text others b.given.formula.now b.formula b.next ask.text ask.same_formula b.is_formula)
     (is_text files a.given.formula.now a.formula a.next ask.text ask.formula a.is_formula) in
@@ -66,7 +70,8 @@ serial_outcomes_agree one_formula decide files others words other_words reports 
     let other_told = told_in others other_words other_reports other_verdict b in
     let theirs : StandsOnStreams other_told (λ streams. IsOrderedByTurns a.formula terms streams other_reports) =
     subst (λ (t : TermsValue). StandsOnStreams other_told (λ streams. IsOrderedByTurns a.formula t streams other_reports)) same_terms
-    (subst (λ (g : Cnf). StandsOnStreams other_told (λ streams. IsOrderedByTurns g (terms_given b.given b.cube b.formula) streams other_reports)) formulas
+    (subst (λ (g : Cnf). StandsOnStreams other_told
+    (λ streams. IsOrderedByTurns g (terms_given b.given b.cube b.formula) streams other_reports)) formulas
     (turns_of others other_words other_reports other_verdict b ask.too)) in
     let bytes : HaveSameBytes told other_told = λ s telling other at there.
     let path = path_at files words reports verdict a s telling at in
@@ -103,7 +108,8 @@ said_of report = by_ending report.ending report refl
 all_fine : (r : Report) (reports : List Report) → (¬ IsOfMemory r) × (¬ IsOfFailure r)
     → ((k : ℕ) (report : Report) → slice_get reports k ≡ Some report → (¬ IsOfMemory report) × (¬ IsOfFailure report))
     → (k : ℕ) (report : Report) → slice_get (r ∷ reports) k ≡ Some report → (¬ IsOfMemory report) × (¬ IsOfFailure report)
-all_fine r reports fine none zero report at = let same : r ≡ report = cc in subst (λ (x : Report). (¬ IsOfMemory x) × (¬ IsOfFailure x)) same fine
+all_fine r reports fine none zero report at =
+    let same : r ≡ report = cc in subst (λ (x : Report). (¬ IsOfMemory x) × (¬ IsOfFailure x)) same fine
 all_fine r reports fine none (suc k) report at = none k report at
 
 -- some report tells that its stream was cut off, or none does
@@ -126,13 +132,16 @@ some_cut reports = elim (cut_at reports) [
   | inr none ↦ inr (λ t report at. none (t - 1) report at.1)
 ]
 
-module _ (one_formula : OneFormula) (no_fault : NoFormulaFault) (serial_run : SerialRun) (alike : SameWordsAskAlike) (right : RightByTurns) (empty : RightEmpty)
+module _ (one_formula : OneFormula) (no_fault : NoFormulaFault) (serial_run : SerialRun) (alike : SameWordsAskAlike) (right : RightByTurns)
+    (empty : RightEmpty)
     (files : FilesView) (words : List Text) (s : ℕ) (ask : AskForRightTurns files words s) where
   -- where no stream was cut off the verdict is 'unsatisfiable'
-  turns_refute : (reports : List Report) (verdict : Verdict) (a : IsOutcome files words reports verdict) → NoneCutShort reports → verdict ≡ Unsatisfiable
+  turns_refute : (reports : List Report) (verdict : Verdict) (a : IsOutcome files words reports verdict) → NoneCutShort reports
+      → verdict ≡ Unsatisfiable
   turns_refute reports verdict a fine =
       let asks = ask.asks in
-      let is : IsOf one_formula serial_run alike empty files words asks reports verdict a = is_of one_formula serial_run alike empty files words asks reports verdict a in
+      let is : IsOf one_formula serial_run alike empty files words asks reports verdict a =
+      is_of one_formula serial_run alike empty files words asks reports verdict a in
       let terms = terms_given a.given a.cube a.formula in
       let told = told_in files words reports verdict a in
       let order : IsRightOrder a.formula terms.layout ask.steps =
@@ -143,25 +152,29 @@ module _ (one_formula : OneFormula) (no_fault : NoFormulaFault) (serial_run : Se
       λ t telling at.
       let path = path_at files words reports verdict a t telling at in
       let names : IsOfStream asks.given.streams t path.0 = subst (λ (x : List Text). IsOfStream x t path.0) is.streams path.1 in
-      entry_at files words reports verdict a t telling path.0 (flat_map line_text (lines_by t ask.steps)) at path.1 (ask.tells t path.0 names) in
+      entry_at files words reports verdict a t telling path.0 (flat_map line_text (lines_by t ask.steps)) at path.1
+      (ask.tells t path.0 names) in
       let some : 0 < length (lines_by s ask.steps) = omega (arith, ask.empty.2) in
       let stream : IsStream terms.layout s = of_some s (IsStream terms.layout) ask.steps order.streams some in
       let report = has_report a.formula terms told reports is.run s stream in
       let same : report.0 ≡ right_report terms s (lines_by s ask.steps) =
       right a.formula terms ask.steps told reports s report.0 is.cnf (record { vars = refl; clauses = refl; literals = refl })
       (told_length files words reports verdict a) order ask.turns texts (turns_of files words reports verdict a on_one) fine report.1 in
-      comes_to reports verdict s report.0 a.checked.is_verdict report.1 (ap (λ (r : Report). r.empty) same ∙ (empty terms s (lines_by s ask.steps)).1 ask.empty)
+      comes_to reports verdict s report.0 a.checked.is_verdict report.1
+      (ap (λ (r : Report). r.empty) same ∙ (empty terms s (lines_by s ask.steps)).1 ask.empty)
 
-  turns_say : (after : files.State) (out err : SinkChange) (status : ℕ) → EndsWithReport files words after out err status → (status ≡ 0) ⊎ ((t : ℕ) × IsExcused files words t IsCutOff out status)
+  turns_say : (after : files.State) (out err : SinkChange) (status : ℕ) → EndsWithReport files words after out err status
+      → (status ≡ 0) ⊎ ((t : ℕ) × IsExcused files words t IsCutOff out status)
   turns_say after out err status ends = elim (some_cut ends.reports) [
     | inl cut ↦ elim (when_lost files IsCutOff words after cut.0 out err status ends cut.1 cut.2 cut.3) [
       | inl is ↦ inl is
       | inr excused ↦ inr (cut.0, excused)
     ]
-    | inr fine ↦ elim (when_said files IsCutOff words after s out err status ends (turns_refute ends.reports ends.verdict ends.outcome fine)) [
-      | inl is ↦ inl is
-      | inr excused ↦ inr (s, excused)
-    ]
+    | inr fine ↦
+        elim (when_said files IsCutOff words after s out err status ends (turns_refute ends.reports ends.verdict ends.outcome fine)) [
+          | inl is ↦ inl is
+          | inr excused ↦ inr (s, excused)
+        ]
   ]
 
 pub right_turns_say : OneFormula → NoFormulaFault → SerialRun → SameWordsAskAlike → RightByTurns → RightEmpty

@@ -11,7 +11,8 @@ use Rattle.command.specs.declared.fault.CommandFault.{CommandFault}
 use Rattle.command.specs.declared.fault.CommandFault.TheVariants as faults
 use Rattle.outcome_laws.specs.Laws.{Status0HasACommandLine}
 
-pub refuted : (failed : Bool) (unsaved : Option SaveFault) (verdict : Verdict) → 0 ≡ report_status failed unsaved verdict → verdict ≡ Unsatisfiable
+pub refuted : (failed : Bool) (unsaved : Option SaveFault) (verdict : Verdict) → 0 ≡ report_status failed unsaved verdict
+    → verdict ≡ Unsatisfiable
 refuted true unsaved verdict is = absurd (let no : 0 ≡ 7 = is in cc)
 refuted false (Some fault) verdict is = absurd (let no : 0 ≡ 9 = is in cc)
 refuted false None Unsatisfiable is = refl
@@ -42,6 +43,14 @@ no_fault (faults.NotSaved fault) is = let no : 0 ≡ 9 = is in cc
 pub status_0 : (files : FilesView) → Status0HasACommandLine files
 status_0 files words after out err (inl report) =
     let o = report.outcome in
-    let at = o.is_formula in
-    (o.given, at.0, o.formula, o.next, o.command_line, at.1, at.2, o.checked.sound (refuted out.failed report.unsaved report.verdict report.status_is))
+    let at = o.is_formula in (
+      o.given,
+      at.0,
+      o.formula,
+      o.next,
+      o.command_line,
+      at.1,
+      at.2,
+      o.checked.sound (refuted out.failed report.unsaved report.verdict report.status_is),
+    )
 status_0 files words after out err (inr fault) = absurd (no_fault fault.fault fault.status_is)

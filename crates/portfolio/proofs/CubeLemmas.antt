@@ -37,7 +37,8 @@ within_is_published : (c : Setting) (bytes : List ℕ) (end : StreamEnd) (blocks
     → JudgesBlocks c bytes end blocks report → IsTrue report.within → IsTrue (list_any (publishes_within c.cube) (joined blocks))
 within_is_published c bytes end blocks report judged is =
     let said = said_within c judged.lines judged.rest end judged.back report judged.ends in
-    let front = lines_publish (publishes_within c.cube) (λ a. is_within c.cube a.1) c (λ id lits. refl) [] judged.lines judged.front judged.good (sym said ∙ is) in
+    let front = lines_publish (publishes_within c.cube) (λ a. is_within c.cube a.1) c
+    (λ id lits. refl) [] judged.lines judged.front judged.good (sym said ∙ is) in
     ap (λ bs. list_any (publishes_within c.cube) (joined bs)) judged.split
     ∙ ap (list_any (publishes_within c.cube)) (flat_map-append (λ (block : History). block) judged.front judged.back)
     ∙ any_front (publishes_within c.cube) (joined judged.front) (joined judged.back) front
@@ -59,35 +60,42 @@ refutes_either f cube c later publishable h rest =
       | inr none ↦ rest (ap (λ b. b || later) (sym none) ∙ h)
     ]
 
-refuted_from : (f : Cnf) (p : LayoutValue) (cube : CubeValue) (m : State) (es : History) → LegalFrom f p m es → list_any (publishes_within cube) es ≡ true → IsUnsatisfiableUnder f cube
+refuted_from : (f : Cnf) (p : LayoutValue) (cube : CubeValue) (m : State) (es : History) → LegalFrom f p m es
+    → list_any (publishes_within cube) es ≡ true → IsUnsatisfiableUnder f cube
 refuted_from f p cube m [] legal h = absurd (let e : false ≡ true = h in cc)
 refuted_from f p cube m (events.fetch s id r ∷ es) legal h = refuted_from f p cube m es legal.2 h
 refuted_from f p cube m (events.publish s id c publishing.Taken ∷ es) legal h = refuted_from f p cube m es legal.2 h
 refuted_from f p cube m (events.retire s id r ∷ es) legal h = refuted_from f p cube _ es legal.2 h
 refuted_from f p cube m (events.publish s id c publishing.Done ∷ es) legal h =
-    refutes_either f cube c (list_any (publishes_within cube) es) legal.1.1 h (refuted_from f p cube (after m (events.publish s id c publishing.Done)) es legal.2)
+    refutes_either f cube c (list_any (publishes_within cube) es) legal.1.1 h
+    (refuted_from f p cube (after m (events.publish s id c publishing.Done)) es legal.2)
 
 -- So where a stream's events are its own of a legal history, and its report says 'within', the formula is unsatisfiable under the cube.
 sound : (f : Cnf) (p : LayoutValue) (h : History) (c : Setting) (stream : Stream) (blocks : List History) (report : Report)
-    → IsLegal f p h → own h c.stream ≡ joined blocks → JudgesStream c stream blocks report → IsTrue report.within → IsUnsatisfiableUnder f c.cube
+    → IsLegal f p h → own h c.stream ≡ joined blocks → JudgesStream c stream blocks report → IsTrue report.within
+    → IsUnsatisfiableUnder f c.cube
 sound f p h c stream blocks report legal mine judged is =
     let published = stream_publishes c stream blocks report judged is in
     refuted_from f p c.cube (opening f) h legal.events
     (any_filtered (publishes_within c.cube) _ h (ap (list_any (publishes_within c.cube)) mine ∙ published))
 
 -- So it is where the stream's blocks stand in an order of lines that is legal.
-sound_in_order : (f : Cnf) (p : LayoutValue) (order : List Block) (s : ℕ) (c : Setting) (stream : Stream) (blocks : List History) (report : Report)
-    → IsLegal f p (events_in order) → blocks ≡ blocks_of s order → JudgesStream c stream blocks report → IsTrue report.within → IsUnsatisfiableUnder f c.cube
+sound_in_order : (f : Cnf) (p : LayoutValue) (order : List Block) (s : ℕ) (c : Setting) (stream : Stream) (blocks : List History)
+    (report : Report)
+    → IsLegal f p (events_in order) → blocks ≡ blocks_of s order → JudgesStream c stream blocks report → IsTrue report.within
+    → IsUnsatisfiableUnder f c.cube
 sound_in_order f p order s c stream blocks report legal own judged is =
     refuted_from f p c.cube (opening f) (events_in order) legal.events
     (any_block (publishes_within c.cube) s order
-    (subst (λ (bs : List History). IsTrue (list_any (publishes_within c.cube) (joined bs))) own (stream_publishes c stream blocks report judged is)))
+    (subst (λ (bs : List History). IsTrue (list_any (publishes_within c.cube) (joined bs))) own
+    (stream_publishes c stream blocks report judged is)))
 
 -- ---- a run
 
 -- with two threads for each stream
 sound_by : (f : Cnf) (terms : TermsValue) (h : History) → IsLegal f terms.layout h → (s : ℕ) (streams : List Stream) (reports : List Report)
-    → AreJudgedIn terms (λ t. true) h s streams reports → list_any (λ report. report.within) reports ≡ true → IsUnsatisfiableUnder f terms.cube
+    → AreJudgedIn terms (λ t. true) h s streams reports → list_any (λ report. report.within) reports ≡ true
+    → IsUnsatisfiableUnder f terms.cube
 sound_by f terms h legal s [] [] judged is = absurd (let no : false ≡ true = is in cc)
 sound_by f terms h legal s [] (r ∷ rs) judged is = absurd judged
 sound_by f terms h legal s (t ∷ ts) [] judged is = absurd judged
@@ -95,19 +103,23 @@ sound_by f terms h legal s (t ∷ ts) (r ∷ rs) judged is =
     let this = judged.0 refl in
     elim (cases_Bool r.within) [
       | inl here ↦ sound f terms.layout h (setting_of terms s) t this.0 r legal this.1 this.2 here
-      | inr none ↦ sound_by f terms h legal (s + 1) ts rs judged.1 (ap (λ b. b || list_any (λ (report : Report). report.within) rs) (sym none) ∙ is)
+      | inr none ↦
+          sound_by f terms h legal (s + 1) ts rs judged.1 (ap (λ b. b || list_any (λ (report : Report). report.within) rs) (sym none) ∙ is)
     ]
 
 -- by turns
-sound_among : (f : Cnf) (terms : TermsValue) (blocks : List Block) (k : ℕ) (streams : List Stream) (reports : List Report) → IsLegal f terms.layout (events_in blocks)
-    → AreJudged terms (λ s. true) (λ s events. events ≡ blocks_of s blocks) k streams reports → list_any (λ report. report.within) reports ≡ true → IsUnsatisfiableUnder f terms.cube
+sound_among : (f : Cnf) (terms : TermsValue) (blocks : List Block) (k : ℕ) (streams : List Stream) (reports : List Report)
+    → IsLegal f terms.layout (events_in blocks)
+    → AreJudged terms (λ s. true) (λ s events. events ≡ blocks_of s blocks) k streams reports
+    → list_any (λ report. report.within) reports ≡ true → IsUnsatisfiableUnder f terms.cube
 sound_among f terms blocks k [] [] legal judged some = absurd (let none : false ≡ true = some in cc)
 sound_among f terms blocks k [] (r ∷ reports) legal judged some = absurd judged
 sound_among f terms blocks k (stream ∷ streams) [] legal judged some = absurd judged
 sound_among f terms blocks k (stream ∷ streams) (r ∷ reports) legal judged some =
     elim (cases_Bool r.within) [
       | inl yes' ↦ sound_in_order f terms.layout blocks k (setting_of terms k) stream _ r legal (judged.0 refl).1 (judged.0 refl).2 yes'
-      | inr none ↦ sound_among f terms blocks (k + 1) streams reports legal judged.1 (ap (λ b. b || list_any (λ (report : Report). report.within) reports) (sym none) ∙ some)
+      | inr none ↦ sound_among f terms blocks (k + 1) streams reports legal judged.1
+          (ap (λ b. b || list_any (λ (report : Report). report.within) reports) (sym none) ∙ some)
     ]
 
 -- ---- the verdict
@@ -118,18 +130,21 @@ some_within false true is = refl
 some_within false false is = absurd (let no : Unknown ≡ UnsatisfiableUnder = is in cc)
 
 -- the verdict 'unsatisfiable under assumptions' is that of a report
-is_within_some : (reports : List Report) (verdict : Verdict) → verdict ≡ verdict_of reports → verdict ≡ UnsatisfiableUnder → list_any (λ report. report.within) reports ≡ true
+is_within_some : (reports : List Report) (verdict : Verdict) → verdict ≡ verdict_of reports → verdict ≡ UnsatisfiableUnder
+    → list_any (λ report. report.within) reports ≡ true
 is_within_some reports verdict of is =
     some_within (list_any (λ (report : Report). report.empty) reports) (list_any (λ (report : Report). report.within) reports) (sym of ∙ is)
 
 -- so it is true, with two threads for each stream
 pub sound_under_run : (f : Cnf) (terms : TermsValue) (h : History) (streams : List Stream) (reports : List Report) (verdict : Verdict)
-    → IsLegal f terms.layout h → AreJudgedIn terms (λ t. true) h 1 streams reports → verdict ≡ verdict_of reports → verdict ≡ UnsatisfiableUnder
-    → IsUnsatisfiableUnder f terms.cube
-sound_under_run f terms h streams reports verdict legal judged of is = sound_by f terms h legal 1 streams reports judged (is_within_some reports verdict of is)
+    → IsLegal f terms.layout h → AreJudgedIn terms (λ t. true) h 1 streams reports → verdict ≡ verdict_of reports
+    → verdict ≡ UnsatisfiableUnder → IsUnsatisfiableUnder f terms.cube
+sound_under_run f terms h streams reports verdict legal judged of is =
+    sound_by f terms h legal 1 streams reports judged (is_within_some reports verdict of is)
 
 -- and by turns
 pub sound_under_order : (f : Cnf) (terms : TermsValue) (streams : List Stream) (reports : List Report) (verdict : Verdict)
-    → IsOrdered f terms (λ s. true) streams reports → verdict ≡ verdict_of reports → verdict ≡ UnsatisfiableUnder → IsUnsatisfiableUnder f terms.cube
+    → IsOrdered f terms (λ s. true) streams reports → verdict ≡ verdict_of reports → verdict ≡ UnsatisfiableUnder
+    → IsUnsatisfiableUnder f terms.cube
 sound_under_order f terms streams reports verdict ordered of is =
     sound_among f terms ordered.blocks 1 streams reports ordered.legal ordered.judged (is_within_some reports verdict of is)

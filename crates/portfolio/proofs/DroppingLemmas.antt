@@ -41,7 +41,8 @@ same_end report other same (inl ended) = inl (sym same ∙ ended)
 same_end report other same (inr failed) = inr (failed.0, sym same ∙ failed.1)
 
 -- what a checker dropped that has taken all bytes, where one that is over has the report's ending
-checker_drops : EarlyIsDecided → (c : Setting) (v : CheckerValue) (room : ℕ) (bytes : List ℕ) (blocks : List History) (report : Report) (ending : Option Ending)
+checker_drops : EarlyIsDecided
+    → (c : Setting) (v : CheckerValue) (room : ℕ) (bytes : List ℕ) (blocks : List History) (report : Report) (ending : Option Ending)
     → v.ending ≡ ending → Leaves c bytes blocks (checker_state v room) → ((its : Ending) → v.ending ≡ Some its → report.ending ≡ its)
     → HasDropped c bytes report v.dropped
 checker_drops law c v room bytes blocks report None is leaves over whole = going_drops c v room bytes blocks is leaves
@@ -55,4 +56,5 @@ checker_drops law c v room bytes blocks report (Some ending) is leaves over whol
 pub job_drops : EarlyIsDecided → (v : CheckerValue) (room : ℕ) (bytes : List ℕ) (blocks : List History) (report : Report) (ids : List ℕ)
     → Leaves v.setting [] [] (checker_state v room) → DropsBy v room bytes blocks ids report → HasDropped v.setting bytes report ids
 job_drops law v room bytes blocks report ids fresh d whole =
-    subst (AreDroppedBy v.setting bytes) (sym d.are) (checker_drops law v.setting d.last d.free bytes blocks report d.last.ending refl (d.left [] [] fresh) d.over whole)
+    subst (AreDroppedBy v.setting bytes) (sym d.are)
+    (checker_drops law v.setting d.last d.free bytes blocks report d.last.ending refl (d.left [] [] fresh) d.over whole)

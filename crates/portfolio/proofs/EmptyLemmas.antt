@@ -44,11 +44,14 @@ module _ (p : Event → Bool) where
   pub any_back : (es fs : History) → list_any p fs ≡ true → list_any p (es ++ fs) ≡ true
   any_back es fs e = list_any-append p es fs ∙ or_right (list_any p es) (list_any p fs) e
 
-  any_more : (es fs gs : History) → (list_any p fs ≡ true → list_any p gs ≡ true) → list_any p (es ++ fs) ≡ true → list_any p (es ++ gs) ≡ true
-  any_more es fs gs rest e = list_any-append p es gs ∙ or_more (list_any p es) (list_any p fs) (list_any p gs) rest (sym (list_any-append p es fs) ∙ e)
+  any_more : (es fs gs : History) → (list_any p fs ≡ true → list_any p gs ≡ true) → list_any p (es ++ fs) ≡ true
+      → list_any p (es ++ gs) ≡ true
+  any_more es fs gs rest e = list_any-append p es gs
+      ∙ or_more (list_any p es) (list_any p fs) (list_any p gs) rest (sym (list_any-append p es fs) ∙ e)
 
   -- one of those that pass a test is one of all
-  filtered_step : (x : Event) (es fs : History) (b : Bool) → (list_any p fs ≡ true → list_any p es ≡ true) → list_any p (if b then x ∷ fs else fs) ≡ true → list_any p (x ∷ es) ≡ true
+  filtered_step : (x : Event) (es fs : History) (b : Bool) → (list_any p fs ≡ true → list_any p es ≡ true)
+      → list_any p (if b then x ∷ fs else fs) ≡ true → list_any p (x ∷ es) ≡ true
   filtered_step x es fs true rest e = or_more (p x) (list_any p fs) (list_any p es) rest e
   filtered_step x es fs false rest e = or_right (p x) (list_any p es) (rest e)
 
@@ -57,13 +60,15 @@ module _ (p : Event → Bool) where
   any_filtered q (x ∷ es) e = filtered_step x es (filter q es) (q x) (any_filtered q es) e
 
   -- one of a stream's blocks is one of all
-  block_step : (es all : History) (later : List History) (b : Bool) → (list_any p (joined later) ≡ true → list_any p all ≡ true) → list_any p (joined (if b then es ∷ later else later)) ≡ true → list_any p (es ++ all) ≡ true
+  block_step : (es all : History) (later : List History) (b : Bool) → (list_any p (joined later) ≡ true → list_any p all ≡ true)
+      → list_any p (joined (if b then es ∷ later else later)) ≡ true → list_any p (es ++ all) ≡ true
   block_step es all later true rest e = any_more es (joined later) all rest e
   block_step es all later false rest e = any_back es all (rest e)
 
   pub any_block : (s : ℕ) (blocks : List Block) → list_any p (joined (blocks_of s blocks)) ≡ true → list_any p (events_in blocks) ≡ true
   any_block s [] e = e
-  any_block s (block ∷ blocks) e = block_step block.events (events_in blocks) (blocks_of s blocks) (block.stream == s) (any_block s blocks) e
+  any_block s (block ∷ blocks) e =
+      block_step block.events (events_in blocks) (blocks_of s blocks) (block.stream == s) (any_block s blocks) e
 
 -- ---- the publish of a good addition
 
@@ -91,7 +96,8 @@ module _ (p : Event → Bool) (c : Setting) (gone : ℕ → Bool) (published : E
   hints_publish n (h ∷ hints) es (inr good) =
       let a = good.1 in
       ap (list_any p) a.events
-      ∙ any_back p a.asked a.rest (at_reply a.reply n h hints a.rest (λ m. JudgesHints c gone published m hints a.rest Good) (λ m k. hints_publish m hints a.rest k) a.next)
+      ∙ any_back p a.asked a.rest (at_reply a.reply n h hints a.rest (λ m. JudgesHints c gone published m hints a.rest Good)
+      (λ m k. hints_publish m hints a.rest k) a.next)
 
 -- a good addition whose publish passes
 addition_publishes : (p : Event → Bool) (c : Setting) (st : Standing) (id : ℕ) (lits : List ℤ) (hints : List ℕ) (es : History)
@@ -106,17 +112,22 @@ addition_publishes p c st id lits hints es (inr (a, inr (b, inr (d, inr (e, judg
 -- ---- the lines of a stream
 
 -- where one of the good additions passes, one of the publishes does
-pub lines_publish : (p : Event → Bool) (adds : ℕ × Clause → Bool) (c : Setting) → ((id : ℕ) (lits : List ℤ) → p (published_by c id lits) ≡ adds (id, distinct lits))
-    → (before lines : List StreamLine) (blocks : List History) → AreGood c before lines blocks → list_any adds (additions_of lines) ≡ true → list_any p (joined blocks) ≡ true
+pub lines_publish : (p : Event → Bool) (adds : ℕ × Clause → Bool) (c : Setting)
+    → ((id : ℕ) (lits : List ℤ) → p (published_by c id lits) ≡ adds (id, distinct lits))
+    → (before lines : List StreamLine) (blocks : List History) → AreGood c before lines blocks → list_any adds (additions_of lines) ≡ true
+    → list_any p (joined blocks) ≡ true
 lines_publish p adds c same before [] [] good e = absurd (let f : false ≡ true = e in cc)
 lines_publish p adds c same before [] (block ∷ blocks) good e = absurd good
 lines_publish p adds c same before (line ∷ lines) [] good e = absurd good
-lines_publish p adds c same before (Deletion lead ids ∷ lines) (block ∷ blocks) good e = any_back p block (joined blocks) (lines_publish p adds c same _ lines blocks good.1 e)
-lines_publish p adds c same before (Import id lits ∷ lines) (block ∷ blocks) good e = any_back p block (joined blocks) (lines_publish p adds c same _ lines blocks good.1 e)
+lines_publish p adds c same before (Deletion lead ids ∷ lines) (block ∷ blocks) good e =
+    any_back p block (joined blocks) (lines_publish p adds c same _ lines blocks good.1 e)
+lines_publish p adds c same before (Import id lits ∷ lines) (block ∷ blocks) good e =
+    any_back p block (joined blocks) (lines_publish p adds c same _ lines blocks good.1 e)
 lines_publish p adds c same before (Addition id lits hints ∷ lines) (block ∷ blocks) good e =
     elim (cases_Bool (adds (id, distinct lits))) [
       | inl is ↦ any_front p block (joined blocks) (addition_publishes p c _ id lits hints block good.0 (same id lits ∙ is))
-      | inr none ↦ any_back p block (joined blocks) (lines_publish p adds c same _ lines blocks good.1 (ap (λ b. b || list_any adds (additions_of lines)) (sym none) ∙ e))
+      | inr none ↦ any_back p block (joined blocks)
+          (lines_publish p adds c same _ lines blocks good.1 (ap (λ b. b || list_any adds (additions_of lines)) (sym none) ∙ e))
     ]
 
 -- Where the report says 'empty', one of the events published the empty clause.
@@ -124,7 +135,8 @@ pub empty_is_published : (c : Setting) (bytes : List ℕ) (end : StreamEnd) (blo
     → JudgesBlocks c bytes end blocks report → IsTrue report.empty → IsTrue (list_any publishes_empty (joined blocks))
 empty_is_published c bytes end blocks report judged is =
     let said = said_empty c judged.lines judged.rest end judged.back report judged.ends in
-    let front = lines_publish publishes_empty (λ a. length a.1 == 0) c (λ id lits. refl) [] judged.lines judged.front judged.good (sym said ∙ is) in
+    let front =
+    lines_publish publishes_empty (λ a. length a.1 == 0) c (λ id lits. refl) [] judged.lines judged.front judged.good (sym said ∙ is) in
     ap (λ bs. list_any publishes_empty (joined bs)) judged.split
     ∙ ap (list_any publishes_empty) (flat_map-append (λ (block : History). block) judged.front judged.back)
     ∙ any_front publishes_empty (joined judged.front) (joined judged.back) front
@@ -142,17 +154,20 @@ from_zero [] h = refl
 from_zero (l ∷ c) h = absurd (omega (arith, eqb-true (length (l ∷ c)) 0 h))
 
 -- either the first event published it, or a later one
-follows_either : (f : Cnf) (c : Clause) (later b : Bool) → (length c == 0) ≡ b → Follows f c → ((length c == 0) || later) ≡ true → (later ≡ true → Follows f []) → Follows f []
+follows_either : (f : Cnf) (c : Clause) (later b : Bool) → (length c == 0) ≡ b → Follows f c → ((length c == 0) || later) ≡ true
+    → (later ≡ true → Follows f []) → Follows f []
 follows_either f c later true is follows h rest = subst (Follows f) (from_zero c is) follows
 follows_either f c later false is follows h rest = rest (ap (λ b. b || later) (sym is) ∙ h)
 
-empty_follows : (f : Cnf) (p : LayoutValue) (m : State) (es : History) → LegalFrom f p m es → list_any publishes_empty es ≡ true → Follows f []
+empty_follows : (f : Cnf) (p : LayoutValue) (m : State) (es : History) → LegalFrom f p m es
+    → list_any publishes_empty es ≡ true → Follows f []
 empty_follows f p m [] legal h = absurd (let e : false ≡ true = h in cc)
 empty_follows f p m (events.fetch s id r ∷ es) legal h = empty_follows f p m es legal.2 h
 empty_follows f p m (events.publish s id c publishing.Taken ∷ es) legal h = empty_follows f p m es legal.2 h
 empty_follows f p m (events.retire s id r ∷ es) legal h = empty_follows f p _ es legal.2 h
 empty_follows f p m (events.publish s id c publishing.Done ∷ es) legal h =
-    follows_either f c (list_any publishes_empty es) (length c == 0) refl legal.1.1.follows h (empty_follows f p (after m (events.publish s id c publishing.Done)) es legal.2)
+    follows_either f c (list_any publishes_empty es) (length c == 0) refl legal.1.1.follows h
+    (empty_follows f p (after m (events.publish s id c publishing.Done)) es legal.2)
 
 -- a legal history that publishes the empty clause is one of an unsatisfiable formula
 pub refuted : (f : Cnf) (p : LayoutValue) (h : History) → IsLegal f p h → IsTrue (list_any publishes_empty h) → IsUnsatisfiable f
@@ -166,8 +181,10 @@ sound f p h c stream blocks report legal mine judged is =
     refuted f p h legal (any_filtered publishes_empty _ h (ap (list_any publishes_empty) mine ∙ published))
 
 -- So it is where the stream's blocks stand in an order of lines that is legal.
-pub sound_in_order : (f : Cnf) (p : LayoutValue) (order : List Block) (s : ℕ) (c : Setting) (stream : Stream) (blocks : List History) (report : Report)
-    → IsLegal f p (events_in order) → blocks ≡ blocks_of s order → JudgesStream c stream blocks report → IsTrue report.empty → IsUnsatisfiable f
+pub sound_in_order : (f : Cnf) (p : LayoutValue) (order : List Block) (s : ℕ) (c : Setting) (stream : Stream) (blocks : List History)
+    (report : Report)
+    → IsLegal f p (events_in order) → blocks ≡ blocks_of s order → JudgesStream c stream blocks report → IsTrue report.empty
+    → IsUnsatisfiable f
 sound_in_order f p order s c stream blocks report legal own judged is =
     refuted f p (events_in order) legal (any_block publishes_empty s order
     (subst (λ (bs : List History). IsTrue (list_any publishes_empty (joined bs))) own (stream_publishes c stream blocks report judged is)))

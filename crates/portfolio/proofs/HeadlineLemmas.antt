@@ -1,5 +1,6 @@
 -- The one history of a run with threads, and what the reports say of it.
-use Rattle.std.proofs.Common.{◌≡◌, inl, inr, ℕ, zero, suc, ◌+◌, ◌-◌, ◌<◌, ◌≤◌, Bool, true, false, List, [], ◌∷◌, ◌++◌, length, map, take, Some, refl, sym, ap, ap₂, subst, ◌∙◌, arith, append-nil}
+use Rattle.std.proofs.Common.{◌≡◌, inl, inr, ℕ, zero, suc, ◌+◌, ◌-◌, ◌<◌, ◌≤◌, Bool, true, false, List, [], ◌∷◌, ◌++◌, length, map, take}
+use Rattle.std.proofs.Common.{Some, refl, sym, ap, ap₂, subst, ◌∙◌, arith, append-nil}
 use Rattle.std.specs.Result.{IsErrAnd}
 use Rattle.std.specs.Prelude.{IsSome, Result, Ok, Err, slice_get, if◌then◌else◌}
 use Rattle.std.specs.List.{AllByRecursion, list_any, AllZip}
@@ -49,7 +50,8 @@ no_fault p faults.BadStreamCount is (a, b, inr many) = omega (arith, is.streams,
 no_fault p faults.RowTooLong is bad = omega (arith, is.row, bad.4)
 
 -- out of memory is no fault of the layout
-pub not_layout : {T : Type 0} (result : Result T RunFault) (fault : LayoutFault) → IsErrAnd result (λ e. e ≡ Memory) → result ≡ Err (Layout fault) → ⊥
+pub not_layout : {T : Type 0} (result : Result T RunFault) (fault : LayoutFault) → IsErrAnd result (λ e. e ≡ Memory)
+    → result ≡ Err (Layout fault) → ⊥
 not_layout (Ok value) fault memory is = cc
 not_layout (Err e) fault memory is = cc
 
@@ -60,12 +62,14 @@ abbrev pub AreOpened : StoreValue → Cnf → ℕ → List PassValue → Type 0
 AreOpened store f s [] = Unit {0}
 AreOpened store f s (p ∷ ps) = IsOpened store f s p × AreOpened store f (s + 1) ps
 
-opened_from : (store : StoreValue) (f : Cnf) (s : ℕ) (ps : List PassValue) → ((k : ℕ) (p : PassValue) → slice_get ps k ≡ Some p → IsOpened store f (s + k) p) → AreOpened store f s ps
+opened_from : (store : StoreValue) (f : Cnf) (s : ℕ) (ps : List PassValue)
+    → ((k : ℕ) (p : PassValue) → slice_get ps k ≡ Some p → IsOpened store f (s + k) p) → AreOpened store f s ps
 opened_from store f s [] each = tt
 opened_from store f s (p ∷ ps) each =
     let here : s + 0 ≡ s = omega arith in (
       subst (λ (n : ℕ). IsOpened store f n p) here (each 0 p refl),
-      opened_from store f (s + 1) ps (λ k q at. let next : s + suc k ≡ s + 1 + k = omega arith in subst (λ (n : ℕ). IsOpened store f n q) next (each (suc k) q at)),
+      opened_from store f (s + 1) ps
+          (λ k q at. let next : s + suc k ≡ s + 1 + k = omega arith in subst (λ (n : ℕ). IsOpened store f n q) next (each (suc k) q at)),
     )
 
 -- each stream's pass stands at its place
@@ -92,17 +96,20 @@ ends_own : (f : Cnf) (p : LayoutValue) (s : ℕ) (es h : History) (v : View) →
 ends_own f p s es h v e saw = sym e.fair.mine ∙ ap₂ (λ (g : History) (n : ℕ). own g n) saw (ap (λ (c : Caller). c.stream) e.caller)
 
 ends_legal : (f : Cnf) (p : LayoutValue) (s : ℕ) (es h : History) (v : View) → Ends f p s es v → v.seen ≡ h → IsLegal f p h
-ends_legal f p s es h v e saw = subst (λ (c : Caller). IsLegal c.formula c.layout h) e.caller (subst (λ (g : History). IsLegal v.caller.formula v.caller.layout g) saw e.fair.legal)
+ends_legal f p s es h v e saw = subst (λ (c : Caller). IsLegal c.formula c.layout h) e.caller
+    (subst (λ (g : History). IsLegal v.caller.formula v.caller.layout g) saw e.fair.legal)
 
 first_saw : (h : History) (vs : List View) → AllSaw h vs → 0 < length vs → h ≡ seen_by vs
 first_saw h [] saw some = absurd (omega arith)
 first_saw h (v ∷ vs) saw some = sym saw.0
 
 -- a pass that has made no call has the whole room
-opened_room : (f : Cnf) (p : LayoutValue) (store : StoreValue) (s : ℕ) (q : PassValue) → store.layout ≡ p → IsOpened store f s q → p.room ≡ (pass_place q.view).room
+opened_room : (f : Cnf) (p : LayoutValue) (store : StoreValue) (s : ℕ) (q : PassValue) → store.layout ≡ p → IsOpened store f s q
+    → p.room ≡ (pass_place q.view).room
 opened_room f p store s q same opened =
     let whole : p.room ≡ p.room - 0 = omega arith in
-    whole ∙ sym (ap₂ (λ (c : Caller) (m : History). c.layout.room - spent c.stream m) opened.caller opened.mine ∙ ap (λ (l : LayoutValue). l.room - 0) same)
+    whole ∙ sym (ap₂ (λ (c : Caller) (m : History). c.layout.room - spent c.stream m) opened.caller opened.mine
+    ∙ ap (λ (l : LayoutValue). l.room - 0) same)
 
 -- Each report is the judgement of what the stream's reader told and of the calls of the stream's pass, for the streams counted
 -- on from s.
@@ -160,7 +167,8 @@ module _ {S : Type 0} (view : SourceView S) where
   )
 
   -- the same of a run's jobs, at the passes that its store has opened
-  pub run_ready : {store : StoreValue} {f : Cnf} {terms made : TermsValue} {n : ℕ} (firsts : List S) (passes : List PassValue) (js : List (JobsValue S))
+  pub run_ready : {store : StoreValue} {f : Cnf} {terms made : TermsValue} {n : ℕ} (firsts : List S) (passes : List PassValue)
+      (js : List (JobsValue S))
       → n ≡ length passes → n ≡ terms.layout.streams
       → ((s : ℕ) (pass : PassValue) → IsStream terms.layout s → slice_get passes (s - 1) ≡ Some pass → IsOpened store f s pass)
       → made ≡ terms → AreJobs made 1 firsts passes js → AreReady store f terms 1 firsts js
@@ -185,7 +193,8 @@ module _ {S : Type 0} (view : SourceView S) where
             stream = stream ∙ sym (ap (λ (c : Setting). c.stream) setting);
           };
           vacant = λ id owns above.
-              let here = subst (λ (n : ℕ). Owns terms.layout n id) stream (subst (λ (q : LayoutValue). Owns q j.pass.view.caller.stream id) layout owns) in
+              let here = subst (λ (n : ℕ). Owns terms.layout n id) stream
+              (subst (λ (q : LayoutValue). Owns q j.pass.view.caller.stream id) layout owns) in
               ap₂ (λ (g : Cnf) (h : History). state g h id) formula opened.mine ∙ opening-owned f terms.layout s id fits here;
         };
       }
@@ -217,14 +226,16 @@ module _ {S : Type 0} (view : SourceView S) where
 
   -- ---- what was found, and the passes when all have met
 
-  pub finish_of : (store : StoreValue) (f : Cnf) (terms : TermsValue) (s : ℕ) (firsts : List S) (js : List (JobsValue S)) (fs : List (FoundValue S))
+  pub finish_of : (store : StoreValue) (f : Cnf) (terms : TermsValue) (s : ℕ) (firsts : List S) (js : List (JobsValue S))
+      (fs : List (FoundValue S))
       → AreReady store f terms s firsts js → AllFinish view js fs → AreOf store (map (λ x. x.pass) fs)
   finish_of store f terms s [] [] [] ready all = tt
   finish_of store f terms s [] [] (x ∷ fs) ready all = absurd all
   finish_of store f terms s [] (j ∷ js) fs ready all = absurd ready
   finish_of store f terms s (e ∷ es) [] fs ready all = absurd ready
   finish_of store f terms s (e ∷ es) (j ∷ js) [] ready all = absurd all
-  finish_of store f terms s (e ∷ es) (j ∷ js) (x ∷ fs) ready all = (all.0.store ∙ ready.0.opened.store, finish_of store f terms (s + 1) es js fs ready.1 all.1)
+  finish_of store f terms s (e ∷ es) (j ∷ js) (x ∷ fs) ready all =
+      (all.0.store ∙ ready.0.opened.store, finish_of store f terms (s + 1) es js fs ready.1 all.1)
 
   pub finish_count : (js : List (JobsValue S)) (fs : List (FoundValue S)) → AllFinish view js fs → length fs ≡ length js
   finish_count [] [] all = refl
@@ -239,7 +250,8 @@ module _ {S : Type 0} (view : SourceView S) where
   met_count (x ∷ fs) (v ∷ vs) met = omega (arith, met_count fs vs met.2)
 
   ends : (f : Cnf) (p : LayoutValue) (store : StoreValue) (s : ℕ) (j : JobsValue S) (x : FoundValue S) (v : View)
-      → store.layout ≡ p → IsOpened store f s j.pass → (fin : Finishes view j x) → PassMoves x.pass.view v [] → IsFair v → Ends f p s (joined fin.blocks) v
+      → store.layout ≡ p → IsOpened store f s j.pass → (fin : Finishes view j x) → PassMoves x.pass.view v [] → IsFair v
+      → Ends f p s (joined fin.blocks) v
   ends f p store s j x v same opened fin met fair = record {
     caller = met.caller ∙ fin.moves.caller ∙ opened.caller ∙ ap (λ (l : LayoutValue). record { formula = f; layout = l; stream = s }) same;
     mine = met.mine ∙ append-nil x.pass.view.mine ∙ fin.moves.mine ∙ ap (λ (es : History). es ++ joined fin.blocks) opened.mine;
@@ -265,11 +277,13 @@ module _ {S : Type 0} (view : SourceView S) where
       (subst (HasCalls f terms.layout h s) this (end.caller, saw.0, ends_own f terms.layout s (joined all.0.blocks) h v end saw.0))
   have_calls f terms store h same s (e ∷ es) (j ∷ js) (x ∷ fs) (v ∷ vs) ready all met saw (suc k) w at =
       let next : s + 1 + k ≡ s + suc k = omega arith in
-      subst (λ (n : ℕ). HasCalls f terms.layout h n w) next (have_calls f terms store h same (s + 1) es js fs vs ready.1 all.1 met.2 saw.1 k w at)
+      subst (λ (n : ℕ). HasCalls f terms.layout h n w) next
+      (have_calls f terms store h same (s + 1) es js fs vs ready.1 all.1 met.2 saw.1 k w at)
 
   have_legal : (f : Cnf) (terms : TermsValue) (store : StoreValue) (h : History) → store.layout ≡ terms.layout
       → (s : ℕ) (firsts : List S) (js : List (JobsValue S)) (fs : List (FoundValue S)) (vs : List View)
-      → AreReady store f terms s firsts js → AllFinish view js fs → AreMet (views (map (λ x. x.pass) fs)) vs → AllSaw h vs → 0 < length js → IsLegal f terms.layout h
+      → AreReady store f terms s firsts js → AllFinish view js fs → AreMet (views (map (λ x. x.pass) fs)) vs → AllSaw h vs → 0 < length js
+      → IsLegal f terms.layout h
   have_legal f terms store h same s firsts [] fs vs ready all met saw some = absurd (omega arith)
   have_legal f terms store h same s [] (j ∷ js) fs vs ready all met saw some = absurd ready
   have_legal f terms store h same s (e ∷ es) (j ∷ js) [] vs ready all met saw some = absurd all
@@ -278,9 +292,11 @@ module _ {S : Type 0} (view : SourceView S) where
       ends_legal f terms.layout s (joined all.0.blocks) h v (ends f terms.layout store s j x v same ready.0.opened all.0 met.0 met.1) saw.0
 
   -- all passes of a run have one history
-  pub one_history : (f : Cnf) (terms : TermsValue) (store : StoreValue) (firsts : List S) (js : List (JobsValue S)) (fs : List (FoundValue S)) (vs : List View)
+  pub one_history : (f : Cnf) (terms : TermsValue) (store : StoreValue) (firsts : List S) (js : List (JobsValue S))
+      (fs : List (FoundValue S)) (vs : List View)
       → IsLayout terms.layout → store.layout ≡ terms.layout → length js ≡ terms.layout.streams
-      → AreReady store f terms 1 firsts js → AllFinish view js fs → AreMet (views (map (λ x. x.pass) fs)) vs → HaveMet vs → HaveOneHistory f terms.layout (seen_by vs) vs
+      → AreReady store f terms 1 firsts js → AllFinish view js fs → AreMet (views (map (λ x. x.pass) fs)) vs → HaveMet vs
+      → HaveOneHistory f terms.layout (seen_by vs) vs
   one_history f terms store firsts js fs vs is same count ready all met one =
       let each : length vs ≡ terms.layout.streams = met_count fs vs met ∙ finish_count js fs all ∙ count in
       let seen : one.0 ≡ seen_by vs = first_saw one.0 vs one.1 (omega (arith, is.some_stream, each)) in
@@ -316,7 +332,14 @@ module _ {S : Type 0} (view : SourceView S) where
   pub judged_by : EarlyIsDecided → (f : Cnf) (terms : TermsValue) (store : StoreValue) → store.layout ≡ terms.layout
       → (s : ℕ) (firsts : List S) (js : List (JobsValue S)) (fs : List (FoundValue S)) (vs : List View)
       → AreReady store f terms s firsts js → AllFinish view js fs → AreMet (views (map (λ x. x.pass) fs)) vs → Judged terms s firsts fs vs
-  judged_by law f terms store same s [] [] [] [] ready all met = record { streams = []; out = tt; told = tt; judged = tt; read = tt; dropped = tt }
+  judged_by law f terms store same s [] [] [] [] ready all met = record {
+    streams = [];
+    out = tt;
+    told = tt;
+    judged = tt;
+    read = tt;
+    dropped = tt;
+  }
   judged_by law f terms store same s [] [] [] (v ∷ vs) ready all met = absurd met
   judged_by law f terms store same s [] [] (x ∷ fs) vs ready all met = absurd all
   judged_by law f terms store same s [] (j ∷ js) fs vs ready all met = absurd ready
@@ -325,7 +348,8 @@ module _ {S : Type 0} (view : SourceView S) where
   judged_by law f terms store same s (e ∷ es) (j ∷ js) (x ∷ fs) [] ready all met = absurd met
   judged_by law f terms store same s (e ∷ es) (j ∷ js) (x ∷ fs) (v ∷ vs) ready all met =
       let here = ready.0 in
-      let fresh = subst (λ (n : ℕ). Leaves j.checker.setting [] [] (checker_state j.checker n)) (opened_room f terms.layout store s j.pass same here.opened) here.checker.left in
+      let fresh = subst (λ (n : ℕ). Leaves j.checker.setting [] [] (checker_state j.checker n))
+      (opened_room f terms.layout store s j.pass same here.opened) here.checker.left in
       let one = all.0.judged fresh in
       let of = subst (λ (r : S). IsStreamOf view r x.reader one.0) here.reader_is one.2 in
       let calls = (ends f terms.layout store s j x v same here.opened all.0 met.0 met.1).mine in
@@ -345,7 +369,8 @@ module _ {S : Type 0} (view : SourceView S) where
   -- Of the first streams alone, whose passes have met: one legal history has the events by which each is judged.
   pub were_judged : EarlyIsDecided → (f : Cnf) (terms : TermsValue) (store : StoreValue) → store.layout ≡ terms.layout
       → (firsts : List S) (js : List (JobsValue S)) (fs : List (FoundValue S)) (vs : List View)
-      → AreReady store f terms 1 firsts js → AllFinish view js fs → AreMet (views (map (λ x. x.pass) fs)) vs → HaveMet vs → WereJudged view f terms firsts
+      → AreReady store f terms 1 firsts js → AllFinish view js fs → AreMet (views (map (λ x. x.pass) fs)) vs → HaveMet vs
+      → WereJudged view f terms firsts
   were_judged law f terms store same [] [] [] vs ready all met one = record {
     history = [];
     legal = record { events = tt; room = λ s. omega arith };
@@ -372,11 +397,13 @@ module _ {S : Type 0} (view : SourceView S) where
       }
 
   -- the same in the words of the lists that are given back, and of the one history
-  pub judged_so : (f : Cnf) (terms wanted : TermsValue) (firsts lasts : List S) (reports : List Report) (dropped : List (List ℕ)) (fs : List (FoundValue S)) (vs : List View)
+  pub judged_so : (f : Cnf) (terms wanted : TermsValue) (firsts lasts : List S) (reports : List Report) (dropped : List (List ℕ))
+      (fs : List (FoundValue S)) (vs : List View)
       → Judged terms 1 firsts fs vs → terms ≡ wanted → HaveOneHistory f wanted.layout (seen_by vs) vs
       → lasts ≡ map (λ x. x.reader) fs → reports ≡ map (λ x. x.report) fs → dropped ≡ map (λ x. x.dropped.ids) fs
       → StandsOnStreams (tellings view firsts lasts)
-      (λ streams. AllByRecursion (λ stream. IsSome stream.end) streams × AreJudgedIn wanted (λ s. true) (seen_by vs) 1 streams reports × AreRead S view.reads firsts lasts streams
+      (λ streams. AllByRecursion (λ stream. IsSome stream.end) streams × AreJudgedIn wanted (λ s. true) (seen_by vs) 1 streams reports
+      × AreRead S view.reads firsts lasts streams
       × HaveDropped wanted 1 streams reports dropped)
   judged_so f terms wanted firsts lasts reports dropped fs vs j same one readers said gone =
       let judged : AreJudgedBy wanted 1 j.streams vs (map (λ x. x.report) fs) =
@@ -388,7 +415,8 @@ module _ {S : Type 0} (view : SourceView S) where
           j.out,
           rw said (judged_in wanted (seen_by vs) 1 j.streams vs (map (λ x. x.report) fs) judged (mine_at f wanted.layout vs one)),
           subst (λ (ls : List S). AreRead S view.reads firsts ls j.streams) (sym readers) j.read,
-          rw gone (rw said (subst (λ (t : TermsValue). HaveDropped t 1 j.streams (map (λ x. x.report) fs) (map (λ x. x.dropped.ids) fs)) same j.dropped)),
+          rw gone (rw said (subst (λ (t : TermsValue). HaveDropped t 1 j.streams (map (λ x. x.report) fs) (map (λ x. x.dropped.ids) fs))
+              same j.dropped)),
         );
       }
 
@@ -420,5 +448,7 @@ is_empty reports verdict of is =
 
 -- so it is true
 pub sound_run : (f : Cnf) (terms : TermsValue) (h : History) (streams : List Stream) (reports : List Report) (verdict : Verdict)
-    → IsLegal f terms.layout h → AreJudgedIn terms (λ t. true) h 1 streams reports → verdict ≡ verdict_of reports → verdict ≡ Unsatisfiable → IsUnsatisfiable f
-sound_run f terms h streams reports verdict legal judged of is = sound_by f terms h legal 1 streams reports judged (is_empty reports verdict of is)
+    → IsLegal f terms.layout h → AreJudgedIn terms (λ t. true) h 1 streams reports → verdict ≡ verdict_of reports → verdict ≡ Unsatisfiable
+    → IsUnsatisfiable f
+sound_run f terms h streams reports verdict legal judged of is =
+    sound_by f terms h legal 1 streams reports judged (is_empty reports verdict of is)

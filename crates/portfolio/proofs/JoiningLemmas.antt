@@ -4,7 +4,8 @@ use Rattle.std.proofs.lemmas.List.{map-append}
 
 pub pushed_more : {A B : Type 0} (f : B → A) (xs zs : List A) (ys : List B) (x : A) (y : B)
     → zs ≡ xs ++ x ∷ [] → xs ≡ map f ys → x ≡ f y → zs ≡ map f (ys ++ y ∷ [])
-pushed_more {A} {B} f xs zs ys x y pushed before here = pushed ∙ ap₂ (λ (l : List A) (a : A). l ++ a ∷ []) before here ∙ sym (map-append f ys (y ∷ []))
+pushed_more {A} {B} f xs zs ys x y pushed before here = pushed ∙ ap₂ (λ (l : List A) (a : A). l ++ a ∷ []) before here
+    ∙ sym (map-append f ys (y ∷ []))
 
 -- the same, where both lists are seen by a part of each element
 pub pushed_both : {A B C : Type 0} (e : A → C) (f : B → C) (xs zs : List A) (ys : List B) (x : A) (y : B)
@@ -13,5 +14,6 @@ pushed_both {A} {B} {C} e f xs zs ys x y pushed before here =
     pushed_more f (map e xs) (map e zs) ys (e x) y (ap (map e) pushed ∙ map-append e xs (x ∷ [])) before here
 
 -- one more was taken of a list
-pub whole_more : {A : Type 0} (yielded before rest all : List A) (x : A) → before ≡ x ∷ rest → yielded ++ before ≡ all → (yielded ++ x ∷ []) ++ rest ≡ all
+pub whole_more : {A : Type 0} (yielded before rest all : List A) (x : A) → before ≡ x ∷ rest → yielded ++ before ≡ all
+    → (yielded ++ x ∷ []) ++ rest ≡ all
 whole_more yielded before rest all x taken whole = append_assoc yielded (x ∷ []) rest ∙ ap (λ xs. yielded ++ xs) (sym taken) ∙ whole

@@ -14,11 +14,13 @@ added_part r = codes ": " ++ decimal r.added
 abbrev pub deleted_part : Report → List ℕ
 deleted_part r = codes " added, " ++ decimal r.deleted
 
-by_parts : (a b c d e f g h i : List ℕ) → (((((((a ++ b) ++ c) ++ d) ++ e) ++ f) ++ g) ++ h) ++ i ≡ (((((a ++ b) ++ (c ++ d)) ++ (e ++ f)) ++ g) ++ h) ++ i
+by_parts : (a b c d e f g h i : List ℕ)
+    → (((((((a ++ b) ++ c) ++ d) ++ e) ++ f) ++ g) ++ h) ++ i ≡ (((((a ++ b) ++ (c ++ d)) ++ (e ++ f)) ++ g) ++ h) ++ i
 by_parts a b c d e f g h i = simp append_assoc
 
 pub line_after-parts : (words : List ℕ) (s : ℕ) (r : Report)
-    → line_after words s r ≡ (((((words ++ decimal s) ++ added_part r) ++ deleted_part r) ++ codes " deleted, ") ++ ending_text r.ending) ++ codes "\n"
+    → line_after words s r
+    ≡ (((((words ++ decimal s) ++ added_part r) ++ deleted_part r) ++ codes " deleted, ") ++ ending_text r.ending) ++ codes "\n"
 line_after-parts words s r =
     by_parts words (decimal s) (codes ": ") (decimal r.added) (codes " added, ") (decimal r.deleted)
     (codes " deleted, ") (ending_text r.ending) (codes "\n")
@@ -59,5 +61,6 @@ lines_all rs k all = ap (stream_lines 1) (sym (take_all k rs all))
 -- ---- a line by itself
 
 -- words, a number, more words, another number, and what ends the line
-pub numbers-parts : (words first between second rest : List ℕ) → words ++ first ++ between ++ second ++ rest ≡ ((words ++ first) ++ (between ++ second)) ++ rest
+pub numbers-parts : (words first between second rest : List ℕ)
+    → words ++ first ++ between ++ second ++ rest ≡ ((words ++ first) ++ (between ++ second)) ++ rest
 numbers-parts words first between second rest = simp append_assoc

@@ -1,5 +1,6 @@
 -- The blocks of a run by turns: those of one turn more, and the rounds.
-use Rattle.std.proofs.Common.{◌≡◌, ◌≢◌, IsSome, ℕ, zero, suc, ◌+◌, ◌-◌, ◌<◌, ◌≤◌, true, false, List, [], ◌∷◌, ◌++◌, length, set, slice_get, Option, Some, None, refl, sym, ap, subst, ◌∙◌, inl, inr, arith, append-nil, eqb, eq-eqb, ne_eqb}
+use Rattle.std.proofs.Common.{◌≡◌, ◌≢◌, IsSome, ℕ, zero, suc, ◌+◌, ◌-◌, ◌<◌, ◌≤◌, true, false, List, [], ◌∷◌, ◌++◌, length, set, slice_get}
+use Rattle.std.proofs.Common.{Option, Some, None, refl, sym, ap, subst, ◌∙◌, inl, inr, arith, append-nil, eqb, eq-eqb, ne_eqb}
 use Rattle.std.specs.List.{AllByRecursion}
 use Rattle.std.proofs.lemmas.Bool.{cases_eq, cases_lt, cond-true, cond-false}
 use Rattle.std.proofs.lemmas.Grind.{flat_map-append}
@@ -51,22 +52,27 @@ blocks_of-other s t (b ∷ bs) other =
     cond-false (eqb s t) (b ∷ here) here (ne_eqb s t other) ∙ blocks_of-other s t bs other
 
 pub blocks_more : (s : ℕ) (blocks : List Block) (bs : List History) → blocks_of s (blocks ++ tagged s bs) ≡ blocks_of s blocks ++ bs
-blocks_more s blocks bs = blocks_of-append s blocks (tagged s bs) ∙ ap (λ (xs : List History). blocks_of s blocks ++ xs) (blocks_of-own s bs)
+blocks_more s blocks bs = blocks_of-append s blocks (tagged s bs)
+    ∙ ap (λ (xs : List History). blocks_of s blocks ++ xs) (blocks_of-own s bs)
 
 pub blocks_beside : (s t : ℕ) (blocks : List Block) (bs : List History) → s ≢ t → blocks_of t (blocks ++ tagged s bs) ≡ blocks_of t blocks
 blocks_beside s t blocks bs other =
-    blocks_of-append t blocks (tagged s bs) ∙ ap (λ (xs : List History). blocks_of t blocks ++ xs) (blocks_of-other s t bs other) ∙ append-nil (blocks_of t blocks)
+    blocks_of-append t blocks (tagged s bs) ∙ ap (λ (xs : List History). blocks_of t blocks ++ xs) (blocks_of-other s t bs other)
+    ∙ append-nil (blocks_of t blocks)
 
 all-back : {X : Type 0} (P : X → Type 0) (xs ys : List X) → AllByRecursion P (xs ++ ys) → AllByRecursion P ys
 all-back P [] ys all = all
 all-back P (x ∷ xs) ys all = all-back P xs ys all.1
 
 -- they are within the layout, as the stream is
-pub within-tagged : (p : LayoutValue) (s : ℕ) (bs : List History) → IsStream p s → AllByRecursion (λ e. stream_of e ≡ s) (joined bs) → AllByRecursion (IsBlockWithin p (λ t. true)) (tagged s bs)
+pub within-tagged : (p : LayoutValue) (s : ℕ) (bs : List History) → IsStream p s → AllByRecursion (λ e. stream_of e ≡ s) (joined bs)
+    → AllByRecursion (IsBlockWithin p (λ t. true)) (tagged s bs)
 unfolding tagged
 within-tagged p s [] stream calls = tt
-within-tagged p s (b ∷ bs) stream calls =
-    ((stream, refl, All-front (λ e. stream_of e ≡ s) b (joined bs) calls), within-tagged p s bs stream (all-back (λ e. stream_of e ≡ s) b (joined bs) calls))
+within-tagged p s (b ∷ bs) stream calls = (
+  (stream, refl, All-front (λ e. stream_of e ≡ s) b (joined bs) calls),
+  within-tagged p s bs stream (all-back (λ e. stream_of e ≡ s) b (joined bs) calls),
+)
 
 -- ---- the blocks of one turn
 
@@ -79,7 +85,8 @@ just_one None bs going are = are
 just_one (Some ending) bs going are = cc
 
 -- at most one line more of stream s
-own_lines : (s : ℕ) (blocks : List Block) (bs : List History) → length bs ≤ 1 → line_count s (streams_of (blocks ++ tagged s bs)) ≡ line_count s (streams_of blocks) + length bs
+own_lines : (s : ℕ) (blocks : List Block) (bs : List History) → length bs ≤ 1
+    → line_count s (streams_of (blocks ++ tagged s bs)) ≡ line_count s (streams_of blocks) + length bs
 unfolding tagged
 own_lines s blocks [] few = omega (arith, ap (λ (xs : List Block). line_count s (streams_of xs)) (append-nil blocks))
 own_lines s blocks (b ∷ []) few =
@@ -87,7 +94,8 @@ own_lines s blocks (b ∷ []) few =
     ap (line_count s) (streams_of-push blocks block) ∙ lines_pushed (streams_of blocks) s
 own_lines s blocks (b ∷ c ∷ bs) few = absurd (omega (arith, few))
 
-other_lines : (s t : ℕ) (blocks : List Block) (bs : List History) → length bs ≤ 1 → s ≢ t → line_count t (streams_of (blocks ++ tagged s bs)) ≡ line_count t (streams_of blocks)
+other_lines : (s t : ℕ) (blocks : List Block) (bs : List History) → length bs ≤ 1 → s ≢ t
+    → line_count t (streams_of (blocks ++ tagged s bs)) ≡ line_count t (streams_of blocks)
 unfolding tagged
 other_lines s t blocks [] few other = ap (λ (xs : List Block). line_count t (streams_of xs)) (append-nil blocks)
 other_lines s t blocks (b ∷ []) few other =
@@ -95,7 +103,8 @@ other_lines s t blocks (b ∷ []) few other =
     ap (line_count t) (streams_of-push blocks block) ∙ lines_beside (streams_of blocks) s t other
 other_lines s t blocks (b ∷ c ∷ bs) few other = absurd (omega (arith, few))
 
-turn_taken : (s : ℕ) (blocks : List Block) (bs : List History) → length bs ≤ 1 → IsByTurns (streams_of blocks) → IsTurnOf s (streams_of blocks) → IsByTurns (streams_of (blocks ++ tagged s bs))
+turn_taken : (s : ℕ) (blocks : List Block) (bs : List History) → length bs ≤ 1 → IsByTurns (streams_of blocks)
+    → IsTurnOf s (streams_of blocks) → IsByTurns (streams_of (blocks ++ tagged s bs))
 unfolding tagged
 turn_taken s blocks [] few turns its = subst (λ (xs : List Block). IsByTurns (streams_of xs)) (sym (append-nil blocks)) turns
 turn_taken s blocks (b ∷ []) few turns its =
@@ -140,9 +149,11 @@ module _ {S : Type 0} where
     turns = tt;
   }
 
-  module _ (rounds i : ℕ) (blocks : List Block) (ws : List (WorkerValue S)) (w : WorkerValue S) (at : slice_get ws i ≡ Some w) (now : IsInRound rounds i (streams_of blocks) ws) where
+  module _ (rounds i : ℕ) (blocks : List Block) (ws : List (WorkerValue S)) (w : WorkerValue S) (at : slice_get ws i ≡ Some w)
+      (now : IsInRound rounds i (streams_of blocks) ws) where
     -- after the turn of stream i + 1, which isn't over before
-    pub round_turned : (v : WorkerValue S) (bs : List History) → w.checker.ending ≡ None → AreBlocksOfTurn v.checker.ending bs → IsInRound rounds (i + 1) (streams_of (blocks ++ tagged (i + 1) bs)) (set ws i v)
+    pub round_turned : (v : WorkerValue S) (bs : List History) → w.checker.ending ≡ None → AreBlocksOfTurn v.checker.ending bs
+        → IsInRound rounds (i + 1) (streams_of (blocks ++ tagged (i + 1) bs)) (set ws i v)
     round_turned v bs going are =
         let own : line_count (i + 1) (streams_of blocks) ≡ rounds = now.going_behind (i + 1) w (stream_at ws i w at) going (omega arith) in
         let few : length bs ≤ 1 = at_most_one v.checker.ending bs are in
@@ -153,17 +164,26 @@ module _ {S : Type 0} where
             | inl is ↦ subst (λ t. line_count t all ≤ rounds + 1) is (omega (arith, own_lines (i + 1) blocks bs few, own, few))
             | inr other ↦ omega (arith, other_lines (i + 1) s blocks bs few other, now.before s (omega (arith, most, other)))
           ];
-          behind = λ s more. omega (arith, other_lines (i + 1) s blocks bs few (λ is. omega (arith, is, more)), now.behind s (omega (arith, more)));
+          behind = λ s more.
+              omega (arith, other_lines (i + 1) s blocks bs few (λ is. omega (arith, is, more)), now.behind s (omega (arith, more)));
           going_before = λ s u here still most. elim (cases_eq (i + 1) s) [
             | inl is ↦
                 let same : v ≡ u = same_at (set ws i v) s v u (subst (λ t. IsOfStream (set ws i v) t v) is set_at) here in
                 let one : length bs ≡ 1 = just_one v.checker.ending bs (ap (λ (x : WorkerValue S). x.checker.ending) same ∙ still) are in
                 subst (λ t. line_count t all ≡ rounds + 1) is (omega (arith, own_lines (i + 1) blocks bs few, own, one))
-            | inr other ↦ omega (arith, other_lines (i + 1) s blocks bs few other, now.going_before s u (stream_beside ws i s v u other here) still (omega (arith, most, other)))
+            | inr other ↦ omega (
+              arith,
+              other_lines (i + 1) s blocks bs few other,
+              now.going_before s u (stream_beside ws i s v u other here) still (omega (arith, most, other)),
+            )
           ];
           going_behind = λ s u here still more.
               let other : i + 1 ≢ s = λ is. omega (arith, is, more) in
-              omega (arith, other_lines (i + 1) s blocks bs few other, now.going_behind s u (stream_beside ws i s v u other here) still (omega (arith, more)));
+              omega (
+                arith,
+                other_lines (i + 1) s blocks bs few other,
+                now.going_behind s u (stream_beside ws i s v u other here) still (omega (arith, more)),
+              );
           turns = turn_taken (i + 1) blocks bs few now.turns (λ t. (
             λ behind. omega (arith, own, now.behind t (omega (arith, behind))),
             λ before. omega (arith, own, now.before t (omega (arith, before))),
@@ -190,7 +210,8 @@ module _ {S : Type 0} where
     }
 
   -- all streams had their turn of this round
-  pub round_over : (rounds : ℕ) (order : List ℕ) (ws : List (WorkerValue S)) → IsInRound rounds (length ws) order ws → IsInRound (rounds + 1) 0 order ws
+  pub round_over : (rounds : ℕ) (order : List ℕ) (ws : List (WorkerValue S)) → IsInRound rounds (length ws) order ws
+      → IsInRound (rounds + 1) 0 order ws
   round_over rounds order ws now = record {
     before = λ s few. omega (arith, now.before s (omega (arith, few)));
     behind = λ s more. elim (cases_lt (length ws) s) [

@@ -1,5 +1,6 @@
 -- What the fetches after a run are answered by: the state that the run's history leaves.
-use Rattle.std.proofs.Common.{◌≡◌, ℕ, suc, zero, ◌+◌, ◌-◌, ◌<◌, ◌≤◌, List, [], ◌∷◌, ◌++◌, length, Some, refl, sym, ap, ap₂, subst, ◌∙◌, inl, inr, arith, append-nil, append_assoc}
+use Rattle.std.proofs.Common.{◌≡◌, ℕ, suc, zero, ◌+◌, ◌-◌, ◌<◌, ◌≤◌, List, [], ◌∷◌, ◌++◌, length, Some, refl, sym, ap, ap₂, subst, ◌∙◌, inl}
+use Rattle.std.proofs.Common.{inr, arith, append-nil, append_assoc}
 use Rattle.std.specs.Prelude.{slice_get}
 use Rattle.std.specs.List.{AllByRecursion}
 use Rattle.std.proofs.lemmas.Bool.{cases_eq, cases_lt}
@@ -82,7 +83,8 @@ pub answered_behind : (f : Cnf) (p : LayoutValue) (h more : History) (s : ℕ) (
     → own more s ≡ fetches s 1 replies → (t : ℕ) → AllByRecursion (Answers (state f h)) (fetches t 1 replies)
 answered_behind f p h more s replies legal owners mine t =
     let back : LegalFrom f p (state f h) more = legal-back f p (opening f) h more legal.events in
-    let all : AllByRecursion (Answers (state f h)) more = all_answer f p (state f h) more back (all_fetch f p (state f h) more back owners) in
+    let all : AllByRecursion (Answers (state f h)) more =
+    all_answer f p (state f h) more back (all_fetch f p (state f h) more back owners) in
     answers_any (state f h) s t 1 replies
     (subst (λ (g : History). AllByRecursion (Answers (state f h)) g) mine (own_all (Answers (state f h)) more s all))
 
@@ -131,7 +133,8 @@ own_none_behind h more s same =
     append_cancel_left (own h s) (own more s) [] (sym (own-append h more s) ∙ same ∙ sym (append-nil (own h s)))
 
 -- The last of a run's passes fetched, and then all met once more: what was fetched is what the run's history left.
-pub fetched_so : (f : Cnf) (p : LayoutValue) (h : History) (vs : List View) (v w : View) (replies : List Reply) (us : List View) (g : History)
+pub fetched_so : (f : Cnf) (p : LayoutValue) (h : History) (vs : List View) (v w : View) (replies : List Reply)
+    (us : List View) (g : History)
     → HaveOneHistory f p h (vs ++ v ∷ []) → PassMoves v w (fetches v.caller.stream 1 replies)
     → AreMet (vs ++ w ∷ []) us → AllSaw g us → (t : ℕ) → AllByRecursion (Answers (state f h)) (fetches t 1 replies)
 fetched_so f p h vs v w replies us g one moves met saw =
@@ -142,7 +145,8 @@ fetched_so f p h vs v w replies us g one moves met saw =
     let last : MetAt g w = met_at g (vs ++ w ∷ []) us met saw (length vs) w (last_at vs w) in
     let more : History = moves.seen.0 ++ last.moves.seen.0 in
     let whole : g ≡ h ++ more =
-    sym last.saw ∙ last.moves.seen.1 ∙ ap (λ (k : History). k ++ last.moves.seen.0) (moves.seen.1 ∙ ap (λ (k : History). k ++ moves.seen.0) called.1)
+    sym last.saw ∙ last.moves.seen.1
+    ∙ ap (λ (k : History). k ++ last.moves.seen.0) (moves.seen.1 ∙ ap (λ (k : History). k ++ moves.seen.0) called.1)
     ∙ append_assoc h moves.seen.0 last.moves.seen.0 in
     let stream : v.caller.stream ≡ s = ap (λ (c : Caller). c.stream) called.0 in
     let stays : w.caller.stream ≡ s = ap (λ (c : Caller). c.stream) moves.caller ∙ stream in

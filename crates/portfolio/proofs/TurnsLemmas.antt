@@ -1,5 +1,7 @@
 -- A run on one thread: before the first turn, after one more, and when all streams are over.
-use Rattle.std.proofs.Common.{◌≡◌, ◌≢◌, IsSome, IfSome, ℕ, zero, suc, ◌+◌, ◌-◌, ◌<◌, ◌≤◌, Bool, true, false, eqb, List, [], ◌∷◌, ◌++◌, length, get_or, set, take, replicate, map, Option, Some, None, refl, sym, ap, subst, ◌∙◌, inl, inr, arith, length-set, ne_eqb}
+use Rattle.std.proofs.Common.{◌≡◌, ◌≢◌, IsSome, IfSome, ℕ, zero, suc, ◌+◌, ◌-◌, ◌<◌, ◌≤◌, Bool, true, false, eqb, List, [], ◌∷◌, ◌++◌}
+use Rattle.std.proofs.Common.{length, get_or, set, take, replicate, map, Option, Some, None, refl, sym, ap, subst, ◌∙◌, inl, inr, arith}
+use Rattle.std.proofs.Common.{length-set, ne_eqb}
 use borrow.Author.Count.{below_more}
 use Rattle.std.specs.Prelude.{◌||◌, ◌↔◌, IsTrue}
 use Rattle.std.specs.List.{AllByRecursion, list_any, sum_by, AllZip}
@@ -24,7 +26,8 @@ use Rattle.stream_check.specs.CheckerValue.{Tally, report_of_tally}
 use Rattle.stream_check.specs.Checker.{IsReadyAt}
 use Rattle.stream_check.specs.Laws.{ReadyBeside}
 use Rattle.portfolio.proofs.EmptyLemmas.{sound_in_order}
-use Rattle.portfolio.proofs.RoundLemmas.{tagged, within-tagged, events_more, blocks_more, blocks_beside, round_opened, round_turned, round_passed, round_over}
+use Rattle.portfolio.proofs.RoundLemmas.{tagged, within-tagged, events_more, blocks_more, blocks_beside, round_opened, round_turned}
+use Rattle.portfolio.proofs.RoundLemmas.{round_passed, round_over}
 use Rattle.portfolio.proofs.WorkingLemmas.{not_over}
 use Rattle.portfolio.proofs.DroppingLemmas.{read_drops}
 use Rattle.portfolio.specs.Dropping.{AreDroppedBy, HaveDropped}
@@ -32,10 +35,12 @@ use Rattle.run_laws.specs.GroupLaws.{EarlyIsDecided}
 use Rattle.portfolio.specs.Outcomes.{OptionsValue, layout_of}
 use Rattle.lrup_text.specs.ReadOut.{SourceView}
 use Rattle.runs.specs.Readings.{AreRead, IsStreamOf}
-use Rattle.runs.specs.Streams.{Stream, tellings, IsTold, JudgesStream, Block, blocks_of, events_in, IsBlockWithin, setting_of, AreJudged, IsOrdered, StandsOnStreams, TermsValue}
+use Rattle.runs.specs.Streams.{Stream, tellings, IsTold, JudgesStream, Block, blocks_of, events_in, IsBlockWithin, setting_of, AreJudged}
+use Rattle.runs.specs.Streams.{IsOrdered, StandsOnStreams, TermsValue}
 use Rattle.runs.specs.Turns.{IsOrderedByTurns, streams_of}
 use Rattle.portfolio.specs.Working.{AreBlocksOfTurn, WorkerValue, WorksBy, Works, WorksOn, IsStarted}
-use Rattle.portfolio.specs.Turns.{HasRun, IsWorking, AreWorking, Runs, IsRunning, GoesOn, IsOver, AreOver, IsOverAt, AreStarted, HaveReports}
+use Rattle.portfolio.specs.Turns.{HasRun, IsWorking, AreWorking, Runs, IsRunning, GoesOn, IsOver, AreOver, IsOverAt, AreStarted}
+use Rattle.portfolio.specs.Turns.{HaveReports}
 
 -- ---- room
 
@@ -44,17 +49,25 @@ spent-others : (s t : ℕ) (es : History) → AllByRecursion (λ e. stream_of e 
 spent-others s t [] calls other = refl
 spent-others s t (e ∷ es) calls other =
     let not_mine : eqb (stream_of e) t ≡ false = ne_eqb (stream_of e) t (λ same. other (sym calls.0 ∙ same)) in
-    ap (λ (h : History). sum_by (λ p. length p.1) (published h)) (cond-false (eqb (stream_of e) t) (e ∷ own es t) (own es t) not_mine) ∙ spent-others s t es calls.1 other
+    ap (λ (h : History). sum_by (λ p. length p.1) (published h)) (cond-false (eqb (stream_of e) t) (e ∷ own es t) (own es t) not_mine)
+    ∙ spent-others s t es calls.1 other
 
 -- nor what is no stream of the layout
-spent-outside : (p : LayoutValue) (t : ℕ) (blocks : List Block) → AllByRecursion (IsBlockWithin p (λ s. true)) blocks → ¬ IsStream p t → spent t (events_in blocks) ≡ 0
+spent-outside : (p : LayoutValue) (t : ℕ) (blocks : List Block) → AllByRecursion (IsBlockWithin p (λ s. true)) blocks → ¬ IsStream p t
+    → spent t (events_in blocks) ≡ 0
 spent-outside p t [] within outside = refl
 spent-outside p t (block ∷ blocks) within outside =
     let other : block.stream ≢ t = λ same. outside (subst (IsStream p) same within.0.0) in
-    omega (arith, spent-append t block.events (events_in blocks), spent-others block.stream t block.events within.0.2 other, spent-outside p t blocks within.1 outside)
+    omega (
+      arith,
+      spent-append t block.events (events_in blocks),
+      spent-others block.stream t block.events within.0.2 other,
+      spent-outside p t blocks within.1 outside,
+    )
 
 -- so the events are within the streams' room
-within_room : (f : Cnf) (p : LayoutValue) (blocks : List Block) (m : Plain) → HasRun f p blocks m → (t : ℕ) → spent t (events_in blocks) ≤ p.room
+within_room : (f : Cnf) (p : LayoutValue) (blocks : List Block) (m : Plain) → HasRun f p blocks m → (t : ℕ)
+    → spent t (events_in blocks) ≤ p.room
 within_room f p blocks m has t =
     elim (cases_lt 0 t) [
       | inl positive ↦ elim (cases_lt p.streams t) [
@@ -67,7 +80,8 @@ within_room f p blocks m has t =
 -- ---- a turn
 
 -- the map, after the events of a stream's further blocks
-pub run_more : (f : Cnf) (p : LayoutValue) (blocks : List Block) (m n : Plain) (s : ℕ) (bs : List History) → HasRun f p blocks m → IsStream p s → PlainMoves m n s (joined bs) → HasRun f p (blocks ++ tagged s bs) n
+pub run_more : (f : Cnf) (p : LayoutValue) (blocks : List Block) (m n : Plain) (s : ℕ) (bs : List History) → HasRun f p blocks m
+    → IsStream p s → PlainMoves m n s (joined bs) → HasRun f p (blocks ++ tagged s bs) n
 run_more f p blocks m n s bs has stream moves =
     let before = events_in blocks in
     let same : before ++ joined bs ≡ events_in (blocks ++ tagged s bs) = sym (events_more s blocks bs) in
@@ -77,16 +91,25 @@ run_more f p blocks m n s bs has stream moves =
     (subst (λ (state : State). LegalFrom (formula_of m) m.layout state (joined bs)) has.state moves.answers)) in
     let room : (t : ℕ) → IsStream p t → free_at n t + spent t (before ++ joined bs) ≡ p.room = λ t here.
     elim (cases_eq s t) [
-      | inl mine ↦ let left : free_at n t + spent t (joined bs) ≡ free_at m t = subst (λ k. free_at n k + spent k (joined bs) ≡ free_at m k) mine moves.room in
+      | inl mine ↦
+          let left : free_at n t + spent t (joined bs) ≡ free_at m t =
+          subst (λ k. free_at n k + spent k (joined bs) ≡ free_at m k) mine moves.room in
           omega (arith, spent-append t before (joined bs), left, has.room t here)
-      | inr other ↦ omega (arith, spent-append t before (joined bs), spent-others s t (joined bs) moves.callers other, moves.others t here.0 (λ is. other (sym is)), has.room t here)
+      | inr other ↦ omega (
+        arith,
+        spent-append t before (joined bs),
+        spent-others s t (joined bs) moves.callers other,
+        moves.others t here.0 (λ is. other (sym is)),
+        has.room t here,
+      )
     ] in
     record {
       layout = moves.layout ∙ has.layout;
       formula = moves.formula ∙ has.formula;
       within = All-append (IsBlockWithin p (λ t. true)) blocks (tagged s bs) has.within (within-tagged p s bs stream moves.callers);
       legal = subst (LegalFrom f p (opening f)) same (legal-append f p (opening f) before (joined bs) has.legal later);
-      state = moves.state ∙ ap (λ (state : State). run state (joined bs)) has.state ∙ sym (run-append (opening f) before (joined bs)) ∙ ap (run (opening f)) same;
+      state = moves.state ∙ ap (λ (state : State). run state (joined bs)) has.state ∙ sym (run-append (opening f) before (joined bs))
+          ∙ ap (run (opening f)) same;
       room = subst (λ (es : History). (t : ℕ) → IsStream p t → free_at n t + spent t es ≡ p.room) same room;
     }
 
@@ -98,14 +121,17 @@ pub record IsOpened (f : Cnf) (p : LayoutValue) (m : Plain) : Type 0 where
   pub state : plain_state m ≡ opening f
   pub room : m.free ≡ replicate p.streams p.room
 
-report_at_end : (o : Option Ending) (t : Tally) (r : Report) → IsSome o → IfSome o (λ ending. r ≡ report_of_tally t ending) → (ending : Ending) × (o ≡ Some ending) × (r ≡ report_of_tally t ending)
+report_at_end : (o : Option Ending) (t : Tally) (r : Report) → IsSome o → IfSome o (λ ending. r ≡ report_of_tally t ending)
+    → (ending : Ending) × (o ≡ Some ending) × (r ≡ report_of_tally t ending)
 report_at_end None t r over is = absurd (let none : false ≡ true = over in cc)
 report_at_end (Some ending) t r over is = (ending, refl, is)
 
 module _ {S : Type 0} (view : SourceView S) where
   -- the worker whose turn it was
-  working_on : (terms : TermsValue) (blocks : List Block) (m n : Plain) (s : ℕ) (bs : List History) (first : S) (w v : WorkerValue S) → IsWorking view terms blocks m s first w
-      → WorksOn view w (free_at m s) bs v (free_at n s) → IsReadyAt v.checker (plain_place n s) → v.checker.setting ≡ w.checker.setting → IsWorking view terms (blocks ++ tagged s bs) n s first v
+  working_on : (terms : TermsValue) (blocks : List Block) (m n : Plain) (s : ℕ) (bs : List History) (first : S) (w v : WorkerValue S)
+      → IsWorking view terms blocks m s first w
+      → WorksOn view w (free_at m s) bs v (free_at n s) → IsReadyAt v.checker (plain_place n s) → v.checker.setting ≡ w.checker.setting
+      → IsWorking view terms (blocks ++ tagged s bs) n s first v
   working_on terms blocks m n s bs first w v working on ready setting = record {
     setting = setting ∙ working.setting;
     works = subst (Works view first v (free_at n s)) (sym (blocks_more s blocks bs)) (on first (blocks_of s blocks) working.works);
@@ -113,27 +139,36 @@ module _ {S : Type 0} (view : SourceView S) where
   }
 
   -- the other workers
-  module _ (law : ReadyBeside) (terms : TermsValue) (blocks : List Block) (m n : Plain) (s : ℕ) (bs : List History) (moves : PlainMoves m n s (joined bs)) where
-    working_beside : (t : ℕ) (first : S) (w : WorkerValue S) → 0 < t → s ≢ t → IsWorking view terms blocks m t first w → IsWorking view terms (blocks ++ tagged s bs) n t first w
+  module _ (law : ReadyBeside) (terms : TermsValue) (blocks : List Block) (m n : Plain) (s : ℕ) (bs : List History)
+      (moves : PlainMoves m n s (joined bs)) where
+    working_beside : (t : ℕ) (first : S) (w : WorkerValue S) → 0 < t → s ≢ t → IsWorking view terms blocks m t first w
+        → IsWorking view terms (blocks ++ tagged s bs) n t first w
     working_beside t first w positive other working =
         let stream : w.checker.setting.stream ≡ t = ap (λ (c : Setting). c.stream) working.setting in
-        let here : IsReadyAt w.checker (plain_place m w.checker.setting.stream) = subst (λ k. IsReadyAt w.checker (plain_place m k)) (sym stream) working.ready in
+        let here : IsReadyAt w.checker (plain_place m w.checker.setting.stream) =
+        subst (λ k. IsReadyAt w.checker (plain_place m k)) (sym stream) working.ready in
         record {
           setting = working.setting;
-          works = subst (λ k. Works view first w k (blocks_of t (blocks ++ tagged s bs))) (sym (moves.others t positive (λ is. other (sym is))))
+          works =
+              subst (λ k. Works view first w k (blocks_of t (blocks ++ tagged s bs))) (sym (moves.others t positive (λ is. other (sym is))))
               (subst (Works view first w (free_at m t)) (sym (blocks_beside s t blocks bs other)) working.works);
-          ready = subst (λ k. IsReadyAt w.checker (plain_place n k)) stream (law w.checker m n s (joined bs) here moves (λ is. other (is ∙ stream)));
+          ready = subst (λ k. IsReadyAt w.checker (plain_place n k)) stream
+              (law w.checker m n s (joined bs) here moves (λ is. other (is ∙ stream)));
         }
 
-    working_above : (k : ℕ) (firsts : List S) (ws : List (WorkerValue S)) → s < k → AreWorking view terms blocks m k firsts ws → AreWorking view terms (blocks ++ tagged s bs) n k firsts ws
+    working_above : (k : ℕ) (firsts : List S) (ws : List (WorkerValue S)) → s < k → AreWorking view terms blocks m k firsts ws
+        → AreWorking view terms (blocks ++ tagged s bs) n k firsts ws
     working_above k [] [] above working = tt
     working_above k [] (w ∷ ws) above working = absurd working
     working_above k (first ∷ firsts) [] above working = absurd working
-    working_above k (first ∷ firsts) (w ∷ ws) above working =
-        (working_beside k first w (omega arith) (λ is. omega (arith, is, above)) working.0, working_above (k + 1) firsts ws (omega arith) working.1)
+    working_above k (first ∷ firsts) (w ∷ ws) above working = (
+      working_beside k first w (omega arith) (λ is. omega (arith, is, above)) working.0,
+      working_above (k + 1) firsts ws (omega arith) working.1,
+    )
 
     -- the turn of the worker at place i, which is now v
-    turn_at : (k i : ℕ) (firsts : List S) (ws : List (WorkerValue S)) (d w v : WorkerValue S) → 0 < k → s ≡ k + i → i < length ws → get_or ws i d ≡ w
+    turn_at : (k i : ℕ) (firsts : List S) (ws : List (WorkerValue S)) (d w v : WorkerValue S) → 0 < k → s ≡ k + i → i < length ws
+        → get_or ws i d ≡ w
         → WorksOn view w (free_at m s) bs v (free_at n s) → IsReadyAt v.checker (plain_place n s) → v.checker.setting ≡ w.checker.setting
         → AreWorking view terms blocks m k firsts ws → AreWorking view terms (blocks ++ tagged s bs) n k firsts (set ws i v)
     turn_at k i [] [] d w v positive place within is on ready setting working = absurd (omega (arith, within))
@@ -141,8 +176,10 @@ module _ {S : Type 0} (view : SourceView S) where
     turn_at k i (first ∷ firsts) [] d w v positive place within is on ready setting working = absurd working
     turn_at k zero (first ∷ firsts) (x ∷ ws) d w v positive place within is on ready setting working =
         let here : s ≡ k = omega (arith, place) in
-        let mine : IsWorking view terms blocks m s first w = subst (λ (y : WorkerValue S). IsWorking view terms blocks m s first y) is (subst (λ t. IsWorking view terms blocks m t first x) (sym here) working.0) in (
-          subst (λ t. IsWorking view terms (blocks ++ tagged s bs) n t first v) here (working_on terms blocks m n s bs first w v mine on ready setting),
+        let mine : IsWorking view terms blocks m s first w = subst (λ (y : WorkerValue S). IsWorking view terms blocks m s first y) is
+        (subst (λ t. IsWorking view terms blocks m t first x) (sym here) working.0) in (
+          subst (λ t. IsWorking view terms (blocks ++ tagged s bs) n t first v) here
+              (working_on terms blocks m n s bs first w v mine on ready setting),
           working_above (k + 1) firsts ws (omega (arith, here)) working.1,
         )
     turn_at k (suc i) (first ∷ firsts) (x ∷ ws) d w v positive place within is on ready setting working = (
@@ -153,17 +190,20 @@ module _ {S : Type 0} (view : SourceView S) where
   -- ---- what a worker has before its turn
 
   -- the worker at place i, where they are counted on from k
-  pub working_at : (terms : TermsValue) (blocks : List Block) (m : Plain) (k i : ℕ) (firsts : List S) (ws : List (WorkerValue S)) (d w : WorkerValue S) → i < length ws → get_or ws i d ≡ w
+  pub working_at : (terms : TermsValue) (blocks : List Block) (m : Plain) (k i : ℕ) (firsts : List S) (ws : List (WorkerValue S))
+      (d w : WorkerValue S) → i < length ws → get_or ws i d ≡ w
       → AreWorking view terms blocks m k firsts ws → IsReadyAt w.checker (plain_place m (k + i))
   working_at terms blocks m k i [] [] d w within is working = absurd (omega (arith, within))
   working_at terms blocks m k i [] (x ∷ ws) d w within is working = absurd working
   working_at terms blocks m k i (first ∷ firsts) [] d w within is working = absurd working
   working_at terms blocks m k zero (first ∷ firsts) (x ∷ ws) d w within is working =
       let place : k ≡ k + zero = omega arith in
-      subst (λ t. IsReadyAt w.checker (plain_place m t)) place (subst (λ (y : WorkerValue S). IsReadyAt y.checker (plain_place m k)) is working.0.ready)
+      subst (λ t. IsReadyAt w.checker (plain_place m t)) place
+      (subst (λ (y : WorkerValue S). IsReadyAt y.checker (plain_place m k)) is working.0.ready)
   working_at terms blocks m k (suc i) (first ∷ firsts) (x ∷ ws) d w within is working =
       let place : k + 1 + i ≡ k + suc i = omega arith in
-      subst (λ t. IsReadyAt w.checker (plain_place m t)) place (working_at terms blocks m (k + 1) i firsts ws d w (omega (arith, within)) is working.1)
+      subst (λ t. IsReadyAt w.checker (plain_place m t)) place
+      (working_at terms blocks m (k + 1) i firsts ws d w (omega (arith, within)) is working.1)
 
   -- the worker at this place isn't over
   pub going_at : (ws : List (WorkerValue S)) (i : ℕ) (d e : WorkerValue S) (over : Bool) → i < length ws
@@ -172,7 +212,8 @@ module _ {S : Type 0} (view : SourceView S) where
       ap (λ (w : WorkerValue S). w.checker.ending) (get_or_default ws i e d within) ∙ not_over over (get_or ws i d).checker.ending is going
 
   -- the worker of stream i + 1 of a run, whatever run it is
-  pub ready_at : (taken : ℕ) (m : Plain) (ws : List (WorkerValue S)) (i : ℕ) (d : WorkerValue S) → IsRunning view taken m ws → i < length ws → IsReadyAt (get_or ws i d).checker (plain_place m (i + 1))
+  pub ready_at : (taken : ℕ) (m : Plain) (ws : List (WorkerValue S)) (i : ℕ) (d : WorkerValue S) → IsRunning view taken m ws → i < length ws
+      → IsReadyAt (get_or ws i d).checker (plain_place m (i + 1))
   ready_at taken m ws i d running within =
       let runs = running.3 in
       let here = working_at running.1 runs.blocks m 1 i running.2 ws d (get_or ws i d) within refl runs.workers_are in
@@ -180,9 +221,11 @@ module _ {S : Type 0} (view : SourceView S) where
       subst (λ t. IsReadyAt (get_or ws i d).checker (plain_place m t)) place here
 
   -- a run goes on by a turn of the worker at place i
-  pub runs_more : (law : ReadyBeside) (f : Cnf) (terms : TermsValue) (firsts : List S) (m n : Plain) (ws : List (WorkerValue S)) (i : ℕ) (d v : WorkerValue S) (bs : List History)
+  pub runs_more : (law : ReadyBeside) (f : Cnf) (terms : TermsValue) (firsts : List S) (m n : Plain) (ws : List (WorkerValue S)) (i : ℕ)
+      (d v : WorkerValue S) (bs : List History)
       → i < length ws → (get_or ws i d).checker.ending ≡ None → PlainMoves m n (i + 1) (joined bs) → AreBlocksOfTurn v.checker.ending bs
-      → WorksOn view (get_or ws i d) (free_at m (i + 1)) bs v (free_at n (i + 1)) → IsReadyAt v.checker (plain_place n (i + 1)) → v.checker.setting ≡ (get_or ws i d).checker.setting
+      → WorksOn view (get_or ws i d) (free_at m (i + 1)) bs v (free_at n (i + 1)) → IsReadyAt v.checker (plain_place n (i + 1))
+      → v.checker.setting ≡ (get_or ws i d).checker.setting
       → Runs view f terms firsts i m ws → Runs view f terms firsts (i + 1) n (set ws i v)
   runs_more law f terms firsts m n ws i d v bs within going moves are on ready setting runs =
       let count : length (set ws i v) ≡ terms.layout.streams = omega (arith, length-set {A = WorkerValue S}, runs.count) in
@@ -190,14 +233,15 @@ module _ {S : Type 0} (view : SourceView S) where
         count = count;
         blocks = runs.blocks ++ tagged (i + 1) bs;
         map_is = run_more f terms.layout runs.blocks m n (i + 1) bs runs.map_is (omega arith, omega (arith, within, runs.count)) moves;
-        workers_are = turn_at law terms runs.blocks m n (i + 1) bs moves 1 i firsts ws d (get_or ws i d) v (omega arith) (omega arith) within refl on ready setting runs.workers_are;
+        workers_are = turn_at law terms runs.blocks m n (i + 1) bs moves 1 i firsts ws d (get_or ws i d) v (omega arith)
+            (omega arith) within refl on ready setting runs.workers_are;
         rounds = runs.rounds;
         in_round = round_turned runs.rounds i runs.blocks ws (get_or ws i d) (slice_get-get_or ws i d within) runs.in_round v bs going are;
       }
 
   -- a stream that is over has no turn
-  pub runs_past : (f : Cnf) (terms : TermsValue) (firsts : List S) (m : Plain) (ws : List (WorkerValue S)) (i : ℕ) (d : WorkerValue S) → i < length ws → IsSome (get_or ws i d).checker.ending
-      → Runs view f terms firsts i m ws → Runs view f terms firsts (i + 1) m ws
+  pub runs_past : (f : Cnf) (terms : TermsValue) (firsts : List S) (m : Plain) (ws : List (WorkerValue S)) (i : ℕ) (d : WorkerValue S)
+      → i < length ws → IsSome (get_or ws i d).checker.ending → Runs view f terms firsts i m ws → Runs view f terms firsts (i + 1) m ws
   runs_past f terms firsts m ws i d within over runs = record {
     count = runs.count;
     blocks = runs.blocks;
@@ -208,7 +252,8 @@ module _ {S : Type 0} (view : SourceView S) where
   }
 
   -- after the last stream's turn the next round begins
-  pub runs_round : (f : Cnf) (terms : TermsValue) (firsts : List S) (m : Plain) (ws : List (WorkerValue S)) → Runs view f terms firsts (length ws) m ws → Runs view f terms firsts 0 m ws
+  pub runs_round : (f : Cnf) (terms : TermsValue) (firsts : List S) (m : Plain) (ws : List (WorkerValue S))
+      → Runs view f terms firsts (length ws) m ws → Runs view f terms firsts 0 m ws
   runs_round f terms firsts m ws runs = record {
     count = runs.count;
     blocks = runs.blocks;
@@ -219,11 +264,13 @@ module _ {S : Type 0} (view : SourceView S) where
   }
 
   -- whatever run stood at the start stands after two stretches
-  pub goes_twice : (i j k : ℕ) (a b c : Plain) (us vs ws : List (WorkerValue S)) → GoesOn view i a us j b vs → GoesOn view j b vs k c ws → GoesOn view i a us k c ws
+  pub goes_twice : (i j k : ℕ) (a b c : Plain) (us vs ws : List (WorkerValue S)) → GoesOn view i a us j b vs → GoesOn view j b vs k c ws
+      → GoesOn view i a us k c ws
   goes_twice i j k a b c us vs ws front back f terms firsts runs = back f terms firsts (front f terms firsts runs)
 
   -- so some run stands
-  pub running_on : (i j : ℕ) (a b : Plain) (us vs : List (WorkerValue S)) → IsRunning view i a us → GoesOn view i a us j b vs → IsRunning view j b vs
+  pub running_on : (i j : ℕ) (a b : Plain) (us vs : List (WorkerValue S)) → IsRunning view i a us → GoesOn view i a us j b vs
+      → IsRunning view j b vs
   running_on i j a b us vs running on = (running.0, running.1, running.2, on running.0 running.1 running.2 running.3)
 
   -- one more stream was over, where all were
@@ -233,8 +280,10 @@ module _ {S : Type 0} (view : SourceView S) where
   over_more i true turned first old new none before here = absurd (cc)
   over_more i false turned first old new none before here =
       let over = before refl in
-      let last = here none in
-      (last.1 ∙ over.0, λ k below. subst (λ (ws : List (WorkerValue S)). IsOverAt ws k) (sym last.1) (below_more (IsOverAt old) i over.1 last.0 k below))
+      let last = here none in (
+        last.1 ∙ over.0,
+        λ k below. subst (λ (ws : List (WorkerValue S)). IsOverAt ws k) (sym last.1) (below_more (IsOverAt old) i over.1 last.0 k below),
+      )
 
   -- each worker is over
   pub over_each : (ws : List (WorkerValue S)) → ((k : ℕ) → k < length ws → IsOverAt ws k) → AreOver ws
@@ -243,15 +292,16 @@ module _ {S : Type 0} (view : SourceView S) where
 
   -- ---- the reports
 
-  reports_more : (ws : List (WorkerValue S)) (rs : List Report) (w : WorkerValue S) (r : Report) → HaveReports ws rs → IsOver w → IfSome w.checker.ending (λ ending. r ≡ report_of_tally w.checker.tally ending)
-      → HaveReports (ws ++ w ∷ []) (rs ++ r ∷ [])
+  reports_more : (ws : List (WorkerValue S)) (rs : List Report) (w : WorkerValue S) (r : Report) → HaveReports ws rs → IsOver w
+      → IfSome w.checker.ending (λ ending. r ≡ report_of_tally w.checker.tally ending) → HaveReports (ws ++ w ∷ []) (rs ++ r ∷ [])
   reports_more [] [] w r have over is = (report_at_end w.checker.ending w.checker.tally r over is, tt)
   reports_more [] (x ∷ rs) w r have over is = absurd have
   reports_more (v ∷ ws) [] w r have over is = absurd have
   reports_more (v ∷ ws) (x ∷ rs) w r have over is = (have.0, reports_more ws rs w r have.1 over is)
 
   -- one report more
-  pub reports_pushed : (ws : List (WorkerValue S)) (rs ts : List Report) (w : WorkerValue S) (r : Report) → ts ≡ rs ++ r ∷ [] → HaveReports ws rs → IsOver w
+  pub reports_pushed : (ws : List (WorkerValue S)) (rs ts : List Report) (w : WorkerValue S) (r : Report) → ts ≡ rs ++ r ∷ []
+      → HaveReports ws rs → IsOver w
       → IfSome w.checker.ending (λ ending. r ≡ report_of_tally w.checker.tally ending) → HaveReports (ws ++ w ∷ []) ts
   reports_pushed ws rs ts w r pushed have over is = subst (HaveReports (ws ++ w ∷ [])) (sym pushed) (reports_more ws rs w r have over is)
 
@@ -259,22 +309,29 @@ module _ {S : Type 0} (view : SourceView S) where
 
   -- one worker more
   started_more : (terms : TermsValue) (k : ℕ) (firsts : List S) (ws : List (WorkerValue S)) (first : S) (w : WorkerValue S)
-      → AreStarted view terms k firsts ws → IsStarted view terms (k + length ws) first w → AreStarted view terms k (firsts ++ first ∷ []) (ws ++ w ∷ [])
-  started_more terms k [] [] first w started here = let place : k + 0 ≡ k = omega arith in (subst (λ s. IsStarted view terms s first w) place here, tt)
+      → AreStarted view terms k firsts ws → IsStarted view terms (k + length ws) first w
+      → AreStarted view terms k (firsts ++ first ∷ []) (ws ++ w ∷ [])
+  started_more terms k [] [] first w started here =
+      let place : k + 0 ≡ k = omega arith in (subst (λ s. IsStarted view terms s first w) place here, tt)
   started_more terms k [] (v ∷ ws) first w started here = absurd started
   started_more terms k (other ∷ firsts) [] first w started here = absurd started
   started_more terms k (other ∷ firsts) (v ∷ ws) first w started here =
       let place : k + length (v ∷ ws) ≡ k + 1 + length ws = omega arith in
       (started.0, started_more terms (k + 1) firsts ws first w started.1 (subst (λ s. IsStarted view terms s first w) place here))
 
-  pub started_pushed : {X : Type 0} (terms : TermsValue) (s : ℕ) (f : X → S) (xs : List X) (x : X) (ws vs : List (WorkerValue S)) (w : WorkerValue S)
-      → vs ≡ ws ++ w ∷ [] → s ≡ length ws + 1 → AreStarted view terms 1 (map f xs) ws → IsStarted view terms s (f x) w → AreStarted view terms 1 (map f (xs ++ x ∷ [])) vs
+  pub started_pushed : {X : Type 0} (terms : TermsValue) (s : ℕ) (f : X → S) (xs : List X) (x : X) (ws vs : List (WorkerValue S))
+      (w : WorkerValue S)
+      → vs ≡ ws ++ w ∷ [] → s ≡ length ws + 1 → AreStarted view terms 1 (map f xs) ws → IsStarted view terms s (f x) w
+      → AreStarted view terms 1 (map f (xs ++ x ∷ [])) vs
   started_pushed {X} terms s f xs x ws vs w pushed place started here =
       let next : s ≡ 1 + length ws = omega (arith, place) in
-      let more : AreStarted view terms 1 (map f xs ++ f x ∷ []) (ws ++ w ∷ []) = started_more terms 1 (map f xs) ws (f x) w started (subst (λ k. IsStarted view terms k (f x) w) next here) in
-      subst (AreStarted view terms 1 (map f (xs ++ x ∷ []))) (sym pushed) (subst (λ firsts. AreStarted view terms 1 firsts (ws ++ w ∷ [])) (sym (map-append f xs (x ∷ []))) more)
+      let more : AreStarted view terms 1 (map f xs ++ f x ∷ []) (ws ++ w ∷ []) =
+      started_more terms 1 (map f xs) ws (f x) w started (subst (λ k. IsStarted view terms k (f x) w) next here) in
+      subst (AreStarted view terms 1 (map f (xs ++ x ∷ []))) (sym pushed)
+      (subst (λ firsts. AreStarted view terms 1 firsts (ws ++ w ∷ [])) (sym (map-append f xs (x ∷ []))) more)
 
-  count_started : (terms : TermsValue) (k : ℕ) (firsts : List S) (ws : List (WorkerValue S)) → AreStarted view terms k firsts ws → length ws ≡ length firsts
+  count_started : (terms : TermsValue) (k : ℕ) (firsts : List S) (ws : List (WorkerValue S)) → AreStarted view terms k firsts ws
+      → length ws ≡ length firsts
   count_started terms k [] [] started = refl
   count_started terms k [] (w ∷ ws) started = absurd started
   count_started terms k (first ∷ firsts) [] started = absurd started
@@ -282,7 +339,8 @@ module _ {S : Type 0} (view : SourceView S) where
 
   module _ (f : Cnf) (terms : TermsValue) (m : Plain) (opened : IsOpened f terms.layout m) where
     room_opened : (s : ℕ) → IsStream terms.layout s → free_at m s ≡ terms.layout.room
-    room_opened s stream = ap (λ (rooms : List ℕ). get_or rooms (s - 1) 0) opened.room ∙ get_or-replicate terms.layout.streams (s - 1) terms.layout.room 0 (omega (arith, stream.0, stream.1))
+    room_opened s stream = ap (λ (rooms : List ℕ). get_or rooms (s - 1) 0) opened.room
+        ∙ get_or-replicate terms.layout.streams (s - 1) terms.layout.room 0 (omega (arith, stream.0, stream.1))
 
     ready_opened : (s : ℕ) (first : S) (w : WorkerValue S) → IsStarted view terms s first w → IsReadyAt w.checker (plain_place m s)
     ready_opened s first w started = record {
@@ -291,10 +349,12 @@ module _ {S : Type 0} (view : SourceView S) where
         stream = sym (ap (λ (c : Setting). c.stream) started.setting);
       };
       vacant = λ id owns above.
-          ap (λ (state : State). state id) opened.state ∙ opening-owned f terms.layout s id opened.fits (subst (λ (q : LayoutValue). Owns q s id) opened.layout owns);
+          ap (λ (state : State). state id) opened.state
+          ∙ opening-owned f terms.layout s id opened.fits (subst (λ (q : LayoutValue). Owns q s id) opened.layout owns);
     }
 
-    working_started : (k : ℕ) (firsts : List S) (ws : List (WorkerValue S)) → 0 < k → k + length ws ≤ terms.layout.streams + 1 → AreStarted view terms k firsts ws → AreWorking view terms [] m k firsts ws
+    working_started : (k : ℕ) (firsts : List S) (ws : List (WorkerValue S)) → 0 < k → k + length ws ≤ terms.layout.streams + 1
+        → AreStarted view terms k firsts ws → AreWorking view terms [] m k firsts ws
     working_started k [] [] positive within started = tt
     working_started k [] (w ∷ ws) positive within started = absurd started
     working_started k (first ∷ firsts) [] positive within started = absurd started
@@ -319,7 +379,8 @@ module _ {S : Type 0} (view : SourceView S) where
     }
 
     -- a run before its first turn
-    pub runs_opened : (firsts : List S) (ws : List (WorkerValue S)) → length firsts ≡ terms.layout.streams → AreStarted view terms 1 firsts ws → Runs view f terms firsts 0 m ws
+    pub runs_opened : (firsts : List S) (ws : List (WorkerValue S)) → length firsts ≡ terms.layout.streams
+        → AreStarted view terms 1 firsts ws → Runs view f terms firsts 0 m ws
     runs_opened firsts ws count started =
         let same : length ws ≡ terms.layout.streams = omega (arith, count_started terms 1 firsts ws started, count) in
         record {
@@ -334,15 +395,20 @@ module _ {S : Type 0} (view : SourceView S) where
   -- ---- when all streams are over
 
   -- a worker that is over tells of its stream
-  told_over : (o : Option Ending) (ending : Ending) (first : S) (w : WorkerValue S) (free : ℕ) (blocks : List History) → o ≡ Some ending → WorksBy view o first w free blocks
-      → (stream : Stream) × IsStreamOf view first w.reader stream × JudgesStream w.checker.setting stream blocks (report_of_tally w.checker.tally ending)
+  told_over : (o : Option Ending) (ending : Ending) (first : S) (w : WorkerValue S) (free : ℕ) (blocks : List History) → o ≡ Some ending
+      → WorksBy view o first w free blocks
+      → (stream : Stream) × IsStreamOf view first w.reader stream
+      × JudgesStream w.checker.setting stream blocks (report_of_tally w.checker.tally ending)
       × (IsSome stream.end → AreDroppedBy w.checker.setting stream.bytes w.checker.dropped)
-  told_over o ending first w free blocks is works = let at : WorksBy view (Some ending) first w free blocks = subst (λ e. WorksBy view e first w free blocks) is works in at
+  told_over o ending first w free blocks is works =
+      let at : WorksBy view (Some ending) first w free blocks = subst (λ e. WorksBy view e first w free blocks) is works in at
 
   -- each stream is what its reader told, is judged by its blocks, and has dropped what its lines drop
-  pub streams_over : EarlyIsDecided → (terms : TermsValue) (blocks : List Block) (m : Plain) (k : ℕ) (firsts : List S) (ws : List (WorkerValue S)) (reports : List Report)
+  pub streams_over : EarlyIsDecided
+      → (terms : TermsValue) (blocks : List Block) (m : Plain) (k : ℕ) (firsts : List S) (ws : List (WorkerValue S)) (reports : List Report)
       → AreWorking view terms blocks m k firsts ws → HaveReports ws reports
-      → (streams : List Stream) × AllZip IsTold (tellings view firsts (map (λ w. w.reader) ws)) streams × AreRead S view.reads firsts (map (λ w. w.reader) ws) streams × AreJudged terms (λ s. true) (λ s events. events ≡ blocks_of s blocks) k streams reports
+      → (streams : List Stream) × AllZip IsTold (tellings view firsts (map (λ w. w.reader) ws)) streams × AreRead S view.reads firsts
+      (map (λ w. w.reader) ws) streams × AreJudged terms (λ s. true) (λ s events. events ≡ blocks_of s blocks) k streams reports
       × HaveDropped terms k streams reports (map (λ w. w.checker.dropped) ws)
   streams_over law terms blocks m k [] [] [] working have = ([], tt, tt, tt, tt)
   streams_over law terms blocks m k [] [] (r ∷ reports) working have = absurd have
@@ -357,12 +423,20 @@ module _ {S : Type 0} (view : SourceView S) where
       (subst (λ (x : Report). JudgesStream w.checker.setting told.0 (blocks_of k blocks) x) (sym have.0.2) told.2) in
       let drops : IsSome told.0.end → AreDroppedBy (setting_of terms k) told.0.bytes w.checker.dropped =
       subst (λ (c : Setting). IsSome told.0.end → AreDroppedBy c told.0.bytes w.checker.dropped) working.0.setting told.3 in
-      let dropped = read_drops law (setting_of terms k) told.0 (blocks_of k blocks) r w.checker.dropped judged drops in
-      (told.0 ∷ others.0, (told.1.0, others.1), (told.1.1, others.2), (λ all. (blocks_of k blocks, refl, judged), others.3), (dropped, others.4))
+      let dropped = read_drops law (setting_of terms k) told.0 (blocks_of k blocks) r w.checker.dropped judged drops in (
+        told.0 ∷ others.0,
+        (told.1.0, others.1),
+        (told.1.1, others.2),
+        (λ all. (blocks_of k blocks, refl, judged), others.3),
+        (dropped, others.4),
+      )
 
   -- the reports have an order of lines, by turns
-  pub ordered_over : EarlyIsDecided → (f : Cnf) (terms : TermsValue) (firsts : List S) (m : Plain) (ws : List (WorkerValue S)) (reports : List Report) → Runs view f terms firsts 0 m ws → HaveReports ws reports
-      → (streams : List Stream) × AllZip IsTold (tellings view firsts (map (λ w. w.reader) ws)) streams × AreRead S view.reads firsts (map (λ w. w.reader) ws) streams × IsOrderedByTurns f terms streams reports
+  pub ordered_over : EarlyIsDecided
+      → (f : Cnf) (terms : TermsValue) (firsts : List S) (m : Plain) (ws : List (WorkerValue S)) (reports : List Report)
+      → Runs view f terms firsts 0 m ws → HaveReports ws reports
+      → (streams : List Stream) × AllZip IsTold (tellings view firsts (map (λ w. w.reader) ws)) streams
+      × AreRead S view.reads firsts (map (λ w. w.reader) ws) streams × IsOrderedByTurns f terms streams reports
       × HaveDropped terms 1 streams reports (map (λ w. w.checker.dropped) ws)
   ordered_over law f terms firsts m ws reports runs have =
       let streams = streams_over law terms runs.blocks m 1 firsts ws reports runs.workers_are have in (
@@ -382,29 +456,36 @@ module _ {S : Type 0} (view : SourceView S) where
       )
 
 -- where one of the reports says 'empty', no assignment makes every clause of the formula true
-sound_among : (f : Cnf) (terms : TermsValue) (blocks : List Block) (k : ℕ) (streams : List Stream) (reports : List Report) → IsLegal f terms.layout (events_in blocks)
-    → AreJudged terms (λ s. true) (λ s events. events ≡ blocks_of s blocks) k streams reports → IsTrue (list_any (λ report. report.empty) reports) → IsUnsatisfiable f
+sound_among : (f : Cnf) (terms : TermsValue) (blocks : List Block) (k : ℕ) (streams : List Stream) (reports : List Report)
+    → IsLegal f terms.layout (events_in blocks)
+    → AreJudged terms (λ s. true) (λ s events. events ≡ blocks_of s blocks) k streams reports
+    → IsTrue (list_any (λ report. report.empty) reports) → IsUnsatisfiable f
 sound_among f terms blocks k [] [] legal judged some = absurd (let none : false ≡ true = some in cc)
 sound_among f terms blocks k [] (r ∷ reports) legal judged some = absurd judged
 sound_among f terms blocks k (stream ∷ streams) [] legal judged some = absurd judged
 sound_among f terms blocks k (stream ∷ streams) (r ∷ reports) legal judged some =
     elim (cases_Bool r.empty) [
       | inl yes' ↦ sound_in_order f terms.layout blocks k (setting_of terms k) stream _ r legal (judged.0 refl).1 (judged.0 refl).2 yes'
-      | inr none ↦ sound_among f terms blocks (k + 1) streams reports legal judged.1 (ap (λ b. b || list_any (λ (report : Report). report.empty) reports) (sym none) ∙ some)
+      | inr none ↦ sound_among f terms blocks (k + 1) streams reports legal judged.1
+          (ap (λ b. b || list_any (λ (report : Report). report.empty) reports) (sym none) ∙ some)
     ]
 
-pub sound_over : (f : Cnf) (terms : TermsValue) (streams : List Stream) (reports : List Report) → IsOrdered f terms (λ s. true) streams reports
-    → IsTrue (list_any (λ report. report.empty) reports) → IsUnsatisfiable f
+pub sound_over : (f : Cnf) (terms : TermsValue) (streams : List Stream) (reports : List Report)
+    → IsOrdered f terms (λ s. true) streams reports → IsTrue (list_any (λ report. report.empty) reports) → IsUnsatisfiable f
 sound_over f terms streams reports ordered some = sound_among f terms ordered.blocks 1 streams reports ordered.legal ordered.judged some
 
 -- the whole run: opened, gone on with, and over
-pub run_ordered : {S : Type 0} (law : EarlyIsDecided) (view : SourceView S) (f : Cnf) (terms wanted : TermsValue) (firsts lasts : List S) (m n : Plain) (us vs ws xs : List (WorkerValue S)) (reports : List Report) (dropped : List (List ℕ))
+pub run_ordered : {S : Type 0} (law : EarlyIsDecided) (view : SourceView S) (f : Cnf) (terms wanted : TermsValue) (firsts lasts : List S)
+    (m n : Plain) (us vs ws xs : List (WorkerValue S)) (reports : List Report) (dropped : List (List ℕ))
     → IsOpened f terms.layout m → terms ≡ wanted → length firsts ≡ terms.layout.streams → AreStarted view terms 1 firsts us
-    → vs ≡ us → GoesOn view 0 m vs 0 n ws → xs ≡ ws → HaveReports xs reports → lasts ≡ map (λ w. w.reader) xs → dropped ≡ map (λ w. w.checker.dropped) xs
-    → StandsOnStreams (tellings view firsts lasts)
-    (λ streams. IsOrderedByTurns f wanted streams reports × AreRead S view.reads firsts lasts streams × HaveDropped wanted 1 streams reports dropped)
-run_ordered {S} law view f terms wanted firsts lasts m n us vs ws xs reports dropped opened same count started same_start goes same_end have readers gone =
-    let begun : Runs view f terms firsts 0 m vs = subst (Runs view f terms firsts 0 m) (sym same_start) (runs_opened view f terms m opened firsts us count started) in
+    → vs ≡ us → GoesOn view 0 m vs 0 n ws → xs ≡ ws → HaveReports xs reports → lasts ≡ map (λ w. w.reader) xs
+    → dropped ≡ map (λ w. w.checker.dropped) xs → StandsOnStreams (tellings view firsts lasts)
+    (λ streams. IsOrderedByTurns f wanted streams reports × AreRead S view.reads firsts lasts streams
+    × HaveDropped wanted 1 streams reports dropped)
+run_ordered {S} law view f terms wanted firsts lasts m n us vs ws xs reports dropped opened same count started same_start goes same_end
+    have readers gone =
+    let begun : Runs view f terms firsts 0 m vs =
+    subst (Runs view f terms firsts 0 m) (sym same_start) (runs_opened view f terms m opened firsts us count started) in
     let ended : Runs view f terms firsts 0 n xs = subst (Runs view f terms firsts 0 n) (sym same_end) (goes f terms firsts begun) in
     let ordered = ordered_over view law f terms firsts n xs reports ended have in
     record {
@@ -413,7 +494,8 @@ run_ordered {S} law view f terms wanted firsts lasts m n us vs ws xs reports dro
       judged = (
         subst (λ (t : TermsValue). IsOrderedByTurns f t ordered.0 reports) same ordered.3,
         subst (λ (ls : List S). AreRead S view.reads firsts ls ordered.0) (sym readers) ordered.2,
-        subst (λ (t : TermsValue). HaveDropped t 1 ordered.0 reports dropped) same (subst (HaveDropped terms 1 ordered.0 reports) (sym gone) ordered.4),
+        subst (λ (t : TermsValue). HaveDropped t 1 ordered.0 reports dropped) same
+            (subst (HaveDropped terms 1 ordered.0 reports) (sym gone) ordered.4),
       );
     }
 

@@ -1,5 +1,6 @@
 -- What a worker's steps leave: a read, what the checker takes of a piece, and the end.
-use Rattle.std.proofs.Common.{◌≡◌, ℕ, ◌+◌, ◌-◌, ◌<◌, ◌≤◌, Bool, true, false, List, [], ◌++◌, length, take, drop, arith, length-take, Option, None, Some, refl, sym, ap, subst, ◌∙◌, append_assoc, append-nil}
+use Rattle.std.proofs.Common.{◌≡◌, ℕ, ◌+◌, ◌-◌, ◌<◌, ◌≤◌, Bool, true, false, List, [], ◌++◌, length, take, drop, arith, length-take, Option}
+use Rattle.std.proofs.Common.{None, Some, refl, sym, ap, subst, ◌∙◌, append_assoc, append-nil}
 use Rattle.std.specs.Prelude.{◌↔◌, IsSome, IsTrue}
 use Rattle.std.specs.Io.KnownBytes.{Consumes}
 use Rattle.std.proofs.KnownBytes.{Consumes-trans}
@@ -37,13 +38,15 @@ not_over over ending is going = none_of ending (λ some. let yes : over ≡ true
 -- ---- what is judged so for both ends is judged so for each
 
 pub either_end : (c : Setting) (bytes : List ℕ) (blocks : List History) (report : Report) (end : StreamEnd)
-    → JudgesBlocks c bytes stream_ends.Ended blocks report → JudgesBlocks c bytes stream_ends.Failed blocks report → JudgesBlocks c bytes end blocks report
+    → JudgesBlocks c bytes stream_ends.Ended blocks report → JudgesBlocks c bytes stream_ends.Failed blocks report
+    → JudgesBlocks c bytes end blocks report
 either_end c bytes blocks report stream_ends.Ended at_end at_failure = at_end
 either_end c bytes blocks report stream_ends.Failed at_end at_failure = at_failure
 
 -- ---- the blocks of a turn
 
-pub turn_blocks : (turn : CheckTurn) (ending : Option Ending) (blocks : List History) → (turn ≡ turns.More → ⊥) → (turn ≡ turns.Over → IsSome ending) → AreBlocksOf turn blocks → AreBlocksOfTurn ending blocks
+pub turn_blocks : (turn : CheckTurn) (ending : Option Ending) (blocks : List History) → (turn ≡ turns.More → ⊥)
+    → (turn ≡ turns.Over → IsSome ending) → AreBlocksOf turn blocks → AreBlocksOfTurn ending blocks
 turn_blocks turns.Line None blocks ends over are = are
 turn_blocks turns.Line (Some ending) blocks ends over are = omega (arith, are)
 turn_blocks turns.More ending blocks ends over are = absurd (ends refl)
@@ -61,7 +64,8 @@ over_without (Some ending) over = omega arith
 pub going_drops : (c : Setting) (v : CheckerValue) (room : ℕ) (bytes : List ℕ) (blocks : List History)
     → v.ending ≡ None → Leaves c bytes blocks (checker_state v room) → AreDroppedBy c bytes v.dropped
 going_drops c v room bytes blocks going leaves =
-    let left : LeavesGoing c bytes blocks (holding_of v room) = subst (λ (e : Option Ending). Leaves c bytes blocks (state_by v room e)) going leaves in
+    let left : LeavesGoing c bytes blocks (holding_of v room) =
+    subst (λ (e : Option Ending). Leaves c bytes blocks (state_by v room e)) going leaves in
     record { lines = left.lines; rest = v.pending; cut = left.cut; are = left.standing.gone }
 
 -- ---- a worker's steps
@@ -73,26 +77,32 @@ module _ {S : Type 0} (view : SourceView S) where
   pub works_none : (w : WorkerValue S) (room : ℕ) → WorksOn view w room [] w room
   works_none w room entry before works = subst (Works view entry w room) (sym (append-nil before)) works
 
-  pub works_append : (a b c : WorkerValue S) (i j k : ℕ) (front back : List History) → WorksOn view a i front b j → WorksOn view b j back c k → WorksOn view a i (front ++ back) c k
+  pub works_append : (a b c : WorkerValue S) (i j k : ℕ) (front back : List History) → WorksOn view a i front b j
+      → WorksOn view b j back c k → WorksOn view a i (front ++ back) c k
   works_append a b c i j k front back first second entry before works =
       subst (Works view entry c k) (append_assoc before front back) (second entry (before ++ front) (first entry before works))
 
   -- what was done so far, a read, and what the checker took
-  pub works_turn : (a b c d : WorkerValue S) (i j k : ℕ) (front back : List History) → WorksOn view a i front b j → WorksOn view b j [] c j → WorksOn view c j back d k → WorksOn view a i (front ++ back) d k
+  pub works_turn : (a b c d : WorkerValue S) (i j k : ℕ) (front back : List History) → WorksOn view a i front b j → WorksOn view b j [] c j
+      → WorksOn view c j back d k → WorksOn view a i (front ++ back) d k
   works_turn a b c d i j k front back first read fed = works_append a b d i j k front back first (works_append b c d j j k [] back read fed)
 
   -- a read, where all bytes were taken
   pub works_read : (old new : S) (unread piece : List ℕ) (size : ℕ) (v : CheckerValue) (room : ℕ)
-      → Consumes (view.left old) (view.left new) piece → view.reads old size (Some piece) new → 0 < length piece → unread ≡ [] → v.ending ≡ None
-      → WorksOn view (worker_of old unread v) room [] (worker_of new piece v) room
+      → Consumes (view.left old) (view.left new) piece → view.reads old size (Some piece) new → 0 < length piece → unread ≡ []
+      → v.ending ≡ None → WorksOn view (worker_of old unread v) room [] (worker_of new piece v) room
   works_read old new unread piece size v room told read some none going first before works =
       let here = subst (λ e. WorksBy view e first (worker_of old unread v) room before) going works in
       let same : here.0 ++ unread ≡ here.0 = ap (λ (t : List ℕ). here.0 ++ t) none ∙ append-nil here.0 in
       let given : Consumes (view.left first) (view.left old) here.0 = subst (Consumes (view.left first) (view.left old)) same here.1 in
       let gave : Gave S view.reads first here.0 old = subst (λ (t : List ℕ). Gave S view.reads first t old) same here.2 in
       subst (λ e. WorksBy view e first (worker_of new piece v) room (before ++ [])) (sym going)
-      (subst (λ (bs : List History). WorksBy view None first (worker_of new piece v) room bs) (sym (append-nil before))
-      (here.0, Consumes-trans (view.left first) (view.left old) (view.left new) here.0 piece given told, gave_more S view.reads first old new here.0 piece (here.0 ++ piece) size gave read some refl, here.3))
+      (subst (λ (bs : List History). WorksBy view None first (worker_of new piece v) room bs) (sym (append-nil before)) (
+        here.0,
+        Consumes-trans (view.left first) (view.left old) (view.left new) here.0 piece given told,
+        gave_more S view.reads first old new here.0 piece (here.0 ++ piece) size gave read some refl,
+        here.3,
+      ))
 
   -- the end, or a read that failed
   pub works_over : (end : StreamEnd) (old new : S) (unread rest : List ℕ) (v u : CheckerValue) (room : ℕ)
@@ -122,13 +132,14 @@ module _ {S : Type 0} (view : SourceView S) where
         ),
         judged_out u.setting here.0 [] end before report
             (subst (λ (c : Setting). JudgesBlocks c here.0 end before report) (sym same) judged.2),
-        λ out. subst (λ (c : Setting). AreDroppedBy c here.0 u.dropped) (sym same) (subst (AreDroppedBy v.setting here.0) (sym ended.4) drops),
+        λ out. subst (λ (c : Setting). AreDroppedBy c here.0 u.dropped) (sym same)
+            (subst (AreDroppedBy v.setting here.0) (sym ended.4) drops),
       ))
 
   -- the bytes so far left the checker so, and it is over or not
   works_at : (ending : Option Ending) (first reader : S) (bytes rest : List ℕ) (v : CheckerValue) (room : ℕ) (blocks : List History)
-      → v.ending ≡ ending → view.has_failed reader ≡ false → Consumes (view.left first) (view.left reader) (bytes ++ rest) → Gave S view.reads first (bytes ++ rest) reader
-      → Leaves v.setting bytes blocks (state_by v room ending)
+      → v.ending ≡ ending → view.has_failed reader ≡ false → Consumes (view.left first) (view.left reader) (bytes ++ rest)
+      → Gave S view.reads first (bytes ++ rest) reader → Leaves v.setting bytes blocks (state_by v room ending)
       → WorksBy view ending first (worker_of reader rest v) room blocks
   works_at None first reader bytes rest v room blocks is running given gave leaves =
       (bytes, given, gave, subst (λ e. Leaves v.setting bytes blocks (state_by v room e)) (sym is) leaves)
@@ -146,18 +157,23 @@ module _ {S : Type 0} (view : SourceView S) where
       → WorksOn view (worker_of reader unread v) room blocks (worker_of reader rest u) after
   works_fed reader unread front rest v u room after blocks running split going same leaves first before works =
       let here = subst (λ e. WorksBy view e first (worker_of reader unread v) room before) going works in
-      let all : here.0 ++ unread ≡ (here.0 ++ front) ++ rest = ap (λ (t : List ℕ). here.0 ++ t) split ∙ sym (append_assoc here.0 front rest) in
-      let given : Consumes (view.left first) (view.left reader) ((here.0 ++ front) ++ rest) = subst (Consumes (view.left first) (view.left reader)) all here.1 in
-      let gave : Gave S view.reads first ((here.0 ++ front) ++ rest) reader = subst (λ (t : List ℕ). Gave S view.reads first t reader) all here.2 in
+      let all : here.0 ++ unread ≡ (here.0 ++ front) ++ rest = ap (λ (t : List ℕ). here.0 ++ t) split
+      ∙ sym (append_assoc here.0 front rest) in
+      let given : Consumes (view.left first) (view.left reader) ((here.0 ++ front) ++ rest) =
+      subst (Consumes (view.left first) (view.left reader)) all here.1 in
+      let gave : Gave S view.reads first ((here.0 ++ front) ++ rest) reader =
+      subst (λ (t : List ℕ). Gave S view.reads first t reader) all here.2 in
       let there : Leaves u.setting (here.0 ++ front) (before ++ blocks) (checker_state u after) =
-      subst (λ (c : Setting). Leaves c (here.0 ++ front) (before ++ blocks) (checker_state u after)) (sym same) (leaves here.0 before here.3) in
+      subst (λ (c : Setting). Leaves c (here.0 ++ front) (before ++ blocks) (checker_state u after)) (sym same)
+      (leaves here.0 before here.3) in
       works_at u.ending first reader (here.0 ++ front) rest u after (before ++ blocks) refl running given gave there
 
 -- ---- the buffer
 
 -- the checker took the front of what lies between two places
 pub unread_split : (xs now : List ℕ) (start end used : ℕ) → now ≡ xs → used ≤ length (take (end - start) (drop start now))
-    → take (end - start) (drop start xs) ≡ take used (take (end - start) (drop start now)) ++ take (end - (start + used)) (drop (start + used) xs)
+    → take (end - start) (drop start xs)
+    ≡ take used (take (end - start) (drop start now)) ++ take (end - (start + used)) (drop (start + used) xs)
 unread_split xs now start end used same few =
     let rest = drop start now in
     let some : used ≤ end - start = omega (arith, few, length-take (end - start) rest) in

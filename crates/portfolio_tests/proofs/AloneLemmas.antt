@@ -1,5 +1,6 @@
 -- One stream of a run, by the contract of the run alone.
-use Rattle.std.proofs.Common.{◌≡◌, ◌≤◌, ◌<◌, ◌^◌, ℕ, ℤ, zero, suc, ◌+◌, ◌-◌, Bool, true, false, Option, List, [], ◌∷◌, ◌++◌, length, map, Some, None, pos, negsuc, refl, sym, ap, subst, ◌∙◌, inl, inr, arith}
+use Rattle.std.proofs.Common.{◌≡◌, ◌≤◌, ◌<◌, ◌^◌, ℕ, ℤ, zero, suc, ◌+◌, ◌-◌, Bool, true, false, Option, List, [], ◌∷◌, ◌++◌, length, map}
+use Rattle.std.proofs.Common.{Some, None, pos, negsuc, refl, sym, ap, subst, ◌∙◌, inl, inr, arith}
 use Rattle.std.specs.Fmt.{digits}
 use Rattle.std.proofs.lemmas.Bool.Decides.{eqb_tells}
 use Rattle.std.specs.Prelude.{IsTrue, slice_get, codes, ◌==◌, ◌↔◌, Result, Ok, Err, IfOk, if◌then◌else◌}
@@ -44,8 +45,8 @@ record IsFirst (told : List Telling) (streams : List Stream) (bytes : List ℕ) 
   running : telling.has_failed ≡ false
 
 first_told : {S : Type 0} (view : SourceView S) (firsts lasts : List S) (streams : List Stream) (bytes : List ℕ)
-    → AreRead S view.reads firsts lasts streams → IsOfStream (map view.left firsts) 1 (Some bytes) → IsOfStream (map view.has_failed lasts) 1 false
-    → IsFirst (tellings view firsts lasts) streams bytes
+    → AreRead S view.reads firsts lasts streams → IsOfStream (map view.left firsts) 1 (Some bytes)
+    → IsOfStream (map view.has_failed lasts) 1 false → IsFirst (tellings view firsts lasts) streams bytes
 first_told view [] [] [] bytes read entry fine = absurd (let none : None ≡ Some (Some bytes) = entry.1 in cc)
 first_told view (first ∷ firsts) (last ∷ lasts) (stream ∷ streams) bytes read entry fine = record {
   stream = stream;
@@ -95,7 +96,8 @@ pub report_alone : ReadersClosed → ToldIsReading → {S : Type 0} (view : Sour
     → CiteWithin layout_of_two (one 1) bytes
     → IsOfStream (map view.left firsts) 1 (Some bytes) → IsOfStream (map view.has_failed lasts) 1 false
     → IsOfStream reports 1 report → ¬ IsOfMemory report → IsOnlyReport bytes report
-report_alone closes reads view firsts lasts bytes Judged reports report streams isolated unique told read judged cites entry fine says memory =
+report_alone closes reads view firsts lasts bytes Judged reports report streams isolated unique told read judged cites entry
+    fine says memory =
     let tells = tellings view firsts lasts in
     let first = first_told view firsts lasts streams bytes read entry fine in
     let closed = closes layout_of_two (one 1) tells streams told
@@ -120,12 +122,19 @@ report_alone closes reads view firsts lasts bytes Judged reports report streams 
 
 -- The verdict of an order of lines
 
-says_so : (verdict : Verdict) (a b c : Bool) → a ≡ c → verdict ≡ (if a then Unsatisfiable else if b then UnsatisfiableUnder else Unknown) → (verdict ≡ Unsatisfiable) ↔ IsTrue c
+says_so : (verdict : Verdict) (a b c : Bool) → a ≡ c → verdict ≡ (if a then Unsatisfiable else if b then UnsatisfiableUnder else Unknown)
+    → (verdict ≡ Unsatisfiable) ↔ IsTrue c
 says_so verdict true b true same is = ((λ e. refl), λ t. is)
 says_so verdict true b false same is = absurd (let no : true ≡ false = same in cc)
 says_so verdict false b true same is = absurd (let no : false ≡ true = same in cc)
-says_so verdict false true false same is = ((λ e. absurd (let no : UnsatisfiableUnder ≡ Unsatisfiable = sym is ∙ e in cc)), λ t. absurd (let no : false ≡ true = t in cc))
-says_so verdict false false false same is = ((λ e. absurd (let no : Unknown ≡ Unsatisfiable = sym is ∙ e in cc)), λ t. absurd (let no : false ≡ true = t in cc))
+says_so verdict false true false same is = (
+  (λ e. absurd (let no : UnsatisfiableUnder ≡ Unsatisfiable = sym is ∙ e in cc)),
+  λ t. absurd (let no : false ≡ true = t in cc),
+)
+says_so verdict false false false same is = (
+  (λ e. absurd (let no : Unknown ≡ Unsatisfiable = sym is ∙ e in cc)),
+  λ t. absurd (let no : false ≡ true = t in cc),
+)
 
 pub has_order : (streams : List Stream) (reports : List Report) (verdict : Verdict)
     → (order : IsOrdered four two_terms (λ s. true) streams reports) × ComeToVerdict two_terms.cube (events_in order.blocks) reports
@@ -133,11 +142,13 @@ pub has_order : (streams : List Stream) (reports : List Report) (verdict : Verdi
 has_order streams reports verdict (order, comes) is = record {
   lines = order.blocks;
   legal = order.legal;
-  says = says_so verdict (list_any (λ report. report.empty) reports) (list_any (λ report. report.within) reports) (list_any (λ p. length p.1 == 0) (published (events_in order.blocks))) comes.empty is;
+  says = says_so verdict (list_any (λ report. report.empty) reports) (list_any (λ report. report.within) reports)
+      (list_any (λ p. length p.1 == 0) (published (events_in order.blocks))) comes.empty is;
 }
 
 -- two facts of a value that is there give a third
-pub if_both : {T E : Type 0} {A B C : T → Type 0} (result : Result T E) → IfOk result A → IfOk result B → ((x : T) → A x → B x → C x) → IfOk result C
+pub if_both : {T E : Type 0} {A B C : T → Type 0} (result : Result T E) → IfOk result A → IfOk result B
+    → ((x : T) → A x → B x → C x) → IfOk result C
 if_both (Ok x) a b gives = gives x a b
 if_both (Err e) a b gives = tt
 
@@ -158,9 +169,17 @@ unfolding digits
 first_is_cut = record {
   bytes = refl;
   each = (
-    ((omega arith, omega arith), record { count = omega arith; each = ((omega arith, omega arith), tt) }, record { count = omega arith; each = ((omega arith, omega arith), ((omega arith, omega arith), tt)) }),
     (
-      ((omega arith, omega arith), record { count = omega arith; each = tt }, record { count = omega arith; each = ((omega arith, omega arith), ((omega arith, omega arith), ((omega arith, omega arith), tt))) }),
+      (omega arith, omega arith),
+      record { count = omega arith; each = ((omega arith, omega arith), tt) },
+      record { count = omega arith; each = ((omega arith, omega arith), ((omega arith, omega arith), tt)) },
+    ),
+    (
+      (
+        (omega arith, omega arith),
+        record { count = omega arith; each = tt },
+        record { count = omega arith; each = ((omega arith, omega arith), ((omega arith, omega arith), ((omega arith, omega arith), tt))) },
+      ),
       tt,
     ),
   );
@@ -194,6 +213,7 @@ import_is_cut = record {
 pub import_is_open : OneCut → ¬ CiteWithin layout_of_two (one 2) (codes "5 i 2 0\n")
 import_is_open law cites =
     let same = law (codes "5 i 2 0\n") cites.lines (Import 5 (pos 2 ∷ []) ∷ []) cites.rest [] cites.cut import_is_cut in
-    let within = subst (λ lines. AllByRecursion (λ line. AllByRecursion (IsOwnedWithin layout_of_two (one 2)) (cited_by line)) lines) same.0 cites.within in
+    let within = subst (λ lines. AllByRecursion (λ line. AllByRecursion (IsOwnedWithin layout_of_two (one 2)) (cited_by line)) lines)
+    same.0 cites.within in
     let no : false ≡ true = within.0.0 1 refl in
     cc

@@ -1,5 +1,7 @@
 -- Lemmas on marks.
-use Rattle.std.proofs.Common.{◌≡◌, ◌≢◌, ◌⊎◌, ◌↔◌, inl, inr, ℕ, zero, suc, ◌+◌, ◌*◌, ◌<◌, ◌≤◌, ℤ, pos, negsuc, neg_ℤ, nat_abs, Bool, true, false, List, [], ◌∷◌, ◌++◌, length, get_or, set, take, map, eqb, refl, sym, ap, subst, ◌∙◌, arith, length-append}
+use Rattle.std.proofs.Common.{◌≡◌, ◌≢◌, ◌⊎◌, ◌↔◌, inl, inr, ℕ, zero, suc, ◌+◌, ◌*◌, ◌<◌, ◌≤◌, ℤ, pos, negsuc, neg_ℤ, nat_abs, Bool, true}
+use Rattle.std.proofs.Common.{false, List, [], ◌∷◌, ◌++◌, length, get_or, set, take, map, eqb, refl, sym, ap, subst, ◌∙◌, arith}
+use Rattle.std.proofs.Common.{length-append}
 use Rattle.std.specs.Prelude.{slice_get, Some}
 use Rattle.std.specs.List.{AllByRecursion, IsDistinct, list_any}
 use Rattle.std.proofs.Math.IntN.{neg_ℤ-neg_ℤ}
@@ -57,7 +59,8 @@ unfolding IsDistinct
 IsDistinct-variables [] apart = tt
 IsDistinct-variables (x ∷ ls) apart = (differs x ls apart.0 apart.1, IsDistinct-variables ls apart.2)
 
-variable-lt : (vars : ℕ) (ls : List ℤ) (q : ℕ) → AllByRecursion (IsLiteral vars) ls → list_any (eqb q) (map nat_abs ls) ≡ true → q < vars + 1
+variable-lt : (vars : ℕ) (ls : List ℤ) (q : ℕ) → AllByRecursion (IsLiteral vars) ls
+    → list_any (eqb q) (map nat_abs ls) ≡ true → q < vars + 1
 variable-lt vars [] q all h = absurd (false≢true h)
 variable-lt vars (x ∷ ls) q all h =
     elim (or_cases (eqb q (nat_abs x)) (list_any (eqb q) (map nat_abs ls)) h) [
@@ -72,13 +75,16 @@ length-le_variables vars ls apart all =
     (length-le_from_distinct_below (map nat_abs ls) (vars + 1) (IsDistinct-variables ls apart) (λ q h. variable-lt vars ls q all h))
 
 -- one more literal, which is neither false nor true, has room
-pub AreMarks-room : (vars : ℕ) (marks : List Bool) (ls : List ℤ) (capacity : ℕ) (x : ℤ) → AreMarks vars marks ls capacity → IsLiteral vars x → (¬ Has ls x) → (¬ Has ls (neg_ℤ x)) → length ls < capacity
+pub AreMarks-room : (vars : ℕ) (marks : List Bool) (ls : List ℤ) (capacity : ℕ) (x : ℤ) → AreMarks vars marks ls capacity → IsLiteral vars x
+    → (¬ Has ls x) → (¬ Has ls (neg_ℤ x)) → length ls < capacity
 AreMarks-room vars marks ls capacity x are literal new new_neg =
-    let most = length-le_variables vars (ls ++ x ∷ []) (AreApart-push ls x are.apart new new_neg) (All-push (IsLiteral vars) ls x are.within literal) in
+    let most = length-le_variables vars (ls ++ x ∷ []) (AreApart-push ls x are.apart new new_neg)
+    (All-push (IsLiteral vars) ls x are.within literal) in
     let one_more = length-append ls (x ∷ []) in
     omega (arith, most, one_more, are.room)
 
-pub AreMarks-add : (vars : ℕ) (marks : List Bool) (ls : List ℤ) (capacity : ℕ) (x : ℤ) → AreMarks vars marks ls capacity → IsLiteral vars x → (¬ Has ls x) → (¬ Has ls (neg_ℤ x)) → AreMarks vars (set marks (code_of x) true) (ls ++ x ∷ []) capacity
+pub AreMarks-add : (vars : ℕ) (marks : List Bool) (ls : List ℤ) (capacity : ℕ) (x : ℤ) → AreMarks vars marks ls capacity → IsLiteral vars x
+    → (¬ Has ls x) → (¬ Has ls (neg_ℤ x)) → AreMarks vars (set marks (code_of x) true) (ls ++ x ∷ []) capacity
 AreMarks-add vars marks ls capacity x are literal new new_neg = record {
   count = length-set marks (code_of x) true ∙ are.count;
   room = are.room;
@@ -119,18 +125,24 @@ marked_before (x ∷ marks) (suc i) zero h = h
 marked_before (x ∷ marks) (suc i) (suc k) h = marked_before marks i k h
 
 -- the marks of one more literal are taken away
-pub cleared-next : (marks : List Bool) (ls : List ℤ) (k place : ℕ) (x : ℤ) → k < length ls → x ≡ get_or ls k x → place ≡ code_of x → ((l : ℤ) → Has (take k ls) l → get_or marks (code_of l) false ≡ false) → (l : ℤ) → Has (take (k + 1) ls) l → get_or (set marks place false) (code_of l) false ≡ false
+pub cleared-next : (marks : List Bool) (ls : List ℤ) (k place : ℕ) (x : ℤ) → k < length ls → x ≡ get_or ls k x → place ≡ code_of x
+    → ((l : ℤ) → Has (take k ls) l → get_or marks (code_of l) false ≡ false) → (l : ℤ) → Has (take (k + 1) ls) l
+    → get_or (set marks place false) (code_of l) false ≡ false
 cleared-next marks ls k place x lt at e cleared l h =
     elim (Has-push_cases (take k ls) x l (subst (λ m. Has m l) (take-read ls k x lt at) h)) [
-      | inl t ↦ false_from_ne_true (get_or (set marks place false) (code_of l) false) (λ set. false≢true (sym (cleared l t) ∙ marked_before marks place (code_of l) set))
+      | inl t ↦ false_from_ne_true (get_or (set marks place false) (code_of l) false)
+          (λ set. false≢true (sym (cleared l t) ∙ marked_before marks place (code_of l) set))
       | inr same ↦ ap (λ j. get_or (set marks place false) j false) (ap code_of (sym same) ∙ sym e) ∙ cleared-at marks place
     ]
 
 -- a literal of a clause is one over more variables too
 pub IsLiteral-read : (vars more : ℕ) (d : List ℤ) (l : ℤ) → IsClause vars d → vars ≤ more → Has d l → IsLiteral more l
-IsLiteral-read vars more d l clause le h = let is : IsLiteral vars l = All-Has (IsLiteral vars) d l clause.literals h in (is.0, omega (arith, is.1))
+IsLiteral-read vars more d l clause le h =
+    let is : IsLiteral vars l = All-Has (IsLiteral vars) d l clause.literals h in (is.0, omega (arith, is.1))
 
 -- a literal of a clause that is known is one of the formula's, and so of more variables
-pub IsLiteral-known : (vars : ℕ) (place : Place) (clip : ClipValue) (k : ℕ) (l : ℤ) → AllFollow place → IsKnown place clip → place.caller.formula.vars ≤ vars → slice_get (clip_clause place clip) k ≡ Some l → IsLiteral vars l
+pub IsLiteral-known : (vars : ℕ) (place : Place) (clip : ClipValue) (k : ℕ) (l : ℤ) → AllFollow place → IsKnown place clip
+    → place.caller.formula.vars ≤ vars → slice_get (clip_clause place clip) k ≡ Some l → IsLiteral vars l
 IsLiteral-known vars place clip k l follow known le at =
-    IsLiteral-read place.caller.formula.vars vars (clip_clause place clip) l (known_follows place clip follow known).0 le (Has-at (clip_clause place clip) k l at)
+    IsLiteral-read place.caller.formula.vars vars (clip_clause place clip) l (known_follows place clip follow known).0 le
+    (Has-at (clip_clause place clip) k l at)

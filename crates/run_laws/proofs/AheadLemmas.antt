@@ -1,5 +1,6 @@
 -- The blocks that streams have still ahead of them in a history.
-use Rattle.std.proofs.Common.{◌≡◌, ◌⊎◌, ◌<◌, ◌≤◌, ℕ, zero, suc, cond, eqb, List, [], ◌∷◌, ◌++◌, map, refl, sym, ap, subst, ◌∙◌, inl, inr, ne_eqb, eq-eqb, arith, append-nil}
+use Rattle.std.proofs.Common.{◌≡◌, ◌⊎◌, ◌<◌, ◌≤◌, ℕ, zero, suc, cond, eqb, List, [], ◌∷◌, ◌++◌, map, refl, sym, ap, subst, ◌∙◌, inl, inr}
+use Rattle.std.proofs.Common.{ne_eqb, eq-eqb, arith, append-nil}
 use Rattle.std.specs.List.{AllByRecursion}
 use Rattle.std.proofs.lemmas.Bool.{cases_eq, cases_lt, cond-true, cond-false}
 use Rattle.lrup_model.specs.Formula.{Cnf}
@@ -148,10 +149,12 @@ at-settled p final s (b ∷ bs) blocks is none all = (
   at-settled p final s bs blocks is none.1 all,
 )
 
-empty-settled : (p : LayoutValue) (final : State) (n : ℕ) (rest : Lines) → n ≤ p.streams → ((s : ℕ) → AreEmpty (rest s)) → AllByRecursion (IsSettled p final) (empty n rest)
+empty-settled : (p : LayoutValue) (final : State) (n : ℕ) (rest : Lines) → n ≤ p.streams → ((s : ℕ) → AreEmpty (rest s))
+    → AllByRecursion (IsSettled p final) (empty n rest)
 empty-settled p final zero rest within none = tt
 empty-settled p final (suc n) rest within none =
-    at-settled p final (suc n) (rest (suc n)) (empty n rest) (omega arith, within) (none (suc n)) (empty-settled p final n rest (omega arith) none)
+    at-settled p final (suc n) (rest (suc n)) (empty n rest) (omega arith, within) (none (suc n))
+    (empty-settled p final n rest (omega arith) none)
 
 at-events : (s : ℕ) (bs : List History) (blocks : List Block) → AreEmpty bs → events_in (at s bs ++ blocks) ≡ events_in blocks
 at-events s [] blocks none = refl

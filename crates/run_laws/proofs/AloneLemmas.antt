@@ -24,13 +24,17 @@ abbrev pub ReadsTo : Option StreamEnd → List ℕ → List ℕ → StreamEnd �
 ReadsTo its bytes whole end = MatchOption its ((more : List ℕ) × (whole ≡ bytes ++ more)) (λ e. (whole ≡ bytes) × (e ≡ end))
 
 -- however much of a stream was read, all of it is judged so
-pub judged_whole : OverStays → (c : Setting) (its : Option StreamEnd) (bytes whole : List ℕ) (end : StreamEnd) (blocks : List History) (report : Report)
-    → ReadsTo its bytes whole end → ((other : StreamEnd) → IfSome its (λ e. e ≡ other) → JudgesBlocks c bytes other blocks report) → JudgesBlocks c whole end blocks report
+pub judged_whole : OverStays
+    → (c : Setting) (its : Option StreamEnd) (bytes whole : List ℕ) (end : StreamEnd) (blocks : List History) (report : Report)
+    → ReadsTo its bytes whole end → ((other : StreamEnd) → IfSome its (λ e. e ≡ other) → JudgesBlocks c bytes other blocks report)
+    → JudgesBlocks c whole end blocks report
 judged_whole law c (Some its) bytes whole end blocks report is j = subst (λ b. JudgesBlocks c b end blocks report) (sym is.0) (j end is.1)
 judged_whole law c None bytes whole stream_ends.Ended blocks report is j =
-    subst (λ b. JudgesBlocks c b stream_ends.Ended blocks report) (sym is.1) (law c bytes is.0 blocks report (j stream_ends.Ended tt, j stream_ends.Failed tt)).0
+    subst (λ b. JudgesBlocks c b stream_ends.Ended blocks report) (sym is.1)
+    (law c bytes is.0 blocks report (j stream_ends.Ended tt, j stream_ends.Failed tt)).0
 judged_whole law c None bytes whole stream_ends.Failed blocks report is j =
-    subst (λ b. JudgesBlocks c b stream_ends.Failed blocks report) (sym is.1) (law c bytes is.0 blocks report (j stream_ends.Ended tt, j stream_ends.Failed tt)).1
+    subst (λ b. JudgesBlocks c b stream_ends.Failed blocks report) (sym is.1)
+    (law c bytes is.0 blocks report (j stream_ends.Ended tt, j stream_ends.Failed tt)).1
 
 pub me : (s : ℕ) → IsTrue (one s s)
 me s = eq-eqb s s refl
@@ -42,8 +46,8 @@ own-one s (e ∷ h) all = cond-true (eqb (stream_of e) s) (e ∷ own h s) (own h
 -- the group of one stream is a judgement of all its bytes
 pub alone_judged : OverStays → (f : Cnf) (terms : TermsValue) (s : ℕ) (streams : List Stream) (reports : List Report)
     (whole : List ℕ) (end : StreamEnd) (stream : Stream) (report : Report)
-    → (g : IsGroup f terms (one s) streams reports) → IsOfStream streams s stream → IsReadingOf whole end stream → IsOfStream reports s report
-    → Judges (setting_of terms s) whole end g.history report
+    → (g : IsGroup f terms (one s) streams reports) → IsOfStream streams s stream → IsReadingOf whole end stream
+    → IsOfStream reports s report → Judges (setting_of terms s) whole end g.history report
 alone_judged law f terms s streams reports whole end stream report g at reads says =
     let j = judged_at terms (one s) g.history streams reports g.judged s stream report (me s) at says in
     record {
@@ -53,7 +57,8 @@ alone_judged law f terms s streams reports whole end stream report g at reads sa
     }
 
 pub alone_has_one_report : OverStays → AloneDecides → AloneHasOneReport
-alone_has_one_report stays decides f terms s whole end streams others reports other_reports stream other report other_report g h at there reads also says too =
+alone_has_one_report stays decides f terms s whole end streams others reports other_reports stream other report other_report g h at there
+    reads also says too =
     (decides f terms.layout (setting_of terms s) whole end g.history h.history report other_report g.legal h.legal
     (alone_judged stays f terms s streams reports whole end stream report g at reads says)
     (alone_judged stays f terms s others other_reports whole end other other_report h there also too)

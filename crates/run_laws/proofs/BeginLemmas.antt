@@ -1,5 +1,6 @@
 -- Streams that begin with right lines, in a run.
-use Rattle.std.proofs.Common.{◌≡◌, ◌≢◌, ◌++◌, ℕ, List, [], ◌∷◌, length, inl, inr, refl, sym, ap, subst, ◌∙◌, arith, append_assoc, append-nil}
+use Rattle.std.proofs.Common.{◌≡◌, ◌≢◌, ◌++◌, ℕ, List, [], ◌∷◌, length, inl, inr, refl, sym, ap, subst, ◌∙◌, arith, append_assoc}
+use Rattle.std.proofs.Common.{append-nil}
 use Rattle.std.specs.List.{AllByRecursion, flat_map}
 use Rattle.lrup_model.specs.Clause.{Clause}
 use Rattle.lrup_model.specs.Event as events
@@ -23,7 +24,8 @@ use Rattle.run_laws.specs.RightLaws.{RightBegins}
 use Rattle.run_laws.proofs.BlameLemmas.{foreign_by, IsReadIn, read_in}
 use Rattle.run_laws.proofs.BlameLines.{IsFoundIn, AreFair}
 use Rattle.run_laws.specs.OwnLemmas.{own_all}
-use Rattle.run_laws.proofs.BlameStreams.{near_fair, IsStillThere, all_still_there, Anything, all_anything, fair_front, has_ended, lines_go_on, goes_on_tells}
+use Rattle.run_laws.proofs.BlameStreams.{near_fair, IsStillThere, all_still_there, Anything, all_anything, fair_front, has_ended}
+use Rattle.run_laws.proofs.BlameStreams.{lines_go_on, goes_on_tells}
 use Rattle.run_laws.proofs.RightLemmas.{all_others, right_judged}
 use Rattle.run_laws.proofs.RightLines.{own_side}
 
@@ -45,7 +47,8 @@ none_there f c h id d fits legal calls foreign has =
     run-own f c.layout (opening f) (opening f) h its.0 id legal.events its.1 refl ∙ ap (λ (es : History). run (opening f) es id) none in
     subst (λ (slot : Slot). HasClause slot d) (before ∙ opening-owned f c.layout its.0 id fits its.1) has
 
-all_nothing : (f : Cnf) (c : Setting) (h : History) → Fits c.layout f → IsLegal f c.layout h → AllByRecursion (λ e. stream_of e ≡ c.stream) h
+all_nothing : (f : Cnf) (c : Setting) (h : History) → Fits c.layout f → IsLegal f c.layout h
+    → AllByRecursion (λ e. stream_of e ≡ c.stream) h
     → (es : History) → AllByRecursion (IsStillThere (state f h)) es → AllByRecursion (IsFoundIn c Nothing) es
 all_nothing f c h fits legal calls [] there = tt
 all_nothing f c h fits legal calls (events.fetch s id events.vacant ∷ es) there = (tt, all_nothing f c h fits legal calls es there.1)
@@ -57,7 +60,8 @@ all_nothing f c h fits legal calls (events.retire s id r ∷ es) there = (tt, al
 
 -- In a run
 
-pub right_begins : GoodExactlyIf → PropagationSound → GoodLineTaken → FreshLeft → EndJudged → EmptyCut → OneCut → OneFirstLine → RefusedStays → RightBegins
+pub right_begins : GoodExactlyIf → PropagationSound → GoodLineTaken → FreshLeft → EndJudged → EmptyCut → OneCut → OneFirstLine
+    → RefusedStays → RightBegins
 right_begins good sound taken fresh ends empty_cut one_cut first refused
     f terms s bytes lines told telling reports report cnf fits stream right run here entry says =
     let c = setting_of terms s in
@@ -88,10 +92,12 @@ right_begins good sound taken fresh ends empty_cut one_cut first refused
     near_fair f c Anything (opening f) (opening f) run.history run.legal.events (λ id near. refl) (all_anything c (own run.history s)) in
     let ours : AreFair c Nothing (opening f) (joined w.front) =
     fair_front c Nothing (opening f) (joined w.front) (joined w.back)
-    (subst (AreFair c Nothing (opening f)) (own-all s g alone.1 ∙ alone.0.judges.events ∙ ap joined w.split ∙ joined-append w.front w.back) mine) in
+    (subst (AreFair c Nothing (opening f))
+    (own-all s g alone.1 ∙ alone.0.judges.events ∙ ap joined w.split ∙ joined-append w.front w.back) mine) in
     let also : AreFair c Anything (opening f) (joined (j.front ++ j.back)) =
     subst (AreFair c Anything (opening f)) (read.events ∙ ap joined j.split) theirs in
-    elim (lines_go_on good first refused c Nothing Anything (λ id d e foreign mine theirs. absurd mine) [] w.lines j.lines w.front j.front j.back
+    elim (lines_go_on good first refused c Nothing Anything
+    (λ id d e foreign mine theirs. absurd mine) [] w.lines j.lines w.front j.front j.back
     (opening f) j.rest read.reads.left right.more read.reads.end (length lines) report
     (omega (arith, ap (λ (ls : List StreamLine). length ls) same)) w.good j.good j.ends w.fits j.fits begins read.reads.ended ours also) [
       | inl on ↦ inl (goes_on_tells c lines on.0 j.rest read.reads.end j.back report

@@ -1,5 +1,6 @@
 -- A closed set of streams in two histories.
-use Rattle.std.proofs.Common.{◌≡◌, ◌⊎◌, ◌-◌, ◌++◌, ℕ, Bool, true, Option, Some, None, List, [], ◌∷◌, length, inl, inr, refl, sym, ap, subst, ◌∙◌, append_assoc, append-nil, arith}
+use Rattle.std.proofs.Common.{◌≡◌, ◌⊎◌, ◌-◌, ◌++◌, ℕ, Bool, true, Option, Some, None, List, [], ◌∷◌, length, inl, inr, refl, sym, ap, subst}
+use Rattle.std.proofs.Common.{◌∙◌, append_assoc, append-nil, arith}
 use Rattle.std.specs.Prelude.{IsTrue, IfSome, IsSome}
 use Rattle.std.specs.List.{AllByRecursion, flat_map}
 use Rattle.std.specs.Io.KnownBytes.{Consumes}
@@ -37,7 +38,9 @@ use Rattle.run_laws.specs.Right.{IsCutOffIn, TellsAtLeast}
 use Rattle.run_laws.specs.Groups.{IsRun}
 use Rattle.run_laws.proofs.BlameLines.{IsFoundIn, AreFair, FindAlike, same_clause}
 use Rattle.run_laws.specs.OwnLemmas.{own_all}
-use Rattle.run_laws.proofs.BlameStreams.{near_fair, IsStillThere, all_still_there, IsIn, in_left, in_all, own_published, left_published, stream_publishes, has_ended, fair_front, IsBlameless, GoesOn, lines_go_on, goes_on_tells, whole_told}
+use Rattle.run_laws.proofs.BlameStreams.{near_fair, IsStillThere, all_still_there, IsIn, in_left, in_all, own_published, left_published}
+use Rattle.run_laws.proofs.BlameStreams.{stream_publishes, has_ended, fair_front, IsBlameless, GoesOn, lines_go_on, goes_on_tells}
+use Rattle.run_laws.proofs.BlameStreams.{whole_told}
 use Rattle.run_laws.proofs.GroupLemmas.{inside, is_inside, inside_is, closed_finds}
 use Rattle.run_laws.proofs.Places.{has_place, judged_at}
 use Rattle.run_laws.proofs.RightLines.{side_by}
@@ -53,8 +56,8 @@ foreign_by c id owners.Outside is foreign = absurd (let no : sides.Outside ≡ s
 -- What a stream publishes
 
 -- what a stream left at an identity of its own, it published
-own_has : (f : Cnf) (p : LayoutValue) (h : History) (t id : ℕ) (d : Clause) → Fits p f → IsLegal f p h → Owns p t id → HasClause (state f h id) d
-    → IsIn (id, d) (published (own h t))
+own_has : (f : Cnf) (p : LayoutValue) (h : History) (t id : ℕ) (d : Clause) → Fits p f → IsLegal f p h → Owns p t id
+    → HasClause (state f h id) d → IsIn (id, d) (published (own h t))
 own_has f p h t id d fits legal owns has =
     let its : HasClause (run (opening f) (own h t) id) d =
     subst (λ (slot : Slot). HasClause slot d) (run-own f p (opening f) (opening f) h t id legal.events owns refl) has in
@@ -64,9 +67,11 @@ own_has f p h t id d fits legal owns has =
     ]
 
 -- and what it published stays
-own_stays : (f : Cnf) (p : LayoutValue) (h : History) (t id : ℕ) (d : Clause) → IsLegal f p h → IsIn (id, d) (published (own h t)) → HasClause (state f h id) d
+own_stays : (f : Cnf) (p : LayoutValue) (h : History) (t id : ℕ) (d : Clause) → IsLegal f p h → IsIn (id, d) (published (own h t))
+    → HasClause (state f h id) d
 own_stays f p h t id d legal is =
-    in_all (λ x. HasClause (state f h x.0) x.1) (id, d) (published h) (published_stay f p (opening f) h legal.events) (own_published h t (id, d) is)
+    in_all (λ x. HasClause (state f h x.0) x.1) (id, d) (published h) (published_stay f p (opening f) h legal.events)
+    (own_published h t (id, d) is)
 
 -- of two lists of lines that the same bytes begin with one begins with the other
 one_begins : OneFirstLine → (a b : List StreamLine) (x y : List ℕ) → AllByRecursion IsWithinLimits a → AllByRecursion IsWithinLimits b
@@ -95,7 +100,8 @@ pub record ReadSo (c : Setting) (bytes whole : List ℕ) (blocks : List History)
   pub text : whole ≡ bytes ++ left
   pub ended : end ≡ stream_ends.Ended → left ≡ []
 
-read_so : (c : Setting) (its : Option StreamEnd) (bytes unneeded whole : List ℕ) (left : Option (List ℕ)) (has_failed : Bool) (blocks : List History) (report : Report)
+read_so : (c : Setting) (its : Option StreamEnd) (bytes unneeded whole : List ℕ) (left : Option (List ℕ)) (has_failed : Bool)
+    (blocks : List History) (report : Report)
     → Consumes (Some whole) left (bytes ++ unneeded) → EndsWith its left has_failed → (IsSome its → unneeded ≡ [])
     → ((end : StreamEnd) → IfSome its (λ e. e ≡ end) → JudgesBlocks c bytes end blocks report) → ReadSo c bytes whole blocks report
 read_so c its bytes unneeded whole None has_failed blocks report took ends needed j = absurd took
@@ -150,7 +156,8 @@ read_in f terms told reports r s whole telling report here entry says =
 
 module _ (law : GoodExactlyIf) (first : OneFirstLine) (refused : RefusedStays) (cited : CitedFetched) where
   -- the one history judges a closed set of streams; the readers of the other run begin with their bytes
-  module _ (f : Cnf) (terms : TermsValue) (set : ℕ → Bool) (g : History) (streams : List Stream) (reports : List Report) (told : List Telling)
+  module _ (f : Cnf) (terms : TermsValue) (set : ℕ → Bool) (g : History) (streams : List Stream) (reports : List Report)
+      (told : List Telling)
       (others : List Report) (fits : Fits terms.layout f) (count : length streams ≡ terms.layout.streams)
       (legal : IsLegal f terms.layout g) (judged : AreJudgedIn terms set g 1 streams reports)
       (closed : IsClosed terms.layout set streams) (r : IsRun f terms told others) (bytes : HaveBytesOf set streams told) where
@@ -233,11 +240,13 @@ module _ (law : GoodExactlyIf) (first : OneFirstLine) (refused : RefusedStays) (
         let published_there : published (own r.history t) ≡ additions_of also =
         ap published read.events ∙ stream_publishes law c read.bytes read.reads.end read.blocks its.1.report read.reads.judges in
         let here : IsIn (id, x) (additions_of lines) = subst (IsIn (id, x)) published_here (own_has f p g t id x fits legal owns mine) in
-        let there : IsIn (id, d) (additions_of also) = subst (IsIn (id, d)) published_there (own_has f p r.history t id d fits r.legal owns theirs) in
+        let there : IsIn (id, d) (additions_of also) =
+        subst (IsIn (id, d)) published_there (own_has f p r.history t id d fits r.legal owns theirs) in
         elim (one_begins first lines also (w.judges.rest ++ its.0) (read.reads.judges.rest ++ read.reads.left)
         w.judges.fits read.reads.judges.fits (sym its.1.texts)) [
           | inl on ↦ same_clause (state f r.history id) x d
-              (own_stays f p r.history t id x r.legal (subst (IsIn (id, x)) (sym published_there) (in_more (id, x) lines also on here))) theirs
+              (own_stays f p r.history t id x r.legal (subst (IsIn (id, x)) (sym published_there) (in_more (id, x) lines also on here)))
+              theirs
           | inr on ↦ same_clause (state f g id) x d mine
               (own_stays f p g t id d legal (subst (IsIn (id, d)) (sym published_here) (in_more (id, d) also lines on there)))
         ]
@@ -267,7 +276,8 @@ module _ (law : GoodExactlyIf) (first : OneFirstLine) (refused : RefusedStays) (
     found_mine s (events.publish u id d result ∷ es) member calls within there = (tt, found_mine s es member calls.1 within.1 there.1)
     found_mine s (events.retire u id result ∷ es) member calls within there = (tt, found_mine s es member calls.1 within.1 there.1)
 
-    found_theirs : (s : ℕ) (es : History) → AllByRecursion (IsStillThere (state f r.history)) es → AllByRecursion (IsFoundIn (setting_of terms s) Theirs) es
+    found_theirs : (s : ℕ) (es : History) → AllByRecursion (IsStillThere (state f r.history)) es
+        → AllByRecursion (IsFoundIn (setting_of terms s) Theirs) es
     found_theirs s [] there = tt
     found_theirs s (events.fetch u id events.vacant ∷ es) there = (tt, found_theirs s es there.1)
     found_theirs s (events.fetch u id (events.live d) ∷ es) there =
@@ -297,8 +307,10 @@ module _ (law : GoodExactlyIf) (first : OneFirstLine) (refused : RefusedStays) (
         (subst (AreFair c Mine (opening f)) (w.events ∙ ap joined w.judges.split ∙ joined-append w.judges.front w.judges.back) mine) in
         let also : AreFair c Theirs (opening f) (joined (j.front ++ j.back)) =
         subst (AreFair c Theirs (opening f)) (o.read.events ∙ ap joined j.split) theirs in
-        lines_go_on law first refused c Mine Theirs (find_alike s) [] w.judges.lines j.lines w.judges.front j.front j.back (opening f) j.rest o.read.reads.left
-        (w.judges.rest ++ more) o.read.reads.end (length w.judges.lines) o.report (omega arith) w.judges.good j.good j.ends w.judges.fits j.fits
+        lines_go_on law first refused c Mine Theirs (find_alike s) [] w.judges.lines j.lines w.judges.front j.front j.back
+        (opening f) j.rest o.read.reads.left
+        (w.judges.rest ++ more) o.read.reads.end (length w.judges.lines) o.report
+        (omega arith) w.judges.good j.good j.ends w.judges.fits j.fits
         o.texts o.read.reads.ended ours also
 
     -- it tells at least as much, or it ended in the stream's lines for which none of them is to blame
@@ -317,23 +329,29 @@ module _ (law : GoodExactlyIf) (first : OneFirstLine) (refused : RefusedStays) (
         let c = setting_of terms s in
         let within = slice_get_within reports (s - 1) report says.1 in
         let here : IsTrue (inside terms.layout set s) =
-        is_inside terms.layout set s member (says.0, omega (arith, says.0, within, judged_count terms set g 1 streams reports judged, count)) in
+        is_inside terms.layout set s member
+        (says.0, omega (arith, says.0, within, judged_count terms set g 1 streams reports judged, count)) in
         let w : Part s = part_of s here in
         let its : (more : List ℕ) × Other s w more = its_other s here w in
         let its_report : w.report ≡ report = same_at reports s w.report report w.says says in
         let its_other_report : its.1.report ≡ other = same_at others s its.1.report other its.1.says too in
-        let over = has_ended c w.judges.lines w.judges.rest w.end w.judges.back w.report w.judges.ends (ap (λ (x : Report). x.ending) its_report ∙ ended) in
+        let over = has_ended c w.judges.lines w.judges.rest w.end w.judges.back w.report w.judges.ends
+        (ap (λ (x : Report). x.ending) its_report ∙ ended) in
         record {
           stream = w.stream;
           at = w.at;
           lines = w.judges.lines;
           limits = w.judges.fits;
-          text = w.judges.text ∙ ap (λ (b : List ℕ). flat_map line_text w.judges.lines ++ b) over.none ∙ append-nil (flat_map line_text w.judges.lines);
-          tells = subst (λ (x : Report). TellsAtLeast x report ⊎ (IsCutOffIn (length w.judges.lines) x ⊎ LacksOfAnotherIn c (length w.judges.lines) x)) its_other_report
+          text = w.judges.text ∙ ap (λ (b : List ℕ). flat_map line_text w.judges.lines ++ b) over.none
+              ∙ append-nil (flat_map line_text w.judges.lines);
+          tells = subst (λ (x : Report). TellsAtLeast x report
+              ⊎ (IsCutOffIn (length w.judges.lines) x ⊎ LacksOfAnotherIn c (length w.judges.lines) x)) its_other_report
               (elim (goes_on s here w its.0 its.1 over.none) [
                 | inl on ↦ inl (subst (TellsAtLeast its.1.report) (sym over.says ∙ its_report)
-                    (goes_on_tells c w.judges.lines on.0 its.1.read.reads.judges.rest its.1.read.reads.end its.1.read.reads.judges.back its.1.report
-                    (subst (λ (ls : List StreamLine). EndsAfter c ls its.1.read.reads.judges.rest its.1.read.reads.end its.1.read.reads.judges.back its.1.report) on.1
+                    (goes_on_tells c w.judges.lines on.0 its.1.read.reads.judges.rest its.1.read.reads.end
+                    its.1.read.reads.judges.back its.1.report
+                    (subst (λ (ls : List StreamLine). EndsAfter c ls its.1.read.reads.judges.rest its.1.read.reads.end
+                    its.1.read.reads.judges.back its.1.report) on.1
                     its.1.read.reads.judges.ends)))
                 | inr (inl cut) ↦ inr (inl cut)
                 | inr (inr lacks) ↦ inr (inr (lacks.1, lacks.2, lacks.4, lacks.5, lacks.6))
@@ -350,24 +368,29 @@ module _ (law : GoodExactlyIf) (first : OneFirstLine) (refused : RefusedStays) (
           let c = setting_of terms s in
           let within = slice_get_within reports (s - 1) report says.1 in
           let inner : IsTrue (inside terms.layout set s) =
-          is_inside terms.layout set s member (says.0, omega (arith, says.0, within, judged_count terms set g 1 streams reports judged, count)) in
+          is_inside terms.layout set s member
+          (says.0, omega (arith, says.0, within, judged_count terms set g 1 streams reports judged, count)) in
           let w : Part s = part_of s inner in
           let whole : w.stream.bytes ≡ stream.bytes = ap (λ (x : Stream). x.bytes) (same_at streams s w.stream stream w.at at) in
-          let o : Other s w [] = other_of s inner w telling [] here (entry ∙ ap (λ (b : List ℕ). Some b) (sym whole ∙ sym (append-nil w.stream.bytes))) in
+          let o : Other s w [] =
+          other_of s inner w telling [] here (entry ∙ ap (λ (b : List ℕ). Some b) (sym whole ∙ sym (append-nil w.stream.bytes))) in
           let its_report : w.report ≡ report = same_at reports s w.report report w.says says in
           let its_other : o.report ≡ other = same_at others s o.report other o.says too in
-          let over = has_ended c w.judges.lines w.judges.rest w.end w.judges.back w.report w.judges.ends (ap (λ (x : Report). x.ending) its_report ∙ ended) in
+          let over = has_ended c w.judges.lines w.judges.rest w.end w.judges.back w.report w.judges.ends
+          (ap (λ (x : Report). x.ending) its_report ∙ ended) in
           let j = o.read.reads.judges in
           let no_memory : ¬ IsOfMemory o.report = subst (λ (x : Report). ¬ IsOfMemory x) (sym its_other) memory in
           let no_failure : ¬ IsOfFailure o.report = subst (λ (x : Report). ¬ IsOfFailure x) (sym its_other) failure in
           elim (goes_on s inner w [] o over.none) [
-            | inl on ↦ inl (sym its_other ∙ whole_told one_fault empty c w.judges.lines j.lines j.rest o.read.reads.left o.read.reads.end j.back o.report on j.fits
+            | inl on ↦ inl (sym its_other
+                ∙ whole_told one_fault empty c w.judges.lines j.lines j.rest o.read.reads.left o.read.reads.end j.back o.report on j.fits
                 (o.texts ∙ ap (λ (b : List ℕ). flat_map line_text w.judges.lines ++ b) (append-nil w.judges.rest ∙ over.none)
                 ∙ append-nil (flat_map line_text w.judges.lines))
                 no_memory no_failure j.ends ∙ sym over.says ∙ its_report)
             | inr (inl (line, below, inl lost)) ↦ absurd (no_memory (line, lost))
             | inr (inl (line, below, inr failed)) ↦ absurd (no_failure (line, failed))
-            | inr (inr lacks) ↦ inr (subst (LacksOfAnother c) its_other (length w.judges.lines, (lacks.1, lacks.2, lacks.4, lacks.5, lacks.6)))
+            | inr (inr lacks) ↦
+                inr (subst (LacksOfAnother c) its_other (length w.judges.lines, (lacks.1, lacks.2, lacks.4, lacks.5, lacks.6)))
           ]
 
 pub no_false_blame : GoodExactlyIf → OneFirstLine → RefusedStays → OneFault → EmptyPending → CitedFetched → NoFalseBlame

@@ -1,5 +1,6 @@
 -- One stream in two histories.
-use Rattle.std.proofs.Common.{◌≡◌, ◌⊎◌, ◌<◌, ◌≤◌, ◌++◌, ◌+◌, ℕ, Bool, length, arith, eqb, List, [], ◌∷◌, inl, inr, refl, sym, ap, subst, ◌∙◌, append_assoc, append-nil, ne_eqb}
+use Rattle.std.proofs.Common.{◌≡◌, ◌⊎◌, ◌<◌, ◌≤◌, ◌++◌, ◌+◌, ℕ, Bool, length, arith, eqb, List, [], ◌∷◌, inl, inr, refl, sym, ap, subst}
+use Rattle.std.proofs.Common.{◌∙◌, append_assoc, append-nil, ne_eqb}
 use Rattle.std.specs.Prelude.{◌==◌}
 use Rattle.std.specs.List.{AllByRecursion, flat_map, list_any}
 use Rattle.std.proofs.lemmas.Bool.{cases_eq, cond-false, or_left}
@@ -30,14 +31,16 @@ use Rattle.stream_check.specs.declared.report.Ending.{Ending}
 use Rattle.stream_check.specs.declared.report.Ending.TheVariants as endings
 use Rattle.stream_check.specs.declared.report.Report.{Report}
 use Rattle.stream_check.specs.declared.setting.Side.TheVariants as sides
-use Rattle.stream_check.specs.Judging.{JudgesLine, AreGood, EndsAfter, at_bad_line, at_bad_text, at_memory, at_end, ending_at, joined, report_of, JudgesBlocks}
+use Rattle.stream_check.specs.Judging.{JudgesLine, AreGood, EndsAfter, at_bad_line, at_bad_text, at_memory, at_end, ending_at, joined}
+use Rattle.stream_check.specs.Judging.{report_of, JudgesBlocks}
 use Rattle.stream_check.specs.Laws.{GoodExactlyIf, IsOfMemory, IsOfFailure}
 use Rattle.stream_check.specs.ReportLemmas.{additions-append, joined-append, split_first}
 use Rattle.stream_check.specs.Setting.{Setting, side_of}
 use Rattle.stream_check.specs.Standing.{standing_of, additions_of, capped, deleted_by, is_within}
 use Rattle.stream_check.specs.Verdicts.{Good, Bad}
 use Rattle.run_laws.specs.Right.{IsCutOffIn, TellsAtLeast}
-use Rattle.run_laws.proofs.BlameLines.{IsNearSide, IsFoundIn, AreFair, FindAlike, IsGoodOrLacks, line_agrees, line_leaves, good_publishes, bad_publishes, deletes_publish}
+use Rattle.run_laws.proofs.BlameLines.{IsNearSide, IsFoundIn, AreFair, FindAlike, IsGoodOrLacks, line_agrees, line_leaves, good_publishes}
+use Rattle.run_laws.proofs.BlameLines.{bad_publishes, deletes_publish}
 use Rattle.run_laws.proofs.JudgedLemmas.{parts}
 use Rattle.run_laws.proofs.RightLines.{side_by}
 use Rattle.run_laws.proofs.SwapLemmas.{identity_of, answers-agree}
@@ -47,12 +50,14 @@ use Rattle.run_laws.proofs.SwapLemmas.{identity_of, answers-agree}
 near_owner : (c : Setting) (id t : ℕ) → IsNearSide (side_of c id) → Owns c.layout t id → t ≡ c.stream
 near_owner c id t near owns = elim (cases_eq t c.stream) [
   | inl same ↦ same
-  | inr other ↦ absurd (subst IsNearSide (ap (side_by c) owns ∙ cond-false (eqb t c.stream) sides.Own sides.Foreign (ne_eqb t c.stream other)) near)
+  | inr other ↦
+      absurd (subst IsNearSide (ap (side_by c) owns ∙ cond-false (eqb t c.stream) sides.Own sides.Foreign (ne_eqb t c.stream other)) near)
 ]
 
 -- what a stream calls in a legal history is fair, where its finds are
 pub near_fair : (f : Cnf) (c : Setting) (Found : ℕ → Clause → Type 0) (m n : State) (h : History) → LegalFrom f c.layout m h
-    → ((id : ℕ) → IsNearSide (side_of c id) → n id ≡ m id) → AllByRecursion (IsFoundIn c Found) (own h c.stream) → AreFair c Found n (own h c.stream)
+    → ((id : ℕ) → IsNearSide (side_of c id) → n id ≡ m id) → AllByRecursion (IsFoundIn c Found) (own h c.stream)
+    → AreFair c Found n (own h c.stream)
 near_fair f c Found m n [] legal agree found = tt
 near_fair f c Found m n (e ∷ h) legal agree found = elim (cases_eq (stream_of e) c.stream) [
   | inl mine ↦
@@ -67,7 +72,8 @@ near_fair f c Found m n (e ∷ h) legal agree found = elim (cases_eq (stream_of 
       let is = own-other e h c.stream other in
       subst (AreFair c Found n) (sym is)
       (near_fair f c Found (after m e) n h legal.2
-      (λ id near. agree id near ∙ sym (after-foreign f c.layout m e id legal.1 (λ theirs. other (near_owner c id (stream_of e) near theirs))))
+      (λ id near. agree id near
+      ∙ sym (after-foreign f c.layout m e id legal.1 (λ theirs. other (near_owner c id (stream_of e) near theirs))))
       (subst (AllByRecursion (IsFoundIn c Found)) is found))
 ]
 
@@ -151,7 +157,8 @@ had (live c) d has = has
 had (retired c) d has = has
 
 -- a clause that events leave at an identity was there, or is published by them
-pub left_published : (m : State) (es : History) (id : ℕ) (d : Clause) → HasClause (run m es id) d → HasClause (m id) d ⊎ IsIn (id, d) (published es)
+pub left_published : (m : State) (es : History) (id : ℕ) (d : Clause) → HasClause (run m es id) d
+    → HasClause (m id) d ⊎ IsIn (id, d) (published es)
 left_published m [] id d has = inl has
 left_published m (events.fetch s j r ∷ es) id d has = left_published m es id d has
 left_published m (events.publish s j c publishing.Taken ∷ es) id d has = left_published m es id d has
@@ -168,13 +175,15 @@ left_published m (events.publish s j c publishing.Done ∷ es) id d has = elim (
 left_published m (events.retire s j retiring.Done ∷ es) id d has = elim (left_published (put m j (retire_slot (m j))) es id d has) [
   | inr later ↦ inr later
   | inl here ↦ elim (cases_eq id j) [
-    | inl same ↦ inl (subst (λ (i : ℕ). HasClause (m i) d) (sym same) (had (m j) d (subst (λ (x : Slot). HasClause x d) (put-same m j (retire_slot (m j)) id same) here)))
+    | inl same ↦ inl (subst (λ (i : ℕ). HasClause (m i) d) (sym same)
+        (had (m j) d (subst (λ (x : Slot). HasClause x d) (put-same m j (retire_slot (m j)) id same) here)))
     | inr other ↦ inl (subst (λ (x : Slot). HasClause x d) (put-other m j (retire_slot (m j)) id other) here)
   ]
 ]
 
 module _ (law : GoodExactlyIf) (c : Setting) where
-  good_lines_publish : (before lines : List StreamLine) (blocks : List History) → AreGood c before lines blocks → published (joined blocks) ≡ additions_of lines
+  good_lines_publish : (before lines : List StreamLine) (blocks : List History) → AreGood c before lines blocks
+      → published (joined blocks) ≡ additions_of lines
   good_lines_publish before [] [] good = refl
   good_lines_publish before [] (block ∷ blocks) good = absurd good
   good_lines_publish before (line ∷ lines) [] good = absurd good
@@ -220,9 +229,11 @@ ended_at c lines stream_ends.Failed rest n report says is = absurd (let no = sym
 
 pub has_ended : (c : Setting) (lines : List StreamLine) (rest : List ℕ) (end : StreamEnd) (back : List History) (report : Report)
     → EndsAfter c lines rest end back report → report.ending ≡ endings.Ended → HasEnded c lines rest report
-has_ended c lines rest end back report (at_bad_line _ _ _ _ _ _ _ _ _ says) is = absurd (let no = sym is ∙ ap (λ (r : Report). r.ending) says in cc)
+has_ended c lines rest end back report (at_bad_line _ _ _ _ _ _ _ _ _ says) is =
+    absurd (let no = sym is ∙ ap (λ (r : Report). r.ending) says in cc)
 has_ended c lines rest end back report (at_bad_text _ _ _ says) is = absurd (let no = sym is ∙ ap (λ (r : Report). r.ending) says in cc)
-has_ended c lines rest end back report (at_memory _ _ _ _ _ _ _ _ _ says) is = absurd (let no = sym is ∙ ap (λ (r : Report). r.ending) says in cc)
+has_ended c lines rest end back report (at_memory _ _ _ _ _ _ _ _ _ says) is =
+    absurd (let no = sym is ∙ ap (λ (r : Report). r.ending) says in cc)
 has_ended c lines rest end back report (at_end _ _ says) is = ended_at c lines end rest (capped (length lines + 1)) report says is
 
 -- Line by line
@@ -231,7 +242,8 @@ pub fair_front : (c : Setting) (Found : ℕ → Clause → Type 0) (m : State) (
 fair_front c Found m [] b fair = tt
 fair_front c Found m (e ∷ a) b fair = (fair.0, fair.1, fair_front c Found (after m e) a b fair.2)
 
-pub fair_back : (c : Setting) (Found : ℕ → Clause → Type 0) (m : State) (a b : History) → AreFair c Found m (a ++ b) → AreFair c Found (run m a) b
+pub fair_back : (c : Setting) (Found : ℕ → Clause → Type 0) (m : State) (a b : History) → AreFair c Found m (a ++ b)
+    → AreFair c Found (run m a) b
 fair_back c Found m [] b fair = fair
 fair_back c Found m (e ∷ a) b fair = fair_back c Found (after m e) a b fair.2
 
@@ -269,48 +281,64 @@ module _ (law : GoodExactlyIf) (first : OneFirstLine) (refused : RefusedStays) (
   at_its_end line later rest left stream_ends.Failed before n count report below limits is none pending says =
       (n, below, inr (ap (λ (r : Report). r.ending) says))
 
-  at_line : (before : List StreamLine) (line : StreamLine) (later rest left : List ℕ) (end : StreamEnd) (fs : History) (back : List History) (m : State)
+  at_line : (before : List StreamLine) (line : StreamLine) (later rest left : List ℕ) (end : StreamEnd) (fs : History)
+      (back : List History) (m : State)
       (count : ℕ) (report : Report) → length before < count
       → IsWithinLimits line → rest ++ left ≡ line_text line ++ later → (end ≡ stream_ends.Ended → left ≡ [])
       → JudgesLine c (standing_of c before) line fs Good → AreFair c Mine m fs → AreFair c Theirs m (joined back)
       → EndsAfter c before rest end back report → IsBlameless c Mine count report
-  at_line before line later rest left end fs back m count report below limits is none good mine theirs (at_bad_line other more text fits block is_one deleted fault bad says) =
-      let same = first line other later (more ++ left) limits fits (sym is ∙ ap (λ (b : List ℕ). b ++ left) text ∙ append_assoc (line_text other) more left) in
-      let here : AreFair c Theirs m block = fair_front c Theirs m block [] (subst (λ (x : List History). AreFair c Theirs m (joined x)) is_one theirs) in
+  at_line before line later rest left end fs back m count report below limits is none good mine theirs
+      (at_bad_line other more text fits block is_one deleted fault bad says) =
+      let same = first line other later (more ++ left) limits fits
+      (sym is ∙ ap (λ (b : List ℕ). b ++ left) text ∙ append_assoc (line_text other) more left) in
+      let here : AreFair c Theirs m block =
+      fair_front c Theirs m block [] (subst (λ (x : List History). AreFair c Theirs m (joined x)) is_one theirs) in
       inr (lacks deleted (capped (length before + 1)) count fault report (omega (arith, below)) (ap (λ (r : Report). r.ending) says)
       (line_agrees law c Mine Theirs m (standing_of c before) line fs block (Bad deleted fault) alike mine here good
       (subst (λ (l : StreamLine). JudgesLine c (standing_of c before) l block (Bad deleted fault)) (sym same.0) bad)))
-  at_line before line later rest left end fs back m count report below limits is none good mine theirs (at_bad_text fault text no_block says) =
+  at_line before line later rest left end fs back m count report below limits is none good mine theirs
+      (at_bad_text fault text no_block says) =
       absurd (refused text.0 (text.1 ++ left) fault text.3 line later limits
       (sym (append_assoc text.0 text.1 left) ∙ sym (ap (λ (b : List ℕ). b ++ left) text.2) ∙ is))
-  at_line before line later rest left end fs back m count report below limits is none good mine theirs (at_memory lead ids more text fits block is_one earlier stops says) =
+  at_line before line later rest left end fs back m count report below limits is none good mine theirs
+      (at_memory lead ids more text fits block is_one earlier stops says) =
       inl (capped (length before + 1), omega (arith, below), inl (ap (λ (r : Report). r.ending) says))
   at_line before line later rest left end fs back m count report below limits is none good mine theirs (at_end pending no_block says) =
-      inl (at_its_end line later rest left end before (capped (length before + 1)) count report (omega (arith, below)) limits is none pending says)
+      inl (at_its_end line later rest left end before (capped (length before + 1)) count report
+      (omega (arith, below)) limits is none pending says)
 
   -- a stream whose bytes begin with lines that are good in the one history goes on from them in the other, or ends in them blameless
-  pub lines_go_on : (before lines others : List StreamLine) (fs front back : List History) (m : State) (rest left more : List ℕ) (end : StreamEnd)
+  pub lines_go_on : (before lines others : List StreamLine) (fs front back : List History) (m : State) (rest left more : List ℕ)
+      (end : StreamEnd)
       (count : ℕ) (report : Report) → length before + length lines ≤ count
       → AreGood c before lines fs → AreGood c before others front → EndsAfter c (before ++ others) rest end back report
       → AllByRecursion IsWithinLimits lines → AllByRecursion IsWithinLimits others
       → flat_map line_text others ++ (rest ++ left) ≡ flat_map line_text lines ++ more → (end ≡ stream_ends.Ended → left ≡ [])
       → AreFair c Mine m (joined fs) → AreFair c Theirs m (joined (front ++ back)) → GoesOn lines others ⊎ IsBlameless c Mine count report
-  lines_go_on before [] others fs front back m rest left more end count report below good also ends limits within is none mine theirs = inl (others, refl)
-  lines_go_on before (line ∷ lines) [] [] front back m rest left more end count report below good also ends limits within is none mine theirs = absurd good
-  lines_go_on before (line ∷ lines) [] (f ∷ fs) (g ∷ front) back m rest left more end count report below good also ends limits within is none mine theirs =
+  lines_go_on before [] others fs front back m rest left more end count report below good also ends limits within is none mine theirs =
+      inl (others, refl)
+  lines_go_on before (line ∷ lines) [] [] front back m rest left more end count report below good also ends limits within is none mine
+      theirs = absurd good
+  lines_go_on before (line ∷ lines) [] (f ∷ fs)
+      (g ∷ front) back m rest left more end count report below good also ends limits within is none mine theirs =
       absurd also
-  lines_go_on before (line ∷ lines) [] (f ∷ fs) [] back m rest left more end count report below good also ends limits within is none mine theirs =
+  lines_go_on before (line ∷ lines) []
+      (f ∷ fs) [] back m rest left more end count report below good also ends limits within is none mine theirs =
       inr (at_line before line (flat_map line_text lines ++ more) rest left end f back m count report (omega (arith, below)) limits.0
       (is ∙ split_first line lines more) none good.0 (fair_front c Mine m f (joined fs) mine) theirs
       (subst (λ (b : List StreamLine). EndsAfter c b rest end back report) (append-nil before) ends))
-  lines_go_on before (line ∷ lines) (other ∷ others) [] front back m rest left more end count report below good also ends limits within is none mine theirs =
+  lines_go_on before (line ∷ lines)
+      (other ∷ others) [] front back m rest left more end count report below good also ends limits within is none mine theirs =
       absurd good
-  lines_go_on before (line ∷ lines) (other ∷ others) (f ∷ fs) [] back m rest left more end count report below good also ends limits within is none mine theirs =
+  lines_go_on before (line ∷ lines) (other ∷ others)
+      (f ∷ fs) [] back m rest left more end count report below good also ends limits within is none mine theirs =
       absurd also
-  lines_go_on before (line ∷ lines) (other ∷ others) (f ∷ fs) (g ∷ front) back m rest left more end count report below good also ends limits within is none mine theirs =
+  lines_go_on before (line ∷ lines) (other ∷ others) (f ∷ fs)
+      (g ∷ front) back m rest left more end count report below good also ends limits within is none mine theirs =
       let same = first line other (flat_map line_text lines ++ more) (flat_map line_text others ++ (rest ++ left)) limits.0 within.0
       (sym (split_first line lines more) ∙ sym is ∙ split_first other others (rest ++ left)) in
-      let judged : JudgesLine c (standing_of c before) line g Good = subst (λ (l : StreamLine). JudgesLine c (standing_of c before) l g Good) (sym same.0) also.0 in
+      let judged : JudgesLine c (standing_of c before) line g Good =
+      subst (λ (l : StreamLine). JudgesLine c (standing_of c before) l g Good) (sym same.0) also.0 in
       let leaves : run m f ≡ run m g =
       line_leaves law c Mine Theirs m (standing_of c before) line f g (fair_front c Mine m f (joined fs) mine)
       (fair_front c Theirs m g (joined (front ++ back)) theirs) good.0 judged in
@@ -320,7 +348,8 @@ module _ (law : GoodExactlyIf) (first : OneFirstLine) (refused : RefusedStays) (
       (subst (λ (l : StreamLine). EndsAfter c ((before ++ l ∷ []) ++ others) rest end back report) (sym same.0)
       (subst (λ (b : List StreamLine). EndsAfter c b rest end back report) (sym (append_assoc before (other ∷ []) others)) ends))
       limits.1 within.1 (sym same.1) none (fair_back c Mine m f (joined fs) mine)
-      (subst (λ (n : State). AreFair c Theirs n (joined (front ++ back))) (sym leaves) (fair_back c Theirs m g (joined (front ++ back)) theirs))) [
+      (subst (λ (n : State). AreFair c Theirs n (joined (front ++ back))) (sym leaves)
+      (fair_back c Theirs m g (joined (front ++ back)) theirs))) [
         | inl on ↦ inl (on.0, ap (λ (l : StreamLine). l ∷ others) (sym same.0) ∙ ap (λ (ls : List StreamLine). line ∷ ls) on.1)
         | inr worse ↦ inr worse
       ]
@@ -388,10 +417,12 @@ module _ (one_fault : OneFault) (empty : EmptyPending) (c : Setting) where
   whole_told lines all rest left end back report on fits is memory failure ends =
       let texts = flat_map line_text lines in
       let tail = flat_map line_text on.0 ++ (rest ++ left) in
-      let split : flat_map line_text all ≡ texts ++ flat_map line_text on.0 = ap (flat_map line_text) on.1 ∙ flat_map-append line_text lines on.0 in
+      let split : flat_map line_text all ≡ texts ++ flat_map line_text on.0 = ap (flat_map line_text) on.1
+      ∙ flat_map-append line_text lines on.0 in
       let none : (on.0 ≡ []) × (rest ≡ []) =
       none_behind on.0 rest left (parts IsWithinLimits lines on.0 (subst (AllByRecursion IsWithinLimits) on.1 fits)).1
       (append_cancel_left texts tail [] (sym (append_assoc texts (flat_map line_text on.0) (rest ++ left))
       ∙ ap (λ (b : List ℕ). b ++ (rest ++ left)) (sym split) ∙ is ∙ sym (append-nil texts))) in
       at_nothing lines rest end back report none.1 memory failure
-      (subst (λ (ls : List StreamLine). EndsAfter c ls rest end back report) (on.1 ∙ ap (λ (ls : List StreamLine). lines ++ ls) none.0 ∙ append-nil lines) ends)
+      (subst (λ (ls : List StreamLine). EndsAfter c ls rest end back report)
+      (on.1 ∙ ap (λ (ls : List StreamLine). lines ++ ls) none.0 ∙ append-nil lines) ends)

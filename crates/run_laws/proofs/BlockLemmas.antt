@@ -33,14 +33,19 @@ join e (block ∷ blocks) =
 abbrev joined_block : Event → Block → Block
 joined_block e block = record { stream = block.stream; events = e ∷ block.events }
 
-join-same : (e : Event) (block : Block) (blocks : List Block) → block.stream ≡ stream_of e → join e (block ∷ blocks) ≡ joined_block e block ∷ blocks
-join-same e block blocks same = cond-true (eqb block.stream (stream_of e)) (joined_block e block ∷ blocks) (block ∷ join e blocks) (eq-eqb block.stream (stream_of e) same)
+join-same : (e : Event) (block : Block) (blocks : List Block) → block.stream ≡ stream_of e
+    → join e (block ∷ blocks) ≡ joined_block e block ∷ blocks
+join-same e block blocks same = cond-true (eqb block.stream (stream_of e)) (joined_block e block ∷ blocks) (block ∷ join e blocks)
+    (eq-eqb block.stream (stream_of e) same)
 
-join-other : (e : Event) (block : Block) (blocks : List Block) → (block.stream ≡ stream_of e → ⊥) → join e (block ∷ blocks) ≡ block ∷ join e blocks
-join-other e block blocks other = cond-false (eqb block.stream (stream_of e)) (joined_block e block ∷ blocks) (block ∷ join e blocks) (ne_eqb block.stream (stream_of e) other)
+join-other : (e : Event) (block : Block) (blocks : List Block) → (block.stream ≡ stream_of e → ⊥)
+    → join e (block ∷ blocks) ≡ block ∷ join e blocks
+join-other e block blocks other = cond-false (eqb block.stream (stream_of e)) (joined_block e block ∷ blocks) (block ∷ join e blocks)
+    (ne_eqb block.stream (stream_of e) other)
 
 -- its stream's blocks are then the same, but the first begins with it
-pub join-own : (e : Event) (blocks : List Block) (b : History) (more : List History) → blocks_of (stream_of e) blocks ≡ b ∷ more → blocks_of (stream_of e) (join e blocks) ≡ (e ∷ b) ∷ more
+pub join-own : (e : Event) (blocks : List Block) (b : History) (more : List History) → blocks_of (stream_of e) blocks ≡ b ∷ more
+    → blocks_of (stream_of e) (join e blocks) ≡ (e ∷ b) ∷ more
 join-own e [] b more is = absurd (cc)
 join-own e (block ∷ blocks) b more is =
     let s : ℕ = stream_of e in
@@ -74,30 +79,34 @@ join-others e (block ∷ blocks) t apart =
             | inl mine ↦ blocks-same block (join e blocks) t mine
                 ∙ ap (λ (bs : List History). block.events ∷ bs) (join-others e blocks t apart)
                 ∙ sym (blocks-same block blocks t mine)
-            | inr theirs ↦ blocks-other block (join e blocks) t theirs ∙ join-others e blocks t apart ∙ sym (blocks-other block blocks t theirs)
+            | inr theirs ↦ blocks-other block (join e blocks) t theirs ∙ join-others e blocks t apart
+                ∙ sym (blocks-other block blocks t theirs)
           ]
     ]
 
-pub join-settled : (p : LayoutValue) (final : State) (e : Event) (blocks : List Block) → Settles p final e → AllByRecursion (IsSettled p final) blocks → AllByRecursion (IsSettled p final) (join e blocks)
+pub join-settled : (p : LayoutValue) (final : State) (e : Event) (blocks : List Block) → Settles p final e
+    → AllByRecursion (IsSettled p final) blocks → AllByRecursion (IsSettled p final) (join e blocks)
 join-settled p final e [] settles all = tt
 join-settled p final e (block ∷ blocks) settles all =
     elim (cases_eq block.stream (stream_of e)) [
       | inl same ↦ subst (AllByRecursion (IsSettled p final)) (sym (join-same e block blocks same))
           (record { stream = all.0.stream; calls = (sym same, all.0.calls); settles = (settles, all.0.settles) }, all.1)
-      | inr other ↦ subst (AllByRecursion (IsSettled p final)) (sym (join-other e block blocks other)) (all.0, join-settled p final e blocks settles all.1)
+      | inr other ↦ subst (AllByRecursion (IsSettled p final)) (sym (join-other e block blocks other))
+          (all.0, join-settled p final e blocks settles all.1)
     ]
 
 -- a fetch that found something goes to its stream's next block
 pub join-legal : (f : Cnf) (p : LayoutValue) (final m : State) (e : Event) (blocks : List Block) (b : History) (more : List History)
-    → IsFetch e → is_vacant e ≡ false → Settles p final e → AllByRecursion (IsSettled p final) blocks → blocks_of (stream_of e) blocks ≡ b ∷ more
-    → LegalFrom f p m (e ∷ events_in blocks) → LegalFrom f p m (events_in (join e blocks))
+    → IsFetch e → is_vacant e ≡ false → Settles p final e → AllByRecursion (IsSettled p final) blocks
+    → blocks_of (stream_of e) blocks ≡ b ∷ more → LegalFrom f p m (e ∷ events_in blocks) → LegalFrom f p m (events_in (join e blocks))
 join-legal f p final m e [] b more early some settles all is legal = absurd (cc)
 join-legal f p final m e (block ∷ blocks) b more early some settles all is legal =
     elim (cases_eq block.stream (stream_of e)) [
       | inl same ↦ subst (λ (bs : List Block). LegalFrom f p m (events_in bs)) (sym (join-same e block blocks same)) legal
       | inr other ↦
           let behind : LegalFrom f p m (block.events ++ e ∷ events_in blocks)
-          = goes-behind f p final m e block.stream block.events (events_in blocks) early some (λ same. other (sym same)) settles all.0.calls all.0.settles legal in
+          = goes-behind f p final m e block.stream block.events (events_in blocks) early some
+          (λ same. other (sym same)) settles all.0.calls all.0.settles legal in
           subst (λ (bs : List Block). LegalFrom f p m (events_in bs)) (sym (join-other e block blocks other))
           (legal-append f p m block.events (events_in (join e blocks))
           (legal-front f p m block.events (e ∷ events_in blocks) behind)
@@ -117,7 +126,8 @@ join-again f p m s id (block ∷ blocks) b more is legal =
       | inl same ↦
           let here : block.events ∷ blocks_of s blocks ≡ (e ∷ b) ∷ more = sym (blocks-same block blocks s same) ∙ is in
           let first : block.events ≡ e ∷ b = cc in
-          let whole : LegalFrom f p m (e ∷ b ++ events_in blocks) = subst (λ (g : History). LegalFrom f p m (g ++ events_in blocks)) first legal in
+          let whole : LegalFrom f p m (e ∷ b ++ events_in blocks) =
+          subst (λ (g : History). LegalFrom f p m (g ++ events_in blocks)) first legal in
           subst (λ (bs : List Block). LegalFrom f p m (events_in bs)) (sym (join-same e block blocks same)) (whole.0, whole.1, legal)
       | inr other ↦
           subst (λ (bs : List Block). LegalFrom f p m (events_in bs)) (sym (join-other e block blocks other))
@@ -136,10 +146,12 @@ without s (block ∷ blocks) = cond (eqb block.stream s) blocks (block ∷ witho
 without-same : (s : ℕ) (block : Block) (blocks : List Block) → block.stream ≡ s → without s (block ∷ blocks) ≡ blocks
 without-same s block blocks same = cond-true (eqb block.stream s) blocks (block ∷ without s blocks) (eq-eqb block.stream s same)
 
-without-other : (s : ℕ) (block : Block) (blocks : List Block) → (block.stream ≡ s → ⊥) → without s (block ∷ blocks) ≡ block ∷ without s blocks
+without-other : (s : ℕ) (block : Block) (blocks : List Block) → (block.stream ≡ s → ⊥)
+    → without s (block ∷ blocks) ≡ block ∷ without s blocks
 without-other s block blocks other = cond-false (eqb block.stream s) blocks (block ∷ without s blocks) (ne_eqb block.stream s other)
 
-pub without-own : (s : ℕ) (blocks : List Block) (b : History) (more : List History) → blocks_of s blocks ≡ b ∷ more → blocks_of s (without s blocks) ≡ more
+pub without-own : (s : ℕ) (blocks : List Block) (b : History) (more : List History) → blocks_of s blocks ≡ b ∷ more
+    → blocks_of s (without s blocks) ≡ more
 without-own s [] b more is = absurd (cc)
 without-own s (block ∷ blocks) b more is =
     elim (cases_eq block.stream s) [
@@ -164,16 +176,19 @@ without-others s (block ∷ blocks) t apart =
             | inl mine ↦ blocks-same block (without s blocks) t mine
                 ∙ ap (λ (bs : List History). block.events ∷ bs) (without-others s blocks t apart)
                 ∙ sym (blocks-same block blocks t mine)
-            | inr theirs ↦ blocks-other block (without s blocks) t theirs ∙ without-others s blocks t apart ∙ sym (blocks-other block blocks t theirs)
+            | inr theirs ↦ blocks-other block (without s blocks) t theirs ∙ without-others s blocks t apart
+                ∙ sym (blocks-other block blocks t theirs)
           ]
     ]
 
-pub without-settled : (p : LayoutValue) (final : State) (s : ℕ) (blocks : List Block) → AllByRecursion (IsSettled p final) blocks → AllByRecursion (IsSettled p final) (without s blocks)
+pub without-settled : (p : LayoutValue) (final : State) (s : ℕ) (blocks : List Block) → AllByRecursion (IsSettled p final) blocks
+    → AllByRecursion (IsSettled p final) (without s blocks)
 without-settled p final s [] all = tt
 without-settled p final s (block ∷ blocks) all =
     elim (cases_eq block.stream s) [
       | inl same ↦ subst (AllByRecursion (IsSettled p final)) (sym (without-same s block blocks same)) all.1
-      | inr other ↦ subst (AllByRecursion (IsSettled p final)) (sym (without-other s block blocks other)) (all.0, without-settled p final s blocks all.1)
+      | inr other ↦ subst (AllByRecursion (IsSettled p final)) (sym (without-other s block blocks other))
+          (all.0, without-settled p final s blocks all.1)
     ]
 
 -- what is known of a stream's first block
@@ -205,7 +220,8 @@ retires-first f p final m s (block ∷ blocks) b more retires mine settles all i
           (subst (λ (g : History). LegalFrom f p m (g ++ events_in blocks)) first legal)
       | inr other ↦
           subst (λ (bs : List Block). LegalFrom f p m (b ++ events_in bs)) (sym (without-other s block blocks other))
-          (comes-before f p final m s b block.stream block.events (events_in (without s blocks)) (λ same. other (sym same)) retires mine settles all.0.calls all.0.settles
+          (comes-before f p final m s b block.stream block.events (events_in (without s blocks))
+          (λ same. other (sym same)) retires mine settles all.0.calls all.0.settles
           (legal-append f p m block.events (b ++ events_in (without s blocks))
           (legal-front f p m block.events (events_in blocks) legal)
           (retires-first f p final (run m block.events) s blocks b more retires mine settles all.1

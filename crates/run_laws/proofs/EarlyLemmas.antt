@@ -11,7 +11,8 @@ use Rattle.stream_check.specs.Setting.{Setting}
 use Rattle.stream_check.specs.Judging.{ending_at, EndsAfter, at_bad_line, at_bad_text, at_memory, at_end}
 use Rattle.run_laws.specs.GroupLaws.{EarlyIsDecided}
 
-ends_not_ended : (c : Setting) (lines : List StreamLine) (rest : List ℕ) (blocks : List History) (report : Report) → EndsAfter c lines rest stream_ends.Failed blocks report → report.ending ≡ endings.Ended → ⊥
+ends_not_ended : (c : Setting) (lines : List StreamLine) (rest : List ℕ) (blocks : List History) (report : Report)
+    → EndsAfter c lines rest stream_ends.Failed blocks report → report.ending ≡ endings.Ended → ⊥
 ends_not_ended c lines rest blocks report (at_bad_line _ _ _ _ _ _ _ _ _ says) e = let f = sym e ∙ ap (λ (r : Report). r.ending) says in cc
 ends_not_ended c lines rest blocks report (at_bad_text _ _ _ says) e = let f = sym e ∙ ap (λ (r : Report). r.ending) says in cc
 ends_not_ended c lines rest blocks report (at_memory _ _ _ _ _ _ _ _ _ says) e = let f = sym e ∙ ap (λ (r : Report). r.ending) says in cc
@@ -21,8 +22,10 @@ end_not_failed : (rest : List ℕ) (n line : ℕ) → ending_at stream_ends.Ende
 end_not_failed [] n line e = cc
 end_not_failed (byte ∷ bytes) n line e = cc
 
-ends_not_failed : (c : Setting) (lines : List StreamLine) (rest : List ℕ) (blocks : List History) (report : Report) (n : ℕ) → EndsAfter c lines rest stream_ends.Ended blocks report → report.ending ≡ endings.ReadFailed n → ⊥
-ends_not_failed c lines rest blocks report n (at_bad_line _ _ _ _ _ _ _ _ _ says) e = let f = sym e ∙ ap (λ (r : Report). r.ending) says in cc
+ends_not_failed : (c : Setting) (lines : List StreamLine) (rest : List ℕ) (blocks : List History) (report : Report) (n : ℕ)
+    → EndsAfter c lines rest stream_ends.Ended blocks report → report.ending ≡ endings.ReadFailed n → ⊥
+ends_not_failed c lines rest blocks report n (at_bad_line _ _ _ _ _ _ _ _ _ says) e =
+    let f = sym e ∙ ap (λ (r : Report). r.ending) says in cc
 ends_not_failed c lines rest blocks report n (at_bad_text _ _ _ says) e = let f = sym e ∙ ap (λ (r : Report). r.ending) says in cc
 ends_not_failed c lines rest blocks report n (at_memory _ _ _ _ _ _ _ _ _ says) e = let f = sym e ∙ ap (λ (r : Report). r.ending) says in cc
 ends_not_failed c lines rest blocks report n (at_end _ _ says) e = end_not_failed rest _ n (sym (ap (λ (r : Report). r.ending) says) ∙ e)

@@ -18,13 +18,20 @@ use Rattle.run_laws.specs.Groups.{empty_stream, empty_report, with_others}
 use Rattle.run_laws.specs.GroupLaws.{OthersEmpty}
 
 fresh : Setting → Holding
-fresh c = record { tally = record { added = 0; deleted = 0; empty = false; within = false }; standing = standing_of c []; pending = []; line = 1 }
+fresh c = record {
+  tally = record { added = 0; deleted = 0; empty = false; within = false };
+  standing = standing_of c [];
+  pending = [];
+  line = 1;
+}
 
 nothing_judged : FreshLeft → EndJudged → (c : Setting) → JudgesStream c empty_stream [] empty_report
 unfolding fresh
-nothing_judged first last c = judged_out c [] [] stream_ends.Ended [] empty_report (last c [] [] (fresh c) stream_ends.Ended (first c (fresh c) (record { tally = refl; standing = record { last = refl; free = refl; gone = λ id. refl }; pending = refl; line = refl })))
+nothing_judged first last c = judged_out c [] [] stream_ends.Ended [] empty_report (last c [] [] (fresh c) stream_ends.Ended (first c
+    (fresh c) (record { tally = refl; standing = record { last = refl; free = refl; gone = λ id. refl }; pending = refl; line = refl })))
 
-others_call : (set : ℕ → Bool) (s : ℕ) (h : History) → set s ≡ false → AllByRecursion (λ e. IsTrue (set (stream_of e))) h → AllByRecursion (λ e. stream_of e ≡ s → ⊥) h
+others_call : (set : ℕ → Bool) (s : ℕ) (h : History) → set s ≡ false → AllByRecursion (λ e. IsTrue (set (stream_of e))) h
+    → AllByRecursion (λ e. stream_of e ≡ s → ⊥) h
 others_call set s [] out all = tt
 others_call set s (e ∷ h) out all = (λ is. true≢false (sym all.0 ∙ ap set is ∙ out), others_call set s h out all.1)
 
@@ -36,16 +43,19 @@ emptied first last terms set h s stream report members judged =
     let c = setting_of terms s in
     elim (cases_Bool (set s)) [
       | inl member ↦
-          subst (λ (x : Stream). IsJudgedBy c x (own h s) (cond (set s) report empty_report)) (sym (cond-true (set s) stream empty_stream member))
+          subst (λ (x : Stream). IsJudgedBy c x (own h s) (cond (set s) report empty_report))
+          (sym (cond-true (set s) stream empty_stream member))
           (subst (λ (r : Report). IsJudgedBy c stream (own h s) r) (sym (cond-true (set s) report empty_report member)) (judged member))
       | inr out ↦
           let none : own h s ≡ [] = own-none h s (others_call set s h out members) in
-          subst (λ (x : Stream). IsJudgedBy c x (own h s) (cond (set s) report empty_report)) (sym (cond-false (set s) stream empty_stream out))
+          subst (λ (x : Stream). IsJudgedBy c x (own h s) (cond (set s) report empty_report))
+          (sym (cond-false (set s) stream empty_stream out))
           (subst (λ (r : Report). IsJudgedBy c empty_stream (own h s) r) (sym (cond-false (set s) report empty_report out))
           (subst (λ (es : History). IsJudgedBy c empty_stream es empty_report) (sym none) ([], refl, nothing_judged first last c)))
     ]
 
-emptied_from : FreshLeft → EndJudged → (terms : TermsValue) (set all : ℕ → Bool) (h : History) → AllByRecursion (λ e. IsTrue (set (stream_of e))) h
+emptied_from : FreshLeft → EndJudged → (terms : TermsValue) (set all : ℕ → Bool) (h : History)
+    → AllByRecursion (λ e. IsTrue (set (stream_of e))) h
     → (s : ℕ) (streams : List Stream) (reports : List Report) → AreJudgedIn terms set h s streams reports
     → AreJudgedIn terms all h s (with_others set empty_stream s streams) (with_others set empty_report s reports)
 emptied_from first last terms set all h members s [] [] judged = tt

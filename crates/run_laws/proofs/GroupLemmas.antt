@@ -1,5 +1,6 @@
 -- A closed set of streams is a group.
-use Rattle.std.proofs.Common.{◌≡◌, ℕ, ◌+◌, ◌<◌, ◌≤◌, Bool, true, false, ◌&&◌, nat_lt, nat_le, List, [], ◌∷◌, length, refl, sym, subst, ◌∙◌, inl, inr, arith, lt-ltb, le-leb, ltb-true, leb-true}
+use Rattle.std.proofs.Common.{◌≡◌, ℕ, ◌+◌, ◌<◌, ◌≤◌, Bool, true, false, ◌&&◌, nat_lt, nat_le, List, [], ◌∷◌, length, refl, sym, subst, ◌∙◌}
+use Rattle.std.proofs.Common.{inl, inr, arith, lt-ltb, le-leb, ltb-true, leb-true}
 use Rattle.std.specs.Prelude.{IsTrue}
 use Rattle.std.specs.List.{AllByRecursion}
 use Rattle.std.proofs.lemmas.Bool.{cases_Bool, cases_eq, and_from, true≢false, and_parts}
@@ -55,7 +56,8 @@ owned_by set owners.Outside = true
 is_within : LayoutValue → (ℕ → Bool) → ℕ → Bool
 is_within p set id = owned_by set (owner p id)
 
-within_owner : (p : LayoutValue) (set : ℕ → Bool) (id : ℕ) (o : Owner) → 0 < p.streams → owner p id ≡ o → IsOwnedWithin p set id → IsTrue (owned_by (inside p set) o)
+within_owner : (p : LayoutValue) (set : ℕ → Bool) (id : ℕ) (o : Owner) → 0 < p.streams → owner p id ≡ o → IsOwnedWithin p set id
+    → IsTrue (owned_by (inside p set) o)
 unfolding owned_by
 within_owner p set id owners.Formula some is within = refl
 within_owner p set id (owners.Stream t) some is within =
@@ -71,9 +73,11 @@ owners_within : (p : LayoutValue) (set : ℕ → Bool) (id t : ℕ) → IsTrue (
 unfolding is_within owned_by
 owners_within p set id t within owns = subst (λ (o : Owner). IsTrue (owned_by set o)) owns within
 
-finds_within : (p : LayoutValue) (set : ℕ → Bool) (es : History) → AllByRecursion (FetchesOnly (is_within p set)) es → AllByRecursion (FindsWithin p set) es
+finds_within : (p : LayoutValue) (set : ℕ → Bool) (es : History) → AllByRecursion (FetchesOnly (is_within p set)) es
+    → AllByRecursion (FindsWithin p set) es
 finds_within p set [] only = tt
-finds_within p set (events.fetch s id r ∷ es) only = (λ member found t owns. owners_within p set id t only.0 owns, finds_within p set es only.1)
+finds_within p set (events.fetch s id r ∷ es) only =
+    (λ member found t owns. owners_within p set id t only.0 owns, finds_within p set es only.1)
 finds_within p set (events.publish s id c r ∷ es) only = (tt, finds_within p set es only.1)
 finds_within p set (events.retire s id r ∷ es) only = (tt, finds_within p set es only.1)
 
@@ -84,17 +88,21 @@ cites_pass : (p : LayoutValue) (set : ℕ → Bool) (lines : List StreamLine) �
     → AllByRecursion (λ line. AllByRecursion (IsOwnedWithin p set) (cited_by line)) lines → CitePass (is_within p (inside p set)) lines
 unfolding CitePass
 cites_pass p set lines some within =
-    All-map (λ line. AllByRecursion (IsOwnedWithin p set) (cited_by line)) (λ line. AllByRecursion (λ id. IsTrue (is_within p (inside p set) id)) (cited_by line))
-    (λ line all. All-map (IsOwnedWithin p set) (λ id. IsTrue (is_within p (inside p set) id)) (λ id w. passes p set id some w) (cited_by line) all)
+    All-map (λ line. AllByRecursion (IsOwnedWithin p set) (cited_by line))
+    (λ line. AllByRecursion (λ id. IsTrue (is_within p (inside p set) id)) (cited_by line))
+    (λ line all. All-map (IsOwnedWithin p set) (λ id. IsTrue (is_within p (inside p set) id)) (λ id w. passes p set id some w)
+    (cited_by line) all)
     lines within
 
 -- what a stream that cites within the set fetches is within it
 fetches_within : CitedFetched → (p : LayoutValue) (set : ℕ → Bool) (c : Setting) (stream : Stream) (blocks : List History) (report : Report)
-    → 0 < p.streams → CiteWithin p set stream.bytes → JudgesStream c stream blocks report → AllByRecursion (FetchesOnly (is_within p (inside p set))) (joined blocks)
+    → 0 < p.streams → CiteWithin p set stream.bytes → JudgesStream c stream blocks report
+    → AllByRecursion (FetchesOnly (is_within p (inside p set))) (joined blocks)
 unfolding CitePass
 fetches_within law p set c stream blocks report some cites judged =
     let way = some_end c stream blocks report judged in
-    law c stream.bytes way.0 blocks report cites.lines cites.rest (is_within p (inside p set)) way.1 cites.cut (cites_pass p set cites.lines some cites.within)
+    law c stream.bytes way.0 blocks report cites.lines cites.rest (is_within p (inside p set)) way.1 cites.cut
+    (cites_pass p set cites.lines some cites.within)
 
 -- The history
 
@@ -154,7 +162,8 @@ closed_is_group law f terms set h streams reports fits count legal judged closed
     let p = terms.layout in
     record {
       history = among (inside p set) h;
-      members = All-map (λ e. IsTrue (inside p set (stream_of e))) (λ e. IsTrue (set (stream_of e))) (λ e member. (inside_is p set (stream_of e) member).0)
+      members = All-map (λ e. IsTrue (inside p set (stream_of e))) (λ e. IsTrue (set (stream_of e)))
+          (λ e member. (inside_is p set (stream_of e) member).0)
           (among (inside p set) h) (among-members (inside p set) h);
       legal = restriction_legal f p (inside p set) h fits legal (closed_finds law terms set h streams reports count judged closed);
       judged = judged_among terms set h 1 streams reports (omega arith) (omega (arith, count)) judged;

@@ -146,13 +146,16 @@ module _ (c : Setting) (p : ℕ → Bool) where
   ends_retire : OneFirstLine → (lines more : List StreamLine) (left rest : List ℕ) (end : StreamEnd) (back : List History) (report : Report)
       → left ≡ flat_map line_text more ++ rest → AllByRecursion IsWithinLimits more → HasNoLine rest
       → AllByRecursion Passes more → EndsAfter c lines left end back report → Retires (joined back)
-  ends_retire first lines more left rest end back report is fits none all (at_bad_line line after text fit block is_one deleted fault bad says) =
+  ends_retire first lines more left rest end back report is fits none all
+      (at_bad_line line after text fit block is_one deleted fault bad says) =
       let found : (others : List StreamLine) × (more ≡ line ∷ others)
       = line_first first line more after left rest fit fits none text is in
       one_retires block back is_one
       (line_retires c p (standing_of c lines) line block (Bad deleted fault) (subst (AllByRecursion Passes) found.1 all).0 bad)
-  ends_retire first lines more left rest end back report is fits none all (at_bad_text fault text no_block says) = none_retires back no_block
-  ends_retire first lines more left rest end back report is fits none all (at_memory lead ids after text fit block is_one earlier stops says) =
+  ends_retire first lines more left rest end back report is fits none all (at_bad_text fault text no_block says) =
+      none_retires back no_block
+  ends_retire first lines more left rest end back report is fits none all
+      (at_memory lead ids after text fit block is_one earlier stops says) =
       let found : (others : List StreamLine) × (more ≡ Deletion lead ids ∷ others)
       = line_first first (Deletion lead ids) more after left rest fit fits none text is in
       let pass : AllByRecursion (λ id. IsTrue (p id)) (earlier ++ stops.id ∷ stops.later)

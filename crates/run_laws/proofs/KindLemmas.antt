@@ -106,7 +106,8 @@ module _ (c : Setting) (P : Event → Type 0) (fetches : (id : ℕ) (r : Reply) 
   imported_none events.retired id lits es v at = none_all es at.0
   imported_none (events.live d) id lits es v at = test_all _ _ es v _ (λ good. none_all es good.0) at
 
-  pub import_all : (st : Standing) (id : ℕ) (lits : List ℤ) (es : History) (v : LineVerdict) → JudgesImport c st id lits es v → AllByRecursion P es
+  pub import_all : (st : Standing) (id : ℕ) (lits : List ℤ) (es : History) (v : LineVerdict) → JudgesImport c st id lits es v
+      → AllByRecursion P es
   import_all st id lits es v judged =
       test_all _ _ es v _ (λ a. test_all _ _ es v _ (λ a. test_all _ _ es v _
       (λ a. subst (AllByRecursion P) (sym a.events) (All-append P a.asked a.rest (asked_all (side_of c id) id a.asked a.reply a.asks)
@@ -127,7 +128,8 @@ never_last [] all = tt
 never_last (e ∷ es) all = ((λ is. absurd (all.0 is)), never_last es all.1)
 
 -- after a retire of a line there are only retires
-pub line_last : (c : Setting) (st : Standing) (line : StreamLine) (es : History) (v : LineVerdict) → JudgesLine c st line es v → RetiresLast es
+pub line_last : (c : Setting) (st : Standing) (line : StreamLine) (es : History) (v : LineVerdict) → JudgesLine c st line es v
+    → RetiresLast es
 line_last c st (Addition id lits hints) es v judged =
     never_last es (addition_all c (λ e. ¬ IsRetire e) (λ h r is. is) id lits v (λ good is. is) st hints es judged)
 line_last c st (Import id lits) es v judged =

@@ -1,5 +1,6 @@
 -- Two orders by turns of the same streams are one.
-use Rattle.std.proofs.Common.{◌≡◌, ◌≢◌, ◌<◌, ◌≤◌, ◌+◌, ℕ, true, List, [], ◌∷◌, ◌++◌, length, Bool, cond, eqb, eq-eqb, ne_eqb, inl, inr, refl, sym, ap, ap₂, subst, ◌∙◌, arith, append_assoc}
+use Rattle.std.proofs.Common.{◌≡◌, ◌≢◌, ◌<◌, ◌≤◌, ◌+◌, ℕ, true, List, [], ◌∷◌, ◌++◌, length, Bool, cond, eqb, eq-eqb, ne_eqb, inl, inr}
+use Rattle.std.proofs.Common.{refl, sym, ap, ap₂, subst, ◌∙◌, arith, append_assoc}
 use Rattle.std.specs.List.{AllByRecursion}
 use Rattle.std.proofs.lemmas.Bool.{cases_eq, cases_lt}
 use Rattle.std.proofs.lemmas.List.Sums.{sum_by-cons}
@@ -76,10 +77,16 @@ lines_are s [] = refl
 lines_are s (x ∷ blocks) = elim (cases_eq x.stream s) [
   | inl same ↦
       let own : line_count s (x.stream ∷ streams_of blocks) ≡ 1 + line_count s (streams_of blocks) =
-      subst (λ t. line_count s (t ∷ streams_of blocks) ≡ 1 + line_count s (streams_of blocks)) (sym same) (lines_own s (streams_of blocks)) in
+      subst (λ t. line_count s (t ∷ streams_of blocks) ≡ 1 + line_count s (streams_of blocks)) (sym same)
+      (lines_own s (streams_of blocks)) in
       omega (arith, own, lines_are s blocks, ap (λ (bs : List History). length bs) (blocks-same x blocks s same))
   | inr other ↦
-      omega (arith, lines_other x.stream s (streams_of blocks) other, lines_are s blocks, ap (λ (bs : List History). length bs) (blocks-other x blocks s other))
+      omega (
+        arith,
+        lines_other x.stream s (streams_of blocks) other,
+        lines_are s blocks,
+        ap (λ (bs : List History). length bs) (blocks-other x blocks s other),
+      )
 ]
 
 -- Lists of blocks that go on alike
@@ -108,12 +115,15 @@ pub record JudgedTwice (c : Setting) (xs ys : List History) : Type 0 where
 module _ (alike : BlocksGoAlike) (forks : LegalNeverFork) (f : Cnf) (terms : TermsValue) (ps qs : List Block)
     (both : (s : ℕ) → IsStream terms.layout s → JudgedTwice (setting_of terms s) (blocks_of s ps) (blocks_of s qs)) where
   -- behind the same lines each stream goes on alike
-  alike_at : (before xs ys : List Block) (s : ℕ) → IsStream terms.layout s → ps ≡ before ++ xs → qs ≡ before ++ ys → GoAlike (blocks_of s xs) (blocks_of s ys)
+  alike_at : (before xs ys : List Block) (s : ℕ) → IsStream terms.layout s → ps ≡ before ++ xs → qs ≡ before ++ ys
+      → GoAlike (blocks_of s xs) (blocks_of s ys)
   alike_at before xs ys s stream is also =
       let j = both s stream in
       alike (setting_of terms s) j.bytes j.end (blocks_of s before) (blocks_of s xs) (blocks_of s ys) j.report j.other
-      (subst (λ (hs : List History). JudgesBlocks (setting_of terms s) j.bytes j.end hs j.report) (ap (blocks_of s) is ∙ blocks_of-append s before xs) j.first)
-      (subst (λ (hs : List History). JudgesBlocks (setting_of terms s) j.bytes j.end hs j.other) (ap (blocks_of s) also ∙ blocks_of-append s before ys) j.second)
+      (subst (λ (hs : List History). JudgesBlocks (setting_of terms s) j.bytes j.end hs j.report)
+      (ap (blocks_of s) is ∙ blocks_of-append s before xs) j.first)
+      (subst (λ (hs : List History). JudgesBlocks (setting_of terms s) j.bytes j.end hs j.other)
+      (ap (blocks_of s) also ∙ blocks_of-append s before ys) j.second)
       j.memory j.none
 
   -- the next line of both orders is one
@@ -123,13 +133,16 @@ module _ (alike : BlocksGoAlike) (forks : LegalNeverFork) (f : Cnf) (terms : Ter
   same_line before xs ys x y m stream same is also legal lawful =
       let s = x.stream in
       let go = subst (λ (hs : List History). GoAlike (x.events ∷ blocks_of s xs) hs) (blocks-same y ys s (sym same))
-      (subst (λ (hs : List History). GoAlike hs (blocks_of s (y ∷ ys))) (blocks-same x xs s refl) (alike_at before (x ∷ xs) (y ∷ ys) s stream is also)) in
-      let events : x.events ≡ y.events = go (events_in xs) (events_in ys) (forks f terms.layout m (x.events ++ events_in xs) (y.events ++ events_in ys) legal lawful) in
+      (subst (λ (hs : List History). GoAlike hs (blocks_of s (y ∷ ys))) (blocks-same x xs s refl)
+      (alike_at before (x ∷ xs) (y ∷ ys) s stream is also)) in
+      let events : x.events ≡ y.events =
+      go (events_in xs) (events_in ys) (forks f terms.layout m (x.events ++ events_in xs) (y.events ++ events_in ys) legal lawful) in
       ap₂ (λ (t : ℕ) (es : History). record { stream = t; events = es }) same events
 
   -- where the stream of a line of one order has a line left, it has one in the other
   left_in_both : (before xs ys : List Block) (s : ℕ) → IsStream terms.layout s → ps ≡ before ++ xs → qs ≡ before ++ ys
-      → (0 < line_count s (streams_of xs) → 0 < line_count s (streams_of ys)) × (0 < line_count s (streams_of ys) → 0 < line_count s (streams_of xs))
+      → (0 < line_count s (streams_of xs) → 0 < line_count s (streams_of ys))
+      × (0 < line_count s (streams_of ys) → 0 < line_count s (streams_of xs))
   left_in_both before xs ys s stream is also =
       let go = alike_at before xs ys s stream is also in (
         λ some. omega (arith, lines_are s ys, alike_some (blocks_of s xs) (blocks_of s ys) go (omega (arith, some, lines_are s xs))),
@@ -142,19 +155,24 @@ module _ (alike : BlocksGoAlike) (forks : LegalNeverFork) (f : Cnf) (terms : Ter
       → AreTurns (streams_of before) (streams_of xs) → AreTurns (streams_of before) (streams_of ys) → xs ≡ ys
   one_order before [] [] m is also within too legal lawful turns others = refl
   one_order before [] (y ∷ ys) m is also within too legal lawful turns others =
-      let none = (left_in_both before [] (y ∷ ys) y.stream too.0.0 is also).1 (omega (arith, lines_own y.stream (streams_of ys))) in absurd (omega (arith, none))
+      let none = (left_in_both before [] (y ∷ ys) y.stream too.0.0 is also).1 (omega (arith, lines_own y.stream (streams_of ys))) in
+      absurd (omega (arith, none))
   one_order before (x ∷ xs) [] m is also within too legal lawful turns others =
-      let none = (left_in_both before (x ∷ xs) [] x.stream within.0.0 is also).0 (omega (arith, lines_own x.stream (streams_of xs))) in absurd (omega (arith, none))
+      let none = (left_in_both before (x ∷ xs) [] x.stream within.0.0 is also).0 (omega (arith, lines_own x.stream (streams_of xs))) in
+      absurd (omega (arith, none))
   one_order before (x ∷ xs) (y ∷ ys) m is also within too legal lawful turns others =
       let left = (left_in_both before (x ∷ xs) (y ∷ ys) y.stream too.0.0 is also).1 (omega (arith, lines_own y.stream (streams_of ys))) in
-      let right = (left_in_both before (x ∷ xs) (y ∷ ys) x.stream within.0.0 is also).0 (omega (arith, lines_own x.stream (streams_of xs))) in
+      let right =
+      (left_in_both before (x ∷ xs) (y ∷ ys) x.stream within.0.0 is also).0 (omega (arith, lines_own x.stream (streams_of xs))) in
       let stream = same_turn (streams_of before) (streams_of xs) (streams_of ys) x.stream y.stream turns others left right in
       let same = same_line before xs ys x y m within.0.0 stream is also legal lawful in
       let rest = one_order (before ++ x ∷ []) xs ys (run m x.events)
-      (is ∙ sym (append_assoc before (x ∷ []) xs)) (also ∙ ap (λ (b : Block). before ++ b ∷ ys) (sym same) ∙ sym (append_assoc before (x ∷ []) ys))
+      (is ∙ sym (append_assoc before (x ∷ []) xs))
+      (also ∙ ap (λ (b : Block). before ++ b ∷ ys) (sym same) ∙ sym (append_assoc before (x ∷ []) ys))
       within.1 too.1
       (legal-back f terms.layout m x.events (events_in xs) legal)
-      (legal-back f terms.layout m x.events (events_in ys) (subst (λ (b : Block). LegalFrom f terms.layout m (b.events ++ events_in ys)) (sym same) lawful))
+      (legal-back f terms.layout m x.events (events_in ys)
+      (subst (λ (b : Block). LegalFrom f terms.layout m (b.events ++ events_in ys)) (sym same) lawful))
       (subst (λ (order : List ℕ). AreTurns order (streams_of xs)) (sym (streams_of-push before x)) turns.1)
       (subst (λ (order : List ℕ). AreTurns order (streams_of ys)) (sym (streams_of-push before x))
       (subst (λ t. AreTurns (streams_of before ++ t ∷ []) (streams_of ys)) (sym stream) others.1)) in

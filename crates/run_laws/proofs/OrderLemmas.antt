@@ -1,5 +1,6 @@
 -- The lines of a set of streams have an order.
-use Rattle.std.proofs.Common.{◌≡◌, ◌&&◌, ◌+◌, ℕ, Bool, true, false, cond, ltb, leb, not, List, [], ◌∷◌, ◌++◌, map, refl, sym, ap, subst, ◌∙◌, inl, inr, arith, le-leb, lt-ltb}
+use Rattle.std.proofs.Common.{◌≡◌, ◌&&◌, ◌+◌, ℕ, Bool, true, false, cond, ltb, leb, not, List, [], ◌∷◌, ◌++◌, map, refl, sym, ap, subst}
+use Rattle.std.proofs.Common.{◌∙◌, inl, inr, arith, le-leb, lt-ltb}
 use Rattle.std.specs.Prelude.{IsTrue}
 use Rattle.std.specs.List.{AllByRecursion, list_all, sum_by}
 use Rattle.std.proofs.lemmas.Bool.{cases_eq, cases_Bool, cond-true, cond-false, true≢false, and_from, leb-true, ltb-true, and_parts}
@@ -52,7 +53,8 @@ settles_among f p set final m (e ∷ h) legal later cites =
     elim (cases_Bool (set (stream_of e))) [
       | inl member ↦ subst (AllByRecursion (Settles p final)) (sym (cond-true (set (stream_of e)) (e ∷ among set h) (among set h) member))
           (settles_one f p final m e h legal later (cites.0 member), rest)
-      | inr other ↦ subst (AllByRecursion (Settles p final)) (sym (cond-false (set (stream_of e)) (e ∷ among set h) (among set h) other)) rest
+      | inr other ↦
+          subst (AllByRecursion (Settles p final)) (sym (cond-false (set (stream_of e)) (e ∷ among set h) (among set h) other)) rest
     ]
 
 -- Room
@@ -84,13 +86,15 @@ own_none : (s t : ℕ) (es : History) → (t ≡ s → ⊥) → AllByRecursion (
 own_none s t [] other all = refl
 own_none s t (e ∷ es) other all = own-other e es s (λ mine. other (sym all.0 ∙ mine)) ∙ own_none s t es other all.1
 
-pub own-blocks : (p : LayoutValue) (final : State) (s : ℕ) (blocks : List Block) → AllByRecursion (IsSettled p final) blocks → own (events_in blocks) s ≡ joined (blocks_of s blocks)
+pub own-blocks : (p : LayoutValue) (final : State) (s : ℕ) (blocks : List Block) → AllByRecursion (IsSettled p final) blocks
+    → own (events_in blocks) s ≡ joined (blocks_of s blocks)
 own-blocks p final s [] all = refl
 own-blocks p final s (block ∷ blocks) all =
     own-append block.events (events_in blocks) s
     ∙ elim (cases_eq block.stream s) [
       | inl same ↦
-          ap (λ (g : History). g ++ own (events_in blocks) s) (own-all s block.events (subst (λ (t : ℕ). AllByRecursion (λ e. stream_of e ≡ t) block.events) same all.0.calls))
+          ap (λ (g : History). g ++ own (events_in blocks) s)
+          (own-all s block.events (subst (λ (t : ℕ). AllByRecursion (λ e. stream_of e ≡ t) block.events) same all.0.calls))
           ∙ ap (λ (g : History). block.events ++ g) (own-blocks p final s blocks all.1)
           ∙ sym (ap joined (blocks-same block blocks s same))
       | inr other ↦
@@ -114,7 +118,8 @@ pub are_streams : (p : LayoutValue) (set : ℕ → Bool) (s : ℕ) → IsTrue (s
 are_streams p set s member is =
     and_from (set s) (ltb 0 s && leb s p.streams) member (and_from (ltb 0 s) (leb s p.streams) (lt-ltb 0 s is.0) (le-leb s p.streams is.1))
 
-finds_less : (p : LayoutValue) (set : ℕ → Bool) (h : History) → AllByRecursion (FindsWithin p set) h → AllByRecursion (FindsWithin p (streams_in p set)) h
+finds_less : (p : LayoutValue) (set : ℕ → Bool) (h : History) → AllByRecursion (FindsWithin p set) h
+    → AllByRecursion (FindsWithin p (streams_in p set)) h
 finds_less p set [] all = tt
 finds_less p set (events.fetch s id r ∷ h) all = (
   λ member found t owns.
@@ -139,7 +144,8 @@ own_each P set (e ∷ h) all = (
   ]),
 )
 
-members_are : (p : LayoutValue) (set : ℕ → Bool) (h : History) → AllByRecursion (λ e. IsTrue (streams_in p set (stream_of e))) h → AllByRecursion (λ e. IsStream p (stream_of e)) h
+members_are : (p : LayoutValue) (set : ℕ → Bool) (h : History) → AllByRecursion (λ e. IsTrue (streams_in p set (stream_of e))) h
+    → AllByRecursion (λ e. IsStream p (stream_of e)) h
 members_are p set [] all = tt
 members_are p set (e ∷ h) all = ((streams_are p set (stream_of e) all.0).1, members_are p set h all.1)
 
@@ -161,7 +167,8 @@ some_block : (b : History) (bs gs : List History) → gs ≡ b ∷ bs → gs ≡
 some_block b bs gs is none = absurd (cc)
 
 -- each block is of a stream of the set
-within_set : (p : LayoutValue) (set : ℕ → Bool) (final : State) (rest : Lines) (blocks : List Block) → AllByRecursion (IsSettled p final) blocks
+within_set : (p : LayoutValue) (set : ℕ → Bool) (final : State) (rest : Lines) (blocks : List Block)
+    → AllByRecursion (IsSettled p final) blocks
     → ((s : ℕ) → streams_in p set s ≡ false → blocks_of s blocks ≡ []) → AllByRecursion (IsBlockWithin p set) blocks
 within_set p set final rest [] all none = tt
 within_set p set final rest (block ∷ blocks) all none = (
@@ -171,7 +178,8 @@ within_set p set final rest (block ∷ blocks) all none = (
         (blocks-same block blocks block.stream refl) (none block.stream out))
   ],
   within_set p set final rest blocks all.1 (λ s out. elim (cases_eq block.stream s) [
-    | inl same ↦ absurd (some_block block.events (blocks_of s blocks) (blocks_of s (block ∷ blocks)) (blocks-same block blocks s same) (none s out))
+    | inl same ↦
+        absurd (some_block block.events (blocks_of s blocks) (blocks_of s (block ∷ blocks)) (blocks-same block blocks s same) (none s out))
     | inr other ↦ sym (blocks-other block blocks s other) ∙ none s out
   ]),
 )
@@ -217,12 +225,14 @@ lines_in_order restriction_legal among_members among_keeps_own f p set h blocks 
     let order : List Block = made.0 in (
       order,
       record {
-        within = within_set p set (state f h) rest order made.1.settled (λ s out. made.1.lines s ∙ ap (map reduced) (out-lines p set blocks s out));
+        within = within_set p set (state f h) rest order made.1.settled
+            (λ s out. made.1.lines s ∙ ap (map reduced) (out-lines p set blocks s out));
         legal = record {
           events = made.1.legal;
           room = λ s.
               let same : spent s (events_in order) ≡ spent s part
-              = spent-sizes s (events_in order) ∙ ap (sum_by size_of) (own-blocks p (state f h) s order made.1.settled ∙ ap joined (made.1.lines s))
+              = spent-sizes s (events_in order)
+              ∙ ap (sum_by size_of) (own-blocks p (state f h) s order made.1.settled ∙ ap joined (made.1.lines s))
               ∙ joined_size (rest s) ∙ sym (spent-sizes s part ∙ ap (sum_by size_of) (own_events s)) in
               omega (arith, same, is_legal.room s);
         };

@@ -18,9 +18,10 @@ has_place xs s first last =
 
 -- Judged streams
 
-judged_from : (terms : TermsValue) (set : ℕ → Bool) (h : History) (s : ℕ) (streams : List Stream) (reports : List Report) → AreJudgedIn terms set h s streams reports
-    → (k : ℕ) (stream : Stream) (report : Report) → IsTrue (set (s + k)) → slice_get streams k ≡ Some stream → slice_get reports k ≡ Some report
-    → IsJudgedBy (setting_of terms (s + k)) stream (own h (s + k)) report
+judged_from : (terms : TermsValue) (set : ℕ → Bool) (h : History) (s : ℕ) (streams : List Stream) (reports : List Report)
+    → AreJudgedIn terms set h s streams reports
+    → (k : ℕ) (stream : Stream) (report : Report) → IsTrue (set (s + k)) → slice_get streams k ≡ Some stream
+    → slice_get reports k ≡ Some report → IsJudgedBy (setting_of terms (s + k)) stream (own h (s + k)) report
 judged_from terms set h s [] [] judged k stream report member at says = absurd (cc)
 judged_from terms set h s [] (r ∷ rs) judged k stream report member at says = absurd judged
 judged_from terms set h s (t ∷ ts) [] judged k stream report member at says = absurd judged
@@ -38,7 +39,8 @@ judged_from terms set h s (t ∷ ts) (r ∷ rs) judged (suc k) stream report mem
     (judged_from terms set h (s + 1) ts rs judged.1 k stream report (subst (λ n. IsTrue (set n)) (sym next) member) at says)
 
 -- stream s of the set is judged by its own events
-pub judged_at : (terms : TermsValue) (set : ℕ → Bool) (h : History) (streams : List Stream) (reports : List Report) → AreJudgedIn terms set h 1 streams reports
+pub judged_at : (terms : TermsValue) (set : ℕ → Bool) (h : History) (streams : List Stream) (reports : List Report)
+    → AreJudgedIn terms set h 1 streams reports
     → (s : ℕ) (stream : Stream) (report : Report) → IsTrue (set s) → IsOfStream streams s stream → IsOfStream reports s report
     → IsJudgedBy (setting_of terms s) stream (own h s) report
 judged_at terms set h streams reports judged s stream report member at says =
@@ -49,8 +51,10 @@ judged_at terms set h streams reports judged s stream report member at says =
 
 -- fewer streams are judged too
 pub judged_fewer : (terms : TermsValue) (all set : ℕ → Bool) (h : History) → ((s : ℕ) → IsTrue (set s) → IsTrue (all s))
-    → (s : ℕ) (streams : List Stream) (reports : List Report) → AreJudgedIn terms all h s streams reports → AreJudgedIn terms set h s streams reports
+    → (s : ℕ) (streams : List Stream) (reports : List Report) → AreJudgedIn terms all h s streams reports
+    → AreJudgedIn terms set h s streams reports
 judged_fewer terms all set h sub s [] [] judged = tt
 judged_fewer terms all set h sub s [] (r ∷ rs) judged = absurd judged
 judged_fewer terms all set h sub s (t ∷ ts) [] judged = absurd judged
-judged_fewer terms all set h sub s (t ∷ ts) (r ∷ rs) judged = (λ member. judged.0 (sub s member), judged_fewer terms all set h sub (s + 1) ts rs judged.1)
+judged_fewer terms all set h sub s (t ∷ ts) (r ∷ rs) judged =
+    (λ member. judged.0 (sub s member), judged_fewer terms all set h sub (s + 1) ts rs judged.1)

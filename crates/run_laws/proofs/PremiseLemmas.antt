@@ -1,5 +1,6 @@
 -- The premise on what is retired: by the final state, by events, and by the streams' lines.
-use Rattle.std.proofs.Common.{◌≡◌, ◌⊎◌, ◌-◌, ◌&&◌, ◌||◌, ℕ, Bool, eqb, List, [], ◌∷◌, ◌++◌, length, refl, sym, subst, ◌∙◌, inl, inr, ltb, leb, eq-eqb, arith}
+use Rattle.std.proofs.Common.{◌≡◌, ◌⊎◌, ◌-◌, ◌&&◌, ◌||◌, ℕ, Bool, eqb, List, [], ◌∷◌, ◌++◌, length, refl, sym, subst, ◌∙◌, inl, inr, ltb}
+use Rattle.std.proofs.Common.{leb, eq-eqb, arith}
 use Rattle.std.specs.Prelude.{IsTrue}
 use Rattle.std.specs.List.{AllByRecursion, list_any}
 use Rattle.std.proofs.lemmas.Bool.{cases_eq, cases_Bool, cond-true, cond-false, or_right, or_left}
@@ -22,8 +23,10 @@ use Rattle.stream_check.specs.Laws.{cited_by, FetchesOnly, CitedFetched}
 use Rattle.runs.specs.Streams.{setting_of}
 use Rattle.runs.specs.StreamLemmas.{told_from, told_begins}
 use Rattle.runs.specs.Closed.{CiteWithin}
-use Rattle.run_laws.specs.Premises.{FindsKept, FindsUnretired, MeetsUnretired, IsRetireOf, HistoryRetires, cites, deletes, Cites, SomeLineDeletes}
-use Rattle.run_laws.specs.OrderLaws.{KeptByEvents, OwnersAloneSuffices, SharedStays, BeginningsCite, ReadersShare, RetiresOnly, DeletedRetired}
+use Rattle.run_laws.specs.Premises.{FindsKept, FindsUnretired, MeetsUnretired, IsRetireOf, HistoryRetires, cites, deletes, Cites}
+use Rattle.run_laws.specs.Premises.{SomeLineDeletes}
+use Rattle.run_laws.specs.OrderLaws.{KeptByEvents, OwnersAloneSuffices, SharedStays, BeginningsCite, ReadersShare, RetiresOnly}
+use Rattle.run_laws.specs.OrderLaws.{DeletedRetired}
 use Rattle.run_laws.proofs.SwapLemmas.{gone_stays}
 use Rattle.run_laws.proofs.WalkLemmas.{own-calls}
 use Rattle.run_laws.proofs.StreamLemmas.{IsJudgedStream, judged_stream, is_inside, inside_owner, fetched_inside}
@@ -59,7 +62,8 @@ gone_retires m (e ∷ h) id gone =
 opening_kept : (f : Cnf) (id : ℕ) → IsRetired (opening f id) → ⊥
 opening_kept f id gone =
     elim (cases_Bool (ltb 0 id && leb id (length f.clauses))) [
-      | inl formula ↦ absurd (subst IsRetired (cond-true (ltb 0 id && leb id (length f.clauses)) (live (clause_at f id)) absent formula) gone)
+      | inl formula ↦
+          absurd (subst IsRetired (cond-true (ltb 0 id && leb id (length f.clauses)) (live (clause_at f id)) absent formula) gone)
       | inr other ↦ absurd (subst IsRetired (cond-false (ltb 0 id && leb id (length f.clauses)) (live (clause_at f id)) absent other) gone)
     ]
 
@@ -80,7 +84,8 @@ retired_at f p m (events.retire s j retiring.Done) id h legal is =
     subst IsRetired (sym (put-same m j (retire_slot (m j)) id (sym is))) (retired_now (m j) legal.0)
 retired_at f p m (events.retire s j retiring.NotLive) id h legal is = absurd is
 
-retires_gone : (f : Cnf) (p : LayoutValue) (m : State) (h : History) (id : ℕ) → LegalFrom f p m h → HistoryRetires h id → IsRetired (run m h id)
+retires_gone : (f : Cnf) (p : LayoutValue) (m : State) (h : History) (id : ℕ) → LegalFrom f p m h → HistoryRetires h id
+    → IsRetired (run m h id)
 retires_gone f p m [] id legal retires = absurd retires
 retires_gone f p m (e ∷ h) id legal (inl here) =
     gone_stays (after m e id) (run (after m e) h id) (run-advances f p (after m e) h id legal.2) (retired_at f p m e id h legal here)
@@ -253,11 +258,19 @@ pub beginnings_cite : BeginningCut → EveryCut → BeginningsCite
 beginnings_cite beginning every_cut bytes more id =
     let whole = every_cut (bytes ++ more) in (
       λ found.
-          let front = beginning bytes more found.0 whole.0 found.1 whole.1 found.2 whole.2 in
-          (whole.0, whole.1, whole.2, subst (λ (ls : List StreamLine). IsTrue (cites ls id)) (sym front.1) (named_front cited_by found.0 front.0 id found.3)),
+          let front = beginning bytes more found.0 whole.0 found.1 whole.1 found.2 whole.2 in (
+            whole.0,
+            whole.1,
+            whole.2,
+            subst (λ (ls : List StreamLine). IsTrue (cites ls id)) (sym front.1) (named_front cited_by found.0 front.0 id found.3),
+          ),
       λ found.
-          let front = beginning bytes more found.0 whole.0 found.1 whole.1 found.2 whole.2 in
-          (whole.0, whole.1, whole.2, subst (λ (ls : List StreamLine). IsTrue (deletes ls id)) (sym front.1) (named_front deleted_by found.0 front.0 id found.3)),
+          let front = beginning bytes more found.0 whole.0 found.1 whole.1 found.2 whole.2 in (
+            whole.0,
+            whole.1,
+            whole.2,
+            subst (λ (ls : List StreamLine). IsTrue (deletes ls id)) (sym front.1) (named_front deleted_by found.0 front.0 id found.3),
+          ),
     )
 
 -- Readers

@@ -23,12 +23,14 @@ use Rattle.run_laws.proofs.Places.{judged_fewer}
 use Rattle.run_laws.proofs.GroupLemmas.{inside, is_inside, inside_is, closed_finds}
 
 -- a stream's own events are those of its blocks
-own-blocks : (p : LayoutValue) (set : ℕ → Bool) (s : ℕ) (bs : List Block) → AllByRecursion (IsBlockWithin p set) bs → own (events_in bs) s ≡ joined (blocks_of s bs)
+own-blocks : (p : LayoutValue) (set : ℕ → Bool) (s : ℕ) (bs : List Block) → AllByRecursion (IsBlockWithin p set) bs
+    → own (events_in bs) s ≡ joined (blocks_of s bs)
 own-blocks p set s [] all = refl
 own-blocks p set s (b ∷ bs) all =
     elim (cases_eq b.stream s) [
       | inl mine ↦ own-append b.events (events_in bs) s
-          ∙ ap (λ (k : History). k ++ own (events_in bs) s) (own-all s b.events (subst (λ (t : ℕ). AllByRecursion (λ e. stream_of e ≡ t) b.events) mine all.0.2))
+          ∙ ap (λ (k : History). k ++ own (events_in bs) s) (own-all s b.events
+          (subst (λ (t : ℕ). AllByRecursion (λ e. stream_of e ≡ t) b.events) mine all.0.2))
           ∙ ap (λ (k : History). b.events ++ k) (own-blocks p set s bs all.1) ∙ sym (ap joined (blocks-same b bs s mine))
       | inr other ↦ own-append b.events (events_in bs) s
           ∙ ap (λ (k : History). k ++ own (events_in bs) s) (own-none b.events s (calls_differ s b.stream b.events other all.0.2))
@@ -37,7 +39,8 @@ own-blocks p set s (b ∷ bs) all =
 
 -- streams that are judged by their blocks are judged by their own events of them all
 pub ordered_judged : (terms : TermsValue) (all set : ℕ → Bool) (bs : List Block) (s : ℕ) (streams : List Stream) (reports : List Report)
-    → AllByRecursion (IsBlockWithin terms.layout all) bs → AreJudged terms set (λ t events. events ≡ blocks_of t bs) s streams reports → AreJudgedIn terms set (events_in bs) s streams reports
+    → AllByRecursion (IsBlockWithin terms.layout all) bs → AreJudged terms set (λ t events. events ≡ blocks_of t bs) s streams reports
+    → AreJudgedIn terms set (events_in bs) s streams reports
 ordered_judged terms all set bs s [] [] within judged = tt
 ordered_judged terms all set bs s [] (r ∷ rs) within judged = absurd judged
 ordered_judged terms all set bs s (t ∷ ts) [] within judged = absurd judged
@@ -49,7 +52,8 @@ ordered_judged terms all set bs s (t ∷ ts) (r ∷ rs) within judged = (
 pub ordered_is_group : ClosedIsGroup → OrderedIsGroup
 ordered_is_group law f terms all set streams reports fits count sub o closed memory =
     law f terms set (events_in o.blocks) streams reports fits count o.legal
-    (judged_fewer terms all set (events_in o.blocks) sub 1 streams reports (ordered_judged terms all all o.blocks 1 streams reports o.within o.judged))
+    (judged_fewer terms all set (events_in o.blocks) sub 1 streams reports
+    (ordered_judged terms all all o.blocks 1 streams reports o.within o.judged))
     closed memory
 
 -- The lines of the set
@@ -67,25 +71,30 @@ left_out set b bs is = cond-false (set b.stream) (b ∷ filter (λ (x : Block). 
 
 among-one : (set : ℕ → Bool) (s : ℕ) (es : History) → AllByRecursion (λ e. stream_of e ≡ s) es → set s ≡ true → among set es ≡ es
 among-one set s [] all is = refl
-among-one set s (e ∷ es) all is = cond-true (set (stream_of e)) (e ∷ among set es) (among set es) (ap set all.0 ∙ is) ∙ ap (λ (h : History). e ∷ h) (among-one set s es all.1 is)
+among-one set s (e ∷ es) all is = cond-true (set (stream_of e)) (e ∷ among set es) (among set es) (ap set all.0 ∙ is)
+    ∙ ap (λ (h : History). e ∷ h) (among-one set s es all.1 is)
 
 among-none : (set : ℕ → Bool) (s : ℕ) (es : History) → AllByRecursion (λ e. stream_of e ≡ s) es → set s ≡ false → among set es ≡ []
 among-none set s [] all is = refl
-among-none set s (e ∷ es) all is = cond-false (set (stream_of e)) (e ∷ among set es) (among set es) (ap set all.0 ∙ is) ∙ among-none set s es all.1 is
+among-none set s (e ∷ es) all is = cond-false (set (stream_of e)) (e ∷ among set es) (among set es) (ap set all.0 ∙ is)
+    ∙ among-none set s es all.1 is
 
 among-append : (set : ℕ → Bool) (g h : History) → among set (g ++ h) ≡ among set g ++ among set h
 among-append set g h = filter-append (λ e. set (stream_of e)) g h
 
 -- the events of the set's blocks are the events of its streams
-events-within : (p : LayoutValue) (all set : ℕ → Bool) (bs : List Block) → AllByRecursion (IsBlockWithin p all) bs → events_in (blocks_within set bs) ≡ among set (events_in bs)
+events-within : (p : LayoutValue) (all set : ℕ → Bool) (bs : List Block) → AllByRecursion (IsBlockWithin p all) bs
+    → events_in (blocks_within set bs) ≡ among set (events_in bs)
 unfolding blocks_within
 events-within p all set [] within = refl
 events-within p all set (b ∷ bs) within =
     elim (cases_Bool (set b.stream)) [
       | inl is ↦ ap events_in (kept set b bs is) ∙ ap (λ (h : History). b.events ++ h) (events-within p all set bs within.1)
-          ∙ ap (λ (g : History). g ++ among set (events_in bs)) (sym (among-one set b.stream b.events within.0.2 is)) ∙ sym (among-append set b.events (events_in bs))
+          ∙ ap (λ (g : History). g ++ among set (events_in bs)) (sym (among-one set b.stream b.events within.0.2 is))
+          ∙ sym (among-append set b.events (events_in bs))
       | inr other ↦ ap events_in (left_out set b bs other) ∙ events-within p all set bs within.1
-          ∙ ap (λ (g : History). g ++ among set (events_in bs)) (sym (among-none set b.stream b.events within.0.2 other)) ∙ sym (among-append set b.events (events_in bs))
+          ∙ ap (λ (g : History). g ++ among set (events_in bs)) (sym (among-none set b.stream b.events within.0.2 other))
+          ∙ sym (among-append set b.events (events_in bs))
     ]
 
 -- a stream of the set has all its blocks
@@ -95,7 +104,8 @@ blocks-kept set s [] member = refl
 blocks-kept set s (b ∷ bs) member =
     elim (cases_Bool (set b.stream)) [
       | inl is ↦ ap (blocks_of s) (kept set b bs is) ∙ elim (cases_eq b.stream s) [
-        | inl mine ↦ blocks-same b (blocks_within set bs) s mine ∙ ap (λ (x : List History). b.events ∷ x) (blocks-kept set s bs member) ∙ sym (blocks-same b bs s mine)
+        | inl mine ↦ blocks-same b (blocks_within set bs) s mine ∙ ap (λ (x : List History). b.events ∷ x) (blocks-kept set s bs member)
+            ∙ sym (blocks-same b bs s mine)
         | inr not_mine ↦ blocks-other b (blocks_within set bs) s not_mine ∙ blocks-kept set s bs member ∙ sym (blocks-other b bs s not_mine)
       ]
       | inr other ↦ ap (blocks_of s) (left_out set b bs other) ∙ blocks-kept set s bs member
@@ -103,16 +113,19 @@ blocks-kept set s (b ∷ bs) member =
     ]
 
 -- each block of the set is one of a stream of the layout, so that the set may be taken as its streams of the layout
-all-kept : (p : LayoutValue) (all set : ℕ → Bool) (bs : List Block) → AllByRecursion (IsBlockWithin p all) bs → AllByRecursion (IsBlockWithin p set) (blocks_within set bs)
+all-kept : (p : LayoutValue) (all set : ℕ → Bool) (bs : List Block) → AllByRecursion (IsBlockWithin p all) bs
+    → AllByRecursion (IsBlockWithin p set) (blocks_within set bs)
 unfolding blocks_within
 all-kept p all set [] within = tt
 all-kept p all set (b ∷ bs) within =
     elim (cases_Bool (set b.stream)) [
-      | inl is ↦ subst (AllByRecursion (IsBlockWithin p set)) (sym (kept set b bs is)) ((within.0.0, is, within.0.2), all-kept p all set bs within.1)
+      | inl is ↦ subst (AllByRecursion (IsBlockWithin p set)) (sym (kept set b bs is))
+          ((within.0.0, is, within.0.2), all-kept p all set bs within.1)
       | inr other ↦ subst (AllByRecursion (IsBlockWithin p set)) (sym (left_out set b bs other)) (all-kept p all set bs within.1)
     ]
 
-inside-same : (p : LayoutValue) (all set : ℕ → Bool) (bs : List Block) → AllByRecursion (IsBlockWithin p all) bs → blocks_within (inside p set) bs ≡ blocks_within set bs
+inside-same : (p : LayoutValue) (all set : ℕ → Bool) (bs : List Block) → AllByRecursion (IsBlockWithin p all) bs
+    → blocks_within (inside p set) bs ≡ blocks_within set bs
 unfolding blocks_within
 inside-same p all set [] within = refl
 inside-same p all set (b ∷ bs) within =
@@ -140,7 +153,8 @@ pub ordered_restricts : CitedFetched → OrderedRestricts
 ordered_restricts law f terms all set streams reports fits count sub o closed =
     let p = terms.layout in
     let h = events_in o.blocks in
-    let judged = judged_fewer terms all set h sub 1 streams reports (ordered_judged terms all all o.blocks 1 streams reports o.within o.judged) in
+    let judged =
+    judged_fewer terms all set h sub 1 streams reports (ordered_judged terms all all o.blocks 1 streams reports o.within o.judged) in
     let finds = closed_finds law terms set h streams reports count judged closed in
     let same : among (inside p set) h ≡ events_in (blocks_within set o.blocks) =
     sym (events-within p all (inside p set) o.blocks o.within) ∙ ap events_in (inside-same p all set o.blocks o.within) in

@@ -1,5 +1,6 @@
 -- What right streams cite, and whether they add the empty clause.
-use Rattle.std.proofs.Common.{◌≡◌, ◌⊎◌, ◌<◌, ℕ, ℤ, zero, suc, Bool, true, false, List, [], ◌∷◌, length, Some, inl, inr, refl, sym, subst, ◌∙◌, arith, append-nil, eqb, eq-eqb, ne_eqb}
+use Rattle.std.proofs.Common.{◌≡◌, ◌⊎◌, ◌<◌, ℕ, ℤ, zero, suc, Bool, true, false, List, [], ◌∷◌, length, Some, inl, inr, refl, sym, subst}
+use Rattle.std.proofs.Common.{◌∙◌, arith, append-nil, eqb, eq-eqb, ne_eqb}
 use Rattle.std.specs.Prelude.{IsTrue, ◌||◌, ◌==◌, slice_index_or}
 use Rattle.std.specs.List.{AllByRecursion, AllZip, Any, list_any, flat_map}
 use Rattle.std.proofs.lemmas.Bool.{cases_eq, cond-false, true≢false}
@@ -55,7 +56,8 @@ lines_near f p s (Deletion lead ids ∷ lines) base near right = (
   tt,
   lines_near f p s lines (after_line base (Deletion lead ids)) (λ j d is. near j d (left (is_among ids j) (base.clauses j) d is).1) right.1,
 )
-lines_near f p s (Import id lits ∷ lines) base near right = ((near id right.0.clause right.0.there, tt), lines_near f p s lines base near right.1)
+lines_near f p s (Import id lits ∷ lines) base near right =
+    ((near id right.0.clause right.0.there, tt), lines_near f p s lines base near right.1)
 
 pub right_cite_within : EmptyCut → RightCiteWithin
 right_cite_within empty_cut f p s bytes lines fits right = record {
@@ -63,7 +65,8 @@ right_cite_within empty_cut f p s bytes lines fits right = record {
   rest = [];
   cut = record { bytes = right.text ∙ sym (append-nil (flat_map line_text lines)); each = right.fits; last = empty_cut.last };
   within = lines_near f p s lines (first_database f p)
-      (λ id d is. let at = is_first f p id d is in formulas_near p s id (formula_owned p id at.positive (omega (arith, at.within, fits.clauses)))) right.right;
+      (λ id d is. let at = is_first f p id d is in formulas_near p s id
+      (formula_owned p id at.positive (omega (arith, at.within, fits.clauses)))) right.right;
 }
 
 -- The empty clause
@@ -74,7 +77,8 @@ some_here P x xs holds = (0, x, omega arith, refl, holds)
 some_later : {X : Type 0} (P : X → Type 0) (x : X) (xs : List X) → Any P xs → Any P (x ∷ xs)
 some_later P x xs some = (suc some.0, some.1, omega (arith, some.2), some.3, some.4)
 
-some_of : {X : Type 0} (P : X → Type 0) (x : X) (xs : List X) (k : ℕ) (y : X) → k < suc (length xs) → slice_index_or (x ∷ xs) k y ≡ y → P y → P x ⊎ Any P xs
+some_of : {X : Type 0} (P : X → Type 0) (x : X) (xs : List X) (k : ℕ) (y : X) → k < suc (length xs) → slice_index_or (x ∷ xs) k y ≡ y → P y
+    → P x ⊎ Any P xs
 some_of P x xs zero y within at holds = inl (subst P (sym at) holds)
 some_of P x xs (suc k) y within at holds = inr (k, y, omega (arith, within), at, holds)
 
@@ -105,19 +109,23 @@ HasEmpty lines = IsTrue (list_any (λ addition. length addition.1 == 0) (additio
 
 to_some : (lines : List StreamLine) → HasEmpty lines → Any AddsEmpty lines
 to_some [] test = absurd (true≢false (sym test))
-to_some (Addition id lits hints ∷ lines) test = elim (or_cases (length (distinct lits) == 0) (list_any (λ addition. length addition.1 == 0) (additions_of lines)) test) [
-  | inl here ↦ some_here AddsEmpty (Addition id lits hints) lines (is_empty lits here)
-  | inr later ↦ some_later AddsEmpty (Addition id lits hints) lines (to_some lines later)
-]
+to_some (Addition id lits hints ∷ lines) test =
+    elim (or_cases (length (distinct lits) == 0) (list_any (λ addition. length addition.1 == 0) (additions_of lines)) test) [
+      | inl here ↦ some_here AddsEmpty (Addition id lits hints) lines (is_empty lits here)
+      | inr later ↦ some_later AddsEmpty (Addition id lits hints) lines (to_some lines later)
+    ]
 to_some (Deletion lead ids ∷ lines) test = some_later AddsEmpty (Deletion lead ids) lines (to_some lines test)
 to_some (Import id lits ∷ lines) test = some_later AddsEmpty (Import id lits) lines (to_some lines test)
 
 from_some : (lines : List StreamLine) → Any AddsEmpty lines → HasEmpty lines
 from_some [] some = absurd (none_of AddsEmpty some)
-from_some (Addition id lits hints ∷ lines) some = elim (some_of AddsEmpty (Addition id lits hints) lines some.0 some.1 some.2 some.3 some.4) [
-  | inl here ↦ or_left (length (distinct lits) == 0) (list_any (λ addition. length addition.1 == 0) (additions_of lines)) (are_empty lits here)
-  | inr later ↦ or_right (length (distinct lits) == 0) (list_any (λ addition. length addition.1 == 0) (additions_of lines)) (from_some lines later)
-]
+from_some (Addition id lits hints ∷ lines) some =
+    elim (some_of AddsEmpty (Addition id lits hints) lines some.0 some.1 some.2 some.3 some.4) [
+      | inl here ↦
+          or_left (length (distinct lits) == 0) (list_any (λ addition. length addition.1 == 0) (additions_of lines)) (are_empty lits here)
+      | inr later ↦ or_right (length (distinct lits) == 0) (list_any (λ addition. length addition.1 == 0) (additions_of lines))
+          (from_some lines later)
+    ]
 from_some (Deletion lead ids ∷ lines) some = elim (some_of AddsEmpty (Deletion lead ids) lines some.0 some.1 some.2 some.3 some.4) [
   | inl here ↦ absurd here
   | inr later ↦ from_some lines later

@@ -1,5 +1,6 @@
 -- A stream that ended alone is right.
-use Rattle.std.proofs.Common.{◌≡◌, ◌≢◌, ◌⊎◌, ◌++◌, ℕ, ℤ, Bool, true, false, cond, eqb, List, [], ◌∷◌, length, Option, Some, None, inl, inr, refl, sym, ap, subst, ◌∙◌, arith, append_assoc, append-nil, eq-eqb, ne_eqb, ltb, leb}
+use Rattle.std.proofs.Common.{◌≡◌, ◌≢◌, ◌⊎◌, ◌++◌, ℕ, ℤ, Bool, true, false, cond, eqb, List, [], ◌∷◌, length, Option, Some, None, inl, inr}
+use Rattle.std.proofs.Common.{refl, sym, ap, subst, ◌∙◌, arith, append_assoc, append-nil, eq-eqb, ne_eqb, ltb, leb}
 use Rattle.std.specs.Prelude.{IsSome, ◌||◌, ◌&&◌, ◌==◌}
 use Rattle.std.specs.List.{AllByRecursion, AllZip, flat_map}
 use Rattle.std.proofs.lemmas.Bool.{cases_Bool, cases_eq, or_right, cond-true, cond-false, true≢false}
@@ -40,7 +41,8 @@ use Rattle.stream_check.specs.Verdicts.{Good}
 use Rattle.runs.specs.Streams.{setting_of}
 use Rattle.runs.specs.Closed.{IsOwnedWithin}
 use Rattle.run_laws.specs.Groups.{one}
-use Rattle.run_laws.specs.Right.{Database, first_database, after_line, AreRight, AreDistinct, IsRightAddition, IsRightDeletion, IsRightImport}
+use Rattle.run_laws.specs.Right.{Database, first_database, after_line, AreRight, AreDistinct, IsRightAddition, IsRightDeletion}
+use Rattle.run_laws.specs.Right.{IsRightImport}
 use Rattle.run_laws.specs.RightLaws.{EndedIsRight}
 use Rattle.run_laws.proofs.AloneLemmas.{alone_judged, own-one}
 use Rattle.run_laws.proofs.BlameLines.{IsNearSide, AreFair, IsAsked, asked_fair, FindsImport, good_import, fails_not, good_runs}
@@ -51,17 +53,20 @@ use Rattle.run_laws.proofs.VerdictLemmas.{or_none}
 
 -- Whose an identity is
 
-inside_side : (c : Setting) (id : ℕ) (o : Owner) → owner c.layout id ≡ o → IsOwnedWithin c.layout (one c.stream) id → (side_by c o ≡ sides.Outside → ⊥) → IsNearSide (side_by c o)
+inside_side : (c : Setting) (id : ℕ) (o : Owner) → owner c.layout id ≡ o → IsOwnedWithin c.layout (one c.stream) id
+    → (side_by c o ≡ sides.Outside → ⊥) → IsNearSide (side_by c o)
 inside_side c id owners.Formula is within some = tt
 inside_side c id owners.Outside is within some = absurd (some refl)
 inside_side c id (owners.Stream t) is within some =
     subst IsNearSide (sym (cond-true (eqb t c.stream) sides.Own sides.Foreign (within t is))) tt
 
-near_or_outside : (c : Setting) (id : ℕ) → IsOwnedWithin c.layout (one c.stream) id → (side_of c id ≡ sides.Outside → ⊥) → IsNearSide (side_of c id)
+near_or_outside : (c : Setting) (id : ℕ) → IsOwnedWithin c.layout (one c.stream) id → (side_of c id ≡ sides.Outside → ⊥)
+    → IsNearSide (side_of c id)
 near_or_outside c id within some = inside_side c id (owner c.layout id) refl within some
 
 -- of a near side it is one or the other
-by_side : (c : Setting) (id : ℕ) (o : Owner) → owner c.layout id ≡ o → IsNearSide (side_by c o) → (owner c.layout id ≡ owners.Formula) ⊎ Owns c.layout c.stream id
+by_side : (c : Setting) (id : ℕ) (o : Owner) → owner c.layout id ≡ o → IsNearSide (side_by c o)
+    → (owner c.layout id ≡ owners.Formula) ⊎ Owns c.layout c.stream id
 by_side c id owners.Formula is near = inl is
 by_side c id owners.Outside is near = absurd near
 by_side c id (owners.Stream t) is near = elim (cases_eq t c.stream) [
@@ -97,9 +102,10 @@ not_outside c h asked d asks is =
     let at : AsksAt sides.Outside c h asked (events.live d) = subst (λ (side : Side). AsksAt side c h asked (events.live d)) is asks in
     let no : events.live d ≡ events.vacant = at.1 in cc
 
-found_named : (f : Cnf) (c : Setting) (Found : ℕ → Clause → Type 0) (m : State) (base : Database) (st : Standing) (hints : List ℕ) (ds : List Clause) (fetches tail : History)
-    → Mirrors f c base st m → AllByRecursion (IsOwnedWithin c.layout (one c.stream)) hints → AreFound c st.gone hints ds fetches → AreFair c Found m (fetches ++ tail)
-    → AllZip (λ h d. base.clauses h ≡ Some d) hints ds
+found_named : (f : Cnf) (c : Setting) (Found : ℕ → Clause → Type 0) (m : State) (base : Database) (st : Standing) (hints : List ℕ)
+    (ds : List Clause) (fetches tail : History)
+    → Mirrors f c base st m → AllByRecursion (IsOwnedWithin c.layout (one c.stream)) hints → AreFound c st.gone hints ds fetches
+    → AreFair c Found m (fetches ++ tail) → AllZip (λ h d. base.clauses h ≡ Some d) hints ds
 found_named f c Found m base st [] [] fetches tail a within found fair = tt
 found_named f c Found m base st [] (d ∷ ds) fetches tail a within found fair = absurd found
 found_named f c Found m base st (h ∷ hints) [] fetches tail a within found fair = absurd found
@@ -114,33 +120,36 @@ found_named f c Found m base st (h ∷ hints) (d ∷ ds) fetches tail a within f
       found_named f c Found m base st hints ds rest tail a within.1 found.1.4 here.later,
     )
 
-pub right_addition : (f : Cnf) (c : Setting) (Found : ℕ → Clause → Type 0) (m : State) (base : Database) (st : Standing) (id : ℕ) (lits : List ℤ) (hints : List ℕ) (es : History)
-    → Mirrors f c base st m → AllByRecursion (IsOwnedWithin c.layout (one c.stream)) hints → IsGoodAddition c st id lits hints es → AreFair c Found m es
-    → IsRightAddition c.layout c.stream base id lits hints
+pub right_addition : (f : Cnf) (c : Setting) (Found : ℕ → Clause → Type 0) (m : State) (base : Database) (st : Standing) (id : ℕ)
+    (lits : List ℤ) (hints : List ℕ) (es : History)
+    → Mirrors f c base st m → AllByRecursion (IsOwnedWithin c.layout (one c.stream)) hints → IsGoodAddition c st id lits hints es
+    → AreFair c Found m es → IsRightAddition c.layout c.stream base id lits hints
 right_addition f c Found m base st id lits hints es a within good fair = record {
   owns = good.owns;
   above = omega (arith, a.last, good.above);
   literals = good.literals;
   room = omega (arith, a.free, good.room);
   hinted = good.clauses;
-  named = found_named f c Found m base st hints good.clauses good.fetches (published_by c id lits ∷ []) a within good.found (subst (AreFair c Found m) good.published fair);
+  named = found_named f c Found m base st hints good.clauses good.fetches (published_by c id lits ∷ []) a within good.found
+      (subst (AreFair c Found m) good.published fair);
   shown = good.accepts;
 }
 
 -- the parts of what is gone one line further
-was_kept : (c : Setting) (st next : Standing) (line : StreamLine) (j : ℕ) → SameStanding (standing_after c st line) next → next.gone j ≡ false
-    → (st.gone j ≡ false) × ((is_shared (side_of c j) && is_among (deleted_by line) j) ≡ false)
+was_kept : (c : Setting) (st next : Standing) (line : StreamLine) (j : ℕ) → SameStanding (standing_after c st line) next
+    → next.gone j ≡ false → (st.gone j ≡ false) × ((is_shared (side_of c j) && is_among (deleted_by line) j) ≡ false)
 was_kept c st next line j same kept =
     not_or (st.gone j) (is_shared (side_of c j) && is_among (deleted_by line) j) (same.gone j ∙ kept)
 
-own_kept : (c : Setting) (st next : Standing) (line : StreamLine) (j : ℕ) → SameStanding (standing_after c st line) next → Owns c.layout c.stream j
-    → st.gone j ≡ false → next.gone j ≡ false
+own_kept : (c : Setting) (st next : Standing) (line : StreamLine) (j : ℕ) → SameStanding (standing_after c st line) next
+    → Owns c.layout c.stream j → st.gone j ≡ false → next.gone j ≡ false
 own_kept c st next line j same owns kept =
     sym (same.gone j)
     ∙ or_none (st.gone j) (is_shared (side_of c j) && is_among (deleted_by line) j) kept
     (ap (λ (side : Side). is_shared side && is_among (deleted_by line) j) (own_side c j owns))
 
-pub addition_mirrors : (f : Cnf) (c : Setting) (m : State) (base : Database) (before : List StreamLine) (id : ℕ) (lits : List ℤ) (hints : List ℕ) (es : History)
+pub addition_mirrors : (f : Cnf) (c : Setting) (m : State) (base : Database) (before : List StreamLine) (id : ℕ) (lits : List ℤ)
+    (hints : List ℕ) (es : History)
     → Mirrors f c base (standing_of c before) m → JudgesLine c (standing_of c before) (Addition id lits hints) es Good
     → IsGoodAddition c (standing_of c before) id lits hints es
     → Mirrors f c (after_line base (Addition id lits hints)) (standing_of c (before ++ Addition id lits hints ∷ [])) (run m es)
@@ -150,7 +159,8 @@ addition_mirrors f c m base before id lits hints es a judged good =
     let standing = standing_of-snoc c before line es judged in
     let clause = distinct lits in
     let st = standing_of c before in
-    subst (Mirrors f c (after_line base line) (standing_of c (before ++ line ∷ []))) (sym (good_runs c st m id lits hints es good)) (record {
+    subst (Mirrors f c (after_line base line) (standing_of c (before ++ line ∷ [])))
+    (sym (good_runs c st m id lits hints es good)) (record {
       last = sym standing.last;
       free = omega (arith, standing.free, sum_by-cons (λ (x : ℕ × Clause). length x.1) (id, clause) [], a.free);
       there = λ j d near is kept. elim (cases_eq j id) [
@@ -162,7 +172,8 @@ addition_mirrors f c m base before id lits hints es a judged good =
             cond-false (eqb j id) (Some clause) (base.clauses j) (ne_eqb j id other)
             ∙ a.there j d near (sym (put-other m id (live clause) j other) ∙ is) (was_kept c st next line j standing kept).0
       ];
-      formulas = λ j is. put-other m id (live clause) j (λ same. let no : owners.Formula ≡ owners.Stream c.stream = sym is ∙ ap (owner c.layout) same ∙ good.owns in cc) ∙ a.formulas j is;
+      formulas = λ j is. put-other m id (live clause) j (λ same.
+          let no : owners.Formula ≡ owners.Stream c.stream = sym is ∙ ap (owner c.layout) same ∙ good.owns in cc) ∙ a.formulas j is;
       own = λ j owns. own_kept c st next line j standing owns (a.own j owns);
     })
 
@@ -205,7 +216,8 @@ none_same c gone earlier (j ∷ ids) n id cannot can =
 
 -- what holds of the others before this one
 others_can : (c : Setting) (gone : ℕ → Bool) (earlier ids : List ℕ) (id : ℕ) (m n : State) → is_among ids id ≡ false
-    → ((j : ℕ) → j ≢ id → n j ≡ m j) → AllByRecursion (CanGo c gone (earlier ++ id ∷ []) n) ids → AllByRecursion (CanGo c gone earlier m) ids
+    → ((j : ℕ) → j ≢ id → n j ≡ m j) → AllByRecursion (CanGo c gone (earlier ++ id ∷ []) n) ids
+    → AllByRecursion (CanGo c gone earlier m) ids
 others_can c gone earlier [] id m n none same can = tt
 others_can c gone earlier (j ∷ ids) id m n none same can =
     let parts = not_or (j == id) (is_among ids id) none in (
@@ -222,15 +234,19 @@ others_can c gone earlier (j ∷ ids) id m n none same can =
 sides_differ : (a b : Side) (c : Setting) (id : ℕ) → side_of c id ≡ a → side_of c id ≡ b → a ≡ b
 sides_differ a b c id is also = sym is ∙ also
 
-gone_at : (side : Side) (c : Setting) (Found : ℕ → Clause → Type 0) (gone : ℕ → Bool) (earlier ids : List ℕ) (id : ℕ) (m : State) (es : History)
+gone_at : (side : Side) (c : Setting) (Found : ℕ → Clause → Type 0) (gone : ℕ → Bool) (earlier ids : List ℕ) (id : ℕ)
+    (m : State) (es : History)
     → side_of c id ≡ side → IsNearSide side ⊎ (side ≡ sides.Outside)
-    → ((n : State) (rest : History) → AreFair c Found n rest → JudgesDeletion c gone (earlier ++ id ∷ []) ids rest Good → HasGone c gone (earlier ++ id ∷ []) ids n (run n rest))
+    → ((n : State) (rest : History) → AreFair c Found n rest → JudgesDeletion c gone (earlier ++ id ∷ []) ids rest Good
+    → HasGone c gone (earlier ++ id ∷ []) ids n (run n rest))
     → AreFair c Found m es → DeletesAt side c gone earlier id es Good (λ rest. JudgesDeletion c gone (earlier ++ id ∷ []) ids rest Good)
     → HasGone c gone earlier (id ∷ ids) m (run m es)
 gone_at sides.Foreign c Found gone earlier ids id m es is (inl near) next fair at = absurd near
-gone_at sides.Foreign c Found gone earlier ids id m es is (inr out) next fair at = absurd (let no : sides.Foreign ≡ sides.Outside = out in cc)
+gone_at sides.Foreign c Found gone earlier ids id m es is (inr out) next fair at =
+    absurd (let no : sides.Foreign ≡ sides.Outside = out in cc)
 gone_at sides.Outside c Found gone earlier ids id m es is near next fair at = absurd (fails_not (length earlier) (faults.NotLive id) es at)
-gone_at sides.Formula c Found gone earlier ids id m es is near next fair (inl bad) = absurd (fails_not (length earlier) (faults.NotLive id) es bad.1)
+gone_at sides.Formula c Found gone earlier ids id m es is near next fair (inl bad) =
+    absurd (fails_not (length earlier) (faults.NotLive id) es bad.1)
 gone_at sides.Formula c Found gone earlier ids id m es is near next fair (inr good) =
     let rest : HasGone c gone (earlier ++ id ∷ []) ids m (run m es) = next m es fair good.1 in
     let none : is_among ids id ≡ false = none_same c gone (earlier ++ id ∷ []) ids m id
@@ -264,32 +280,38 @@ gone_at sides.Own c Found gone earlier ids id m es is near next fair at =
             | inr formula ↦ let no : sides.Own ≡ sides.Formula = sides_differ sides.Own sides.Formula c id is formula.0 in cc
           ]) rest.can in
           subst (λ (x : History). HasGone c gone earlier (id ∷ ids) m (run m x)) (sym good.0) (record {
-            can = (inl (is, alive), others_can c gone earlier ids id m n none (λ j other. put-other m id (retire_slot (m id)) j other) rest.can);
+            can = (
+              inl (is, alive),
+              others_can c gone earlier ids id m n none (λ j other. put-other m id (retire_slot (m id)) j other) rest.can,
+            );
             once = (none, rest.once);
             apart = λ j out.
                 let parts = not_or (id == j) (is_among ids j) out in
                 rest.apart j parts.1 ∙ put-other m id (retire_slot (m id)) j (λ same. not_same id j parts.0 (sym same));
             formulas = λ j formula.
                 rest.formulas j formula
-                ∙ put-other m id (retire_slot (m id)) j (λ same. let no : sides.Formula ≡ sides.Own = sym formula ∙ ap (side_of c) same ∙ is in cc);
+                ∙ put-other m id (retire_slot (m id)) j
+                (λ same. let no : sides.Formula ≡ sides.Own = sym formula ∙ ap (side_of c) same ∙ is in cc);
             dead = λ j own among. elim (cases_eq id j) [
               | inl same ↦ λ live_then.
-                  retired_is_dead (m id) (subst IsLive (rest.apart id none ∙ gone_then) (subst (λ (i : ℕ). IsLive (run n at.rest i)) (sym same) live_then))
+                  retired_is_dead (m id)
+                  (subst IsLive (rest.apart id none ∙ gone_then) (subst (λ (i : ℕ). IsLive (run n at.rest i)) (sym same) live_then))
               | inr other ↦ rest.dead j own (sym (ap (λ (b : Bool). b || is_among ids j) (ne_eqb id j other)) ∙ among)
             ];
           })
     ]
 
 has_gone : (c : Setting) (Found : ℕ → Clause → Type 0) (gone : ℕ → Bool) (earlier ids : List ℕ) (m : State) (es : History)
-    → AllByRecursion (λ id. IsNearSide (side_of c id) ⊎ (side_of c id ≡ sides.Outside)) ids → AreFair c Found m es → JudgesDeletion c gone earlier ids es Good
-    → HasGone c gone earlier ids m (run m es)
-has_gone c Found gone earlier [] m es near fair judged = subst (λ (x : History). HasGone c gone earlier [] m (run m x)) (sym judged.0) (record {
-  can = tt;
-  once = tt;
-  apart = λ j out. refl;
-  formulas = λ j is. refl;
-  dead = λ j own among. absurd (true≢false (sym among));
-})
+    → AllByRecursion (λ id. IsNearSide (side_of c id) ⊎ (side_of c id ≡ sides.Outside)) ids → AreFair c Found m es
+    → JudgesDeletion c gone earlier ids es Good → HasGone c gone earlier ids m (run m es)
+has_gone c Found gone earlier [] m es near fair judged =
+    subst (λ (x : History). HasGone c gone earlier [] m (run m x)) (sym judged.0) (record {
+      can = tt;
+      once = tt;
+      apart = λ j out. refl;
+      formulas = λ j is. refl;
+      dead = λ j own among. absurd (true≢false (sym among));
+    })
 has_gone c Found gone earlier (id ∷ ids) m es near fair judged =
     gone_at (side_of c id) c Found gone earlier ids id m es refl near.0
     (λ n rest also good. has_gone c Found gone (earlier ++ id ∷ []) ids n rest near.1 also good) fair judged
@@ -299,7 +321,8 @@ near_one : (c : Setting) (id : ℕ) (side : Side) → side_of c id ≡ side → 
 near_one c id sides.Outside is within = inr is
 near_one c id sides.Formula is within = inl (subst IsNearSide (sym is) tt)
 near_one c id sides.Own is within = inl (subst IsNearSide (sym is) tt)
-near_one c id sides.Foreign is within = inl (near_or_outside c id within (λ out. let no : sides.Foreign ≡ sides.Outside = sym is ∙ out in cc))
+near_one c id sides.Foreign is within =
+    inl (near_or_outside c id within (λ out. let no : sides.Foreign ≡ sides.Outside = sym is ∙ out in cc))
 
 near_all : (c : Setting) (ids : List ℕ) → AllByRecursion (IsOwnedWithin c.layout (one c.stream)) ids
     → AllByRecursion (λ id. IsNearSide (side_of c id) ⊎ (side_of c id ≡ sides.Outside)) ids
@@ -334,14 +357,16 @@ all_have f c m base st (id ∷ ids) a can = (
           | inl is ↦ is
           | inr owns ↦ absurd (let no : sides.Own ≡ sides.Formula = sym (own_side c id owns) ∙ formula.0 in cc)
         ] in
-        has_clause (base.clauses id) (clause_at f id) (a.there id (clause_at f id) near (a.formulas id its) (not_or (st.gone id) false formula.1).0)
+        has_clause (base.clauses id) (clause_at f id)
+        (a.there id (clause_at f id) near (a.formulas id its) (not_or (st.gone id) false formula.1).0)
   ],
   all_have f c m base st ids a can.1,
 )
 
-pub right_deletion : (f : Cnf) (c : Setting) (Found : ℕ → Clause → Type 0) (m : State) (base : Database) (st : Standing) (ids : List ℕ) (es : History)
-    → Mirrors f c base st m → AllByRecursion (IsOwnedWithin c.layout (one c.stream)) ids → AreFair c Found m es → JudgesDeletion c st.gone [] ids es Good
-    → IsRightDeletion base ids
+pub right_deletion : (f : Cnf) (c : Setting) (Found : ℕ → Clause → Type 0) (m : State) (base : Database) (st : Standing)
+    (ids : List ℕ) (es : History)
+    → Mirrors f c base st m → AllByRecursion (IsOwnedWithin c.layout (one c.stream)) ids → AreFair c Found m es
+    → JudgesDeletion c st.gone [] ids es Good → IsRightDeletion base ids
 right_deletion f c Found m base st ids es a within fair judged =
     let gone = has_gone c Found st.gone [] ids m es (near_all c ids within) fair judged in
     record { there = all_have f c m base st ids a gone.can; once = gone.once }
@@ -350,7 +375,8 @@ right_deletion f c Found m base st ids es a within fair judged =
 kept_apart : (side : Side) (among : Bool) → side ≡ sides.Formula → (is_shared side && among) ≡ false → among ≡ false
 kept_apart side among is kept = sym (ap (λ (x : Side). is_shared x && among) is) ∙ kept
 
-pub deletion_mirrors : (f : Cnf) (c : Setting) (Found : ℕ → Clause → Type 0) (m : State) (base : Database) (before : List StreamLine) (lead : ℕ) (ids : List ℕ) (es : History)
+pub deletion_mirrors : (f : Cnf) (c : Setting) (Found : ℕ → Clause → Type 0) (m : State) (base : Database) (before : List StreamLine)
+    (lead : ℕ) (ids : List ℕ) (es : History)
     → Mirrors f c base (standing_of c before) m → AllByRecursion (IsOwnedWithin c.layout (one c.stream)) ids → AreFair c Found m es
     → JudgesDeletion c (standing_of c before).gone [] ids es Good
     → Mirrors f c (after_line base (Deletion lead ids)) (standing_of c (before ++ Deletion lead ids ∷ [])) (run m es)
@@ -386,14 +412,16 @@ import_formula c st id lits es (inr (a, inl bad)) = absurd (fails_not 0 faults.L
 import_formula c st id lits es (inr (a, inr (b, inl bad))) = absurd (fails_not 0 (faults.Dropped id) es bad.1)
 import_formula c st id lits es (inr (a, inr (b, inr (d, found)))) = (a, d)
 
-pub right_import : (f : Cnf) (c : Setting) (Found : ℕ → Clause → Type 0) (m : State) (base : Database) (st : Standing) (id : ℕ) (lits : List ℤ) (es : History)
-    → Fits c.layout f → Mirrors f c base st m → IsOwnedWithin c.layout (one c.stream) id → AreFair c Found m es → JudgesImport c st id lits es Good
-    → IsRightImport c.layout c.stream base id lits
+pub right_import : (f : Cnf) (c : Setting) (Found : ℕ → Clause → Type 0) (m : State) (base : Database) (st : Standing) (id : ℕ)
+    (lits : List ℤ) (es : History)
+    → Fits c.layout f → Mirrors f c base st m → IsOwnedWithin c.layout (one c.stream) id → AreFair c Found m es
+    → JudgesImport c st id lits es Good → IsRightImport c.layout c.stream base id lits
 right_import f c Found m base st id lits es fits a within fair judged =
     let tests = import_formula c st id lits es judged in
     let found : FindsImport c id lits es = good_import c st id lits es judged in
     let near = near_or_outside c id within (not_outside c id found.asked found.clause found.asks) in
-    let here = asked_fair (side_of c id) c Found m id found.asked found.rest (events.live found.clause) refl found.asks (subst (AreFair c Found m) found.is fair) in
+    let here = asked_fair (side_of c id) c Found m id found.asked found.rest (events.live found.clause) refl found.asks
+    (subst (AreFair c Found m) found.is fair) in
     record {
       other = λ owns. true≢false (sym tests.0 ∙ ap is_shared (own_side c id owns));
       clause = found.clause;
@@ -401,7 +429,8 @@ right_import f c Found m base st id lits es fits a within fair judged =
       same = found.same;
     }
 
-pub import_mirrors : (f : Cnf) (c : Setting) (m n : State) (base : Database) (before : List StreamLine) (id : ℕ) (lits : List ℤ) (es : History)
+pub import_mirrors : (f : Cnf) (c : Setting) (m n : State) (base : Database) (before : List StreamLine) (id : ℕ)
+    (lits : List ℤ) (es : History)
     → JudgesLine c (standing_of c before) (Import id lits) es Good → n ≡ m → Mirrors f c base (standing_of c before) m
     → Mirrors f c (after_line base (Import id lits)) (standing_of c (before ++ Import id lits ∷ [])) n
 import_mirrors f c m n base before id lits es judged same a =
@@ -431,14 +460,16 @@ lines_right law f c Found fits before (Addition id lits hints ∷ lines) (block 
     let is : IsGoodAddition c (standing_of c before) id lits hints block = (law c (standing_of c before) id lits hints block).0 good.0 in (
       right_addition f c Found m base (standing_of c before) id lits hints block a cites.0 is here,
       lines_right law f c Found fits (before ++ line ∷ []) lines blocks (after_line base line) (run m block)
-          (addition_mirrors f c m base before id lits hints block a good.0 is) good.1 (fair_back c Found m block (joined blocks) fair) cites.1 deletes.1,
+          (addition_mirrors f c m base before id lits hints block a good.0 is) good.1
+          (fair_back c Found m block (joined blocks) fair) cites.1 deletes.1,
     )
 lines_right law f c Found fits before (Deletion lead ids ∷ lines) (block ∷ blocks) base m a good fair cites deletes =
     let line = Deletion lead ids in
     let here : AreFair c Found m block = fair_front c Found m block (joined blocks) fair in (
       right_deletion f c Found m base (standing_of c before) ids block a deletes.0 here good.0,
       lines_right law f c Found fits (before ++ line ∷ []) lines blocks (after_line base line) (run m block)
-          (deletion_mirrors f c Found m base before lead ids block a deletes.0 here good.0) good.1 (fair_back c Found m block (joined blocks) fair) cites.1 deletes.1,
+          (deletion_mirrors f c Found m base before lead ids block a deletes.0 here good.0) good.1
+          (fair_back c Found m block (joined blocks) fair) cites.1 deletes.1,
     )
 lines_right law f c Found fits before (Import id lits ∷ lines) (block ∷ blocks) base m a good fair cites deletes =
     let line = Import id lits in
@@ -467,25 +498,32 @@ pub ended_is_right : GoodExactlyIf → OverStays → OneCut → EmptyCut → End
 ended_is_right law stays one_cut empty_cut f terms s bytes report fits cites deletes alone ended =
     let c = setting_of terms s in
     let g = alone.alone in
-    let j = alone_judged stays f terms s alone.streams alone.reports bytes stream_ends.Ended alone.stream report g alone.at alone.reads alone.says in
+    let j = alone_judged stays f terms s alone.streams alone.reports bytes stream_ends.Ended alone.stream report g alone.at
+    alone.reads alone.says in
     let its = j.judges in
     let over = has_ended c its.lines its.rest stream_ends.Ended its.back report its.ends ended in
     let text : bytes ≡ flat_map line_text its.lines =
     its.text ∙ ap (λ (b : List ℕ). flat_map line_text its.lines ++ b) over.none ∙ append-nil (flat_map line_text its.lines) in
-    let cut : Cut bytes its.lines [] = record { bytes = text ∙ sym (append-nil (flat_map line_text its.lines)); each = its.fits; last = empty_cut.last } in
+    let cut : Cut bytes its.lines [] = record {
+      bytes = text ∙ sym (append-nil (flat_map line_text its.lines));
+      each = its.fits;
+      last = empty_cut.last;
+    } in
     let cited : AllByRecursion (CitesNear c) its.lines =
     subst (AllByRecursion (CitesNear c)) (one_cut bytes cites.lines its.lines cites.rest [] cites.cut cut).0 cites.within in
     let deleted : AllByRecursion (DeletesNear c) its.lines =
     subst (AllByRecursion (DeletesNear c)) (one_cut bytes deletes.lines its.lines deletes.rest [] deletes.cut cut).0 deletes.within in
     let fair : AreFair c Anything (opening f) (own g.history s) =
     near_fair f c Anything (opening f) (opening f) g.history g.legal.events (λ id near. refl) (all_anything c (own g.history s)) in
-    let all : own g.history s ≡ joined its.front ++ joined its.back = own-one s g.history g.members ∙ j.events ∙ ap joined its.split ∙ joined-append its.front its.back in
+    let all : own g.history s ≡ joined its.front ++ joined its.back = own-one s g.history g.members ∙ j.events ∙ ap joined its.split
+    ∙ joined-append its.front its.back in
     let front : AreFair c Anything (opening f) (joined its.front) =
     fair_front c Anything (opening f) (joined its.front) (joined its.back) (subst (AreFair c Anything (opening f)) all fair) in (
       its.lines,
       record {
         text = text;
         fits = its.fits;
-        right = lines_right law f c Anything fits [] its.lines its.front (first_database f terms.layout) (opening f) (first_mirrors f c fits) its.good front cited deleted;
+        right = lines_right law f c Anything fits [] its.lines its.front (first_database f terms.layout) (opening f)
+            (first_mirrors f c fits) its.good front cited deleted;
       },
     )

@@ -1,5 +1,6 @@
 -- Right streams, alone and in a run.
-use Rattle.std.proofs.Common.{◌≡◌, ◌≢◌, ◌<◌, ◌≤◌, ◌+◌, ◌-◌, ℕ, zero, suc, Bool, true, false, cond, List, [], ◌∷◌, ◌++◌, length, Some, None, inl, inr, refl, sym, ap, subst, ◌∙◌, arith, append_assoc, append-nil, eq-eqb, ltb, ltb-true, leb, leb-true}
+use Rattle.std.proofs.Common.{◌≡◌, ◌≢◌, ◌<◌, ◌≤◌, ◌+◌, ◌-◌, ℕ, zero, suc, Bool, true, false, cond, List, [], ◌∷◌, ◌++◌, length, Some, None}
+use Rattle.std.proofs.Common.{inl, inr, refl, sym, ap, subst, ◌∙◌, arith, append_assoc, append-nil, eq-eqb, ltb, ltb-true, leb, leb-true}
 use Rattle.std.specs.Prelude.{IsTrue, slice_get, ◌&&◌}
 use Rattle.std.specs.List.{AllByRecursion, flat_map, sum_by}
 use Rattle.std.proofs.lemmas.Bool.{cases_eq, true≢false}
@@ -22,7 +23,8 @@ use Rattle.stream_check.specs.declared.report.Ending.TheVariants as endings
 use Rattle.stream_check.specs.declared.report.Report.{Report}
 use Rattle.stream_check.specs.CheckerValue.{report_of_tally}
 use Rattle.stream_check.specs.Judging.{joined, ending_at, report_of, JudgesBlocks}
-use Rattle.stream_check.specs.Laws.{AloneDecides, CountsWithin, DecidedBeforeFailure, EndJudged, FreshLeft, GoodExactlyIf, GoodLineTaken, IsOfMemory}
+use Rattle.stream_check.specs.Laws.{AloneDecides, CountsWithin, DecidedBeforeFailure, EndJudged, FreshLeft, GoodExactlyIf, GoodLineTaken}
+use Rattle.stream_check.specs.Laws.{IsOfMemory}
 use Rattle.stream_check.specs.Leaving.{Holding, Going, Leaves, standing_after, tally_after}
 use Rattle.stream_check.specs.Setting.{Setting, side_of, is_shared}
 use Rattle.stream_check.specs.Standing.{standing_of, capped, deleted_by}
@@ -64,13 +66,15 @@ is_first f p id d is =
       clause = found.1;
     }
 
-pub first_agrees : (f : Cnf) (c : Setting) → IsCnf f → Fits c.layout f → Agrees f c.layout c.stream (first_database f c.layout) (standing_of c []) (opening f)
+pub first_agrees : (f : Cnf) (c : Setting) → IsCnf f → Fits c.layout f
+    → Agrees f c.layout c.stream (first_database f c.layout) (standing_of c []) (opening f)
 first_agrees f c cnf fits = record {
   last = refl;
   free = omega arith;
   there = λ id d is. let at = is_first f c.layout id d is in opening-formula f id at.positive at.within ∙ ap live at.clause;
   kept = λ id d is. neither false (is_shared (side_of c id)) refl;
-  known = λ id d is. let at = is_first f c.layout id d is in inl (formula_owned c.layout id at.positive (omega (arith, at.within, fits.clauses)));
+  known = λ id d is. let at = is_first f c.layout id d is in
+      inl (formula_owned c.layout id at.positive (omega (arith, at.within, fits.clauses)));
   sound = λ id d is. let at = is_first f c.layout id d is in
       subst (λ (x : Clause). IsClause f.vars x × Follows f x) at.clause (formula_sound f id cnf at.positive at.within);
   own = λ id owns. neither false (is_shared (side_of c id)) refl;
@@ -81,7 +85,8 @@ first_agrees f c cnf fits = record {
 -- The lines one after the other
 
 -- these blocks more are legal there, take no more than the room that is left, and leave a checker going
-record LinesGo (f : Cnf) (c : Setting) (base : Database) (m : State) (bytes : List ℕ) (blocks : List History) (lines : List StreamLine) : Type 0 where
+record LinesGo (f : Cnf) (c : Setting) (base : Database) (m : State) (bytes : List ℕ) (blocks : List History)
+    (lines : List StreamLine) : Type 0 where
   more : List History
   legal : LegalFrom f c.layout m (joined more)
   callers : AllByRecursion (λ e. stream_of e ≡ c.stream) (joined more)
@@ -100,8 +105,8 @@ next_holding c old line = record {
 
 lines_go : GoodExactlyIf → PropagationSound → GoodLineTaken → (f : Cnf) (c : Setting) → Fits c.layout f → 0 < c.layout.streams
     → (lines : List StreamLine) (base : Database) (m : State) (bytes : List ℕ) (blocks : List History) (old : Holding)
-    → old.pending ≡ [] → Agrees f c.layout c.stream base old.standing m → AllByRecursion IsWithinLimits lines → AreRight c.layout c.stream base lines
-    → Leaves c bytes blocks (Going old) → LinesGo f c base m bytes blocks lines
+    → old.pending ≡ [] → Agrees f c.layout c.stream base old.standing m → AllByRecursion IsWithinLimits lines
+    → AreRight c.layout c.stream base lines → Leaves c bytes blocks (Going old) → LinesGo f c base m bytes blocks lines
 lines_go good sound taken f c fits some [] base m bytes blocks old pending a limits right leaves = record {
   more = [];
   legal = tt;
@@ -120,7 +125,8 @@ lines_go good sound taken f c fits some (line ∷ lines) base m bytes blocks old
     (limits.0, ap (λ (p : List ℕ). p ++ line_text line) pending) goes.judged
     (record { tally = refl; standing = record { last = refl; free = refl; gone = λ id. refl }; pending = refl; line = refl }) in
     let rest : LinesGo f c (after_line base line) (run m goes.block) (bytes ++ line_text line) (blocks ++ goes.block ∷ []) lines =
-    lines_go good sound taken f c fits some lines (after_line base line) (run m goes.block) (bytes ++ line_text line) (blocks ++ goes.block ∷ []) new
+    lines_go good sound taken f c fits some lines (after_line base line) (run m goes.block) (bytes ++ line_text line)
+    (blocks ++ goes.block ∷ []) new
     refl goes.next limits.1 right.1 left in
     record {
       more = goes.block ∷ rest.more;
@@ -129,8 +135,10 @@ lines_go good sound taken f c fits some (line ∷ lines) base m bytes blocks old
       room = omega (arith, sum_by-append size_of goes.block (joined rest.more), goes.room, rest.room);
       holding = rest.holding;
       pending = rest.pending;
-      leaves = subst (λ (b : List ℕ). Leaves c b (blocks ++ goes.block ∷ rest.more) (Going rest.holding)) (append_assoc bytes (line_text line) (flat_map line_text lines))
-          (subst (λ (b : List History). Leaves c ((bytes ++ line_text line) ++ flat_map line_text lines) b (Going rest.holding)) (append_assoc blocks (goes.block ∷ []) rest.more) rest.leaves);
+      leaves = subst (λ (b : List ℕ). Leaves c b (blocks ++ goes.block ∷ rest.more) (Going rest.holding))
+          (append_assoc bytes (line_text line) (flat_map line_text lines))
+          (subst (λ (b : List History). Leaves c ((bytes ++ line_text line) ++ flat_map line_text lines) b (Going rest.holding))
+          (append_assoc blocks (goes.block ∷ []) rest.more) rest.leaves);
     }
 
 -- The whole stream
@@ -181,7 +189,8 @@ all_counted : (n most : ℕ) → capped (n + 0) ≤ most → most ≤ 268435456 
 all_counted n most shown few = omega (arith, shown, few)
 
 -- a stream whose lines were all taken, and of which nothing is left, is judged as its right report says
-pub ended_report : EndJudged → EmptyCut → OneCut → (terms : TermsValue) (s : ℕ) (lines : List StreamLine) (more : List History) (holding : Holding)
+pub ended_report : EndJudged → EmptyCut → OneCut
+    → (terms : TermsValue) (s : ℕ) (lines : List StreamLine) (more : List History) (holding : Holding)
     → holding.pending ≡ [] → AllByRecursion IsWithinLimits lines
     → Leaves (setting_of terms s) (flat_map line_text lines) more (Going holding)
     → JudgesBlocks (setting_of terms s) (flat_map line_text lines) stream_ends.Ended more (right_report terms s lines)
@@ -196,17 +205,29 @@ ended_report ends empty_cut one_cut terms s lines more holding pending limits le
     ∙ ap (λ (ls : List StreamLine). report_of c ls 0 endings.Ended) same.0 in
     subst (JudgesBlocks c texts stream_ends.Ended more) says (ends c texts more holding stream_ends.Ended leaves)
 
-module _ (good : GoodExactlyIf) (sound : PropagationSound) (taken : GoodLineTaken) (fresh : FreshLeft) (ends : EndJudged) (empty_cut : EmptyCut) (one_cut : OneCut) where
+module _ (good : GoodExactlyIf) (sound : PropagationSound) (taken : GoodLineTaken) (fresh : FreshLeft) (ends : EndJudged)
+    (empty_cut : EmptyCut) (one_cut : OneCut) where
   -- a legal history of its own judges it so
   pub right_judged : (f : Cnf) (terms : TermsValue) (s : ℕ) (bytes : List ℕ) (lines : List StreamLine)
       → IsCnf f → Fits terms.layout f → IsStream terms.layout s → IsRightStream f terms.layout s bytes lines
       → (j : IsJudgedWhole f terms s bytes (right_report terms s lines)) × AllByRecursion (λ e. stream_of e ≡ s) j.history
   right_judged f terms s bytes lines cnf fits stream right =
       let c = setting_of terms s in
-      let first : Holding = record { tally = record { added = 0; deleted = 0; empty = false; within = false }; standing = standing_of c []; pending = []; line = 1 } in
-      let left : Leaves c [] [] (Going first) = fresh c first (record { tally = refl; standing = record { last = refl; free = refl; gone = λ id. refl }; pending = refl; line = refl }) in
+      let first : Holding = record {
+        tally = record { added = 0; deleted = 0; empty = false; within = false };
+        standing = standing_of c [];
+        pending = [];
+        line = 1;
+      } in
+      let left : Leaves c [] [] (Going first) = fresh c first (record {
+        tally = refl;
+        standing = record { last = refl; free = refl; gone = λ id. refl };
+        pending = refl;
+        line = refl;
+      }) in
       let on : LinesGo f c (first_database f terms.layout) (opening f) [] [] lines =
-      lines_go good sound taken f c fits (omega (arith, stream.0, stream.1)) lines (first_database f terms.layout) (opening f) [] [] first refl
+      lines_go good sound taken f c fits (omega (arith, stream.0, stream.1)) lines (first_database f terms.layout)
+      (opening f) [] [] first refl
       (first_agrees f c cnf fits) right.fits right.right left in
       let texts = flat_map line_text lines in
       let whole : JudgesBlocks c texts stream_ends.Ended on.more (right_report terms s lines) =
@@ -214,7 +235,11 @@ module _ (good : GoodExactlyIf) (sound : PropagationSound) (taken : GoodLineTake
         record {
           history = joined on.more;
           legal = record { events = on.legal; room = all_spent terms.layout s (joined on.more) on.callers on.room };
-          judges = record { blocks = on.more; events = refl; judges = subst (λ (b : List ℕ). JudgesBlocks c b stream_ends.Ended on.more (right_report terms s lines)) (sym right.text) whole };
+          judges = record {
+            blocks = on.more;
+            events = refl;
+            judges = subst (λ (b : List ℕ). JudgesBlocks c b stream_ends.Ended on.more (right_report terms s lines)) (sym right.text) whole;
+          };
         },
         on.callers,
       )
@@ -236,8 +261,11 @@ module _ (good : GoodExactlyIf) (sound : PropagationSound) (taken : GoodLineTake
           history = j.0.history;
           members = all_members s j.0.history j.1;
           legal = j.0.legal;
-          judged = padded_judged terms s j.0.history its report (s - 1) 1 (omega (arith, stream.0))
-              (j.0.judges.blocks, own-all s j.0.history j.1 ∙ j.0.judges.events, judged_out (setting_of terms s) bytes [] stream_ends.Ended j.0.judges.blocks report j.0.judges.judges);
+          judged = padded_judged terms s j.0.history its report (s - 1) 1 (omega (arith, stream.0)) (
+            j.0.judges.blocks,
+            own-all s j.0.history j.1 ∙ j.0.judges.events,
+            judged_out (setting_of terms s) bytes [] stream_ends.Ended j.0.judges.blocks report j.0.judges.judges,
+          );
           memory = λ t other member there.
               let here = subst (λ (n : ℕ). IsOfStream (padded (s - 1) empty_report report) n other) (only s t member) there in
               let same : report ≡ other = same_at (padded (s - 1) empty_report report) s report other (stream.0, says) here in
@@ -261,7 +289,8 @@ module _ (good : GoodExactlyIf) (sound : PropagationSound) (taken : GoodLineTake
   -- In a run
 
   pub right_reported : RightCiteWithin → BeginningsWithin → ClosedIsGroup → AloneDecides → DecidedBeforeFailure → RightReported
-  right_reported within begins group decides decided f terms s bytes lines told telling reports report cnf fits stream right run here entry says memory failure =
+  right_reported within begins group decides decided f terms s bytes lines told telling reports report cnf fits stream right run here entry
+      says memory failure =
       let mine = right_judged f terms s bytes lines cnf fits stream right in
       let theirs = whole_judged begins group decided f terms s bytes told telling reports report fits
       (within f terms.layout s bytes lines fits right) run here entry says memory failure in

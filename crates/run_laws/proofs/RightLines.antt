@@ -1,5 +1,6 @@
 -- Right lines are judged good, by events that a legal history may go on with.
-use Rattle.std.proofs.Common.{◌≡◌, ◌≢◌, ◌⊎◌, ◌<◌, ◌≤◌, ◌+◌, ◌-◌, ◌%◌, ℕ, ℤ, nat_abs, Bool, true, false, cond, eqb, List, [], ◌∷◌, ◌++◌, length, Option, Some, None, inl, inr, refl, sym, ap, subst, ◌∙◌, arith, eq-eqb, ne_eqb, leb, leb-true}
+use Rattle.std.proofs.Common.{◌≡◌, ◌≢◌, ◌⊎◌, ◌<◌, ◌≤◌, ◌+◌, ◌-◌, ◌%◌, ℕ, ℤ, nat_abs, Bool, true, false, cond, eqb, List, [], ◌∷◌, ◌++◌}
+use Rattle.std.proofs.Common.{length, Option, Some, None, inl, inr, refl, sym, ap, subst, ◌∙◌, arith, eq-eqb, ne_eqb, leb, leb-true}
 use Rattle.std.specs.Prelude.{IsSome, ◌&&◌, ◌||◌, ◌==◌}
 use Rattle.std.specs.List.{AllByRecursion, AllZip, sum_by}
 use Rattle.std.proofs.lemmas.Bool.{cases_Bool, cases_eq, cond-true, cond-false, true≢false}
@@ -120,16 +121,19 @@ formulas_near p id is =
       | inr some ↦ (omega arith, leb-true id p.clauses tests.1)
     ]
 
-asks_once : (c : Setting) (id : ℕ) (d : Clause) → IsOneOf c.layout id → Asks c id (events.fetch c.stream id (events.live d) ∷ []) (events.live d)
+asks_once : (c : Setting) (id : ℕ) (d : Clause) → IsOneOf c.layout id
+    → Asks c id (events.fetch c.stream id (events.live d) ∷ []) (events.live d)
 asks_once c id d (inl is) =
-    subst (λ (side : Side). AsksAt side c id (events.fetch c.stream id (events.live d) ∷ []) (events.live d)) (sym (formulas_side c id is)) refl
+    subst (λ (side : Side). AsksAt side c id (events.fetch c.stream id (events.live d) ∷ []) (events.live d))
+    (sym (formulas_side c id is)) refl
 asks_once c id d (inr its) = elim (cases_eq its.0 c.stream) [
   | inl same ↦
       subst (λ (side : Side). AsksAt side c id (events.fetch c.stream id (events.live d) ∷ []) (events.live d))
       (sym (own_side c id (subst (λ (t : ℕ). Owns c.layout t id) same its.1))) refl
   | inr other ↦
       subst (λ (side : Side). AsksAt side c id (events.fetch c.stream id (events.live d) ∷ []) (events.live d))
-      (sym (others_side c id its.0 its.1 other)) (0, omega arith, (λ vacant. absurd (let no : events.live d ≡ events.vacant = vacant in cc)), refl)
+      (sym (others_side c id its.0 its.1 other))
+      (0, omega arith, (λ vacant. absurd (let no : events.live d ≡ events.vacant = vacant in cc)), refl)
 ]
 
 is_identity : (p : LayoutValue) (id : ℕ) → 0 < p.streams → IsOneOf p id → IsIdentity p id
@@ -137,8 +141,17 @@ is_identity p id some (inl is) = let is = formulas_near p id is in (is.0, omega 
 is_identity p id some (inr its) = let is = owned p its.0 id some its.1 in (omega (arith, is.derived), is.identity)
 
 finds : (f : Cnf) (c : Setting) (base : Database) (st : Standing) (m : State) (hints : List ℕ) (ds : List Clause)
-    → 0 < c.layout.streams → Agrees f c.layout c.stream base st m → AllZip (λ h d. base.clauses h ≡ Some d) hints ds → Finds f c st.gone m hints ds
-finds f c base st m [] [] some a named = record { fetches = []; found = refl; legal = tt; callers = tt; still = refl; size = refl; sound = tt }
+    → 0 < c.layout.streams → Agrees f c.layout c.stream base st m → AllZip (λ h d. base.clauses h ≡ Some d) hints ds
+    → Finds f c st.gone m hints ds
+finds f c base st m [] [] some a named = record {
+  fetches = [];
+  found = refl;
+  legal = tt;
+  callers = tt;
+  still = refl;
+  size = refl;
+  sound = tt;
+}
 finds f c base st m [] (d ∷ ds) some a named = absurd named
 finds f c base st m (h ∷ hints) [] some a named = absurd named
 finds f c base st m (h ∷ hints) (d ∷ ds) some a named =
@@ -185,7 +198,8 @@ addition_goes good sound f c base st m id lits hints fits some a limits right =
     let found : Finds f c st.gone m hints right.hinted = finds f c base st m hints right.hinted some a right.named in
     let e = published_by c id lits in
     let clause = distinct lits in
-    let is_clause : IsClause f.vars clause = subst (λ (n : ℕ). IsClause n clause) fits.vars (IsClause-distinct c.layout.vars lits (literals_within c.layout.vars lits limits.1.each right.literals)) in
+    let is_clause : IsClause f.vars clause = subst (λ (n : ℕ). IsClause n clause) fits.vars
+    (IsClause-distinct c.layout.vars lits (literals_within c.layout.vars lits limits.1.each right.literals)) in
     let follows : Follows f clause = sound f clause right.hinted found.sound right.shown in
     let after : run m (found.fetches ++ e ∷ []) ≡ put m id (live clause) =
     run-append m found.fetches (e ∷ []) ∙ ap (λ (n : State). run n (e ∷ [])) found.still in
@@ -193,9 +207,13 @@ addition_goes good sound f c base st m id lits hints fits some a limits right =
     let block = found.fetches ++ e ∷ [] in
     let line = Addition id lits hints in
     let legal : LegalFrom f c.layout m block = legal-append f c.layout m found.fetches (e ∷ []) found.legal
-    (subst (λ (n : State). LegalFrom f c.layout n (e ∷ [])) (sym found.still)
-    (absent_there, (right.owns, record { clause = is_clause; length = omega (arith, length-distinct lits, limits.1.count); follows = follows }), tt)) in
-    let callers : AllByRecursion (λ d. stream_of d ≡ c.stream) block = callers-append c.stream found.fetches (e ∷ []) found.callers (refl, tt) in
+    (subst (λ (n : State). LegalFrom f c.layout n (e ∷ [])) (sym found.still) (
+      absent_there,
+      (right.owns, record { clause = is_clause; length = omega (arith, length-distinct lits, limits.1.count); follows = follows }),
+      tt,
+    )) in
+    let callers : AllByRecursion (λ d. stream_of d ≡ c.stream) block =
+    callers-append c.stream found.fetches (e ∷ []) found.callers (refl, tt) in
     let other_there : (j : ℕ) (x : Option Clause) (d : Clause) → j ≢ id → cond (eqb j id) (Some clause) x ≡ Some d → x ≡ Some d =
     λ j x d other is. sym (cond-false (eqb j id) (Some clause) x (ne_eqb j id other)) ∙ is in
     let same_there : (j : ℕ) (x : Option Clause) (d : Clause) → j ≡ id → cond (eqb j id) (Some clause) x ≡ Some d → clause ≡ d =
@@ -232,13 +250,15 @@ addition_goes good sound f c base st m id lits hints fits some a limits right =
           | inr other ↦ a.known j d (other_there j (base.clauses j) d other is)
         ];
         sound = λ j d is. elim (cases_eq j id) [
-          | inl same ↦ subst (λ (x : Clause). IsClause f.vars x × Follows f x) (same_there j (base.clauses j) d same is) (is_clause, follows)
+          | inl same ↦
+              subst (λ (x : Clause). IsClause f.vars x × Follows f x) (same_there j (base.clauses j) d same is) (is_clause, follows)
           | inr other ↦ a.sound j d (other_there j (base.clauses j) d other is)
         ];
         own = λ j owns. neither (st.gone j) (is_shared (side_of c j)) (a.own j owns);
         unseen = λ j is. neither (st.gone j) (is_shared (side_of c j))
             (a.unseen j (was_absent f c.layout m block j legal (ap (λ (n : State). n j) after ∙ is)));
-        vacant = λ j owns above. put-other m id (live clause) j (λ same. omega (arith, same, above)) ∙ a.vacant j owns (omega (arith, above, right.above));
+        vacant = λ j owns above. put-other m id (live clause) j (λ same. omega (arith, same, above))
+            ∙ a.vacant j owns (omega (arith, above, right.above));
       });
       beside = λ t its also other b. subst (Agrees f c.layout t (beside_line c.layout c.stream its line) also) (sym after) (record {
         last = b.last;
@@ -327,7 +347,8 @@ dropped f c gone earlier ids id m can all once go side is at =
     let rest = go m (still c gone earlier ids id m m (λ j other. refl) once all) in
     record {
       block = rest.block;
-      judged = subst (λ (x : Side). DeletesAt x c gone earlier id rest.block Good (λ es. JudgesDeletion c gone (earlier ++ id ∷ []) ids es Good))
+      judged =
+          subst (λ (x : Side). DeletesAt x c gone earlier id rest.block Good (λ es. JudgesDeletion c gone (earlier ++ id ∷ []) ids es Good))
           (sym is) (at rest.block (inr (or_none (gone id) (is_among earlier id) can.kept can.new, rest.judged)));
       legal = rest.legal;
       callers = rest.callers;
@@ -351,7 +372,8 @@ deletes_one f c gone earlier ids id m can all once go (inr its) = elim (cases_eq
       let e = events.retire c.stream id retiring.Done in
       record {
         block = e ∷ rest.block;
-        judged = subst (λ (side : Side). DeletesAt side c gone earlier id (e ∷ rest.block) Good (λ es. JudgesDeletion c gone (earlier ++ id ∷ []) ids es Good))
+        judged = subst (λ (side : Side). DeletesAt side c gone earlier id (e ∷ rest.block) Good
+            (λ es. JudgesDeletion c gone (earlier ++ id ∷ []) ids es Good))
             (sym (own_side c id owns)) (record { rest = rest.block; decided = inl (refl, rest.judged) });
         legal = (can.alive, owns, rest.legal);
         callers = (refl, rest.callers);
@@ -366,7 +388,15 @@ deletes_one f c gone earlier ids id m can all once go (inr its) = elim (cases_eq
 
 deletes : (f : Cnf) (c : Setting) (gone : ℕ → Bool) (earlier ids : List ℕ) (m : State)
     → AllByRecursion (CanDelete c gone earlier m) ids → AreDistinct ids → DeletionGoes f c gone earlier ids m
-deletes f c gone earlier [] m all once = record { block = []; judged = (refl, refl); legal = tt; callers = tt; size = refl; apart = λ j out. refl; others = λ j not_mine. refl }
+deletes f c gone earlier [] m all once = record {
+  block = [];
+  judged = (refl, refl);
+  legal = tt;
+  callers = tt;
+  size = refl;
+  apart = λ j out. refl;
+  others = λ j not_mine. refl;
+}
 deletes f c gone earlier (id ∷ ids) m all once =
     deletes_one f c gone earlier ids id m all.0 all.1 once.0 (λ n can. deletes f c gone (earlier ++ id ∷ []) ids n can once.1) all.0.known
 
@@ -411,7 +441,8 @@ not_among gone true among kept out = or_none gone among kept out
 not_among gone false among kept out = or_none gone false kept refl
 
 -- what is absent isn't deleted
-not_there : (c : Setting) (gone : ℕ → Bool) (m : State) (ids : List ℕ) (j : ℕ) → AllByRecursion (CanDelete c gone [] m) ids → m j ≡ absent → is_among ids j ≡ false
+not_there : (c : Setting) (gone : ℕ → Bool) (m : State) (ids : List ℕ) (j : ℕ) → AllByRecursion (CanDelete c gone [] m) ids → m j ≡ absent
+    → is_among ids j ≡ false
 not_there c gone m ids j can is = elim (cases_Bool (is_among ids j)) [
   | inl among ↦ absurd (subst IsLive is (deleted_there c gone m ids j can among))
   | inr out ↦ out
@@ -477,7 +508,8 @@ deletion_goes f c base st m lead ids a right =
         sound = λ j d is. b.sound j d (left (is_among ids j && is_own c.layout c.stream j) (its.clauses j) d is).1;
         own = b.own;
         unseen = λ j is. b.unseen j (was_absent f c.layout m gone.block j gone.legal is);
-        vacant = vacant_above_stays f c.layout m gone.block t its.last gone.legal (not_callers c.stream t gone.block other gone.callers) b.vacant;
+        vacant = vacant_above_stays f c.layout m gone.block t its.last gone.legal
+            (not_callers c.stream t gone.block other gone.callers) b.vacant;
       };
     }
 
@@ -539,6 +571,7 @@ import_goes f c base st m id lits fits some a right =
 pub line_goes : GoodExactlyIf → PropagationSound → (f : Cnf) (c : Setting) (base : Database) (st : Standing) (m : State) (line : StreamLine)
     → Fits c.layout f → 0 < c.layout.streams → Agrees f c.layout c.stream base st m → IsWithinLimits line
     → IsRightLine c.layout c.stream base line → Goes f c base st m line
-line_goes good sound f c base st m (Addition id lits hints) fits some a limits right = addition_goes good sound f c base st m id lits hints fits some a limits right
+line_goes good sound f c base st m (Addition id lits hints) fits some a limits right =
+    addition_goes good sound f c base st m id lits hints fits some a limits right
 line_goes good sound f c base st m (Deletion lead ids) fits some a limits right = deletion_goes f c base st m lead ids a right
 line_goes good sound f c base st m (Import id lits) fits some a limits right = import_goes f c base st m id lits fits some a right

@@ -1,5 +1,6 @@
 -- What readers told, and two runs of one stream.
-use Rattle.std.proofs.Common.{◌≡◌, ℕ, ◌-◌, Bool, true, false, Option, List, [], ◌++◌, Some, None, refl, sym, ap, subst, ◌∙◌, append_assoc, append-nil, arith}
+use Rattle.std.proofs.Common.{◌≡◌, ℕ, ◌-◌, Bool, true, false, Option, List, [], ◌++◌, Some, None, refl, sym, ap, subst, ◌∙◌, append_assoc}
+use Rattle.std.proofs.Common.{append-nil, arith}
 use Rattle.std.specs.Prelude.{IfSome, IsSome, MatchOption}
 use Rattle.std.specs.List.{AllZip}
 use Rattle.std.specs.Io.KnownBytes.{Consumes}
@@ -20,7 +21,9 @@ use Rattle.runs.specs.Streams.{Stream, Telling, IsTold, TermsValue, setting_of}
 use Rattle.runs.specs.Closed.{IsOfStream, CiteWithin}
 use Rattle.runs.specs.StreamLemmas.{told_count, told_from, told_begins, same_at}
 use Rattle.run_laws.specs.Groups.{one, IsGroup, IsRun}
-use Rattle.run_laws.specs.GroupLaws.{BeginningsWithin, ReadersClosed, ClosedIsGroup, OrderedIsGroup, AloneHasOneReport, RunIsolated, SerialIsolated, ThreadsRun, SerialRun, ToldIsReading, FailedIsReading, SameReadingAgrees, SameBytesAgree}
+use Rattle.run_laws.specs.GroupLaws.{BeginningsWithin, ReadersClosed, ClosedIsGroup, OrderedIsGroup, AloneHasOneReport, RunIsolated}
+use Rattle.run_laws.specs.GroupLaws.{SerialIsolated, ThreadsRun, SerialRun, ToldIsReading, FailedIsReading, SameReadingAgrees}
+use Rattle.run_laws.specs.GroupLaws.{SameBytesAgree}
 use Rattle.run_laws.proofs.Places.{has_place, judged_at, judged_fewer}
 use Rattle.runs.specs.StreamLemmas.{judged_count}
 use Rattle.run_laws.proofs.RestrictingLemmas.{ordered_judged}
@@ -53,7 +56,8 @@ abbrev pub EndsWith : Option StreamEnd → Option (List ℕ) → Bool → Type 0
 EndsWith its left has_failed = MatchOption its (has_failed ≡ false) (λ end. EndsSo end left has_failed)
 
 told_reads : (left : Option (List ℕ)) (its : Option StreamEnd) (whole bytes unneeded : List ℕ)
-    → Consumes (Some whole) left (bytes ++ unneeded) → EndsWith its left false → (IsSome its → unneeded ≡ []) → ReadsTo its bytes whole stream_ends.Ended
+    → Consumes (Some whole) left (bytes ++ unneeded) → EndsWith its left false → (IsSome its → unneeded ≡ [])
+    → ReadsTo its bytes whole stream_ends.Ended
 told_reads None its whole bytes unneeded took ends needed = absurd took
 told_reads (Some left) (Some stream_ends.Ended) whole bytes unneeded took ends needed = (
   took ∙ ap (λ l. (bytes ++ unneeded) ++ l) ends.0 ∙ append-nil (bytes ++ unneeded) ∙ ap (λ l. bytes ++ l) (needed refl) ∙ append-nil bytes,
@@ -70,7 +74,8 @@ told_is_reading told streams s telling stream whole are_told here at entry fine 
     (subst (EndsWith stream.end telling.left) fine is.ends) is.needed
 
 failure_reads : (left : List ℕ) (its : Option StreamEnd) (whole bytes unneeded : List ℕ)
-    → whole ++ left ≡ (bytes ++ unneeded) ++ left → EndsWith its (Some left) true → (IsSome its → unneeded ≡ []) → ReadsTo its bytes whole stream_ends.Failed
+    → whole ++ left ≡ (bytes ++ unneeded) ++ left → EndsWith its (Some left) true → (IsSome its → unneeded ≡ [])
+    → ReadsTo its bytes whole stream_ends.Failed
 failure_reads left (Some stream_ends.Ended) whole bytes unneeded took ends needed = absurd (let no : true ≡ false = ends.1 in cc)
 failure_reads left (Some stream_ends.Failed) whole bytes unneeded took ends needed =
     (append_cancel_right whole (bytes ++ unneeded) left took ∙ ap (λ l. bytes ++ l) (needed refl) ∙ append-nil bytes, refl)
@@ -152,13 +157,16 @@ same_reading_agrees within group alone f terms s whole end told other_told repor
     (reading_within within p (one s) other.end other.bytes whole end also cites) none)
     at there reads also says too
 
-pub judged_to : DecidedBeforeFailure → (c : Setting) (its : Option StreamEnd) (bytes unneeded whole : List ℕ) (left : Option (List ℕ)) (has_failed : Bool) (blocks : List History) (report : Report)
+pub judged_to : DecidedBeforeFailure → (c : Setting) (its : Option StreamEnd) (bytes unneeded whole : List ℕ) (left : Option (List ℕ))
+    (has_failed : Bool) (blocks : List History) (report : Report)
     → Consumes (Some whole) left (bytes ++ unneeded) → EndsWith its left has_failed → (IsSome its → unneeded ≡ []) → ¬ IsOfFailure report
-    → ((end : StreamEnd) → IfSome its (λ e. e ≡ end) → JudgesBlocks c bytes end blocks report) → JudgesBlocks c whole stream_ends.Ended blocks report
+    → ((end : StreamEnd) → IfSome its (λ e. e ≡ end) → JudgesBlocks c bytes end blocks report)
+    → JudgesBlocks c whole stream_ends.Ended blocks report
 judged_to law c its bytes unneeded whole None has_failed blocks report took ends needed machine j = absurd took
 judged_to law c (Some stream_ends.Ended) bytes unneeded whole (Some left) has_failed blocks report took ends needed machine j =
     subst (λ b. JudgesBlocks c b stream_ends.Ended blocks report)
-    (sym (took ∙ ap (λ l. (bytes ++ unneeded) ++ l) ends.0 ∙ append-nil (bytes ++ unneeded) ∙ ap (λ l. bytes ++ l) (needed refl) ∙ append-nil bytes)) (j stream_ends.Ended refl)
+    (sym (took ∙ ap (λ l. (bytes ++ unneeded) ++ l) ends.0 ∙ append-nil (bytes ++ unneeded) ∙ ap (λ l. bytes ++ l) (needed refl)
+    ∙ append-nil bytes)) (j stream_ends.Ended refl)
 judged_to law c (Some stream_ends.Failed) bytes unneeded whole (Some left) has_failed blocks report took ends needed machine j =
     subst (λ b. JudgesBlocks c b stream_ends.Ended blocks report) (sym (took ∙ append_assoc bytes unneeded left))
     (law c bytes (unneeded ++ left) stream_ends.Ended blocks report machine (j stream_ends.Failed refl))
@@ -173,7 +181,8 @@ pub record IsJudgedWhole (f : Cnf) (terms : TermsValue) (s : ℕ) (whole : List 
   pub judges : Judges (setting_of terms s) whole stream_ends.Ended history report
 
 pub whole_judged : BeginningsWithin → ClosedIsGroup → DecidedBeforeFailure
-    → (f : Cnf) (terms : TermsValue) (s : ℕ) (whole : List ℕ) (told : List Telling) (telling : Telling) (reports : List Report) (report : Report)
+    → (f : Cnf) (terms : TermsValue) (s : ℕ) (whole : List ℕ) (told : List Telling) (telling : Telling) (reports : List Report)
+    (report : Report)
     → Fits terms.layout f → CiteWithin terms.layout (one s) whole → IsRun f terms told reports
     → IsOfStream told s telling → telling.entry ≡ Some whole → IsOfStream reports s report → ¬ IsOfMemory report → ¬ IsOfFailure report
     → IsJudgedWhole f terms s whole report
@@ -193,14 +202,19 @@ whole_judged within group decided f terms s whole told telling reports report fi
       judges = record {
         blocks = j.0;
         events = sym (own-one s g.history g.members) ∙ j.1;
-        judges = judged_to decided (setting_of terms s) stream.end stream.bytes stream.unneeded whole telling.left telling.has_failed j.0 report
-            (subst (λ (e : Option (List ℕ)). Consumes e telling.left (stream.bytes ++ stream.unneeded)) entry is.consumes) is.ends is.needed machine j.2;
+        judges =
+            judged_to decided (setting_of terms s) stream.end stream.bytes stream.unneeded whole telling.left telling.has_failed j.0 report
+            (subst (λ (e : Option (List ℕ)). Consumes e telling.left (stream.bytes ++ stream.unneeded)) entry is.consumes) is.ends
+            is.needed machine j.2;
       };
     }
 
 pub same_bytes_agree : BeginningsWithin → ClosedIsGroup → AloneDecides → DecidedBeforeFailure → SameBytesAgree
-same_bytes_agree within group decides decided f terms s whole told other_told telling other_telling reports other_reports report other_report
+same_bytes_agree within group decides decided f terms s whole told other_told telling other_telling reports other_reports
+    report other_report
     fits cites a b here entry there known says too memory failure none never =
     let mine = whole_judged within group decided f terms s whole told telling reports report fits cites a here entry says memory failure in
-    let theirs = whole_judged within group decided f terms s whole other_told other_telling other_reports other_report fits cites b there known too none never in
-    (decides f terms.layout (setting_of terms s) whole stream_ends.Ended mine.history theirs.history report other_report mine.legal theirs.legal mine.judges theirs.judges memory none).1
+    let theirs = whole_judged within group decided f terms s whole other_told other_telling other_reports other_report fits cites b there
+    known too none never in
+    (decides f terms.layout (setting_of terms s) whole stream_ends.Ended mine.history theirs.history report other_report mine.legal
+    theirs.legal mine.judges theirs.judges memory none).1

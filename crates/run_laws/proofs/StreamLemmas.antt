@@ -1,5 +1,6 @@
 -- The order of the lines of streams: each one's blocks, gathered from what it is judged by.
-use Rattle.std.proofs.Common.{◌≡◌, ◌+◌, ◌-◌, ◌<◌, ◌≤◌, ℕ, zero, suc, Bool, true, cond, eqb, List, [], ◌∷◌, map, length, Some, refl, sym, subst, ◌∙◌, inl, inr, arith, ne_eqb, eq-eqb}
+use Rattle.std.proofs.Common.{◌≡◌, ◌+◌, ◌-◌, ◌<◌, ◌≤◌, ℕ, zero, suc, Bool, true, cond, eqb, List, [], ◌∷◌, map, length, Some, refl, sym}
+use Rattle.std.proofs.Common.{subst, ◌∙◌, inl, inr, arith, ne_eqb, eq-eqb}
 use Rattle.std.specs.Prelude.{IsTrue, slice_get}
 use Rattle.std.specs.List.{AllByRecursion}
 use Rattle.std.proofs.lemmas.Bool.{cases_Bool, cond-true, cond-false, true≢false}
@@ -102,7 +103,8 @@ module _ (terms : TermsValue) (set : ℕ → Bool) (h : History) where
   judged_from blocks s (stream ∷ streams) (report ∷ reports) judged (suc k) below member =
       let next : s + 1 + k ≡ s + suc k = omega arith in
       let later : IsJudgedAt blocks streams k (s + 1 + k)
-      = judged_from blocks (s + 1) streams reports judged.1 k (omega (arith, below)) (subst (λ (t : ℕ). IsTrue (set t)) (sym next) member) in
+      = judged_from blocks (s + 1) streams reports judged.1 k (omega (arith, below))
+      (subst (λ (t : ℕ). IsTrue (set t)) (sym next) member) in
       subst (IsJudgedAt blocks (stream ∷ streams) (suc k)) next
       (record { stream = later.stream; report = later.report; at = later.at; own_events = later.own_events; judges = later.judges })
 
@@ -111,7 +113,8 @@ module _ (terms : TermsValue) (set : ℕ → Bool) (h : History) where
   judged_at blocks streams reports judged s first last member =
       let here : 1 + (s - 1) ≡ s = omega (arith, first) in
       subst (λ (t : ℕ). IsJudgedAt blocks streams (s - 1) t) here
-      (judged_from blocks 1 streams reports judged (s - 1) (omega (arith, first, last)) (subst (λ (t : ℕ). IsTrue (set t)) (sym here) member))
+      (judged_from blocks 1 streams reports judged (s - 1) (omega (arith, first, last))
+      (subst (λ (t : ℕ). IsTrue (set t)) (sym here) member))
 
   -- in an order of these lines, reduced, each stream is judged the same
   are_judged : ReducedStream → (blocks : ℕ → List History) (order : List Block) (s : ℕ) (streams : List Stream) (reports : List Report)
@@ -173,7 +176,8 @@ inside_for set owners.Outside = true
 pub is_inside : LayoutValue → (ℕ → Bool) → ℕ → Bool
 is_inside p set id = inside_for set (owner p id)
 
-within_inside : (p : LayoutValue) (set : ℕ → Bool) (id : ℕ) (o : Owner) → owner p id ≡ o → IsOwnedWithin p set id → IsTrue (inside_for set o)
+within_inside : (p : LayoutValue) (set : ℕ → Bool) (id : ℕ) (o : Owner) → owner p id ≡ o → IsOwnedWithin p set id
+    → IsTrue (inside_for set o)
 unfolding inside_for
 within_inside p set id owners.Formula is within = refl
 within_inside p set id (owners.Stream t) is within = within t is

@@ -61,7 +61,8 @@ answers-agree m n (events.publish s id c publishing.Taken) is answers = λ none.
 answers-agree m n (events.retire s id retiring.Done) is answers = subst IsLive is answers
 answers-agree m n (events.retire s id retiring.NotLive) is answers = λ alive. answers (subst IsLive (sym is) alive)
 
-pub legal-agrees : (f : Cnf) (p : LayoutValue) (m n : State) (h : History) → ((id : ℕ) → m id ≡ n id) → LegalFrom f p m h → LegalFrom f p n h
+pub legal-agrees : (f : Cnf) (p : LayoutValue) (m n : State) (h : History) → ((id : ℕ) → m id ≡ n id) → LegalFrom f p m h
+    → LegalFrom f p n h
 legal-agrees f p m n [] is legal = tt
 legal-agrees f p m n (e ∷ h) is legal = (
   answers-agree m n e (is (identity_of e)) legal.0,
@@ -71,14 +72,16 @@ legal-agrees f p m n (e ∷ h) is legal = (
 
 -- Two events of different streams
 
-commute : (f : Cnf) (p : LayoutValue) (m : State) (e d : Event) (id : ℕ) → IsAllowed f p e → IsAllowed f p d → (stream_of e ≡ stream_of d → ⊥)
-    → after (after m e) d id ≡ after (after m d) e id
+commute : (f : Cnf) (p : LayoutValue) (m : State) (e d : Event) (id : ℕ) → IsAllowed f p e → IsAllowed f p d
+    → (stream_of e ≡ stream_of d → ⊥) → after (after m e) d id ≡ after (after m d) e id
 commute f p m e d id allowed also other =
     elim (mine_or_not p (stream_of d) id) [
       | inl mine ↦
           let foreign : Owns p (stream_of e) id → ⊥ = λ theirs. other (one_owner p (stream_of e) (stream_of d) id theirs mine) in
-          after-agrees (after m e) m d id (after-foreign f p m e id allowed foreign) ∙ sym (after-foreign f p (after m d) e id allowed foreign)
-      | inr theirs ↦ after-foreign f p (after m e) d id also theirs ∙ sym (after-agrees (after m d) m e id (after-foreign f p m d id also theirs))
+          after-agrees (after m e) m d id (after-foreign f p m e id allowed foreign)
+          ∙ sym (after-foreign f p (after m d) e id allowed foreign)
+      | inr theirs ↦ after-foreign f p (after m e) d id also theirs
+          ∙ sym (after-agrees (after m d) m e id (after-foreign f p m d id also theirs))
     ]
 
 pub gone_stays : (a b : Slot) → Advances a b → IsRetired a → IsRetired b
@@ -101,7 +104,8 @@ live_stays f p final m s id c (events.publish t j x publishing.Done) other also 
 live_stays f p final m s id c (events.publish t j x publishing.Taken) other also settles too is answers = is
 live_stays f p final m s id c (events.retire t j retiring.Done) other also settles too is answers =
     put-other m j (retire_slot (m j)) id (λ same. settles
-    (λ mine. other (one_owner p s t id mine (subst (λ (i : ℕ). Owns p t i) (sym same) also))) (subst (λ (i : ℕ). IsRetired (final i)) (sym same) too)) ∙ is
+    (λ mine. other (one_owner p s t id mine (subst (λ (i : ℕ). Owns p t i) (sym same) also)))
+    (subst (λ (i : ℕ). IsRetired (final i)) (sym same) too)) ∙ is
 live_stays f p final m s id c (events.retire t j retiring.NotLive) other also settles too is answers = is
 
 -- the fetch has its reply after the other event too
@@ -164,7 +168,8 @@ fetch-after p final m s id t j events.vacant other owns gone settles alive answe
     put-other m id (retire_slot (m id)) j (λ same. alive_some (m id) alive (subst (λ (i : ℕ). m i ≡ absent) same answers)) ∙ answers
 fetch-after p final m s id t j (events.live c) other owns gone settles alive answers =
     put-other m id (retire_slot (m id)) j (λ same. settles
-    (λ theirs. other (one_owner p s t id owns (subst (λ (i : ℕ). Owns p t i) same theirs))) (subst (λ (i : ℕ). IsRetired (final i)) (sym same) gone)) ∙ answers
+    (λ theirs. other (one_owner p s t id owns (subst (λ (i : ℕ). Owns p t i) same theirs)))
+    (subst (λ (i : ℕ). IsRetired (final i)) (sym same) gone)) ∙ answers
 fetch-after p final m s id t j events.retired other owns gone settles alive answers =
     gone_stays (m j) (after m (events.retire s id retiring.Done) j) (after-advances m (events.retire s id retiring.Done) j alive) answers
 
@@ -178,17 +183,20 @@ after-retire f p final m (events.retire s id retiring.Done) (events.fetch t j r)
     fetch-after p final m s id t j r other allowed settles too answers first
 after-retire f p final m (events.retire s id retiring.Done) (events.publish t j c r) retires other allowed also settles too answers first =
     answers-agree m (after m (events.retire s id retiring.Done)) (events.publish t j c r)
-    (sym (put-other m id (retire_slot (m id)) j (λ same. other (one_owner p s t j (subst (λ (i : ℕ). Owns p s i) (sym same) allowed) also.0)))) first
+    (sym (put-other m id (retire_slot (m id)) j
+    (λ same. other (one_owner p s t j (subst (λ (i : ℕ). Owns p s i) (sym same) allowed) also.0)))) first
 after-retire f p final m (events.retire s id retiring.Done) (events.retire t j r) retires other allowed also settles too answers first =
     answers-agree m (after m (events.retire s id retiring.Done)) (events.retire t j r)
-    (sym (put-other m id (retire_slot (m id)) j (λ same. other (one_owner p s t j (subst (λ (i : ℕ). Owns p s i) (sym same) allowed) also)))) first
+    (sym (put-other m id (retire_slot (m id)) j
+    (λ same. other (one_owner p s t j (subst (λ (i : ℕ). Owns p s i) (sym same) allowed) also)))) first
 
-retire-before : (f : Cnf) (p : LayoutValue) (m : State) (e d : Event) → IsRetire e → (stream_of e ≡ stream_of d → ⊥) → IsAllowed f p e → IsAllowed f p d
-    → Answers (after m d) e → Answers m e
+retire-before : (f : Cnf) (p : LayoutValue) (m : State) (e d : Event) → IsRetire e → (stream_of e ≡ stream_of d → ⊥) → IsAllowed f p e
+    → IsAllowed f p d → Answers (after m d) e → Answers m e
 retire-before f p m (events.fetch s id r) d retires other allowed also answers = absurd retires
 retire-before f p m (events.publish s id c r) d retires other allowed also answers = absurd retires
 retire-before f p m (events.retire s id r) d retires other allowed also answers =
-    answers-agree (after m d) m (events.retire s id r) (after-foreign f p m d id also (λ theirs. other (one_owner p s (stream_of d) id allowed theirs))) answers
+    answers-agree (after m d) m (events.retire s id r)
+    (after-foreign f p m d id also (λ theirs. other (one_owner p s (stream_of d) id allowed theirs))) answers
 
 swap-back : (f : Cnf) (p : LayoutValue) (final m : State) (e d : Event) (h : History)
     → IsRetire e → (stream_of e ≡ stream_of d → ⊥) → Settles p final e → Settles p final d

@@ -1,5 +1,6 @@
 -- Lines of several streams that are right together, and their streams in a run.
-use Rattle.std.proofs.Common.{◌≡◌, ◌≢◌, ◌⊎◌, ◌<◌, ◌≤◌, ◌+◌, ◌-◌, ℕ, zero, suc, Bool, true, false, cond, List, [], ◌∷◌, ◌++◌, length, map, Some, inl, inr, refl, sym, ap, subst, ◌∙◌, arith, append_assoc, append-nil, eqb, eqb-true, eq-eqb, ne_eqb}
+use Rattle.std.proofs.Common.{◌≡◌, ◌≢◌, ◌⊎◌, ◌<◌, ◌≤◌, ◌+◌, ◌-◌, ℕ, zero, suc, Bool, true, false, cond, List, [], ◌∷◌, ◌++◌, length, map}
+use Rattle.std.proofs.Common.{Some, inl, inr, refl, sym, ap, subst, ◌∙◌, arith, append_assoc, append-nil, eqb, eqb-true, eq-eqb, ne_eqb}
 use Rattle.std.specs.Prelude.{IsTrue, slice_get, ◌&&◌}
 use Rattle.std.specs.List.{AllByRecursion, AllZip, flat_map, sum_by}
 use Rattle.std.proofs.lemmas.Bool.{cases_eq, cond-true, cond-false, true≢false}
@@ -31,7 +32,8 @@ use Rattle.runs.specs.Turns.{streams_of}
 use Rattle.run_laws.specs.Blame.{HaveBytesOf, LacksOfAnotherIn, NoFalseBlame}
 use Rattle.run_laws.specs.Groups.{IsRun}
 use Rattle.run_laws.specs.Right.{Database, first_database, after_line, IsRightLine, right_report, IsCutOffIn, TellsAtLeast}
-use Rattle.run_laws.specs.Together.{Step, is_own, beside_line, after_step, AreRightTogether, lines_by, IsRightOrder, HaveTexts, RightTogether, TogetherBegins}
+use Rattle.run_laws.specs.Together.{Step, is_own, beside_line, after_step, AreRightTogether, lines_by, IsRightOrder, HaveTexts}
+use Rattle.run_laws.specs.Together.{RightTogether, TogetherBegins}
 use Rattle.run_laws.proofs.BlameLemmas.{tells_on}
 use Rattle.run_laws.proofs.RightLemmas.{next_holding, first_agrees, is_first, ended_report}
 use Rattle.run_laws.proofs.RightLines.{Agrees, Goes, line_goes, left, not_callers}
@@ -60,7 +62,8 @@ record GoesOn (terms : TermsValue) (t : ℕ) (base : Database) (track : Track) (
   leaves : Leaves (setting_of terms t) (track.bytes ++ flat_map line_text (lines_by t steps)) (track.blocks ++ more) (Going holding)
 
 -- what is said of either case of a test is said of both
-on_either : {A B : Type 0} (P : A → B → Type 0) (b : Bool) (x y : A) (v w : B) → (b ≡ true → P x v) → (b ≡ false → P y w) → P (cond b x y) (cond b v w)
+on_either : {A B : Type 0} (P : A → B → Type 0) (b : Bool) (x y : A) (v w : B) → (b ≡ true → P x v) → (b ≡ false → P y w)
+    → P (cond b x y) (cond b v w)
 on_either P true x y v w holds fails = holds refl
 on_either P false x y v w holds fails = fails refl
 
@@ -82,7 +85,8 @@ beside_free p s base (Import id lits) = refl
 not_eqb : (a b : ℕ) → eqb a b ≡ false → a ≢ b
 not_eqb a b test same = true≢false (sym (eq-eqb a b same) ∙ test)
 
-module _ (good : GoodExactlyIf) (sound : PropagationSound) (taken : GoodLineTaken) (f : Cnf) (terms : TermsValue) (fits : Fits terms.layout f) where
+module _ (good : GoodExactlyIf) (sound : PropagationSound) (taken : GoodLineTaken) (f : Cnf) (terms : TermsValue)
+    (fits : Fits terms.layout f) where
   -- the stream whose line it is
   on_with : (step : Step) (base : Database) (m : State) (track : Track) → 0 < terms.layout.streams → IsWithinLimits step.line
       → IsOn f terms step.stream base m track
@@ -129,15 +133,17 @@ module _ (good : GoodExactlyIf) (sound : PropagationSound) (taken : GoodLineTake
         room = omega (arith, spent-append s g.block h, spent-sizes s g.block, ap (sum_by size_of) mine, g.room, on.room);
         holding = on.holding;
         pending = on.pending;
-        leaves = subst (λ (ls : List StreamLine). Leaves (setting_of terms s) (track.bytes ++ flat_map line_text ls) (track.blocks ++ g.block ∷ on.more) (Going on.holding)) (sym lines)
+        leaves = subst (λ (ls : List StreamLine). Leaves (setting_of terms s) (track.bytes ++ flat_map line_text ls)
+            (track.blocks ++ g.block ∷ on.more) (Going on.holding)) (sym lines)
             (subst (λ (b : List ℕ). Leaves (setting_of terms s) b (track.blocks ++ g.block ∷ on.more) (Going on.holding))
             (append_assoc track.bytes (line_text step.line) (flat_map line_text (lines_by s steps)))
-            (subst (λ (b : List History). Leaves (setting_of terms s) ((track.bytes ++ line_text step.line) ++ flat_map line_text (lines_by s steps)) b (Going on.holding))
+            (subst (λ (b : List History). Leaves (setting_of terms s)
+            ((track.bytes ++ line_text step.line) ++ flat_map line_text (lines_by s steps)) b (Going on.holding))
             (append_assoc track.blocks (g.block ∷ []) on.more) on.leaves));
       }
 
-  goes_beside : (step : Step) (base its : Database) (m : State) (track other : Track) (steps : List Step) (order : List Block) (t : ℕ) → t ≢ step.stream
-      → (g : Goes f (setting_of terms step.stream) base track.holding.standing m step.line)
+  goes_beside : (step : Step) (base its : Database) (m : State) (track other : Track) (steps : List Step) (order : List Block) (t : ℕ)
+      → t ≢ step.stream → (g : Goes f (setting_of terms step.stream) base track.holding.standing m step.line)
       → GoesOn terms t (beside_line terms.layout step.stream its step.line) other steps order
       → GoesOn terms t its other (step ∷ steps) (record { stream = step.stream; events = g.block } ∷ order)
   goes_beside step base its m track other steps order t apart g on =
@@ -151,10 +157,18 @@ module _ (good : GoodExactlyIf) (sound : PropagationSound) (taken : GoodLineTake
         more = on.more;
         are_own = on.are_own ∙ sym (blocks-other block order t (λ same. apart (sym same)));
         events = own-append g.block h t ∙ ap (λ (x : History). x ++ own h t) none ∙ on.events;
-        room = omega (arith, spent-append t g.block h, spent-sizes t g.block, ap (sum_by size_of) none, on.room, beside_free terms.layout s its step.line);
+        room = omega (
+          arith,
+          spent-append t g.block h,
+          spent-sizes t g.block,
+          ap (sum_by size_of) none,
+          on.room,
+          beside_free terms.layout s its step.line,
+        );
         holding = on.holding;
         pending = on.pending;
-        leaves = subst (λ (ls : List StreamLine). Leaves (setting_of terms t) (other.bytes ++ flat_map line_text ls) (other.blocks ++ on.more) (Going on.holding)) (sym lines) on.leaves;
+        leaves = subst (λ (ls : List StreamLine). Leaves (setting_of terms t) (other.bytes ++ flat_map line_text ls)
+            (other.blocks ++ on.more) (Going on.holding)) (sym lines) on.leaves;
       }
 
   -- a legal order of all lines
@@ -181,21 +195,26 @@ module _ (good : GoodExactlyIf) (sound : PropagationSound) (taken : GoodLineTake
       room = omega arith;
       holding = (tracks t).holding;
       pending = (on t).pending;
-      leaves = subst (λ (b : List ℕ). Leaves (setting_of terms t) b ((tracks t).blocks ++ []) (Going (tracks t).holding)) (sym (append-nil (tracks t).bytes))
-          (subst (λ (b : List History). Leaves (setting_of terms t) (tracks t).bytes b (Going (tracks t).holding)) (sym (append-nil (tracks t).blocks)) (on t).leaves);
+      leaves = subst (λ (b : List ℕ). Leaves (setting_of terms t) b ((tracks t).blocks ++ []) (Going (tracks t).holding))
+          (sym (append-nil (tracks t).bytes))
+          (subst (λ (b : List History). Leaves (setting_of terms t) (tracks t).bytes b (Going (tracks t).holding))
+          (sym (append-nil (tracks t).blocks)) (on t).leaves);
     };
   }
   steps_go (step ∷ steps) bases m tracks streams limits right on =
       let s = step.stream in
       let some : 0 < terms.layout.streams = omega (arith, streams.0.0, streams.0.1) in
       let g : Goes f (setting_of terms s) (bases s) (tracks s).holding.standing m step.line =
-      line_goes good sound f (setting_of terms s) (bases s) (tracks s).holding.standing m step.line fits some (on s).agrees limits.0 right.0 in
+      line_goes good sound f (setting_of terms s) (bases s) (tracks s).holding.standing m step.line fits some
+      (on s).agrees limits.0 right.0 in
       let later : AllGo (after_step terms.layout step bases) (run m g.block) (tracks_after terms step g.block tracks) steps =
-      steps_go steps (after_step terms.layout step bases) (run m g.block) (tracks_after terms step g.block tracks) streams.1 limits.1 right.1
+      steps_go steps (after_step terms.layout step bases) (run m g.block)
+      (tracks_after terms step g.block tracks) streams.1 limits.1 right.1
       (λ t. on_either (λ base track. IsOn f terms t base (run m g.block) track) (eqb t s)
       (after_line (bases t) step.line) (beside_line terms.layout s (bases t) step.line) (further terms step g.block t (tracks t)) (tracks t)
       (λ test. let same : t ≡ s = eqb-true t s test in
-      subst (λ (n : ℕ). IsOn f terms n (after_line (bases n) step.line) (run m g.block) (further terms step g.block n (tracks n))) (sym same)
+      subst (λ (n : ℕ). IsOn f terms n (after_line (bases n) step.line) (run m g.block) (further terms step g.block n (tracks n)))
+      (sym same)
       (on_with step (bases s) m (tracks s) some limits.0 (on s) g))
       (λ test. on_beside step (bases s) (bases t) m (tracks s) (tracks t) t (not_eqb t s test) (on t) g)) in
       record {
@@ -209,15 +228,18 @@ module _ (good : GoodExactlyIf) (sound : PropagationSound) (taken : GoodLineTake
               subst (λ (track : Track). GoesOn terms s (after_line (bases s) step.line) track steps later.order)
               (cond-true (eqb s s) (further terms step g.block s (tracks s)) (tracks s) (eq-eqb s s refl))
               (subst (λ (base : Database). GoesOn terms s base (tracks_after terms step g.block tracks s) steps later.order)
-              (cond-true (eqb s s) (after_line (bases s) step.line) (beside_line terms.layout s (bases s) step.line) (eq-eqb s s refl)) (later.each s)) in
-              subst (λ (n : ℕ). GoesOn terms n (bases n) (tracks n) (step ∷ steps) (record { stream = s; events = g.block } ∷ later.order)) (sym same)
+              (cond-true (eqb s s) (after_line (bases s) step.line) (beside_line terms.layout s (bases s) step.line) (eq-eqb s s refl))
+              (later.each s)) in
+              subst (λ (n : ℕ). GoesOn terms n (bases n) (tracks n) (step ∷ steps) (record { stream = s; events = g.block } ∷ later.order))
+              (sym same)
               (goes_with step (bases s) m (tracks s) steps later.order g here)
           | inr apart ↦
               let there : GoesOn terms t (beside_line terms.layout s (bases t) step.line) (tracks t) steps later.order =
               subst (λ (track : Track). GoesOn terms t (beside_line terms.layout s (bases t) step.line) track steps later.order)
               (cond-false (eqb t s) (further terms step g.block t (tracks t)) (tracks t) (ne_eqb t s apart))
               (subst (λ (base : Database). GoesOn terms t base (tracks_after terms step g.block tracks t) steps later.order)
-              (cond-false (eqb t s) (after_line (bases t) step.line) (beside_line terms.layout s (bases t) step.line) (ne_eqb t s apart)) (later.each t)) in
+              (cond-false (eqb t s) (after_line (bases t) step.line) (beside_line terms.layout s (bases t) step.line) (ne_eqb t s apart))
+              (later.each t)) in
               goes_beside step (bases s) (bases t) m (tracks s) (tracks t) steps later.order t apart g there
         ];
       }
@@ -236,7 +258,8 @@ named_within p set base [] (d ∷ ds) within named = absurd named
 named_within p set base (h ∷ hints) [] within named = absurd named
 named_within p set base (h ∷ hints) (d ∷ ds) within named = (within h d named.0, named_within p set base hints ds within named.1)
 
-line_cites : (p : LayoutValue) (set : ℕ → Bool) (s : ℕ) (base : Database) (line : StreamLine) → ((id : ℕ) (d : Clause) → base.clauses id ≡ Some d → IsOwnedWithin p set id)
+line_cites : (p : LayoutValue) (set : ℕ → Bool) (s : ℕ) (base : Database) (line : StreamLine)
+    → ((id : ℕ) (d : Clause) → base.clauses id ≡ Some d → IsOwnedWithin p set id)
     → IsRightLine p s base line → AllByRecursion (IsOwnedWithin p set) (cited_by line)
 line_cites p set s base (Addition id lits hints) within right = named_within p set base hints right.hinted within right.named
 line_cites p set s base (Deletion lead ids) within right = tt
@@ -272,9 +295,11 @@ steps_cite p set (step ∷ steps) bases within members right t =
     let rest = steps_cite p set steps (after_step p step bases)
     (λ n id d is. elim (cases_eq n s) [
       | inl same ↦ (line_within p set s (bases s) step.line members.0 right.0 (bases n) (within n)).0 id d
-          (sym (ap (λ (base : Database). base.clauses id) (cond-true (eqb n s) (after_line (bases n) step.line) (beside_line p s (bases n) step.line) (eq-eqb n s same))) ∙ is)
+          (sym (ap (λ (base : Database). base.clauses id)
+          (cond-true (eqb n s) (after_line (bases n) step.line) (beside_line p s (bases n) step.line) (eq-eqb n s same))) ∙ is)
       | inr apart ↦ (line_within p set s (bases s) step.line members.0 right.0 (bases n) (within n)).1 id d
-          (sym (ap (λ (base : Database). base.clauses id) (cond-false (eqb n s) (after_line (bases n) step.line) (beside_line p s (bases n) step.line) (ne_eqb n s apart))) ∙ is)
+          (sym (ap (λ (base : Database). base.clauses id)
+          (cond-false (eqb n s) (after_line (bases n) step.line) (beside_line p s (bases n) step.line) (ne_eqb n s apart))) ∙ is)
     ]) members.1 right.1 t in
     elim (cases_eq s t) [
       | inl same ↦ subst (AllByRecursion (λ line. AllByRecursion (IsOwnedWithin p set) (cited_by line)))
@@ -283,13 +308,16 @@ steps_cite p set (step ∷ steps) bases within members right t =
           (sym (cond-false (eqb s t) (step.line ∷ lines_by t steps) (lines_by t steps) (ne_eqb s t apart))) rest
     ]
 
-lines_limits : (steps : List Step) (t : ℕ) → AllByRecursion (λ step. IsWithinLimits step.line) steps → AllByRecursion IsWithinLimits (lines_by t steps)
+lines_limits : (steps : List Step) (t : ℕ) → AllByRecursion (λ step. IsWithinLimits step.line) steps
+    → AllByRecursion IsWithinLimits (lines_by t steps)
 lines_limits [] t all = tt
 lines_limits (step ∷ steps) t all = elim (cases_eq step.stream t) [
   | inl same ↦ subst (AllByRecursion IsWithinLimits)
-      (sym (cond-true (eqb step.stream t) (step.line ∷ lines_by t steps) (lines_by t steps) (eq-eqb step.stream t same))) (all.0, lines_limits steps t all.1)
+      (sym (cond-true (eqb step.stream t) (step.line ∷ lines_by t steps) (lines_by t steps) (eq-eqb step.stream t same)))
+      (all.0, lines_limits steps t all.1)
   | inr apart ↦ subst (AllByRecursion IsWithinLimits)
-      (sym (cond-false (eqb step.stream t) (step.line ∷ lines_by t steps) (lines_by t steps) (ne_eqb step.stream t apart))) (lines_limits steps t all.1)
+      (sym (cond-false (eqb step.stream t) (step.line ∷ lines_by t steps) (lines_by t steps) (ne_eqb step.stream t apart)))
+      (lines_limits steps t all.1)
 ]
 
 -- Lists that have a thing for each stream
@@ -341,7 +369,8 @@ pub each_own : (terms : TermsValue) (own : ℕ → List History) (n k : ℕ) (st
     → AreJudged terms (λ t. true) (λ t blocks. blocks ≡ own t) k (each_from n k streams) (each_from n k reports)
 unfolding each_from
 each_own terms own zero k streams reports judged = tt
-each_own terms own (suc n) k streams reports judged = ((λ member. (own k, refl, judged k)), each_own terms own n (k + 1) streams reports judged)
+each_own terms own (suc n) k streams reports judged =
+    ((λ member. (own k, refl, judged k)), each_own terms own n (k + 1) streams reports judged)
 
 -- All together
 
@@ -357,7 +386,8 @@ its_report terms steps t = right_report terms t (lines_by t steps)
 record AreJudgedTogether (f : Cnf) (terms : TermsValue) (set : ℕ → Bool) (steps : List Step) : Type 0 where
   history : History
   legal : IsLegal f terms.layout history
-  judged : AreJudgedIn terms set history 1 (each_from terms.layout.streams 1 (text_stream steps)) (each_from terms.layout.streams 1 (its_report terms steps))
+  judged : AreJudgedIn terms set history 1 (each_from terms.layout.streams 1 (text_stream steps))
+      (each_from terms.layout.streams 1 (its_report terms steps))
   closed : IsClosed terms.layout set (each_from terms.layout.streams 1 (text_stream steps))
 
 -- the readers begin with the streams' bytes
@@ -368,7 +398,8 @@ have_bytes p set steps told texts t x telling member at here =
     (its.0, its.1 ∙ ap (λ (y : Stream). Some (y.bytes ++ its.0)) (at_stream p.streams t (text_stream steps) x at))
 
 -- a stream that has a report in a run is a stream of the layout
-report_place : (f : Cnf) (terms : TermsValue) (told : List Telling) (reports : List Report) (r : IsRun f terms told reports) (s : ℕ) (report : Report)
+report_place : (f : Cnf) (terms : TermsValue) (told : List Telling) (reports : List Report) (r : IsRun f terms told reports) (s : ℕ)
+    (report : Report)
     → IsOfStream reports s report → IsStream terms.layout s
 report_place f terms told reports r s report says =
     let within = slice_get_within reports (s - 1) report says.1 in
@@ -386,9 +417,11 @@ pub record IsOrderOf (f : Cnf) (terms : TermsValue) (steps : List Step) (order :
   pub within : AllByRecursion (IsBlockWithin terms.layout (λ t. true)) order
   pub legal : IsLegal f terms.layout (events_in order)
   pub events : (t : ℕ) → own (events_in order) t ≡ joined (blocks_of t order)
-  pub judged : (t : ℕ) → JudgesBlocks (setting_of terms t) (flat_map line_text (lines_by t steps)) stream_ends.Ended (blocks_of t order) (right_report terms t (lines_by t steps))
+  pub judged : (t : ℕ) → JudgesBlocks (setting_of terms t) (flat_map line_text (lines_by t steps)) stream_ends.Ended (blocks_of t order)
+      (right_report terms t (lines_by t steps))
 
-module _ (good : GoodExactlyIf) (sound : PropagationSound) (taken : GoodLineTaken) (fresh : FreshLeft) (ends : EndJudged) (empty_cut : EmptyCut) (one_cut : OneCut) where
+module _ (good : GoodExactlyIf) (sound : PropagationSound) (taken : GoodLineTaken) (fresh : FreshLeft) (ends : EndJudged)
+    (empty_cut : EmptyCut) (one_cut : OneCut) where
   pub right_ordered : (f : Cnf) (terms : TermsValue) (steps : List Step) → IsCnf f → Fits terms.layout f → IsRightOrder f terms.layout steps
       → (order : List Block) × IsOrderOf f terms steps order
   right_ordered f terms steps cnf fits right =
@@ -419,8 +452,10 @@ module _ (good : GoodExactlyIf) (sound : PropagationSound) (taken : GoodLineTake
           events = λ t. (all.each t).events ∙ ap joined (all.each t).are_own;
           judged = λ t.
               let its = all.each t in
-              subst (λ (bs : List History). JudgesBlocks (setting_of terms t) (flat_map line_text (lines_by t steps)) stream_ends.Ended bs (right_report terms t (lines_by t steps))) its.are_own
-              (ended_report ends empty_cut one_cut terms t (lines_by t steps) its.more its.holding its.pending (lines_limits steps t right.fits) its.leaves);
+              subst (λ (bs : List History). JudgesBlocks (setting_of terms t) (flat_map line_text (lines_by t steps)) stream_ends.Ended bs
+              (right_report terms t (lines_by t steps))) its.are_own
+              (ended_report ends empty_cut one_cut terms t (lines_by t steps) its.more its.holding its.pending
+              (lines_limits steps t right.fits) its.leaves);
         },
       )
 
@@ -436,13 +471,18 @@ module _ (good : GoodExactlyIf) (sound : PropagationSound) (taken : GoodLineTake
         judged = each_judged terms set (events_in found.0) p.streams 1 (text_stream steps) (its_report terms steps) (λ t. (
           blocks_of t found.0,
           found.1.events t,
-          judged_out (setting_of terms t) (flat_map line_text (lines_by t steps)) [] stream_ends.Ended (blocks_of t found.0) (its_report terms steps t) (found.1.judged t),
+          judged_out (setting_of terms t) (flat_map line_text (lines_by t steps)) [] stream_ends.Ended (blocks_of t found.0)
+              (its_report terms steps t) (found.1.judged t),
         ));
         closed = λ t x m at.
             subst (λ (y : Stream). CiteWithin p set y.bytes) (at_stream p.streams t (text_stream steps) x at) (record {
               lines = lines_by t steps;
               rest = [];
-              cut = record { bytes = sym (append-nil (flat_map line_text (lines_by t steps))); each = lines_limits steps t order.fits; last = empty_cut.last };
+              cut = record {
+                bytes = sym (append-nil (flat_map line_text (lines_by t steps)));
+                each = lines_limits steps t order.fits;
+                last = empty_cut.last;
+              };
               within = steps_cite p set steps (λ k. first_database f p) (λ k id d is.
                   let found = is_first f p id d is in
                   λ owner_of owns. absurd (let no : owners.Formula ≡ owners.Stream owner_of =
@@ -458,7 +498,8 @@ module _ (good : GoodExactlyIf) (sound : PropagationSound) (taken : GoodLineTake
       let place = report_place f terms told reports r s report says in
       law f terms set j.history (each_from n 1 (text_stream steps)) (each_from n 1 (its_report terms steps)) told reports s
       (text_stream steps s) telling (its_report terms steps s) report fits (each_count n 1 (text_stream steps))
-      j.legal j.judged j.closed member (each_place n s (text_stream steps) place.0 place.1) (each_place n s (its_report terms steps) place.0 place.1) refl
+      j.legal j.judged j.closed member (each_place n s (text_stream steps) place.0 place.1)
+      (each_place n s (its_report terms steps) place.0 place.1) refl
       r (have_bytes terms.layout set steps told texts) here entry says memory failure
 
   pub together_begins : OneFirstLine → RefusedStays → CitedFetched → TogetherBegins
@@ -468,13 +509,16 @@ module _ (good : GoodExactlyIf) (sound : PropagationSound) (taken : GoodLineTake
       let c = setting_of terms s in
       let j : AreJudgedTogether f terms set steps = judged_together f terms set steps cnf fits order members in
       let place = report_place f terms told reports r s report says in
-      let on = tells_on good first refused cited f terms set j.history (each_from n 1 (text_stream steps)) (each_from n 1 (its_report terms steps)) told reports
+      let on = tells_on good first refused cited f terms set j.history (each_from n 1 (text_stream steps))
+      (each_from n 1 (its_report terms steps)) told reports
       fits (each_count n 1 (text_stream steps)) j.legal j.judged j.closed r (have_bytes terms.layout set steps told texts)
       s (its_report terms steps s) report member (each_place n s (its_report terms steps) place.0 place.1) refl says in
       let whole = flat_map line_text (lines_by s steps) in
-      let bytes : whole ≡ flat_map line_text on.lines = ap (λ (x : Stream). x.bytes) (at_stream n s (text_stream steps) on.stream on.at) ∙ on.text in
+      let bytes : whole ≡ flat_map line_text on.lines =
+      ap (λ (x : Stream). x.bytes) (at_stream n s (text_stream steps) on.stream on.at) ∙ on.text in
       let same : on.lines ≡ lines_by s steps = (one_cut whole on.lines (lines_by s steps) [] []
       (record { bytes = bytes ∙ sym (append-nil (flat_map line_text on.lines)); each = on.limits; last = empty_cut.last })
       (record { bytes = sym (append-nil whole); each = lines_limits steps s order.fits; last = empty_cut.last })).0 in
-      subst (λ (ls : List StreamLine). TellsAtLeast report (right_report terms s (lines_by s steps)) ⊎ (IsCutOffIn (length ls) report ⊎ LacksOfAnotherIn c (length ls) report))
+      subst (λ (ls : List StreamLine). TellsAtLeast report (right_report terms s (lines_by s steps))
+      ⊎ (IsCutOffIn (length ls) report ⊎ LacksOfAnotherIn c (length ls) report))
       same on.tells

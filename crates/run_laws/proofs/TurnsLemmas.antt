@@ -1,5 +1,6 @@
 -- Two runs on one thread over the same bytes.
-use Rattle.std.proofs.Common.{◌≡◌, ◌+◌, ◌-◌, ℕ, zero, suc, true, List, [], ◌∷◌, ◌++◌, length, Option, Some, refl, sym, ap, ap₂, subst, ◌∙◌, arith}
+use Rattle.std.proofs.Common.{◌≡◌, ◌+◌, ◌-◌, ℕ, zero, suc, true, List, [], ◌∷◌, ◌++◌, length, Option, Some, refl, sym, ap, ap₂, subst, ◌∙◌}
+use Rattle.std.proofs.Common.{arith}
 use Rattle.std.specs.Prelude.{slice_get}
 use Rattle.std.specs.Io.KnownBytes.{Consumes}
 use Rattle.std.proofs.lemmas.Option.{slice_get_within}
@@ -27,14 +28,18 @@ same_at_each [] [] count same = refl
 same_at_each [] (y ∷ ys) count same = absurd (omega (arith, count))
 same_at_each (x ∷ xs) [] count same = absurd (omega (arith, count))
 same_at_each {X} (x ∷ xs) (y ∷ ys) count same =
-    ap₂ (λ (z : X) (zs : List X). z ∷ zs) (same 0 x y refl refl) (same_at_each xs ys (omega (arith, count)) (λ k u v at there. same (suc k) u v at there))
+    ap₂ (λ (z : X) (zs : List X). z ∷ zs) (same 0 x y refl refl)
+    (same_at_each xs ys (omega (arith, count)) (λ k u v at there. same (suc k) u v at there))
 
 -- lists that have the same thing for each stream are one
 same_for_each : {X : Type 0} (xs ys : List X) → length xs ≡ length ys
     → ((s : ℕ) (x y : X) → IsOfStream xs s x → IsOfStream ys s y → x ≡ y) → xs ≡ ys
 same_for_each {X} xs ys count same = same_at_each xs ys count (λ k x y at there.
     let place : k ≡ k + 1 - 1 = omega arith in
-    same (k + 1) x y (omega arith, subst (λ (i : ℕ). slice_get xs i ≡ Some x) place at) (omega arith, subst (λ (i : ℕ). slice_get ys i ≡ Some y) place there))
+    same (k + 1) x y (omega arith, subst (λ (i : ℕ). slice_get xs i ≡ Some x) place at) (
+      omega arith,
+      subst (λ (i : ℕ). slice_get ys i ≡ Some y) place there,
+    ))
 
 -- Streams judged by their own blocks of an order
 
@@ -49,7 +54,8 @@ module _ (terms : TermsValue) (own : ℕ → List History) where
   own_count s (t ∷ ts) (r ∷ rs) judged = ap suc (own_count (s + 1) ts rs judged.1)
 
   own_from : (s k : ℕ) (streams : List Stream) (reports : List Report) (stream : Stream) (report : Report) → AreOwn s streams reports
-      → slice_get streams k ≡ Some stream → slice_get reports k ≡ Some report → JudgesStream (setting_of terms (s + k)) stream (own (s + k)) report
+      → slice_get streams k ≡ Some stream → slice_get reports k ≡ Some report
+      → JudgesStream (setting_of terms (s + k)) stream (own (s + k)) report
   own_from s k [] [] stream report judged at says = absurd (cc)
   own_from s k [] (r ∷ rs) stream report judged at says = absurd judged
   own_from s k (t ∷ ts) [] stream report judged at says = absurd judged
@@ -71,7 +77,8 @@ module _ (terms : TermsValue) (own : ℕ → List History) where
   own_at s streams reports stream report judged at says =
       let first = at.0 in
       let place : 1 + (s - 1) ≡ s = omega (arith, first) in
-      subst (λ n. JudgesStream (setting_of terms n) stream (own n) report) place (own_from 1 (s - 1) streams reports stream report judged at.1 says.1)
+      subst (λ n. JudgesStream (setting_of terms n) stream (own n) report) place
+      (own_from 1 (s - 1) streams reports stream report judged at.1 says.1)
 
 -- Two runs
 
@@ -82,7 +89,8 @@ module _ (alike : BlocksGoAlike) (forks : LegalNeverFork) (one : OneReport) (f :
     (count : length streams ≡ terms.layout.streams) (other_count : length others ≡ terms.layout.streams)
     (both : (s : ℕ) (stream other : Stream) (report other_report : Report)
     → IsOfStream streams s stream → IsOfStream others s other → IsOfStream reports s report → IsOfStream other_reports s other_report
-    → (j : JudgedTwice (setting_of terms s) (blocks_of s a.order.blocks) (blocks_of s b.order.blocks)) × (j.report ≡ report) × (j.other ≡ other_report)) where
+    → (j : JudgedTwice (setting_of terms s) (blocks_of s a.order.blocks) (blocks_of s b.order.blocks)) × (j.report ≡ report)
+    × (j.other ≡ other_report)) where
   many : length reports ≡ length streams
   many = own_count terms (λ t. blocks_of t a.order.blocks) 1 streams reports a.order.judged
 
@@ -116,7 +124,8 @@ pub turns_decide : OverStays → OneReport → LegalNeverFork → BlocksGoAlike 
 turns_decide stays one forks alike f terms streams others reports other_reports count other_count readings a b memory none =
     let both : (s : ℕ) (stream other : Stream) (report other_report : Report)
     → IsOfStream streams s stream → IsOfStream others s other → IsOfStream reports s report → IsOfStream other_reports s other_report
-    → (j : JudgedTwice (setting_of terms s) (blocks_of s a.order.blocks) (blocks_of s b.order.blocks)) × (j.report ≡ report) × (j.other ≡ other_report) =
+    → (j : JudgedTwice (setting_of terms s) (blocks_of s a.order.blocks) (blocks_of s b.order.blocks)) × (j.report ≡ report)
+    × (j.other ≡ other_report) =
     λ s stream other report other_report at there says also.
     let c = setting_of terms s in
     let reading = readings s stream other at there in (
@@ -164,11 +173,15 @@ bytes_decide decided one forks alike f terms told other_told reports other_repor
         end = stream_ends.Ended;
         report = report;
         other = other_report;
-        first = judged_to decided c stream.end stream.bytes stream.unneeded bytes.0 here.0.left here.0.has_failed (blocks_of s a.order.blocks) report
-            (subst (λ (e : Option (List ℕ)). Consumes e here.0.left (stream.bytes ++ stream.unneeded)) bytes.1 is.consumes) is.ends is.needed mine.1
+        first = judged_to decided c stream.end stream.bytes stream.unneeded bytes.0 here.0.left here.0.has_failed
+            (blocks_of s a.order.blocks) report
+            (subst (λ (e : Option (List ℕ)). Consumes e here.0.left (stream.bytes ++ stream.unneeded)) bytes.1 is.consumes) is.ends
+            is.needed mine.1
             (own_at terms (λ t. blocks_of t a.order.blocks) s streams reports stream report a.order.judged at says);
-        second = judged_to decided c other.end other.bytes other.unneeded bytes.0 near.0.left near.0.has_failed (blocks_of s b.order.blocks) other_report
-            (subst (λ (e : Option (List ℕ)). Consumes e near.0.left (other.bytes ++ other.unneeded)) bytes.2 was.consumes) was.ends was.needed theirs.1
+        second = judged_to decided c other.end other.bytes other.unneeded bytes.0 near.0.left near.0.has_failed
+            (blocks_of s b.order.blocks) other_report
+            (subst (λ (e : Option (List ℕ)). Consumes e near.0.left (other.bytes ++ other.unneeded)) bytes.2 was.consumes) was.ends
+            was.needed theirs.1
             (own_at terms (λ t. blocks_of t b.order.blocks) s others other_reports other other_report b.order.judged there also);
         memory = mine.0;
         none = theirs.0;

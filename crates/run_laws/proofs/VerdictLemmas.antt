@@ -1,6 +1,7 @@
 -- The verdict that an order of lines comes to: some stream says that it added the empty clause, or one within the cube, exactly if
 -- the order publishes one.
-use Rattle.std.proofs.Common.{◌≡◌, ◌||◌, ◌+◌, ◌-◌, ◌<◌, ◌≤◌, ℕ, zero, suc, ℤ, Bool, true, false, List, [], ◌∷◌, ◌++◌, length, refl, sym, ap, subst, ◌∙◌, inl, inr, arith}
+use Rattle.std.proofs.Common.{◌≡◌, ◌||◌, ◌+◌, ◌-◌, ◌<◌, ◌≤◌, ℕ, zero, suc, ℤ, Bool, true, false, List, [], ◌∷◌, ◌++◌, length, refl, sym, ap}
+use Rattle.std.proofs.Common.{subst, ◌∙◌, inl, inr, arith}
 use Rattle.std.specs.Prelude.{◌==◌}
 use Rattle.std.specs.List.{AllByRecursion, list_any}
 use Rattle.std.proofs.lemmas.Bool.{cases_eq, cases_Bool, true≢false, or_right, or_left, or_cases}
@@ -25,7 +26,8 @@ use Rattle.stream_check.specs.Finding.{IsGoodAddition}
 use Rattle.stream_check.specs.Judging.{JudgesLine, AreGood, EndsAfter, at_bad_line, at_bad_text, at_memory, at_end, joined, JudgesBlocks}
 use Rattle.stream_check.specs.Laws.{GoodExactlyIf}
 use Rattle.stream_check.specs.ReportLemmas.{additions-append, said_empty, said_within, joined-append}
-use Rattle.runs.specs.Streams.{Stream, JudgesStream, Block, blocks_of, events_in, IsBlockWithin, AreJudged, TermsValue, setting_of, IsOrdered}
+use Rattle.runs.specs.Streams.{Stream, JudgesStream, Block, blocks_of, events_in, IsBlockWithin, AreJudged, TermsValue, setting_of}
+use Rattle.runs.specs.Streams.{IsOrdered}
 use Rattle.runs.specs.StreamLemmas.{blocks-same, blocks-other, some_end}
 use Rattle.run_laws.specs.PublishLemmas.{publishes_empty, publishes_within, published_some}
 use Rattle.run_laws.specs.OrderLaws.{ClosedOrdered, AllClosed, AllOrdered}
@@ -90,13 +92,15 @@ module _ (passes : Event → Bool) where
   quiet_none [] all = refl
   quiet_none (e ∷ es) all = or_none (passes e) (list_any passes es) all.0 (quiet_none es all.1)
 
-module _ (law : GoodExactlyIf) (c : Setting) (passes : Event → Bool) (adds : ℕ × Clause → Bool) (says : Report → Bool) (tells : Tells c passes adds says) where
+module _ (law : GoodExactlyIf) (c : Setting) (passes : Event → Bool) (adds : ℕ × Clause → Bool) (says : Report → Bool)
+    (tells : Tells c passes adds says) where
   quiet_retires : (ids : List ℕ) → AllByRecursion (λ id. (r : Retired) → IsQuiet passes (events.retire c.stream id r)) ids
   quiet_retires [] = tt
   quiet_retires (id ∷ ids) = (tells.retires_none id, quiet_retires ids)
 
   -- a good line publishes what passes exactly if it adds what does
-  good_line : (st : Standing) (line : StreamLine) (es : History) → JudgesLine c st line es Good → list_any passes es ≡ list_any adds (additions_of (line ∷ []))
+  good_line : (st : Standing) (line : StreamLine) (es : History) → JudgesLine c st line es Good
+      → list_any passes es ≡ list_any adds (additions_of (line ∷ []))
   good_line st (Addition id lits hints) es judged =
       elim (cases_Bool (adds (id, distinct lits))) [
         | inl is ↦
@@ -108,7 +112,8 @@ module _ (law : GoodExactlyIf) (c : Setting) (passes : Event → Bool) (adds : �
             ∙ or_right (list_any passes good.fetches) (list_any passes (published_by c id lits ∷ [])) last
             ∙ sym (or_left (adds (id, distinct lits)) false is)
         | inr none ↦
-            quiet_none passes es (addition_all c (IsQuiet passes) tells.fetches_none id lits Good (λ good. tells.publishes_added id lits ∙ none) st hints es judged)
+            quiet_none passes es (addition_all c (IsQuiet passes) tells.fetches_none id lits Good
+            (λ good. tells.publishes_added id lits ∙ none) st hints es judged)
             ∙ sym (or_none (adds (id, distinct lits)) false none refl)
       ]
   good_line st (Import id lits) es judged =
@@ -120,7 +125,8 @@ module _ (law : GoodExactlyIf) (c : Setting) (passes : Event → Bool) (adds : �
   bad_line : (st : Standing) (line : StreamLine) (es : History) (deleted : ℕ) (fault : Fault)
       → JudgesLine c st line es (Bad deleted fault) → list_any passes es ≡ false
   bad_line st (Addition id lits hints) es deleted fault judged =
-      quiet_none passes es (addition_all c (IsQuiet passes) tells.fetches_none id lits (Bad deleted fault) (λ good. absurd (cc)) st hints es judged)
+      quiet_none passes es
+      (addition_all c (IsQuiet passes) tells.fetches_none id lits (Bad deleted fault) (λ good. absurd (cc)) st hints es judged)
   bad_line st (Import id lits) es deleted fault judged =
       quiet_none passes es (import_all c (IsQuiet passes) tells.fetches_none st id lits es (Bad deleted fault) judged)
   bad_line st (Deletion lead ids) es deleted fault judged =
@@ -223,7 +229,8 @@ module _ (passes : Event → Bool) where
 
 -- Reports
 
-module _ (law : GoodExactlyIf) (terms : TermsValue) (order : List Block) (passes : Event → Bool) (adds : ℕ × Clause → Bool) (says : Report → Bool)
+module _ (law : GoodExactlyIf) (terms : TermsValue) (order : List Block) (passes : Event → Bool) (adds : ℕ × Clause → Bool)
+    (says : Report → Bool)
     (tells : (s : ℕ) → Tells (setting_of terms s) passes adds says) where
   told_by : (s : ℕ) (stream : Stream) (report : Report)
       → (events : List History) × (events ≡ blocks_of s order) × JudgesStream (setting_of terms s) stream events report
@@ -234,7 +241,8 @@ module _ (law : GoodExactlyIf) (terms : TermsValue) (order : List Block) (passes
       (subst (λ (bs : List History). JudgesStream (setting_of terms s) stream bs report) judged.1 judged.2) in
       stream_tells law (setting_of terms s) passes adds says (tells s) stream.bytes way.0 (blocks_of s order) report way.1
 
-  said_published : (s : ℕ) (streams : List Stream) (reports : List Report) → AreJudged terms (λ t. true) (λ t events. events ≡ blocks_of t order) s streams reports
+  said_published : (s : ℕ) (streams : List Stream) (reports : List Report)
+      → AreJudged terms (λ t. true) (λ t events. events ≡ blocks_of t order) s streams reports
       → list_any says reports ≡ true → list_any passes (events_in order) ≡ true
   said_published s [] [] judged is = absurd (true≢false (sym is))
   said_published s [] (report ∷ reports) judged is = absurd judged
@@ -245,7 +253,8 @@ module _ (law : GoodExactlyIf) (terms : TermsValue) (order : List Block) (passes
         | inr later ↦ said_published (s + 1) streams reports judged.1 later
       ]
 
-  published_said : (s : ℕ) (streams : List Stream) (reports : List Report) → AreJudged terms (λ t. true) (λ t events. events ≡ blocks_of t order) s streams reports
+  published_said : (s : ℕ) (streams : List Stream) (reports : List Report)
+      → AreJudged terms (λ t. true) (λ t events. events ≡ blocks_of t order) s streams reports
       → (k : ℕ) → k < length streams → list_any passes (joined (blocks_of (s + k) order)) ≡ true
       → list_any says reports ≡ true
   published_said s [] [] judged k below is = absurd (omega (arith, below))
@@ -263,7 +272,8 @@ module _ (law : GoodExactlyIf) (terms : TermsValue) (order : List Block) (passes
 
   -- some report passes exactly if the order publishes what does
   reports_tell : (streams : List Stream) (reports : List Report) → length streams ≡ terms.layout.streams
-      → AllByRecursion (IsBlockWithin terms.layout (λ s. true)) order → AreJudged terms (λ s. true) (λ s events. events ≡ blocks_of s order) 1 streams reports
+      → AllByRecursion (IsBlockWithin terms.layout (λ s. true)) order
+      → AreJudged terms (λ s. true) (λ s events. events ≡ blocks_of s order) 1 streams reports
       → list_any says reports ≡ list_any passes (events_in order)
   reports_tell streams reports count within judged =
       both_ways (list_any says reports) (list_any passes (events_in order))
@@ -284,10 +294,12 @@ all_ordered law closed_ordered all_closed f terms h streams reports fits count l
     = closed_ordered f terms (λ s. true) h streams reports fits count legal judged (all_closed terms.layout streams) stays in (
       order,
       record {
-        empty = reports_tell law terms order.blocks publishes_empty adds_empty (λ report. report.empty) (λ s. empty_tells (setting_of terms s))
+        empty =
+            reports_tell law terms order.blocks publishes_empty adds_empty (λ report. report.empty) (λ s. empty_tells (setting_of terms s))
             streams reports count order.within order.judged
             ∙ published_some (λ c. length c == 0) (events_in order.blocks);
-        within = reports_tell law terms order.blocks (publishes_within terms.cube) (adds_within terms.cube) (λ report. report.within) (λ s. within_tells (setting_of terms s))
+        within = reports_tell law terms order.blocks (publishes_within terms.cube) (adds_within terms.cube) (λ report. report.within)
+            (λ s. within_tells (setting_of terms s))
             streams reports count order.within order.judged
             ∙ published_some (is_within terms.cube) (events_in order.blocks);
       },

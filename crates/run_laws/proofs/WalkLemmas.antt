@@ -18,7 +18,8 @@ use Rattle.runs.specs.Streams.{Block, blocks_of}
 use Rattle.stream_check.specs.Checking.{IsFetch, IsRetire}
 use Rattle.run_laws.specs.Lines.{IsLineBlock, RetiresLast}
 use Rattle.run_laws.proofs.SwapLemmas.{Settles}
-use Rattle.run_laws.proofs.BlockLemmas.{IsSettled, join, join-own, join-others, join-settled, join-legal, join-again, without, without-own, without-others, without-settled, first-settled, retires-first}
+use Rattle.run_laws.proofs.BlockLemmas.{IsSettled, join, join-own, join-others, join-settled, join-legal, join-again, without, without-own}
+use Rattle.run_laws.proofs.BlockLemmas.{without-others, without-settled, first-settled, retires-first}
 use Rattle.run_laws.proofs.AheadLemmas.{Lines, with, with-same, with-other, Ahead, ahead-with, HasOrder, lines-front, order-empty}
 
 -- Reduced
@@ -31,8 +32,10 @@ reduced-one (events.publish s id c r) = refl
 reduced-one (events.retire s id r) = refl
 
 -- a vacant fetch of a stream, of an identity
-same_fetch : (s id : ℕ) (d : Event) (es : History) → stream_of d ≡ s → IsFetchOf id d → list_all is_vacant (d ∷ es) ≡ true → d ≡ events.fetch s id events.vacant
-same_fetch s id (events.fetch t j events.vacant) es caller is all = ap (λ (i : ℕ). events.fetch i j events.vacant) caller ∙ ap (λ (i : ℕ). events.fetch s i events.vacant) is
+same_fetch : (s id : ℕ) (d : Event) (es : History) → stream_of d ≡ s → IsFetchOf id d → list_all is_vacant (d ∷ es) ≡ true
+    → d ≡ events.fetch s id events.vacant
+same_fetch s id (events.fetch t j events.vacant) es caller is all = ap (λ (i : ℕ). events.fetch i j events.vacant) caller
+    ∙ ap (λ (i : ℕ). events.fetch s i events.vacant) is
 same_fetch s id (events.fetch t j (events.live c)) es caller is all = absurd (true≢false (sym all))
 same_fetch s id (events.fetch t j events.retired) es caller is all = absurd (true≢false (sym all))
 same_fetch s id (events.publish t j c r) es caller is all = absurd is
@@ -102,7 +105,8 @@ module _ (f : Cnf) (p : LayoutValue) (final m : State) where
           legal = join-legal f p final m e blocks (reduced (d ∷ b)) (map reduced more) early some settles made.1.settled
               (made.1.lines (stream_of e) ∙ ap (map reduced) (with-same rest (stream_of e) ((d ∷ b) ∷ more) (stream_of e) refl))
               (answers, allowed, made.1.legal);
-          lines = lines-join rest e d b more blocks is (reduced_kept e (d ∷ b) (ap (λ (x : Bool). x && not (list_all is_vacant (d ∷ b))) some)) made.1.lines;
+          lines = lines-join rest e d b more blocks is
+              (reduced_kept e (d ∷ b) (ap (λ (x : Bool). x && not (list_all is_vacant (d ∷ b))) some)) made.1.lines;
         },
       )
 
@@ -120,7 +124,8 @@ module _ (f : Cnf) (p : LayoutValue) (final m : State) where
             settled = join-settled p final e blocks tt made.1.settled;
             legal = join-again f p m s id blocks b (map reduced more)
                 (made.1.lines s ∙ ap (map reduced) (with-same rest s ((d ∷ b) ∷ more) s refl)
-                ∙ ap (λ (g : History). g ∷ map reduced more) (all_vacant_stay (d ∷ b) vacants ∙ ap (λ (x : Event). x ∷ b) (same_fetch s id d b caller again vacants)))
+                ∙ ap (λ (g : History). g ∷ map reduced more) (all_vacant_stay (d ∷ b) vacants
+                ∙ ap (λ (x : Event). x ∷ b) (same_fetch s id d b caller again vacants)))
                 made.1.legal;
             lines = lines-join rest e d b more blocks is (reduced_kept e (d ∷ b) (ap not vacants)) made.1.lines;
           },
@@ -137,7 +142,8 @@ module _ (f : Cnf) (p : LayoutValue) (final m : State) where
 
   -- it is the first of some retires
   lines-without : (rest : Lines) (s : ℕ) (b : History) (more : List History) (blocks : List Block)
-      → ((t : ℕ) → blocks_of t blocks ≡ map reduced (with rest s (b ∷ more) t)) → (t : ℕ) → blocks_of t (without s blocks) ≡ map reduced (with rest s more t)
+      → ((t : ℕ) → blocks_of t blocks ≡ map reduced (with rest s (b ∷ more) t)) → (t : ℕ)
+      → blocks_of t (without s blocks) ≡ map reduced (with rest s more t)
   lines-without rest s b more blocks lines t =
       elim (cases_eq s t) [
         | inl same ↦
@@ -147,7 +153,8 @@ module _ (f : Cnf) (p : LayoutValue) (final m : State) where
         | inr other ↦
             without-others s blocks t other
             ∙ lines t
-            ∙ ap (map reduced) (with-other rest s (b ∷ more) t (λ same. other (sym same)) ∙ sym (with-other rest s more t (λ same. other (sym same))))
+            ∙ ap (map reduced) (with-other rest s (b ∷ more) t (λ same. other (sym same))
+            ∙ sym (with-other rest s more t (λ same. other (sym same))))
       ]
 
   reduced_retires : (es : History) → AllByRecursion IsRetire es → AllByRecursion IsRetire (reduced es)
@@ -163,24 +170,33 @@ module _ (f : Cnf) (p : LayoutValue) (final m : State) where
   retires-on rest s id r d b more is stream retires settles answers allowed made =
       let e : Event = events.retire s id r in
       let blocks : List Block = made.0 in
-      let here : blocks_of s blocks ≡ reduced (d ∷ b) ∷ map reduced more = made.1.lines s ∙ ap (map reduced) (with-same rest s ((d ∷ b) ∷ more) s refl) in
-      let first : IsSettled p final (record { stream = s; events = reduced (d ∷ b) }) = first-settled p final s blocks (reduced (d ∷ b)) (map reduced more) made.1.settled here in (
+      let here : blocks_of s blocks ≡ reduced (d ∷ b) ∷ map reduced more = made.1.lines s
+      ∙ ap (map reduced) (with-same rest s ((d ∷ b) ∷ more) s refl) in
+      let first : IsSettled p final (record {
+        stream = s;
+        events = reduced (d ∷ b);
+      }) = first-settled p final s blocks (reduced (d ∷ b)) (map reduced more) made.1.settled here in (
         record { stream = s; events = e ∷ reduced (d ∷ b) } ∷ without s blocks,
         record {
-          settled = (record { stream = stream; calls = (refl, first.calls); settles = (settles, first.settles) }, without-settled p final s blocks made.1.settled);
+          settled = (
+            record { stream = stream; calls = (refl, first.calls); settles = (settles, first.settles) },
+            without-settled p final s blocks made.1.settled,
+          );
           legal = (
             answers,
             allowed,
-            retires-first f p final (after m e) s blocks (reduced (d ∷ b)) (map reduced more) (reduced_retires (d ∷ b) retires) first.calls first.settles
+            retires-first f p final (after m e) s blocks (reduced (d ∷ b)) (map reduced more)
+                (reduced_retires (d ∷ b) retires) first.calls first.settles
                 made.1.settled here made.1.legal,
           );
-          lines = lines-front rest s (e ∷ d ∷ b) more (e ∷ reduced (d ∷ b)) (without s blocks) is refl (lines-without rest s (d ∷ b) more blocks made.1.lines);
+          lines = lines-front rest s (e ∷ d ∷ b) more (e ∷ reduced (d ∷ b)) (without s blocks) is refl
+              (lines-without rest s (d ∷ b) more blocks made.1.lines);
         },
       )
 
   goes : (rest : Lines) (e d : Event) (b : History) (more : List History)
-      → rest (stream_of e) ≡ (e ∷ d ∷ b) ∷ more → IsStream p (stream_of e) → IsEarly e → TriesAgain (e ∷ d ∷ b) → RetiresLast (e ∷ d ∷ b) → stream_of d ≡ stream_of e
-      → Settles p final e → Answers m e → IsAllowed f p e
+      → rest (stream_of e) ≡ (e ∷ d ∷ b) ∷ more → IsStream p (stream_of e) → IsEarly e → TriesAgain (e ∷ d ∷ b) → RetiresLast (e ∷ d ∷ b)
+      → stream_of d ≡ stream_of e → Settles p final e → Answers m e → IsAllowed f p e
       → HasOrder f p final (after m e) (with rest (stream_of e) ((d ∷ b) ∷ more)) → HasOrder f p final m rest
   goes rest (events.fetch s id events.vacant) d b more is stream early again apart caller settles answers allowed made =
       tries-on rest s id d b more is caller again.0 made
@@ -206,7 +222,8 @@ module _ (f : Cnf) (p : LayoutValue) (final m : State) where
   )
 
   -- a line without events
-  waits : (rest : Lines) (s : ℕ) (bs : List History) → rest s ≡ [] ∷ bs → IsStream p s → HasOrder f p final m (with rest s bs) → HasOrder f p final m rest
+  waits : (rest : Lines) (s : ℕ) (bs : List History) → rest s ≡ [] ∷ bs → IsStream p s → HasOrder f p final m (with rest s bs)
+      → HasOrder f p final m rest
   waits rest s bs is stream made = (
     record { stream = s; events = [] } ∷ made.0,
     record {
@@ -221,39 +238,49 @@ module _ (f : Cnf) (p : LayoutValue) (final m : State) where
 abbrev IsWalked : Cnf → LayoutValue → State → History → Type 0
 IsWalked f p final h = (m : State) (rest : Lines) → LegalFrom f p m h → Ahead p h rest → HasOrder f p final m rest
 
-module _ (f : Cnf) (p : LayoutValue) (final m : State) (e : Event) (h : History) (stream : IsStream p (stream_of e)) (settles : Settles p final e)
+module _ (f : Cnf) (p : LayoutValue) (final m : State) (e : Event) (h : History) (stream : IsStream p (stream_of e))
+    (settles : Settles p final e)
     (legal : LegalFrom f p m (e ∷ h)) (walked : IsWalked f p final h) where
   -- the blocks when the event has passed
-  after-it : (rest : Lines) (bs : List History) → Ahead p (e ∷ h) rest → own h (stream_of e) ≡ joined bs → AllByRecursion IsLineBlock bs → Ahead p h (with rest (stream_of e) bs)
+  after-it : (rest : Lines) (bs : List History) → Ahead p (e ∷ h) rest → own h (stream_of e) ≡ joined bs → AllByRecursion IsLineBlock bs
+      → Ahead p h (with rest (stream_of e) bs)
   after-it rest bs ahead here lines =
       ahead-with p (e ∷ h) h rest (stream_of e) bs ahead stream here (λ t other. sym (own-other e h t (λ same. other (sym same)))) lines
 
-  first_line : (b : History) (more : List History) (rest : Lines) → rest (stream_of e) ≡ (e ∷ b) ∷ more → own h (stream_of e) ≡ b ++ joined more → Ahead p (e ∷ h) rest → HasOrder f p final m rest
+  first_line : (b : History) (more : List History) (rest : Lines) → rest (stream_of e) ≡ (e ∷ b) ∷ more
+      → own h (stream_of e) ≡ b ++ joined more → Ahead p (e ∷ h) rest → HasOrder f p final m rest
   first_line [] more rest is tail ahead =
       let lines : AllByRecursion IsLineBlock ((e ∷ []) ∷ more) = subst (AllByRecursion IsLineBlock) is (ahead.lines (stream_of e)) in
       begins f p final m rest e more is stream settles legal.0 legal.1
       (walked (after m e) (with rest (stream_of e) more) legal.2 (after-it rest more ahead tail lines.1))
   first_line (d ∷ b) more rest is tail ahead =
       let lines : AllByRecursion IsLineBlock ((e ∷ d ∷ b) ∷ more) = subst (AllByRecursion IsLineBlock) is (ahead.lines (stream_of e)) in
-      let calls : AllByRecursion (λ x. stream_of x ≡ stream_of e) (d ∷ b ++ joined more) = subst (AllByRecursion (λ x. stream_of x ≡ stream_of e)) tail (own-calls h (stream_of e)) in
+      let calls : AllByRecursion (λ x. stream_of x ≡ stream_of e) (d ∷ b ++ joined more) =
+      subst (AllByRecursion (λ x. stream_of x ≡ stream_of e)) tail (own-calls h (stream_of e)) in
       goes f p final m rest e d b more is stream lines.0.early.0 lines.0.again lines.0.apart calls.0 settles legal.0 legal.1
       (walked (after m e) (with rest (stream_of e) ((d ∷ b) ∷ more)) legal.2
-      (after-it rest ((d ∷ b) ∷ more) ahead tail (record { early = lines.0.early.1; again = again-tail e (d ∷ b) lines.0.again; apart = lines.0.apart.1 }, lines.1)))
+      (after-it rest ((d ∷ b) ∷ more) ahead tail (
+        record { early = lines.0.early.1; again = again-tail e (d ∷ b) lines.0.again; apart = lines.0.apart.1 },
+        lines.1,
+      )))
 
   -- its stream's blocks begin with lines without events, and the line that it begins
-  passes : (bs : List History) (rest : Lines) → rest (stream_of e) ≡ bs → e ∷ own h (stream_of e) ≡ joined bs → Ahead p (e ∷ h) rest → HasOrder f p final m rest
+  passes : (bs : List History) (rest : Lines) → rest (stream_of e) ≡ bs → e ∷ own h (stream_of e) ≡ joined bs → Ahead p (e ∷ h) rest
+      → HasOrder f p final m rest
   passes [] rest is events ahead = absurd (cc)
   passes ([] ∷ bs) rest is events ahead =
       let lines : AllByRecursion IsLineBlock ([] ∷ bs) = subst (AllByRecursion IsLineBlock) is (ahead.lines (stream_of e)) in
       waits f p final m rest (stream_of e) bs is stream
       (passes bs (with rest (stream_of e) bs) (with-same rest (stream_of e) bs (stream_of e) refl) events
-      (ahead-with p (e ∷ h) (e ∷ h) rest (stream_of e) bs ahead stream (own-mine e h (stream_of e) refl ∙ events) (λ t other. refl) lines.1))
+      (ahead-with p (e ∷ h) (e ∷ h) rest (stream_of e) bs ahead stream (own-mine e h (stream_of e) refl ∙ events)
+      (λ t other. refl) lines.1))
   passes ((d ∷ b) ∷ more) rest is events ahead =
       let first : e ≡ d = cc in
       let tail : own h (stream_of e) ≡ b ++ joined more = cc in
       first_line b more rest (is ∙ ap (λ (x : Event). (x ∷ b) ∷ more) (sym first)) tail ahead
 
-pub walk : (f : Cnf) (p : LayoutValue) (final : State) (h : History) → AllByRecursion (λ e. IsStream p (stream_of e)) h → AllByRecursion (Settles p final) h → IsWalked f p final h
+pub walk : (f : Cnf) (p : LayoutValue) (final : State) (h : History) → AllByRecursion (λ e. IsStream p (stream_of e)) h
+    → AllByRecursion (Settles p final) h → IsWalked f p final h
 walk f p final [] streams settled m rest legal ahead = order-empty f p final m rest ahead
 walk f p final (e ∷ h) streams settled m rest legal ahead =
     passes f p final m e h streams.0 settled.0 legal (λ n left. walk f p final h streams.1 settled.1 n left)

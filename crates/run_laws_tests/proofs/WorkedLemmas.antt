@@ -1,5 +1,6 @@
 -- Lemmas for the worked example.
-use Rattle.std.proofs.Common.{◌≡◌, ◌<◌, ℕ, zero, suc, pos, negsuc, List, [], ◌∷◌, ◌++◌, append_assoc, Some, refl, sym, ap, ◌∙◌, subst, inl, inr, arith}
+use Rattle.std.proofs.Common.{◌≡◌, ◌<◌, ℕ, zero, suc, pos, negsuc, List, [], ◌∷◌, ◌++◌, append_assoc, Some, refl, sym, ap, ◌∙◌, subst, inl}
+use Rattle.std.proofs.Common.{inr, arith}
 use Rattle.std.specs.Prelude.{neg_ℤ, codes, slice_index_or}
 use Rattle.std.specs.Fmt.{digits}
 use Rattle.std.specs.List.{AllByRecursion, AllZip, Any, flat_map}
@@ -93,11 +94,13 @@ one_is_the_formulas owns = let no : owners.Formula ≡ owners.Stream 1 = owns in
 pub no_minus_one : IsRightImport one_stream 1 at_first 1 (pos 1 ∷ pos 2 ∷ negsuc 0 ∷ []) → ⊥
 no_minus_one right =
     let same : first ≡ right.clause = let is : Some first ≡ Some right.clause = right.there in cc in
-    let has : Has first (negsuc 0) = subst (λ (x : Clause). Has x (negsuc 0)) (sym same) ((right.same (negsuc 0)).1 (inr (inr (inl refl)))) in
+    let has : Has first (negsuc 0) =
+    subst (λ (x : Clause). Has x (negsuc 0)) (sym same) ((right.same (negsuc 0)).1 (inr (inr (inl refl)))) in
     elim has [ inl e ↦ signs 1 0 e | inr more ↦ elim more [ inl e ↦ signs 2 0 e | inr none ↦ none ] ]
 
 -- the first line of the refutation adds a literal
-pub adds_no_empty : (k : ℕ) (line : StreamLine) → k < 1 → slice_index_or (Addition 5 unit (1 ∷ 2 ∷ []) ∷ []) k line ≡ line → AddsEmpty line → ⊥
+pub adds_no_empty : (k : ℕ) (line : StreamLine) → k < 1 → slice_index_or (Addition 5 unit (1 ∷ 2 ∷ []) ∷ []) k line ≡ line
+    → AddsEmpty line → ⊥
 adds_no_empty zero line within at empty = let none : unit ≡ [] = subst AddsEmpty (sym at) empty in cc
 adds_no_empty (suc k) line within at empty = omega (arith, within)
 
@@ -108,13 +111,37 @@ four_is_cnf = record {
   vars = omega arith;
   count = omega arith;
   clauses = (
-    (record { literals = ((omega arith, omega arith), ((omega arith, omega arith), tt)); each_once = ((λ h. elim h [ inl e ↦ two_not_one e | inr none ↦ none ]), ((λ h. h), tt)) }, omega arith),
     (
-      (record { literals = ((omega arith, omega arith), ((omega arith, omega arith), tt)); each_once = ((λ h. elim h [ inl e ↦ signs 2 0 e | inr none ↦ none ]), ((λ h. h), tt)) }, omega arith),
+      record {
+        literals = ((omega arith, omega arith), ((omega arith, omega arith), tt));
+        each_once = ((λ h. elim h [ inl e ↦ two_not_one e | inr none ↦ none ]), ((λ h. h), tt));
+      },
+      omega arith,
+    ),
+    (
       (
-        (record { literals = ((omega arith, omega arith), ((omega arith, omega arith), tt)); each_once = ((λ h. elim h [ inl e ↦ signs 1 1 (sym e) | inr none ↦ none ]), ((λ h. h), tt)) }, omega arith),
+        record {
+          literals = ((omega arith, omega arith), ((omega arith, omega arith), tt));
+          each_once = ((λ h. elim h [ inl e ↦ signs 2 0 e | inr none ↦ none ]), ((λ h. h), tt));
+        },
+        omega arith,
+      ),
+      (
         (
-          (record { literals = ((omega arith, omega arith), ((omega arith, omega arith), tt)); each_once = ((λ h. elim h [ inl e ↦ (let no : negsuc 1 ≡ negsuc 0 = e in cc) | inr none ↦ none ]), ((λ h. h), tt)) }, omega arith),
+          record {
+            literals = ((omega arith, omega arith), ((omega arith, omega arith), tt));
+            each_once = ((λ h. elim h [ inl e ↦ signs 1 1 (sym e) | inr none ↦ none ]), ((λ h. h), tt));
+          },
+          omega arith,
+        ),
+        (
+          (
+            record {
+              literals = ((omega arith, omega arith), ((omega arith, omega arith), tt));
+              each_once = ((λ h. elim h [ inl e ↦ (let no : negsuc 1 ≡ negsuc 0 = e in cc) | inr none ↦ none ]), ((λ h. h), tt));
+            },
+            omega arith,
+          ),
           tt,
         ),
       ),
@@ -127,9 +154,17 @@ unfolding digits
 refutation_is_right = record {
   text = refl;
   fits = (
-    ((omega arith, omega arith), record { count = omega arith; each = ((omega arith, omega arith), tt) }, record { count = omega arith; each = ((omega arith, omega arith), ((omega arith, omega arith), tt)) }),
     (
-      ((omega arith, omega arith), record { count = omega arith; each = tt }, record { count = omega arith; each = ((omega arith, omega arith), ((omega arith, omega arith), ((omega arith, omega arith), tt))) }),
+      (omega arith, omega arith),
+      record { count = omega arith; each = ((omega arith, omega arith), tt) },
+      record { count = omega arith; each = ((omega arith, omega arith), ((omega arith, omega arith), tt)) },
+    ),
+    (
+      (
+        (omega arith, omega arith),
+        record { count = omega arith; each = tt },
+        record { count = omega arith; each = ((omega arith, omega arith), ((omega arith, omega arith), ((omega arith, omega arith), tt))) },
+      ),
       tt,
     ),
   );
@@ -181,15 +216,21 @@ unfolding digits
 no_empty_begins first empty [] more fits is some = omega (arith, some.2)
 no_empty_begins first empty (line ∷ []) more fits is some =
     let known = Addition 5 unit (1 ∷ 2 ∷ []) in
-    let same = first known line [] (flat_map line_text [] ++ more)
-    ((omega arith, omega arith), record { count = omega arith; each = ((omega arith, omega arith), tt) }, record { count = omega arith; each = ((omega arith, omega arith), ((omega arith, omega arith), tt)) })
+    let same = first known line [] (flat_map line_text [] ++ more) (
+      (omega arith, omega arith),
+      record { count = omega arith; each = ((omega arith, omega arith), tt) },
+      record { count = omega arith; each = ((omega arith, omega arith), ((omega arith, omega arith), tt)) },
+    )
     fits.0 (is ∙ append_assoc (line_text line) [] more) in
     let only : Any AddsEmpty (known ∷ []) = subst (λ (l : StreamLine). Any AddsEmpty (l ∷ [])) (sym same.0) some in
     adds_no_empty only.0 only.1 only.2 only.3 only.4
 no_empty_begins first empty (line ∷ other ∷ lines) more fits is some =
     let known = Addition 5 unit (1 ∷ 2 ∷ []) in
-    let same = first known line [] (flat_map line_text (other ∷ lines) ++ more)
-    ((omega arith, omega arith), record { count = omega arith; each = ((omega arith, omega arith), tt) }, record { count = omega arith; each = ((omega arith, omega arith), ((omega arith, omega arith), tt)) })
+    let same = first known line [] (flat_map line_text (other ∷ lines) ++ more) (
+      (omega arith, omega arith),
+      record { count = omega arith; each = ((omega arith, omega arith), tt) },
+      record { count = omega arith; each = ((omega arith, omega arith), ((omega arith, omega arith), tt)) },
+    )
     fits.0 (is ∙ append_assoc (line_text line) (flat_map line_text (other ∷ lines)) more) in
     empty.whole other (flat_map line_text lines ++ more) fits.1.0 (same.1 ∙ append_assoc (line_text other) (flat_map line_text lines) more)
 
@@ -200,11 +241,22 @@ pub shared_is_right : IsRightOrder four two_streams shared
 shared_is_right = record {
   streams = ((omega arith, omega arith), ((omega arith, omega arith), ((omega arith, omega arith), ((omega arith, omega arith), tt))));
   fits = (
-    ((omega arith, omega arith), record { count = omega arith; each = ((omega arith, omega arith), tt) }, record { count = omega arith; each = ((omega arith, omega arith), ((omega arith, omega arith), tt)) }),
+    (
+      (omega arith, omega arith),
+      record { count = omega arith; each = ((omega arith, omega arith), tt) },
+      record { count = omega arith; each = ((omega arith, omega arith), ((omega arith, omega arith), tt)) },
+    ),
     (
       ((omega arith, omega arith), record { count = omega arith; each = ((omega arith, omega arith), tt) }),
       (
-        ((omega arith, omega arith), record { count = omega arith; each = tt }, record { count = omega arith; each = ((omega arith, omega arith), ((omega arith, omega arith), ((omega arith, omega arith), tt))) }),
+        (
+          (omega arith, omega arith),
+          record { count = omega arith; each = tt },
+          record {
+            count = omega arith;
+            each = ((omega arith, omega arith), ((omega arith, omega arith), ((omega arith, omega arith), tt)));
+          },
+        ),
         (((omega arith, omega arith), record { count = omega arith; each = ((omega arith, omega arith), tt) }), tt),
       ),
     ),

@@ -1,5 +1,6 @@
 -- An addition that is checked and published.
-use Rattle.std.proofs.Common.{◌≡◌, ◌≤◌, ◌<◌, ℕ, ℤ, nat_abs, Bool, true, false, cond, List, [], ◌∷◌, length, Ok, refl, sym, ap, subst, ◌∙◌, arith}
+use Rattle.std.proofs.Common.{◌≡◌, ◌≤◌, ◌<◌, ℕ, ℤ, nat_abs, Bool, true, false, cond, List, [], ◌∷◌, length, Ok, refl, sym, ap, subst, ◌∙◌}
+use Rattle.std.proofs.Common.{arith}
 use Rattle.std.specs.Prelude.{not, ◌==◌}
 use Rattle.std.specs.Ordering.{int_eq}
 use Rattle.std.specs.List.{AllByRecursion, sum_by}
@@ -36,7 +37,8 @@ spent-skips e es false h = refl
 
 pub spent-fetches : (s : ℕ) (es : History) → AllByRecursion IsFetch es → spent s es ≡ 0
 spent-fetches s [] h = refl
-spent-fetches s (events.fetch t id r ∷ es) h = spent-skips (events.fetch t id r) (own es s) (stream_of (events.fetch t id r) == s) refl ∙ spent-fetches s es h.1
+spent-fetches s (events.fetch t id r ∷ es) h = spent-skips (events.fetch t id r) (own es s) (stream_of (events.fetch t id r) == s) refl
+    ∙ spent-fetches s es h.1
 spent-fetches s (events.publish t id c r ∷ es) h = absurd h.0
 spent-fetches s (events.retire t id r ∷ es) h = absurd h.0
 
@@ -69,16 +71,21 @@ variables_within vars (l ∷ ls) all = (all.0.1, variables_within vars ls all.1)
 -- The conditions of the publish
 
 -- the clause of the marks, after the hints, is the addition's
-pub clause_is : (c : Setting) (st : Standing) (id : ℕ) (lits : List ℤ) (old new : Propagation) (clause : Clause) → Admits c st id lits old → KeepsClause old new → clause ≡ new.clause → clause ≡ distinct lits
+pub clause_is : (c : Setting) (st : Standing) (id : ℕ) (lits : List ℤ) (old new : Propagation) (clause : Clause) → Admits c st id lits old
+    → KeepsClause old new → clause ≡ new.clause → clause ≡ distinct lits
 clause_is c st id lits old new clause admits kept is = is ∙ kept.1 ∙ ap (λ (m : Propagation). m.clause) admits.marks_are
 
 -- the hints show the addition's clause
-pub shown_is : (c : Setting) (st : Standing) (gone : ℕ → Bool) (f : Cnf) (id : ℕ) (lits : List ℤ) (hints : List ℕ) (marks : Propagation) (es : History) → Admits c st id lits marks
+pub shown_is : (c : Setting) (st : Standing) (gone : ℕ → Bool) (f : Cnf) (id : ℕ) (lits : List ℤ) (hints : List ℕ) (marks : Propagation)
+    (es : History) → Admits c st id lits marks
     → Shows c gone f marks.falses hints es (Ok tt) → Shows c gone f (distinct lits) hints es (Ok tt)
-shown_is c st gone f id lits hints marks es admits shown = subst (λ (d : Clause). Shows c gone f d hints es (Ok tt)) (ap (λ (m : Propagation). m.falses) admits.marks_are) shown
+shown_is c st gone f id lits hints marks es admits shown =
+    subst (λ (d : Clause). Shows c gone f d hints es (Ok tt)) (ap (λ (m : Propagation). m.falses) admits.marks_are) shown
 
-pub publishable : (c : Setting) (p q : Place) (st : Standing) (gone : ℕ → Bool) (es : History) (id : ℕ) (lits : List ℤ) (hints : List ℕ) (marks : Propagation) → PropagationSound → Tells p q es
-    → Admits c st id lits marks → length lits ≤ max_line_literals → Shows c gone p.caller.formula (distinct lits) hints es (Ok tt) → IsPublishable q.caller.formula (distinct lits)
+pub publishable : (c : Setting) (p q : Place) (st : Standing) (gone : ℕ → Bool) (es : History) (id : ℕ) (lits : List ℤ) (hints : List ℕ)
+    (marks : Propagation) → PropagationSound → Tells p q es
+    → Admits c st id lits marks → length lits ≤ max_line_literals → Shows c gone p.caller.formula (distinct lits) hints es (Ok tt)
+    → IsPublishable q.caller.formula (distinct lits)
 publishable c p q st gone es id lits hints marks sound tells admits few shown =
     subst (λ (f : Cnf). IsPublishable f (distinct lits)) (sym (ap (λ (r : Caller). r.formula) tells.caller))
     (record {
@@ -87,13 +94,15 @@ publishable c p q st gone es id lits hints marks sound tells admits few shown =
       follows = sound p.caller.formula (distinct lits) shown.0 shown.1 shown.2;
     })
 
-pub still_vacant : (c : Setting) (p q : Place) (es : History) (last id : ℕ) → IsPlaceOf c p → Tells p q es → AllByRecursion IsFetch es → IsVacantAbove p last → Owns c.layout c.stream id → last < id → q.own id ≡ absent
+pub still_vacant : (c : Setting) (p q : Place) (es : History) (last id : ℕ) → IsPlaceOf c p → Tells p q es → AllByRecursion IsFetch es
+    → IsVacantAbove p last → Owns c.layout c.stream id → last < id → q.own id ≡ absent
 still_vacant c p q es last id at tells quiet vacant owns newer =
     let mine = owns_at c p id at owns in
     tells.own id mine ∙ ap (λ (m : State). m id) (run-fetches p.own es quiet) ∙ vacant id mine newer
 
 -- the event of the publish
-pub published_is : (c : Setting) (p q : Place) (es : History) (id : ℕ) (clause : Clause) (lits : List ℤ) (r : Published) → IsPlaceOf c p → Tells p q es → clause ≡ distinct lits → r ≡ publishing.Done
+pub published_is : (c : Setting) (p q : Place) (es : History) (id : ℕ) (clause : Clause) (lits : List ℤ) (r : Published) → IsPlaceOf c p
+    → Tells p q es → clause ≡ distinct lits → r ≡ publishing.Done
     → ◌≡◌ {A = History} (events.publish q.caller.stream id clause r ∷ []) (published_by c id lits ∷ [])
 published_is c p q es id clause lits r at tells is done =
     ap (λ (s : ℕ). events.publish s id clause r ∷ []) (ap (λ (x : Caller). x.stream) tells.caller ∙ at.stream)

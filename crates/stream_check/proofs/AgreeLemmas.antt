@@ -1,5 +1,6 @@
 -- Two judgements of one line, of events that never fork, agree.
-use Rattle.std.proofs.Common.{◌≡◌, ◌<◌, ◌≤◌, ℕ, ℤ, neg_ℤ, nat_abs, Bool, true, false, List, [], ◌∷◌, ◌++◌, length, inl, inr, refl, sym, ap, subst, ◌∙◌, append_assoc}
+use Rattle.std.proofs.Common.{◌≡◌, ◌<◌, ◌≤◌, ℕ, ℤ, neg_ℤ, nat_abs, Bool, true, false, List, [], ◌∷◌, ◌++◌, length, inl, inr, refl, sym, ap}
+use Rattle.std.proofs.Common.{subst, ◌∙◌, append_assoc}
 use Rattle.std.specs.List.{AllByRecursion}
 use Rattle.lrup_model.specs.Clause.{Clause, IsTautology}
 use Rattle.lrup_model.specs.Layout.{Owns}
@@ -28,16 +29,19 @@ pub record Agree (es : History) (v : LineVerdict) (fs : History) (w : LineVerdic
   pub events : es ≡ fs
   pub verdict : v ≡ w
 
-fails_agree : (deleted : ℕ) (fault : Fault) (es fs : History) (v w : LineVerdict) → Fails deleted fault es v → Fails deleted fault fs w → Agree es v fs w
+fails_agree : (deleted : ℕ) (fault : Fault) (es fs : History) (v w : LineVerdict) → Fails deleted fault es v → Fails deleted fault fs w
+    → Agree es v fs w
 fails_agree deleted fault es fs v w a b = record { events = a.0 ∙ sym b.0; verdict = a.1 ∙ sym b.1 }
 
-test_agree : (Holds : Type 0) (fault : Fault) (es fs : History) (v w : LineVerdict) (A B : Type 0) → (A → B → Agree es v fs w) → Test Holds fault es v A → Test Holds fault fs w B → Agree es v fs w
+test_agree : (Holds : Type 0) (fault : Fault) (es fs : History) (v w : LineVerdict) (A B : Type 0) → (A → B → Agree es v fs w)
+    → Test Holds fault es v A → Test Holds fault fs w B → Agree es v fs w
 test_agree Holds fault es fs v w A B next a b = elim a [
   | inl bad ↦ elim b [ inl worse ↦ fails_agree 0 fault es fs v w bad.1 worse.1 | inr holds ↦ absurd (bad.0 holds.0) ]
   | inr good ↦ elim b [ inl bad ↦ absurd (bad.0 good.0) | inr holds ↦ next good.1 holds.1 ]
 ]
 
-conflict_agree : (hints : List ℕ) (published : Event) (es fs : History) (v w : LineVerdict) → AtConflict hints published es v → AtConflict hints published fs w → Agree es v fs w
+conflict_agree : (hints : List ℕ) (published : Event) (es fs : History) (v w : LineVerdict) → AtConflict hints published es v
+    → AtConflict hints published fs w → Agree es v fs w
 conflict_agree [] published es fs v w a b = record { events = a.0 ∙ sym b.0; verdict = a.1 ∙ sym b.1 }
 conflict_agree (h ∷ hints) published es fs v w a b = fails_agree 0 (faults.Excess h) es fs v w a b
 
@@ -47,7 +51,8 @@ one_unit n d l k a b = elim (b.others l a.here) [ inl same ↦ same | inr is_fal
 no_conflict : (n : List ℤ) (d : Clause) (l : ℤ) → IsUnit n d l → ¬ IsConflict n d
 no_conflict n d l unit conflict = unit.not_false (conflict l unit.here)
 
-clause_agree : (n : List ℤ) (d : Clause) (h : ℕ) (hints : List ℕ) (published : Event) (es fs : History) (v w : LineVerdict) (A B : List ℤ → Type 0)
+clause_agree : (n : List ℤ) (d : Clause) (h : ℕ) (hints : List ℕ) (published : Event) (es fs : History) (v w : LineVerdict)
+    (A B : List ℤ → Type 0)
     → ((m : List ℤ) → A m → B m → Agree es v fs w)
     → AtReply (events.live d) n h hints published es v A → AtReply (events.live d) n h hints published fs w B → Agree es v fs w
 clause_agree n d h hints published es fs v w A B next a b = elim a [
@@ -70,7 +75,8 @@ clause_agree n d h hints published es fs v w A B next a b = elim a [
   ]
 ]
 
-reply_agree : (x : Reply) (n : List ℤ) (h : ℕ) (hints : List ℕ) (published : Event) (es fs : History) (v w : LineVerdict) (A B : List ℤ → Type 0)
+reply_agree : (x : Reply) (n : List ℤ) (h : ℕ) (hints : List ℕ) (published : Event) (es fs : History) (v w : LineVerdict)
+    (A B : List ℤ → Type 0)
     → ((m : List ℤ) → A m → B m → Agree es v fs w)
     → AtReply x n h hints published es v A → AtReply x n h hints published fs w B → Agree es v fs w
 reply_agree events.vacant n h hints published es fs v w A B next a b = fails_agree 0 (faults.Missing h) es fs v w a b
@@ -82,11 +88,13 @@ asks_agree : (c : Setting) (h : ℕ) (es fs q r : History) (v w : LineVerdict) (
     → ((x : Reply) (rest left : History) → NeverFork (rest ++ q) (left ++ r) → A x rest → B x left → Agree rest v left w)
     → AsksThen c h es A → AsksThen c h fs B → NeverFork (es ++ q) (fs ++ r) → Agree es v fs w
 asks_agree c h es fs q r v w A B next a b never =
-    let long = subst (λ e. NeverFork (e ++ q) ((b.asked ++ b.rest) ++ r)) a.events (subst (λ e. NeverFork (es ++ q) (e ++ r)) b.events never) in
+    let long =
+    subst (λ e. NeverFork (e ++ q) ((b.asked ++ b.rest) ++ r)) a.events (subst (λ e. NeverFork (es ++ q) (e ++ r)) b.events never) in
     let split = subst (λ e. NeverFork e (b.asked ++ (b.rest ++ r))) (append_assoc a.asked a.rest q)
     (subst (λ e. NeverFork ((a.asked ++ a.rest) ++ q) e) (append_assoc b.asked b.rest r) long) in
     let same = same_asked c h a.asked b.asked (a.rest ++ q) (b.rest ++ r) a.reply b.reply a.asks b.asks split in
-    let behind = never_fork_behind a.asked (a.rest ++ q) (b.rest ++ r) (subst (λ e. NeverFork (a.asked ++ (a.rest ++ q)) (e ++ (b.rest ++ r))) (sym same.0) split) in
+    let behind = never_fork_behind a.asked (a.rest ++ q) (b.rest ++ r)
+    (subst (λ e. NeverFork (a.asked ++ (a.rest ++ q)) (e ++ (b.rest ++ r))) (sym same.0) split) in
     let later = next a.reply a.rest b.rest behind a.next (subst (λ x. B x b.rest) (sym same.1) b.next) in
     record {
       events = a.events ∙ ap (λ e. e ++ a.rest) same.0 ∙ ap (λ e. b.asked ++ e) later.events ∙ sym b.events;
@@ -94,7 +102,8 @@ asks_agree c h es fs q r v w A B next a b never =
     }
 
 hints_agree : (c : Setting) (gone : ℕ → Bool) (published : Event) (n : List ℤ) (hints : List ℕ) (es fs q r : History) (v w : LineVerdict)
-    → JudgesHints c gone published n hints es v → JudgesHints c gone published n hints fs w → NeverFork (es ++ q) (fs ++ r) → Agree es v fs w
+    → JudgesHints c gone published n hints es v → JudgesHints c gone published n hints fs w → NeverFork (es ++ q) (fs ++ r)
+    → Agree es v fs w
 hints_agree c gone published n [] es fs q r v w a b never = fails_agree 0 faults.NoConflict es fs v w a b
 hints_agree c gone published n (h ∷ hints) es fs q r v w a b never =
     test_agree (gone h ≡ false) (faults.Dropped h) es fs v w
@@ -121,7 +130,10 @@ addition_agrees c st id lits hints es fs q r v w a b never =
 drops_agree : (gone : ℕ → Bool) (earlier : List ℕ) (id : ℕ) (es fs : History) (v w : LineVerdict) (A B : History → Type 0)
     → (A es → B fs → Agree es v fs w) → DropsThen gone earlier id es v A → DropsThen gone earlier id fs w B → Agree es v fs w
 drops_agree gone earlier id es fs v w A B next a b = elim a [
-  | inl one ↦ elim b [ inl two ↦ fails_agree (length earlier) (faults.NotLive id) es fs v w one.1 two.1 | inr two ↦ absurd (let d = one.0 in let e = two.0 in cc) ]
+  | inl one ↦ elim b [
+    | inl two ↦ fails_agree (length earlier) (faults.NotLive id) es fs v w one.1 two.1
+    | inr two ↦ absurd (let d = one.0 in let e = two.0 in cc)
+  ]
   | inr one ↦ elim b [ inl two ↦ absurd (let d = one.0 in let e = two.0 in cc) | inr two ↦ next one.1 two.1 ]
 ]
 
@@ -134,22 +146,26 @@ retires_agree c earlier id es fs q r v w A B next a b never =
     elim a.decided [
       | inl one ↦ elim b.decided [
         | inl two ↦
-            let here = subst (λ e. NeverFork (e ++ q) ((done ∷ b.rest) ++ r)) one.0 (subst (λ e. NeverFork (es ++ q) (e ++ r)) two.0 never) in
+            let here =
+            subst (λ e. NeverFork (e ++ q) ((done ∷ b.rest) ++ r)) one.0 (subst (λ e. NeverFork (es ++ q) (e ++ r)) two.0 never) in
             let later = next a.rest b.rest (here.1 refl) one.1 two.1 in
             record { events = one.0 ∙ ap (λ e. done ∷ e) later.events ∙ sym two.0; verdict = later.verdict }
         | inr two ↦
-            let here = subst (λ e. NeverFork (e ++ q) ((refused ∷ b.rest) ++ r)) one.0 (subst (λ e. NeverFork (es ++ q) (e ++ r)) two.0 never) in
+            let here =
+            subst (λ e. NeverFork (e ++ q) ((refused ∷ b.rest) ++ r)) one.0 (subst (λ e. NeverFork (es ++ q) (e ++ r)) two.0 never) in
             absurd (let e = here.0 (refl, refl) in cc)
       ]
       | inr one ↦ elim b.decided [
         | inl two ↦
-            let here = subst (λ e. NeverFork (e ++ q) ((done ∷ b.rest) ++ r)) one.0 (subst (λ e. NeverFork (es ++ q) (e ++ r)) two.0 never) in
+            let here =
+            subst (λ e. NeverFork (e ++ q) ((done ∷ b.rest) ++ r)) one.0 (subst (λ e. NeverFork (es ++ q) (e ++ r)) two.0 never) in
             absurd (let e = here.0 (refl, refl) in cc)
         | inr two ↦ record { events = one.0 ∙ ap (λ e. refused ∷ e) (one.1.0 ∙ sym two.1.0) ∙ sym two.0; verdict = one.1.1 ∙ sym two.1.1 }
       ]
     ]
 
-at_agree : (side : Side) (c : Setting) (gone : ℕ → Bool) (earlier : List ℕ) (id : ℕ) (es fs q r : History) (v w : LineVerdict) (A B : History → Type 0)
+at_agree : (side : Side) (c : Setting) (gone : ℕ → Bool) (earlier : List ℕ) (id : ℕ) (es fs q r : History) (v w : LineVerdict)
+    (A B : History → Type 0)
     → ((rest left : History) → NeverFork (rest ++ q) (left ++ r) → A rest → B left → Agree rest v left w)
     → DeletesAt side c gone earlier id es v A → DeletesAt side c gone earlier id fs w B → NeverFork (es ++ q) (fs ++ r) → Agree es v fs w
 at_agree sides.Formula c gone earlier id es fs q r v w A B next a b never = drops_agree gone earlier id es fs v w A B (next es fs never) a b
@@ -166,7 +182,8 @@ identities_agree c gone earlier (id ∷ ids) es fs q r v w a b never =
     (λ rest left behind one two. identities_agree c gone (earlier ++ id ∷ []) ids rest left q r v w one two behind)
     a b never
 
-imported_agree : (x : Reply) (id : ℕ) (lits : List ℤ) (es fs : History) (v w : LineVerdict) → AtImported x id lits es v → AtImported x id lits fs w → Agree es v fs w
+imported_agree : (x : Reply) (id : ℕ) (lits : List ℤ) (es fs : History) (v w : LineVerdict) → AtImported x id lits es v
+    → AtImported x id lits fs w → Agree es v fs w
 imported_agree events.vacant id lits es fs v w a b = fails_agree 0 (faults.Missing id) es fs v w a b
 imported_agree (events.live d) id lits es fs v w a b =
     test_agree _ (faults.Differs id) es fs v w _ _ (λ a b. record { events = a.0 ∙ sym b.0; verdict = a.1 ∙ sym b.1 }) a b

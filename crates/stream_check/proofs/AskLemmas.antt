@@ -1,5 +1,6 @@
 -- A hint that is fetched, and again while it is vacant.
-use Rattle.std.proofs.Common.{◌≡◌, ◌∙◌, ◌+◌, ◌-◌, ◌%◌, ◌<◌, ◌≤◌, ◌==◌, ℕ, Bool, [], ◌∷◌, ◌++◌, nat_eq, nat_le, inl, inr, refl, sym, ap, subst, arith}
+use Rattle.std.proofs.Common.{◌≡◌, ◌∙◌, ◌+◌, ◌-◌, ◌%◌, ◌<◌, ◌≤◌, ◌==◌, ℕ, Bool, [], ◌∷◌, ◌++◌, nat_eq, nat_le, inl, inr, refl, sym, ap}
+use Rattle.std.proofs.Common.{subst, arith}
 use Rattle.std.specs.Prelude.{replicate, if◌then◌else◌}
 use Rattle.std.proofs.lemmas.Bool.{cond-true, cond-false, cases_Bool}
 use Rattle.std.proofs.lemmas.Bool.Decides.{eqb_tells, leb_tells}
@@ -23,15 +24,20 @@ use Rattle.stream_check.proofs.TryLemmas.{replicate-more}
 
 pub again_found : (most k s id : ℕ) (r : Reply) → k < most → (r ≡ vacant → ⊥)
     → FetchesUpTo most s id (fetch s id vacant ∷ replicate k (fetch s id vacant) ++ fetch s id r ∷ []) r
-again_found most k s id r below other =
-    (1 + k, omega (arith, below), (λ e. absurd (other e)), ap (λ (es : History). es ++ fetch s id r ∷ []) (replicate-append-replicate 1 k (fetch s id vacant)))
+again_found most k s id r below other = (
+  1 + k,
+  omega (arith, below),
+  (λ e. absurd (other e)),
+  ap (λ (es : History). es ++ fetch s id r ∷ []) (replicate-append-replicate 1 k (fetch s id vacant)),
+)
 
 first_last : (k : ℕ) (e : Event) → e ∷ replicate k e ≡ replicate k e ++ e ∷ []
 first_last k e =
     let count : 1 + k ≡ k + 1 = omega arith in
     replicate-append-replicate 1 k e ∙ ap (λ (n : ℕ). replicate n e) count ∙ sym (replicate-more k e)
 
-pub again_vacant : (most k s id : ℕ) → k ≤ most → most ≤ k → FetchesUpTo most s id (fetch s id vacant ∷ replicate k (fetch s id vacant)) vacant
+pub again_vacant : (most k s id : ℕ) → k ≤ most → most ≤ k
+    → FetchesUpTo most s id (fetch s id vacant ∷ replicate k (fetch s id vacant)) vacant
 again_vacant most k s id below all = (k, below, (λ e. omega (arith, below, all)), first_last k (fetch s id vacant))
 
 -- The events of a hint
@@ -41,7 +47,8 @@ once s h es r fetches =
     let none : fetches.0 ≡ 0 = omega (arith, fetches.1) in
     fetches.3 ∙ ap (λ (k : ℕ). replicate k (fetch s h vacant) ++ fetch s h r ∷ []) none
 
-asks_at : (side : Side) (c : Setting) (h : ℕ) (es : History) (r : Reply) → (side ≡ sides.Outside → ⊥) → FetchesUpTo (tries_on side c.tries) c.stream h es r → AsksAt side c h es r
+asks_at : (side : Side) (c : Setting) (h : ℕ) (es : History) (r : Reply) → (side ≡ sides.Outside → ⊥)
+    → FetchesUpTo (tries_on side c.tries) c.stream h es r → AsksAt side c h es r
 asks_at sides.Formula c h es r inside fetches = once c.stream h es r fetches
 asks_at sides.Own c h es r inside fetches = once c.stream h es r fetches
 asks_at sides.Foreign c h es r inside fetches = fetches
@@ -50,13 +57,18 @@ asks_at sides.Outside c h es r inside fetches = absurd (inside refl)
 -- whose an identity of this owner is, as stream s sees it
 abbrev pub side_for : ℕ → Owner → Side
 side_for s o =
-    elim o [ owners.Formula ↦ sides.Formula | owners.Stream t ↦ if t == s then sides.Own else sides.Foreign | owners.Outside ↦ sides.Outside ]
+    elim o [
+      | owners.Formula ↦ sides.Formula
+      | owners.Stream t ↦ if t == s then sides.Own else sides.Foreign
+      | owners.Outside ↦ sides.Outside
+    ]
 
 inside_side : (s : ℕ) (o : Owner) → (o ≡ owners.Outside → ⊥) → side_for s o ≡ sides.Outside → ⊥
 inside_side s owners.Formula inside e = absurd (cc)
 inside_side s (owners.Stream t) inside e = elim (cases_Bool (t == s)) [
   | inl same ↦ absurd (let f : sides.Own ≡ sides.Outside = sym (ap (λ (b : Bool). if b then sides.Own else sides.Foreign) same) ∙ e in cc)
-  | inr other ↦ absurd (let f : sides.Foreign ≡ sides.Outside = sym (ap (λ (b : Bool). if b then sides.Own else sides.Foreign) other) ∙ e in cc)
+  | inr other ↦
+      absurd (let f : sides.Foreign ≡ sides.Outside = sym (ap (λ (b : Bool). if b then sides.Own else sides.Foreign) other) ∙ e in cc)
 ]
 inside_side s owners.Outside inside e = inside refl
 
@@ -64,22 +76,28 @@ inside_owner : (p : LayoutValue) (id : ℕ) → IsIdentity p id → owner p id �
 inside_owner p id is e = elim (eqb_tells id 0) [
   | inl zero ↦ absurd (omega (arith, zero.1, is.0))
   | inr some ↦ elim (leb_tells id p.clauses) [
-    | inl low ↦ absurd (let f : owners.Formula ≡ owners.Outside = sym (cond-false (nat_eq id 0) owners.Outside _ some.0 ∙ cond-true (nat_le id p.clauses) owners.Formula _ low.0) ∙ e in cc)
+    | inl low ↦ absurd (let f : owners.Formula ≡ owners.Outside =
+        sym (cond-false (nat_eq id 0) owners.Outside _ some.0 ∙ cond-true (nat_le id p.clauses) owners.Formula _ low.0) ∙ e in cc)
     | inr high ↦ elim (leb_tells id (last_identity p)) [
-      | inl within ↦ absurd (let f : owners.Stream ((id - p.clauses - 1) % p.streams + 1) ≡ owners.Outside = sym (cond-false (nat_eq id 0) owners.Outside _ some.0 ∙ cond-false (nat_le id p.clauses) owners.Formula _ high.0 ∙ cond-true (nat_le id (last_identity p)) _ owners.Outside within.0) ∙ e in cc)
+      | inl within ↦ absurd (let f : owners.Stream ((id - p.clauses - 1) % p.streams + 1) ≡ owners.Outside =
+          sym (cond-false (nat_eq id 0) owners.Outside _ some.0 ∙ cond-false (nat_le id p.clauses) owners.Formula _ high.0
+          ∙ cond-true (nat_le id (last_identity p)) _ owners.Outside within.0) ∙ e in cc)
       | inr above ↦ absurd (omega (arith, above.1, is.1))
     ]
   ]
 ]
 
 -- a first fetch that was vacant, and those after it, are what asking for an identity makes
-pub asks_again : (c : Setting) (h s most : ℕ) (es : History) (r : Reply) → IsIdentity c.layout h → s ≡ c.stream → most ≡ tries_on (side_of c h) c.tries → FetchesUpTo most s h es r → Asks c h es r
+pub asks_again : (c : Setting) (h s most : ℕ) (es : History) (r : Reply) → IsIdentity c.layout h → s ≡ c.stream
+    → most ≡ tries_on (side_of c h) c.tries → FetchesUpTo most s h es r → Asks c h es r
 asks_again c h s most es r is stream tries fetches =
     asks_at (side_of c h) c h es r (inside_side c.stream (owner c.layout h) (inside_owner c.layout h is))
-    (subst (λ (t : ℕ). FetchesUpTo (tries_on (side_of c h) c.tries) t h es r) stream (subst (λ (n : ℕ). FetchesUpTo n s h es r) tries fetches))
+    (subst (λ (t : ℕ). FetchesUpTo (tries_on (side_of c h) c.tries) t h es r) stream
+    (subst (λ (n : ℕ). FetchesUpTo n s h es r) tries fetches))
 
 -- one fetch, where its reply isn't vacant
-pub asks_once : (c : Setting) (h s : ℕ) (r : Reply) → IsIdentity c.layout h → s ≡ c.stream → (r ≡ vacant → ⊥) → Asks c h (fetch s h r ∷ []) r
+pub asks_once : (c : Setting) (h s : ℕ) (r : Reply) → IsIdentity c.layout h → s ≡ c.stream → (r ≡ vacant → ⊥)
+    → Asks c h (fetch s h r ∷ []) r
 asks_once c h s r is stream other =
     asks_again c h s (tries_on (side_of c h) c.tries) (fetch s h r ∷ []) r is stream refl (0, omega arith, (λ e. absurd (other e)), refl)
 
@@ -90,14 +108,16 @@ outside_owner p id never = elim (eqb_tells id 0) [
     | inl low ↦ absurd (never (omega (arith, some.1), omega (arith, low.1)))
     | inr high ↦ elim (leb_tells id (last_identity p)) [
       | inl within ↦ absurd (never (omega (arith, some.1), within.1))
-      | inr above ↦ cond-false (nat_eq id 0) owners.Outside _ some.0 ∙ cond-false (nat_le id p.clauses) owners.Formula _ high.0 ∙ cond-false (nat_le id (last_identity p)) _ owners.Outside above.0
+      | inr above ↦ cond-false (nat_eq id 0) owners.Outside _ some.0 ∙ cond-false (nat_le id p.clauses) owners.Formula _ high.0
+          ∙ cond-false (nat_le id (last_identity p)) _ owners.Outside above.0
     ]
   ]
 ]
 
 -- no event for what is no identity
 pub asks_nothing : (c : Setting) (h : ℕ) → (IsIdentity c.layout h → ⊥) → Asks c h [] vacant
-asks_nothing c h never = subst (λ (side : Side). AsksAt side c h [] vacant) (sym (ap (side_for c.stream) (outside_owner c.layout h never))) (refl, refl)
+asks_nothing c h never =
+    subst (λ (side : Side). AsksAt side c h [] vacant) (sym (ap (side_for c.stream) (outside_owner c.layout h never))) (refl, refl)
 
 -- What a fetch answered
 
@@ -106,7 +126,8 @@ not_vacant p answers.Vacant other e = other refl
 not_vacant p (answers.Live clip) other e = absurd (cc)
 not_vacant p answers.Retired other e = absurd (cc)
 
-pub gives_of : (p : Place) (id : ℕ) (r : Fetched) → IsFetched p id r → AllFollow p → p.caller.formula.vars ≡ p.caller.layout.vars → Gives p r
+pub gives_of : (p : Place) (id : ℕ) (r : Fetched) → IsFetched p id r → AllFollow p
+    → p.caller.formula.vars ≡ p.caller.layout.vars → Gives p r
 gives_of p id answers.Vacant fetched follow variables = tt
 gives_of p id (answers.Live clip) fetched follow variables = (fetched.1, follow, variables)
 gives_of p id answers.Retired fetched follow variables = tt

@@ -42,18 +42,23 @@ unfoldable pub SameOwn : LayoutValue → ℕ → State → State → Type 0
 SameOwn p s m n = (id : ℕ) → Owns p s id → m id ≡ n id
 
 -- one event of the stream
-own_answers : (f : Cnf) (p : LayoutValue) (s : ℕ) (m n : State) (e : Event) (es : History) → stream_of e ≡ s → SameOwn p s m n → LegalFrom f p m (e ∷ es) → OwnAnswers n e
+own_answers : (f : Cnf) (p : LayoutValue) (s : ℕ) (m n : State) (e : Event) (es : History) → stream_of e ≡ s → SameOwn p s m n
+    → LegalFrom f p m (e ∷ es) → OwnAnswers n e
 unfolding OwnAnswers SameOwn
 own_answers f p s m n (events.fetch t id r) es mine same legal = tt
-own_answers f p s m n (events.publish t id c publishing.Done) es mine same legal = sym (same id (subst (λ x. Owns p x id) mine legal.1.0)) ∙ legal.0
+own_answers f p s m n (events.publish t id c publishing.Done) es mine same legal =
+    sym (same id (subst (λ x. Owns p x id) mine legal.1.0)) ∙ legal.0
 own_answers f p s m n (events.publish t id c publishing.Taken) es mine same legal = tt
-own_answers f p s m n (events.retire t id retiring.Done) es mine same legal = subst IsLive (same id (subst (λ x. Owns p x id) mine legal.1)) legal.0
+own_answers f p s m n (events.retire t id retiring.Done) es mine same legal =
+    subst IsLive (same id (subst (λ x. Owns p x id) mine legal.1)) legal.0
 own_answers f p s m n (events.retire t id retiring.NotLive) es mine same legal = tt
 
-own_after : (f : Cnf) (p : LayoutValue) (s : ℕ) (m n : State) (e : Event) (es : History) → stream_of e ≡ s → SameOwn p s m n → LegalFrom f p m (e ∷ es) → SameOwn p s (after m e) (after n e)
+own_after : (f : Cnf) (p : LayoutValue) (s : ℕ) (m n : State) (e : Event) (es : History) → stream_of e ≡ s → SameOwn p s m n
+    → LegalFrom f p m (e ∷ es) → SameOwn p s (after m e) (after n e)
 unfolding SameOwn
 own_after f p s m n (events.fetch t id r) es mine same legal = same
-own_after f p s m n (events.publish t id c publishing.Done) es mine same legal = λ j owns. ap (λ x. if j == id then live c else x) (same j owns)
+own_after f p s m n (events.publish t id c publishing.Done) es mine same legal =
+    λ j owns. ap (λ x. if j == id then live c else x) (same j owns)
 own_after f p s m n (events.publish t id c publishing.Taken) es mine same legal = same
 own_after f p s m n (events.retire t id retiring.Done) es mine same legal = λ j owns.
     ap (λ x. if j == id then retire_slot (m id) else x) (same j owns)
@@ -61,7 +66,8 @@ own_after f p s m n (events.retire t id retiring.Done) es mine same legal = λ j
 own_after f p s m n (events.retire t id retiring.NotLive) es mine same legal = same
 
 -- one event of another stream
-other_after : (f : Cnf) (p : LayoutValue) (s : ℕ) (m n : State) (e : Event) (es : History) → stream_of e ≢ s → SameOwn p s m n → LegalFrom f p m (e ∷ es) → SameOwn p s (after m e) n
+other_after : (f : Cnf) (p : LayoutValue) (s : ℕ) (m n : State) (e : Event) (es : History) → stream_of e ≢ s → SameOwn p s m n
+    → LegalFrom f p m (e ∷ es) → SameOwn p s (after m e) n
 unfolding SameOwn
 other_after f p s m n (events.fetch t id r) es other same legal = same
 other_after f p s m n (events.publish t id c publishing.Done) es other same legal = λ j owns.
@@ -75,8 +81,10 @@ pub own_runs : (f : Cnf) (p : LayoutValue) (s : ℕ) (m n : State) (h : History)
 unfolding OwnRun
 own_runs f p s m n [] legal same = tt
 own_runs f p s m n (e ∷ h) legal same = elim (eqb_tells (stream_of e) s) [
-  | inl mine ↦ subst (OwnRun n) (sym (cond-true (stream_of e == s) (e ∷ own h s) (own h s) mine.0))
-      (own_answers f p s m n e h mine.1 same legal, own_runs f p s (after m e) (after n e) h legal.2 (own_after f p s m n e h mine.1 same legal))
+  | inl mine ↦ subst (OwnRun n) (sym (cond-true (stream_of e == s) (e ∷ own h s) (own h s) mine.0)) (
+    own_answers f p s m n e h mine.1 same legal,
+    own_runs f p s (after m e) (after n e) h legal.2 (own_after f p s m n e h mine.1 same legal),
+  )
   | inr other ↦ subst (OwnRun n) (sym (cond-false (stream_of e == s) (e ∷ own h s) (own h s) other.0))
       (own_runs f p s (after m e) n h legal.2 (other_after f p s m n e h other.1 same legal))
 ]
@@ -89,7 +97,8 @@ stays_retired n (events.publish s j c publishing.Done) id answers is =
     subst IsRetired (sym (put_other n j id (live c) (λ e. subst IsRetired (ap n e ∙ answers) is))) is
 stays_retired n (events.publish s j c publishing.Taken) id answers is = is
 stays_retired n (events.retire s j retiring.Done) id answers is =
-    subst IsRetired (sym (put_other n j id (retire_slot (n j)) (λ e. live_not_retired (n id) (subst (λ x. IsLive (n x)) (sym e) answers) is))) is
+    subst IsRetired
+    (sym (put_other n j id (retire_slot (n j)) (λ e. live_not_retired (n id) (subst (λ x. IsLive (n x)) (sym e) answers) is))) is
   where
     live_not_retired : (slot : Slot) → IsLive slot → IsRetired slot → ⊥
     live_not_retired absent a b = a

@@ -16,11 +16,13 @@ within_reported c bytes end blocks report j =
       (λ is.
           let some = Any-from_list_any test (additions_of j.lines) (sym said ∙ is) in
           (some.0, some.1, some.2, some.3, (is_within-decides c.cube some.1.1).0 some.4)),
-      (λ some. said ∙ list_any-from_Any test (additions_of j.lines) (some.0, some.1, some.2, some.3, (is_within-decides c.cube some.1.1).1 some.4)),
+      (λ some. said
+          ∙ list_any-from_Any test (additions_of j.lines) (some.0, some.1, some.2, some.3, (is_within-decides c.cube some.1.1).1 some.4)),
     )
 
 pub empty_cube_reported : EmptyCubeReported
 empty_cube_reported c bytes end blocks report none j =
     said_within c j.lines j.rest end j.back report j.ends
-    ∙ ap (λ (cube : CubeValue). list_any (λ (a : ℕ × Clause). is_within cube a.1) (additions_of j.lines)) none ∙ all_only_empty (additions_of j.lines)
+    ∙ ap (λ (cube : CubeValue). list_any (λ (a : ℕ × Clause). is_within cube a.1) (additions_of j.lines)) none
+    ∙ all_only_empty (additions_of j.lines)
     ∙ sym (said_empty c j.lines j.rest end j.back report j.ends)

@@ -1,5 +1,6 @@
 -- Identities that are deleted one after the other.
-use Rattle.std.proofs.Common.{◌≡◌, ◌<◌, ◌+◌, ℕ, Bool, true, false, List, [], ◌∷◌, ◌++◌, length, take, drop, get_or, Ok, Err, inl, inr, refl, sym, ap, subst, ◌∙◌, append_assoc, append-nil, take-append-drop, drop-cons, add-one}
+use Rattle.std.proofs.Common.{◌≡◌, ◌<◌, ◌+◌, ℕ, Bool, true, false, List, [], ◌∷◌, ◌++◌, length, take, drop, get_or, Ok, Err, inl, inr, refl}
+use Rattle.std.proofs.Common.{sym, ap, subst, ◌∙◌, append_assoc, append-nil, take-append-drop, drop-cons, add-one}
 use Rattle.std.specs.Prelude.{◌||◌, ◌&&◌, ◌==◌}
 use Rattle.std.proofs.lemmas.Bool.{eqb-true}
 use Rattle.std.proofs.lemmas.List.Folds.{list_any-append}
@@ -38,56 +39,89 @@ dropped_shared : (c : Setting) (first earlier old new : List ℕ) (id : ℕ) →
     → ((j : ℕ) → is_among new j ≡ (is_among old j || id == j)) → AreDropped c first (earlier ++ id ∷ []) new
 dropped_shared c first earlier old new id shared before added j =
     added j ∙ ap (λ (b : Bool). b || id == j) (before j)
-    ∙ drop_bool (is_among first j) (is_shared (side_of c j)) (is_among earlier j) (id == j) (λ same. ap (λ k. is_shared (side_of c k)) (sym (eqb-true id j same)) ∙ shared)
+    ∙ drop_bool (is_among first j) (is_shared (side_of c j)) (is_among earlier j) (id == j)
+    (λ same. ap (λ k. is_shared (side_of c k)) (sym (eqb-true id j same)) ∙ shared)
     ∙ sym (ap (λ (b : Bool). is_among first j || is_shared (side_of c j) && b) (list_any-append (λ k. k == j) earlier (id ∷ [])))
 
 dropped_own : (c : Setting) (first earlier old new : List ℕ) (id : ℕ) → is_shared (side_of c id) ≡ false → AreDropped c first earlier old
     → new ≡ old → AreDropped c first (earlier ++ id ∷ []) new
 dropped_own c first earlier old new id mine before same j =
     ap (λ (ids : List ℕ). is_among ids j) same ∙ before j
-    ∙ own_bool (is_among first j) (is_shared (side_of c j)) (is_among earlier j) (id == j) (λ is. ap (λ k. is_shared (side_of c k)) (sym (eqb-true id j is)) ∙ mine)
+    ∙ own_bool (is_among first j) (is_shared (side_of c j)) (is_among earlier j) (id == j)
+    (λ is. ap (λ k. is_shared (side_of c k)) (sym (eqb-true id j is)) ∙ mine)
     ∙ sym (ap (λ (b : Bool). is_among first j || is_shared (side_of c j) && b) (list_any-append (λ k. k == j) earlier (id ∷ [])))
 
-dropped_at : (side : Side) (c : Setting) (first earlier old new : List ℕ) (id : ℕ) (es : History) → side_of c id ≡ side → AreDropped c first earlier old
-    → DeletesSide side c id old new es (Ok tt) → AreDropped c first (earlier ++ id ∷ []) new
-dropped_at sides.Formula c first earlier old new id es is before deletes = dropped_shared c first earlier old new id (ap is_shared is) before deletes.1.1
-dropped_at sides.Own c first earlier old new id es is before deletes = dropped_own c first earlier old new id (ap is_shared is) before deletes.1
-dropped_at sides.Foreign c first earlier old new id es is before deletes = dropped_shared c first earlier old new id (ap is_shared is) before deletes.1.1
-dropped_at sides.Outside c first earlier old new id es is before deletes = absurd (let e : Ok tt ≡ Err (stops.Bad (faults.NotLive id)) = deletes.1 in cc)
+dropped_at : (side : Side) (c : Setting) (first earlier old new : List ℕ) (id : ℕ) (es : History) → side_of c id ≡ side
+    → AreDropped c first earlier old → DeletesSide side c id old new es (Ok tt) → AreDropped c first (earlier ++ id ∷ []) new
+dropped_at sides.Formula c first earlier old new id es is before deletes =
+    dropped_shared c first earlier old new id (ap is_shared is) before deletes.1.1
+dropped_at sides.Own c first earlier old new id es is before deletes =
+    dropped_own c first earlier old new id (ap is_shared is) before deletes.1
+dropped_at sides.Foreign c first earlier old new id es is before deletes =
+    dropped_shared c first earlier old new id (ap is_shared is) before deletes.1.1
+dropped_at sides.Outside c first earlier old new id es is before deletes =
+    absurd (let e : Ok tt ≡ Err (stops.Bad (faults.NotLive id)) = deletes.1 in cc)
 
-pub dropped_more : (c : Setting) (first earlier old new : List ℕ) (id : ℕ) (es : History) → AreDropped c first earlier old → DeletesOne c id old new es (Ok tt) → AreDropped c first (earlier ++ id ∷ []) new
+pub dropped_more : (c : Setting) (first earlier old new : List ℕ) (id : ℕ) (es : History) → AreDropped c first earlier old
+    → DeletesOne c id old new es (Ok tt) → AreDropped c first (earlier ++ id ∷ []) new
 dropped_more c first earlier old new id es before deletes = dropped_at (side_of c id) c first earlier old new id es refl before deletes
 
 -- a shared identity is dropped exactly if it is among those that are kept
-dropped_shared_is : (c : Setting) (first earlier old : List ℕ) (id : ℕ) (b : Bool) → is_shared (side_of c id) ≡ true → AreDropped c first earlier old → is_among old id ≡ b → (is_among first id || is_among earlier id) ≡ b
+dropped_shared_is : (c : Setting) (first earlier old : List ℕ) (id : ℕ) (b : Bool) → is_shared (side_of c id) ≡ true
+    → AreDropped c first earlier old → is_among old id ≡ b → (is_among first id || is_among earlier id) ≡ b
 dropped_shared_is c first earlier old id b shared before among =
     sym (ap (λ (s : Bool). is_among first id || s && is_among earlier id) shared) ∙ sym (before id) ∙ among
 
 -- One identity
 
-done_at : (side : Side) (c : Setting) (first earlier old new : List ℕ) (id : ℕ) (es rest : History) (v : LineVerdict) (Next : History → Type 0) → side_of c id ≡ side → AreDropped c first earlier old
+done_at : (side : Side) (c : Setting) (first earlier old new : List ℕ) (id : ℕ) (es rest : History) (v : LineVerdict) (Next : History
+    → Type 0) → side_of c id ≡ side → AreDropped c first earlier old
     → DeletesSide side c id old new es (Ok tt) → Next rest → DeletesAt side c (is_among first) earlier id (es ++ rest) v Next
 done_at sides.Formula c first earlier old new id es rest v Next is before deletes next =
-    inr (dropped_shared_is c first earlier old id false (ap is_shared is) before deletes.1.0, subst Next (sym (ap (λ (x : History). x ++ rest) deletes.0)) next)
+    inr (
+      dropped_shared_is c first earlier old id false (ap is_shared is) before deletes.1.0,
+      subst Next (sym (ap (λ (x : History). x ++ rest) deletes.0)) next,
+    )
 done_at sides.Own c first earlier old new id es rest v Next is before deletes next =
     record { rest = rest; decided = inl (ap (λ (x : History). x ++ rest) deletes.0, next) }
 done_at sides.Foreign c first earlier old new id es rest v Next is before deletes next =
-    inr (dropped_shared_is c first earlier old id false (ap is_shared is) before deletes.1.0, subst Next (sym (ap (λ (x : History). x ++ rest) deletes.0)) next)
-done_at sides.Outside c first earlier old new id es rest v Next is before deletes next = absurd (let e : Ok tt ≡ Err (stops.Bad (faults.NotLive id)) = deletes.1 in cc)
+    inr (
+      dropped_shared_is c first earlier old id false (ap is_shared is) before deletes.1.0,
+      subst Next (sym (ap (λ (x : History). x ++ rest) deletes.0)) next,
+    )
+done_at sides.Outside c first earlier old new id es rest v Next is before deletes next =
+    absurd (let e : Ok tt ≡ Err (stops.Bad (faults.NotLive id)) = deletes.1 in cc)
 
-bad_at : (side : Side) (c : Setting) (first earlier old new : List ℕ) (id : ℕ) (es : History) (fault : Fault) (Next : History → Type 0) → side_of c id ≡ side → AreDropped c first earlier old
-    → DeletesSide side c id old new es (Err (stops.Bad fault)) → DeletesAt side c (is_among first) earlier id es (Bad (length earlier) fault) Next
-bad_at sides.Formula c first earlier old new id es fault Next is before deletes = inl (dropped_shared_is c first earlier old id true (ap is_shared is) before deletes.1.0, (deletes.0, ap (λ f. Bad (length earlier) f) deletes.1.1))
-bad_at sides.Own c first earlier old new id es fault Next is before deletes = record { rest = []; decided = inr (deletes.0, (refl, ap (λ f. Bad (length earlier) f) deletes.1)) }
-bad_at sides.Foreign c first earlier old new id es fault Next is before deletes = inl (dropped_shared_is c first earlier old id true (ap is_shared is) before deletes.1.0, (deletes.0, ap (λ f. Bad (length earlier) f) deletes.1.1))
-bad_at sides.Outside c first earlier old new id es fault Next is before deletes = (deletes.0, ap (λ f. Bad (length earlier) f) (let e : Err (stops.Bad fault) ≡ Err (stops.Bad (faults.NotLive id)) = deletes.1 in cc))
+bad_at : (side : Side) (c : Setting) (first earlier old new : List ℕ) (id : ℕ) (es : History) (fault : Fault) (Next : History → Type 0)
+    → side_of c id ≡ side → AreDropped c first earlier old
+    → DeletesSide side c id old new es (Err (stops.Bad fault))
+    → DeletesAt side c (is_among first) earlier id es (Bad (length earlier) fault) Next
+bad_at sides.Formula c first earlier old new id es fault Next is before deletes = inl (
+  dropped_shared_is c first earlier old id true (ap is_shared is) before deletes.1.0,
+  (deletes.0, ap (λ f. Bad (length earlier) f) deletes.1.1),
+)
+bad_at sides.Own c first earlier old new id es fault Next is before deletes = record {
+  rest = [];
+  decided = inr (deletes.0, (refl, ap (λ f. Bad (length earlier) f) deletes.1));
+}
+bad_at sides.Foreign c first earlier old new id es fault Next is before deletes = inl (
+  dropped_shared_is c first earlier old id true (ap is_shared is) before deletes.1.0,
+  (deletes.0, ap (λ f. Bad (length earlier) f) deletes.1.1),
+)
+bad_at sides.Outside c first earlier old new id es fault Next is before deletes =
+    (deletes.0, ap (λ f. Bad (length earlier) f) (let e : Err (stops.Bad fault) ≡ Err (stops.Bad (faults.NotLive id)) = deletes.1 in cc))
 
-no_memory_at : (side : Side) (c : Setting) (first earlier old new : List ℕ) (id : ℕ) (es : History) → side_of c id ≡ side → AreDropped c first earlier old
-    → DeletesSide side c id old new es (Err stops.Memory) → (es ≡ []) × (is_shared (side_of c id) ≡ true) × ((is_among first id || is_among earlier id) ≡ false)
-no_memory_at sides.Formula c first earlier old new id es is before deletes = (deletes.0, ap is_shared is, dropped_shared_is c first earlier old id false (ap is_shared is) before deletes.1)
+no_memory_at : (side : Side) (c : Setting) (first earlier old new : List ℕ) (id : ℕ) (es : History) → side_of c id ≡ side
+    → AreDropped c first earlier old
+    → DeletesSide side c id old new es (Err stops.Memory)
+    → (es ≡ []) × (is_shared (side_of c id) ≡ true) × ((is_among first id || is_among earlier id) ≡ false)
+no_memory_at sides.Formula c first earlier old new id es is before deletes =
+    (deletes.0, ap is_shared is, dropped_shared_is c first earlier old id false (ap is_shared is) before deletes.1)
 no_memory_at sides.Own c first earlier old new id es is before deletes = absurd deletes
-no_memory_at sides.Foreign c first earlier old new id es is before deletes = (deletes.0, ap is_shared is, dropped_shared_is c first earlier old id false (ap is_shared is) before deletes.1)
-no_memory_at sides.Outside c first earlier old new id es is before deletes = absurd (let e : Err stops.Memory ≡ Err (stops.Bad (faults.NotLive id)) = deletes.1 in cc)
+no_memory_at sides.Foreign c first earlier old new id es is before deletes =
+    (deletes.0, ap is_shared is, dropped_shared_is c first earlier old id false (ap is_shared is) before deletes.1)
+no_memory_at sides.Outside c first earlier old new id es is before deletes =
+    absurd (let e : Err stops.Memory ≡ Err (stops.Bad (faults.NotLive id)) = deletes.1 in cc)
 
 -- One after the other
 
@@ -96,31 +130,36 @@ abbrev pub GoesOn : Setting → List ℕ → List ℕ → History → Type 0
 GoesOn c first earlier es = (more : List ℕ) (rest : History) (v : LineVerdict)
     → JudgesDeletion c (is_among first) earlier more rest v → JudgesDeletion c (is_among first) [] (earlier ++ more) (es ++ rest) v
 
-pub goes_on : (c : Setting) (first earlier old new : List ℕ) (id : ℕ) (es fs : History) → GoesOn c first earlier es → AreDropped c first earlier old
-    → DeletesOne c id old new fs (Ok tt) → GoesOn c first (earlier ++ id ∷ []) (es ++ fs)
+pub goes_on : (c : Setting) (first earlier old new : List ℕ) (id : ℕ) (es fs : History) → GoesOn c first earlier es
+    → AreDropped c first earlier old → DeletesOne c id old new fs (Ok tt) → GoesOn c first (earlier ++ id ∷ []) (es ++ fs)
 goes_on c first earlier old new id es fs before dropped deletes more rest v judged =
     let here : JudgesDeletion c (is_among first) earlier (id ∷ more) (fs ++ rest) v =
-    done_at (side_of c id) c first earlier old new id fs rest v (λ x. JudgesDeletion c (is_among first) (earlier ++ id ∷ []) more x v) refl dropped deletes judged in
+    done_at (side_of c id) c first earlier old new id fs rest v
+    (λ x. JudgesDeletion c (is_among first) (earlier ++ id ∷ []) more x v) refl dropped deletes judged in
     subst (λ (x : History). JudgesDeletion c (is_among first) [] ((earlier ++ id ∷ []) ++ more) x v) (sym (append_assoc es fs rest))
-    (subst (λ (ids : List ℕ). JudgesDeletion c (is_among first) [] ids (es ++ (fs ++ rest)) v) (sym (append_assoc earlier (id ∷ []) more)) (before (id ∷ more) (fs ++ rest) v here))
+    (subst (λ (ids : List ℕ). JudgesDeletion c (is_among first) [] ids (es ++ (fs ++ rest)) v) (sym (append_assoc earlier (id ∷ []) more))
+    (before (id ∷ more) (fs ++ rest) v here))
 
 -- the identity that is deleted, among the others
 pub among_ids : (ids : List ℕ) (i : ℕ) → i < length ids → ids ≡ take i ids ++ get_or ids i 0 ∷ drop (i + 1) ids
 among_ids ids i lt = sym (take-append-drop i ids) ∙ ap (λ (js : List ℕ). take i ids ++ js) (rw (add-one, drop-cons ids i 0) refl)
 
 -- those before it are good
-good_front : (c : Setting) (first earlier : List ℕ) (es : History) → GoesOn c first earlier es → JudgesDeletion c (is_among first) [] earlier es Good
+good_front : (c : Setting) (first earlier : List ℕ) (es : History) → GoesOn c first earlier es
+    → JudgesDeletion c (is_among first) [] earlier es Good
 good_front c first earlier es before =
     subst (λ (ids : List ℕ). JudgesDeletion c (is_among first) [] ids es Good) (append-nil earlier)
     (subst (λ (x : History). JudgesDeletion c (is_among first) [] (earlier ++ []) x Good) (append-nil es) (before [] [] Good (refl, refl)))
 
 -- it stops the deletion: it is bad, or there is no memory for it
-pub stopped_deletion : (c : Setting) (first earlier old new : List ℕ) (id : ℕ) (later ids : List ℕ) (es fs : History) (stop : LineStop) → ids ≡ earlier ++ id ∷ later → GoesOn c first earlier es → AreDropped c first earlier old
+pub stopped_deletion : (c : Setting) (first earlier old new : List ℕ) (id : ℕ) (later ids : List ℕ) (es fs : History) (stop : LineStop)
+    → ids ≡ earlier ++ id ∷ later → GoesOn c first earlier es → AreDropped c first earlier old
     → DeletesOne c id old new fs (Err stop) → Deletes c first new ids (es ++ fs) (length earlier) (Err stop)
 stopped_deletion c first earlier old new id later ids es fs (stops.Bad fault) is before dropped deletes =
     let v : LineVerdict = Bad (length earlier) fault in
     let here : JudgesDeletion c (is_among first) earlier (id ∷ later) fs v =
-    bad_at (side_of c id) c first earlier old new id fs fault (λ x. JudgesDeletion c (is_among first) (earlier ++ id ∷ []) later x v) refl dropped deletes in
+    bad_at (side_of c id) c first earlier old new id fs fault
+    (λ x. JudgesDeletion c (is_among first) (earlier ++ id ∷ []) later x v) refl dropped deletes in
     subst (λ (js : List ℕ). JudgesDeletion c (is_among first) [] js (es ++ fs) v) (sym is) (before (id ∷ later) fs v here)
 stopped_deletion c first earlier old new id later ids es fs stops.Memory is before dropped deletes =
     let at = no_memory_at (side_of c id) c first earlier old new id fs refl dropped deletes in (
@@ -130,12 +169,15 @@ stopped_deletion c first earlier old new id later ids es fs stops.Memory is befo
         id = id;
         later = later;
         identities = is;
-        before = subst (λ (x : History). JudgesDeletion c (is_among first) [] earlier x Good) (sym (ap (λ (x : History). es ++ x) at.0 ∙ append-nil es)) (good_front c first earlier es before);
+        before = subst (λ (x : History). JudgesDeletion c (is_among first) [] earlier x Good)
+            (sym (ap (λ (x : History). es ++ x) at.0 ∙ append-nil es)) (good_front c first earlier es before);
         shared = at.1;
         new = at.2;
       },
     )
 
 -- all are deleted
-pub good_deletion : (c : Setting) (first earlier ids : List ℕ) (es : History) → earlier ≡ ids → GoesOn c first earlier es → JudgesDeletion c (is_among first) [] ids es Good
-good_deletion c first earlier ids es is before = subst (λ (js : List ℕ). JudgesDeletion c (is_among first) [] js es Good) is (good_front c first earlier es before)
+pub good_deletion : (c : Setting) (first earlier ids : List ℕ) (es : History) → earlier ≡ ids → GoesOn c first earlier es
+    → JudgesDeletion c (is_among first) [] ids es Good
+good_deletion c first earlier ids es is before =
+    subst (λ (js : List ℕ). JudgesDeletion c (is_among first) [] js es Good) is (good_front c first earlier es before)

@@ -1,5 +1,6 @@
 -- The identities that a stream deletes in a legal history differ from each other.
-use Rattle.std.proofs.Common.{◌≡◌, ◌<◌, ◌+◌, ◌==◌, ◌&&◌, ◌||◌, ℕ, Bool, true, false, List, [], ◌∷◌, ◌++◌, length, length-append, eqb, nat_eq, nat_le, inl, inr, refl, sym, ap, subst, ◌∙◌, arith, append_assoc, append-nil}
+use Rattle.std.proofs.Common.{◌≡◌, ◌<◌, ◌+◌, ◌==◌, ◌&&◌, ◌||◌, ℕ, Bool, true, false, List, [], ◌∷◌, ◌++◌, length, length-append, eqb}
+use Rattle.std.proofs.Common.{nat_eq, nat_le, inl, inr, refl, sym, ap, subst, ◌∙◌, arith, append_assoc, append-nil}
 use Rattle.std.specs.List.{AllByRecursion, IsDistinct, list_any, sum_by}
 use Rattle.std.proofs.lemmas.Bool.{cond-true, cond-false}
 use Rattle.std.proofs.lemmas.Bool.Decides.{eqb_tells, leb_tells, Decides-eqb}
@@ -36,7 +37,9 @@ identity_below p id inside = elim (eqb_tells id 0) [
         | inl low ↦ (positive, omega (arith, low.1))
         | inr high ↦ elim (leb_tells id (last_identity p)) [
           | inl within ↦ (positive, within.1)
-          | inr above ↦ absurd (inside (cond-false (nat_eq id 0) owners.Outside _ some.0 ∙ cond-false (nat_le id p.clauses) owners.Formula _ high.0 ∙ cond-false (nat_le id (last_identity p)) _ owners.Outside above.0))
+          | inr above ↦
+              absurd (inside (cond-false (nat_eq id 0) owners.Outside _ some.0 ∙ cond-false (nat_le id p.clauses) owners.Formula _ high.0
+              ∙ cond-false (nat_le id (last_identity p)) _ owners.Outside above.0))
         ]
       ]
 ]
@@ -74,7 +77,8 @@ all_map P Q [] maps all = tt
 all_map P Q (x ∷ xs) maps all = (maps x all.0, all_map P Q xs maps all.1)
 
 -- an identity that wasn't taken differs from those that were
-fresh : (c : Setting) (n : State) (gone : ℕ → Bool) (earlier : List ℕ) (id : ℕ) (ids : List ℕ) → ¬ Taken c n gone earlier id → AllByRecursion (Taken c n gone earlier) ids → AllByRecursion (λ y. eqb id y ≡ false) ids
+fresh : (c : Setting) (n : State) (gone : ℕ → Bool) (earlier : List ℕ) (id : ℕ) (ids : List ℕ) → ¬ Taken c n gone earlier id
+    → AllByRecursion (Taken c n gone earlier) ids → AllByRecursion (λ y. eqb id y ≡ false) ids
 fresh c n gone earlier id [] new all = tt
 fresh c n gone earlier id (y ∷ ids) new all = elim (eqb_tells id y) [
   | inl same ↦ absurd (new (subst (Taken c n gone earlier) (sym same.1) all.0))
@@ -94,8 +98,10 @@ or_last false false = refl
 among_more : (earlier : List ℕ) (id y : ℕ) → is_among (earlier ++ id ∷ []) y ≡ (is_among earlier y || ((id == y) || false))
 among_more earlier id y = list_any-append (λ j. j == y) earlier (id ∷ [])
 
-dropped_more : (gone : ℕ → Bool) (earlier : List ℕ) (id y : ℕ) → (gone y || is_among earlier y) ≡ true → (gone y || is_among (earlier ++ id ∷ []) y) ≡ true
-dropped_more gone earlier id y e = ap (λ b. gone y || b) (among_more earlier id y) ∙ or_more (gone y) (is_among earlier y) ((id == y) || false) e
+dropped_more : (gone : ℕ → Bool) (earlier : List ℕ) (id y : ℕ) → (gone y || is_among earlier y) ≡ true
+    → (gone y || is_among (earlier ++ id ∷ []) y) ≡ true
+dropped_more gone earlier id y e = ap (λ b. gone y || b) (among_more earlier id y)
+    ∙ or_more (gone y) (is_among earlier y) ((id == y) || false) e
 
 dropped_now : (gone : ℕ → Bool) (earlier : List ℕ) (id : ℕ) → (gone id || is_among (earlier ++ id ∷ []) id) ≡ true
 dropped_now gone earlier id =
@@ -103,7 +109,8 @@ dropped_now gone earlier id =
     ∙ ap (λ b. gone id || (is_among earlier id || (b || false))) ((Decides-eqb id id).1 refl)
     ∙ or_last (gone id) (is_among earlier id)
 
-taken_more : (side : Side) (n m : State) (gone : ℕ → Bool) (earlier : List ℕ) (id y : ℕ) → (IsRetired (n y) → IsRetired (m y)) → TakenAt side n gone earlier y → TakenAt side m gone (earlier ++ id ∷ []) y
+taken_more : (side : Side) (n m : State) (gone : ℕ → Bool) (earlier : List ℕ) (id y : ℕ) → (IsRetired (n y) → IsRetired (m y))
+    → TakenAt side n gone earlier y → TakenAt side m gone (earlier ++ id ∷ []) y
 taken_more sides.Formula n m gone earlier id y stays t = dropped_more gone earlier id y t
 taken_more sides.Own n m gone earlier id y stays t = stays t
 taken_more sides.Foreign n m gone earlier id y stays t = dropped_more gone earlier id y t
@@ -111,11 +118,16 @@ taken_more sides.Outside n m gone earlier id y stays t = t
 
 -- one identity more
 take_more : (c : Setting) (n m : State) (gone : ℕ → Bool) (earlier : List ℕ) (id many : ℕ) → ((y : ℕ) → IsRetired (n y) → IsRetired (m y))
-    → ¬ Taken c n gone earlier id → Taken c m gone (earlier ++ id ∷ []) id → AreTaken c n gone earlier many → AreTaken c m gone (earlier ++ id ∷ []) (many + 1)
+    → ¬ Taken c n gone earlier id → Taken c m gone (earlier ++ id ∷ []) id → AreTaken c n gone earlier many
+    → AreTaken c m gone (earlier ++ id ∷ []) (many + 1)
 take_more c n m gone earlier id many stays new now are = record {
   ids = id ∷ are.ids;
   apart = (fresh c n gone earlier id are.ids new are.taken, are.apart);
-  taken = (now, all_map (Taken c n gone earlier) (Taken c m gone (earlier ++ id ∷ [])) are.ids (λ y t. taken_more (side_of c y) n m gone earlier id y (stays y) t) are.taken);
+  taken = (
+    now,
+    all_map (Taken c n gone earlier) (Taken c m gone (earlier ++ id ∷ [])) are.ids
+        (λ y t. taken_more (side_of c y) n m gone earlier id y (stays y) t) are.taken,
+  );
   count = omega (arith, are.count);
 }
 
@@ -124,20 +136,25 @@ take_more c n m gone earlier id many stays new now are = record {
 -- good: all its identities; bad: those before the fault
 abbrev pub Took : Setting → State → (ℕ → Bool) → List ℕ → List ℕ → ℕ → History → LineVerdict → Type 0
 Took c n gone earlier ids many es Good = AreTaken c (run n es) gone (earlier ++ ids) (many + length ids)
-Took c n gone earlier ids many es (Bad deleted fault) = (m : State) × (taken : List ℕ) × (all : ℕ) × AreTaken c m gone taken all × (all + length earlier ≡ many + deleted)
+Took c n gone earlier ids many es (Bad deleted fault) =
+    (m : State) × (taken : List ℕ) × (all : ℕ) × AreTaken c m gone taken all × (all + length earlier ≡ many + deleted)
 
-took_none : (c : Setting) (n : State) (gone : ℕ → Bool) (earlier : List ℕ) (many : ℕ) (es : History) (v : LineVerdict) → es ≡ [] → v ≡ Good → AreTaken c n gone earlier many → Took c n gone earlier [] many es v
+took_none : (c : Setting) (n : State) (gone : ℕ → Bool) (earlier : List ℕ) (many : ℕ) (es : History) (v : LineVerdict) → es ≡ [] → v ≡ Good
+    → AreTaken c n gone earlier many → Took c n gone earlier [] many es v
 took_none c n gone earlier many es v none good are =
     subst (λ w. Took c n gone earlier [] many es w) (sym good)
     (subst (λ e. AreTaken c (run n e) gone (earlier ++ []) (many + 0)) (sym none)
     (subst (λ e. AreTaken c n gone e (many + 0)) (sym (append-nil earlier))
     (subst (AreTaken c n gone earlier) (omega arith) are)))
 
-took_failed : (c : Setting) (n : State) (gone : ℕ → Bool) (earlier ids : List ℕ) (many : ℕ) (es : History) (v : LineVerdict) (fault : Fault) → v ≡ Bad (length earlier) fault → AreTaken c n gone earlier many → Took c n gone earlier ids many es v
-took_failed c n gone earlier ids many es v fault bad are = subst (λ w. Took c n gone earlier ids many es w) (sym bad) (n, earlier, many, are, refl)
+took_failed : (c : Setting) (n : State) (gone : ℕ → Bool) (earlier ids : List ℕ) (many : ℕ) (es : History) (v : LineVerdict) (fault : Fault)
+    → v ≡ Bad (length earlier) fault → AreTaken c n gone earlier many → Took c n gone earlier ids many es v
+took_failed c n gone earlier ids many es v fault bad are =
+    subst (λ w. Took c n gone earlier ids many es w) (sym bad) (n, earlier, many, are, refl)
 
 -- what is taken after one identity, counted from before it
-took_back : (c : Setting) (n : State) (gone : ℕ → Bool) (earlier : List ℕ) (id : ℕ) (ids : List ℕ) (many : ℕ) (es : History) (v : LineVerdict)
+took_back : (c : Setting) (n : State) (gone : ℕ → Bool) (earlier : List ℕ) (id : ℕ) (ids : List ℕ) (many : ℕ) (es : History)
+    (v : LineVerdict)
     → Took c n gone (earlier ++ id ∷ []) ids (many + 1) es v → Took c n gone earlier (id ∷ ids) many es v
 took_back c n gone earlier id ids many es Good took =
     subst (λ e. AreTaken c (run n es) gone e (many + length (id ∷ ids))) (append_assoc earlier (id ∷ []) ids)
@@ -148,7 +165,8 @@ took_back c n gone earlier id ids many es (Bad deleted fault) took =
 -- and from before one event
 took_later : (c : Setting) (n : State) (gone : ℕ → Bool) (earlier ids : List ℕ) (many : ℕ) (e : Event) (es rest : History) (v : LineVerdict)
     → es ≡ e ∷ rest → Took c (after n e) gone earlier ids many rest v → Took c n gone earlier ids many es v
-took_later c n gone earlier ids many e es rest Good is took = subst (λ x. AreTaken c (run n x) gone (earlier ++ ids) (many + length ids)) (sym is) took
+took_later c n gone earlier ids many e es rest Good is took =
+    subst (λ x. AreTaken c (run n x) gone (earlier ++ ids) (many + length ids)) (sym is) took
 took_later c n gone earlier ids many e es rest (Bad deleted fault) is took = took
 
 live_not_retired : (slot : Slot) → IsLive slot → IsRetired slot → ⊥
@@ -157,7 +175,8 @@ live_not_retired (live d) a b = b
 live_not_retired (retired d) a b = a
 
 -- an own identity that was live is retired
-took_own : (c : Setting) (n : State) (gone : ℕ → Bool) (earlier : List ℕ) (id many : ℕ) → side_of c id ≡ sides.Own → OwnAnswers n (events.retire c.stream id retiring.Done)
+took_own : (c : Setting) (n : State) (gone : ℕ → Bool) (earlier : List ℕ) (id many : ℕ) → side_of c id ≡ sides.Own
+    → OwnAnswers n (events.retire c.stream id retiring.Done)
     → AreTaken c n gone earlier many → AreTaken c (after n (events.retire c.stream id retiring.Done)) gone (earlier ++ id ∷ []) (many + 1)
 unfolding OwnAnswers
 took_own c n gone earlier id many side is_live are =
@@ -168,30 +187,38 @@ took_own c n gone earlier id many side is_live are =
     (subst IsRetired (sym (put_same n id id (retire_slot (n id)) refl)) (retired_now (n id) is_live)))
     are
 
-took_formula : (c : Setting) (n : State) (gone : ℕ → Bool) (earlier : List ℕ) (id many : ℕ) → side_of c id ≡ sides.Formula → (gone id || is_among earlier id) ≡ false
-    → AreTaken c n gone earlier many → AreTaken c n gone (earlier ++ id ∷ []) (many + 1)
+took_formula : (c : Setting) (n : State) (gone : ℕ → Bool) (earlier : List ℕ) (id many : ℕ) → side_of c id ≡ sides.Formula
+    → (gone id || is_among earlier id) ≡ false → AreTaken c n gone earlier many → AreTaken c n gone (earlier ++ id ∷ []) (many + 1)
 took_formula c n gone earlier id many side new are = take_more c n n gone earlier id many (λ y is. is)
-    (λ t. let d : (gone id || is_among earlier id) ≡ true = subst (λ x. TakenAt x n gone earlier id) side t in let f : true ≡ false = sym d ∙ new in cc)
+    (λ t. let d : (gone id || is_among earlier id) ≡ true = subst (λ x. TakenAt x n gone earlier id) side t in
+    let f : true ≡ false = sym d ∙ new in cc)
     (subst (λ x. TakenAt x n gone (earlier ++ id ∷ []) id) (sym side) (dropped_now gone earlier id)) are
 
-took_foreign : (c : Setting) (n : State) (gone : ℕ → Bool) (earlier : List ℕ) (id many : ℕ) → side_of c id ≡ sides.Foreign → (gone id || is_among earlier id) ≡ false
-    → AreTaken c n gone earlier many → AreTaken c n gone (earlier ++ id ∷ []) (many + 1)
+took_foreign : (c : Setting) (n : State) (gone : ℕ → Bool) (earlier : List ℕ) (id many : ℕ) → side_of c id ≡ sides.Foreign
+    → (gone id || is_among earlier id) ≡ false → AreTaken c n gone earlier many → AreTaken c n gone (earlier ++ id ∷ []) (many + 1)
 took_foreign c n gone earlier id many side new are = take_more c n n gone earlier id many (λ y is. is)
-    (λ t. let d : (gone id || is_among earlier id) ≡ true = subst (λ x. TakenAt x n gone earlier id) side t in let f : true ≡ false = sym d ∙ new in cc)
+    (λ t. let d : (gone id || is_among earlier id) ≡ true = subst (λ x. TakenAt x n gone earlier id) side t in
+    let f : true ≡ false = sym d ∙ new in cc)
     (subst (λ x. TakenAt x n gone (earlier ++ id ∷ []) id) (sym side) (dropped_now gone earlier id)) are
 
-took_at : (side : Side) (c : Setting) (n : State) (gone : ℕ → Bool) (earlier : List ℕ) (id : ℕ) (ids : List ℕ) (many : ℕ) (es rest : History) (v : LineVerdict) (A : History → Type 0)
+took_at : (side : Side) (c : Setting) (n : State) (gone : ℕ → Bool) (earlier : List ℕ) (id : ℕ) (ids : List ℕ) (many : ℕ)
+    (es rest : History) (v : LineVerdict) (A : History → Type 0)
     → side_of c id ≡ side
-    → ((m : State) (left : History) → A left → OwnRun m (left ++ rest) → AreTaken c m gone (earlier ++ id ∷ []) (many + 1) → Took c m gone (earlier ++ id ∷ []) ids (many + 1) left v)
-    → DeletesAt side c gone earlier id es v A → OwnRun n (es ++ rest) → AreTaken c n gone earlier many → Took c n gone earlier (id ∷ ids) many es v
+    → ((m : State) (left : History) → A left → OwnRun m (left ++ rest) → AreTaken c m gone (earlier ++ id ∷ []) (many + 1)
+    → Took c m gone (earlier ++ id ∷ []) ids (many + 1) left v)
+    → DeletesAt side c gone earlier id es v A → OwnRun n (es ++ rest) → AreTaken c n gone earlier many
+    → Took c n gone earlier (id ∷ ids) many es v
 unfolding OwnRun
-took_at sides.Formula c n gone earlier id ids many es rest v A side next (inl bad) answers are = took_failed c n gone earlier (id ∷ ids) many es v (faults.NotLive id) bad.1.1 are
+took_at sides.Formula c n gone earlier id ids many es rest v A side next (inl bad) answers are =
+    took_failed c n gone earlier (id ∷ ids) many es v (faults.NotLive id) bad.1.1 are
 took_at sides.Formula c n gone earlier id ids many es rest v A side next (inr good) answers are =
     took_back c n gone earlier id ids many es v (next n es good.1 answers (took_formula c n gone earlier id many side good.0 are))
-took_at sides.Foreign c n gone earlier id ids many es rest v A side next (inl bad) answers are = took_failed c n gone earlier (id ∷ ids) many es v (faults.NotLive id) bad.1.1 are
+took_at sides.Foreign c n gone earlier id ids many es rest v A side next (inl bad) answers are =
+    took_failed c n gone earlier (id ∷ ids) many es v (faults.NotLive id) bad.1.1 are
 took_at sides.Foreign c n gone earlier id ids many es rest v A side next (inr good) answers are =
     took_back c n gone earlier id ids many es v (next n es good.1 answers (took_foreign c n gone earlier id many side good.0 are))
-took_at sides.Outside c n gone earlier id ids many es rest v A side next at answers are = took_failed c n gone earlier (id ∷ ids) many es v (faults.NotLive id) at.1 are
+took_at sides.Outside c n gone earlier id ids many es rest v A side next at answers are =
+    took_failed c n gone earlier (id ∷ ids) many es v (faults.NotLive id) at.1 are
 took_at sides.Own c n gone earlier id ids many es rest v A side next at answers are = elim at.decided [
   | inl good ↦
       let e = events.retire c.stream id retiring.Done in
@@ -219,25 +246,29 @@ gone_bool true false false e h = absurd (let f : false ≡ true = h in cc)
 gone_bool false a b e h = absurd (let f : false ≡ true = e in cc)
 
 gone_more : (c : Setting) (before : List StreamLine) (line : StreamLine) (y : ℕ) → is_shared (side_of c y) ≡ true
-    → ((standing_of c before).gone y || is_among (deleted_by line) y) ≡ true → ((standing_of c (before ++ line ∷ [])).gone y || is_among [] y) ≡ true
+    → ((standing_of c before).gone y || is_among (deleted_by line) y) ≡ true
+    → ((standing_of c (before ++ line ∷ [])).gone y || is_among [] y) ≡ true
 gone_more c before line y shared e =
     let test : StreamLine → Bool = λ l. is_among (deleted_by l) y in
     ap (λ b. (is_shared (side_of c y) && b) || false) (list_any-append test before (line ∷ []))
     ∙ gone_bool (is_shared (side_of c y)) (list_any test before) (test line) shared e
 
-taken_line : (side : Side) (c : Setting) (n m : State) (before : List StreamLine) (line : StreamLine) (y : ℕ) → side_of c y ≡ side → (IsRetired (n y) → IsRetired (m y))
+taken_line : (side : Side) (c : Setting) (n m : State) (before : List StreamLine) (line : StreamLine) (y : ℕ) → side_of c y ≡ side
+    → (IsRetired (n y) → IsRetired (m y))
     → TakenAt side n (standing_of c before).gone (deleted_by line) y → TakenAt side m (standing_of c (before ++ line ∷ [])).gone [] y
 taken_line sides.Formula c n m before line y side stays t = gone_more c before line y (ap is_shared side) t
 taken_line sides.Own c n m before line y side stays t = stays t
 taken_line sides.Foreign c n m before line y side stays t = gone_more c before line y (ap is_shared side) t
 taken_line sides.Outside c n m before line y side stays t = t
 
-line_taken : (c : Setting) (n m : State) (before : List StreamLine) (line : StreamLine) (many : ℕ) → ((y : ℕ) → IsRetired (n y) → IsRetired (m y))
+line_taken : (c : Setting) (n m : State) (before : List StreamLine) (line : StreamLine) (many : ℕ)
+    → ((y : ℕ) → IsRetired (n y) → IsRetired (m y))
     → AreTaken c n (standing_of c before).gone (deleted_by line) many → AreTaken c m (standing_of c (before ++ line ∷ [])).gone [] many
 line_taken c n m before line many stays are = record {
   ids = are.ids;
   apart = are.apart;
-  taken = all_map (Taken c n (standing_of c before).gone (deleted_by line)) (Taken c m (standing_of c (before ++ line ∷ [])).gone []) are.ids
+  taken =
+      all_map (Taken c n (standing_of c before).gone (deleted_by line)) (Taken c m (standing_of c (before ++ line ∷ [])).gone []) are.ids
       (λ y t. taken_line (side_of c y) c n m before line y refl (stays y) t) are.taken;
   count = are.count;
 }
@@ -259,13 +290,18 @@ pub lines_took : (c : Setting) (n : State) (before lines : List StreamLine) (blo
     → AreGood c before lines blocks → OwnRun n (joined blocks ++ rest) → AreTaken c n (standing_of c before).gone [] many
     → AreTaken c (run n (joined blocks)) (standing_of c (before ++ lines)).gone [] (many + sum_by (λ l. length (deleted_by l)) lines)
 lines_took c n before [] [] many rest good answers are =
-    subst (λ b. AreTaken c n (standing_of c b).gone [] (many + 0)) (sym (append-nil before)) (subst (AreTaken c n (standing_of c before).gone []) (omega arith) are)
+    subst (λ b. AreTaken c n (standing_of c b).gone [] (many + 0)) (sym (append-nil before))
+    (subst (AreTaken c n (standing_of c before).gone []) (omega arith) are)
 lines_took c n before [] (block ∷ blocks) many rest good answers are = absurd good
 lines_took c n before (line ∷ lines) [] many rest good answers are = absurd good
 lines_took c n before (line ∷ lines) (block ∷ blocks) many rest good answers are =
     let split = subst (OwnRun n) (append_assoc block (joined blocks) rest) answers in
     let one = line_took c n before line many block (joined blocks ++ rest) good.0 split are in
-    let later = lines_took c (run n block) (before ++ line ∷ []) lines blocks (many + length (deleted_by line)) rest good.1 (run_on n block (joined blocks ++ rest) split) one in
-    subst (λ m. AreTaken c m (standing_of c (before ++ (line ∷ lines))).gone [] (many + sum_by (λ l. length (deleted_by l)) (line ∷ lines))) (sym (run-append n block (joined blocks)))
-    (subst (λ b. AreTaken c (run (run n block) (joined blocks)) (standing_of c b).gone [] (many + sum_by (λ l. length (deleted_by l)) (line ∷ lines))) (append_assoc before (line ∷ []) lines)
-    (subst (AreTaken c (run (run n block) (joined blocks)) (standing_of c ((before ++ line ∷ []) ++ lines)).gone []) (omega (arith, sum_by-append (λ l. length (deleted_by l)) (line ∷ []) lines)) later))
+    let later = lines_took c (run n block) (before ++ line ∷ []) lines blocks (many + length (deleted_by line)) rest good.1
+    (run_on n block (joined blocks ++ rest) split) one in
+    subst (λ m. AreTaken c m (standing_of c (before ++ (line ∷ lines))).gone [] (many + sum_by (λ l. length (deleted_by l)) (line ∷ lines)))
+    (sym (run-append n block (joined blocks)))
+    (subst (λ b. AreTaken c (run (run n block) (joined blocks)) (standing_of c b).gone []
+    (many + sum_by (λ l. length (deleted_by l)) (line ∷ lines))) (append_assoc before (line ∷ []) lines)
+    (subst (AreTaken c (run (run n block) (joined blocks)) (standing_of c ((before ++ line ∷ []) ++ lines)).gone [])
+    (omega (arith, sum_by-append (λ l. length (deleted_by l)) (line ∷ []) lines)) later))

@@ -1,6 +1,7 @@
 -- What a piece leaves of a checker.
 use Rattle.std.specs.Fmt.{decimal, signed_decimal}
-use Rattle.std.proofs.Common.{◌≡◌, ◌<◌, ◌^◌, ℕ, Bool, true, false, List, [], ◌∷◌, ◌++◌, length, take, Option, None, Some, Ok, refl, sym, ap, subst, ◌∙◌, append_assoc, arith}
+use Rattle.std.proofs.Common.{◌≡◌, ◌<◌, ◌^◌, ℕ, Bool, true, false, List, [], ◌∷◌, ◌++◌, length, take, Option, None, Some, Ok, refl, sym, ap}
+use Rattle.std.proofs.Common.{subst, ◌∙◌, append_assoc, arith}
 use Rattle.std.specs.Prelude.{◌&&◌, is_some, map}
 use Rattle.std.specs.List.{flat_map}
 use Rattle.std.proofs.lemmas.List.{take_all}
@@ -29,7 +30,8 @@ use Rattle.stream_check.specs.Standing.{is_among}
 use Rattle.stream_check.specs.Judging.{ending_at, JudgesBlocks}
 use Rattle.stream_check.specs.Leaving.{Going, Over, Leaves, IsFresh}
 use Rattle.stream_check.specs.CheckerValue.{Tally, report_of_tally, CheckerValue}
-use Rattle.stream_check.specs.Checker.{read_of, value_of, checker_state, state_by, holding_of, tally_at, IsReadyAt, IsSound, LeavesOn, IsNew, EndsBy, Ends, ReportsEnd}
+use Rattle.stream_check.specs.Checker.{read_of, value_of, checker_state, state_by, holding_of, tally_at, IsReadyAt, IsSound, LeavesOn}
+use Rattle.stream_check.specs.Checker.{IsNew, EndsBy, Ends, ReportsEnd}
 use Rattle.stream_check.specs.Taking.{IsReady, hold}
 use Rattle.stream_check.proofs.LeavingLemmas.{end_judged, line_grows, all_snoc}
 use Rattle.stream_check.specs.StandingLemmas.{same_tally}
@@ -48,23 +50,32 @@ pub not_over : {A : Type 0} (old : Option Ending) (ending : Ending) → old ≡ 
 not_over old ending none some = absurd (let e : None ≡ Some ending = sym none ∙ some in cc)
 
 -- a line is taken
-pub feeds_line : (h n : StreamState) (read : List ℕ) (r : ReaderState) (used : List ℕ) (blocks : List History) (free left : ℕ) (ending : Option Ending) → ending ≡ None → r ≡ Ok []
+pub feeds_line : (h n : StreamState) (read : List ℕ) (r : ReaderState) (used : List ℕ) (blocks : List History) (free left : ℕ)
+    (ending : Option Ending) → ending ≡ None → r ≡ Ok []
     → LeavesOn h.setting (Going (hold h read free)) used blocks (Going (hold n [] left))
     → LeavesOn h.setting (checker_state (value_of h read ending) free) used blocks (checker_state (value_of n (read_of r) ending) left)
 feeds_line h n read r used blocks free left ending none reads leaves =
-    subst (λ (o : Option Ending). LeavesOn h.setting (checker_state (value_of h read o) free) used blocks (checker_state (value_of n (read_of r) o) left)) (sym none)
-    (subst (λ (text : List ℕ). LeavesOn h.setting (Going (hold h read free)) used blocks (Going (hold n text left))) (sym (ap read_of reads)) leaves)
+    subst (λ (o : Option Ending). LeavesOn h.setting (checker_state (value_of h read o) free) used blocks
+    (checker_state (value_of n (read_of r) o) left)) (sym none)
+    (subst (λ (text : List ℕ). LeavesOn h.setting (Going (hold h read free)) used blocks (Going (hold n text left)))
+    (sym (ap read_of reads)) leaves)
 
 -- the front of a line is taken
-pub feeds_more : (h : StreamState) (read : List ℕ) (r : ReaderState) (piece : List ℕ) (used free : ℕ) (ending : Option Ending) → ending ≡ None → r ≡ Ok (read ++ piece) → used ≡ length piece → IsPending (read ++ piece)
-    → LeavesOn h.setting (checker_state (value_of h read ending) free) (take used piece) [] (checker_state (value_of h (read_of r) ending) free)
+pub feeds_more : (h : StreamState) (read : List ℕ) (r : ReaderState) (piece : List ℕ) (used free : ℕ) (ending : Option Ending)
+    → ending ≡ None → r ≡ Ok (read ++ piece) → used ≡ length piece → IsPending (read ++ piece)
+    → LeavesOn h.setting (checker_state (value_of h read ending) free) (take used piece) []
+    (checker_state (value_of h (read_of r) ending) free)
 feeds_more h read r piece used free ending none reads all pending =
-    subst (λ (o : Option Ending). LeavesOn h.setting (checker_state (value_of h read o) free) (take used piece) [] (checker_state (value_of h (read_of r) o) free)) (sym none)
-    (subst (λ (text : List ℕ). LeavesOn h.setting (Going (hold h read free)) (take used piece) [] (Going (hold h text free))) (sym (ap read_of reads))
-    (subst (λ (b : List ℕ). LeavesOn h.setting (Going (hold h read free)) b [] (Going (hold h (read ++ piece) free))) (sym (take_all used piece (omega (arith, all)))) (leaves_front h free read piece pending)))
+    subst (λ (o : Option Ending). LeavesOn h.setting (checker_state (value_of h read o) free) (take used piece) []
+    (checker_state (value_of h (read_of r) o) free)) (sym none)
+    (subst (λ (text : List ℕ). LeavesOn h.setting (Going (hold h read free)) (take used piece) [] (Going (hold h text free)))
+    (sym (ap read_of reads))
+    (subst (λ (b : List ℕ). LeavesOn h.setting (Going (hold h read free)) b [] (Going (hold h (read ++ piece) free)))
+    (sym (take_all used piece (omega (arith, all)))) (leaves_front h free read piece pending)))
 
 -- and the lines are cut as before
-pub front_cut : (bytes pending piece : List ℕ) (lines : List StreamLine) → IsPending (pending ++ piece) → Cut bytes lines pending → Cut (bytes ++ piece) lines (pending ++ piece)
+pub front_cut : (bytes pending piece : List ℕ) (lines : List StreamLine) → IsPending (pending ++ piece) → Cut bytes lines pending
+    → Cut (bytes ++ piece) lines (pending ++ piece)
 front_cut bytes pending piece lines front cut = record {
   bytes = ap (λ (b : List ℕ). b ++ piece) cut.bytes ∙ append_assoc (flat_map line_text lines) pending piece;
   each = cut.each;
@@ -77,12 +88,14 @@ ends_later (b ∷ front) back more byte e = absurd (cc)
 
 -- no line is in no bytes
 no_line : HasNoLine []
-no_line (Addition id lits hints) more fits e = ends_later (decimal id) (clause_text (map signed_decimal lits) (list_text (map decimal hints))) more space e
+no_line (Addition id lits hints) more fits e =
+    ends_later (decimal id) (clause_text (map signed_decimal lits) (list_text (map decimal hints))) more space e
 no_line (Import id lits) more fits e = ends_later (decimal id) (letter_i ∷ list_text (map signed_decimal lits)) more space e
 no_line (Deletion lead ids) more fits e = ends_later (decimal lead) (letter_d ∷ list_text (map decimal ids)) more space e
 
 -- one line more is cut off
-pub line_cut : (bytes pending used : List ℕ) (lines : List StreamLine) (line : StreamLine) → LineText line (pending ++ used) → Cut bytes lines pending → Cut (bytes ++ used) (lines ++ line ∷ []) []
+pub line_cut : (bytes pending used : List ℕ) (lines : List StreamLine) (line : StreamLine) → LineText line (pending ++ used)
+    → Cut bytes lines pending → Cut (bytes ++ used) (lines ++ line ∷ []) []
 line_cut bytes pending used lines line text cut = record {
   bytes = line_grows lines line bytes pending used cut.bytes text.1;
   each = all_snoc lines line cut.each text.0;
@@ -91,12 +104,14 @@ line_cut bytes pending used lines line text cut = record {
 
 -- What a checker asks of its parts, call after call
 
-pub ready_inside : (h : StreamState) (read : List ℕ) (ending : Option Ending) (v : CheckerValue) (p : Place) → value_of h read ending ≡ v → IsReadyAt v p → IsReady h p
+pub ready_inside : (h : StreamState) (read : List ℕ) (ending : Option Ending) (v : CheckerValue) (p : Place) → value_of h read ending ≡ v
+    → IsReadyAt v p → IsReady h p
 ready_inside h read ending v p is ready =
     let same = subst (λ (w : CheckerValue). IsReadyAt w p) (sym is) ready in
     record { at = same.at; vacant = same.vacant }
 
-pub sound_on : (c d : Setting) (v w : ℕ) (old new : ReaderState) (o p : Option Ending) → IsSound c v old o → d ≡ c → w ≡ v → (p ≡ None → new ≡ Ok (read_of new)) → IsSound d w new p
+pub sound_on : (c d : Setting) (v w : ℕ) (old new : ReaderState) (o p : Option Ending) → IsSound c v old o → d ≡ c → w ≡ v
+    → (p ≡ None → new ≡ Ok (read_of new)) → IsSound d w new p
 sound_on c d v w old new o p sound setting variables reads = record {
   reads = reads;
   variables = ap (λ (s : Setting). s.layout.vars) setting ∙ sound.variables ∙ sym variables;
@@ -107,13 +122,17 @@ pub reads_on : (r : ReaderState) (read : List ℕ) → r ≡ Ok read → r ≡ O
 reads_on r read e = e ∙ ap (λ (b : List ℕ). Ok b) (sym (ap read_of e))
 
 -- the reading ends
-pub feeds_over : (h : StreamState) (read used : List ℕ) (blocks : List History) (free : ℕ) (ending : Option Ending) (report : Report) → ending ≡ None
-    → LeavesOn h.setting (Going (hold h read free)) used blocks (Over report) → LeavesOn h.setting (checker_state (value_of h read ending) free) used blocks (Over report)
-feeds_over h read used blocks free ending report none leaves = subst (λ (o : Option Ending). LeavesOn h.setting (checker_state (value_of h read o) free) used blocks (Over report)) (sym none) leaves
+pub feeds_over : (h : StreamState) (read used : List ℕ) (blocks : List History) (free : ℕ) (ending : Option Ending) (report : Report)
+    → ending ≡ None
+    → LeavesOn h.setting (Going (hold h read free)) used blocks (Over report)
+    → LeavesOn h.setting (checker_state (value_of h read ending) free) used blocks (Over report)
+feeds_over h read used blocks free ending report none leaves =
+    subst (λ (o : Option Ending). LeavesOn h.setting (checker_state (value_of h read o) free) used blocks (Over report)) (sym none) leaves
 
 -- The end of the stream, or a failed read
 
-either_report : (c : Setting) (bytes : List ℕ) (blocks : List History) (end : StreamEnd) (report : Report) → Leaves c bytes blocks (Over report) → JudgesBlocks c bytes end blocks report
+either_report : (c : Setting) (bytes : List ℕ) (blocks : List History) (end : StreamEnd) (report : Report)
+    → Leaves c bytes blocks (Over report) → JudgesBlocks c bytes end blocks report
 either_report c bytes blocks stream_ends.Ended report over = over.0
 either_report c bytes blocks stream_ends.Failed report over = over.1
 
@@ -122,20 +141,29 @@ pub ends_over : (end : StreamEnd) (v : CheckerValue) (ending : Ending) → v.end
 ends_over end v ending over = subst (λ (o : Option Ending). EndsBy o end v v) (sym over) refl
 
 pub reports_over : (end : StreamEnd) (v : CheckerValue) (ending : Ending) → v.ending ≡ Some ending → ReportsEnd end v v
-reports_over end v ending over bytes blocks free leaves =
-    (ending, over, either_report v.setting bytes blocks end (report_of_tally v.tally ending) (subst (λ (o : Option Ending). Leaves v.setting bytes blocks (state_by v free o)) over leaves))
+reports_over end v ending over bytes blocks free leaves = (
+  ending,
+  over,
+  either_report v.setting bytes blocks end (report_of_tally v.tally ending)
+      (subst (λ (o : Option Ending). Leaves v.setting bytes blocks (state_by v free o)) over leaves),
+)
 
 -- one that isn't over has this ending then
-pub ends_now : (end : StreamEnd) (old new : CheckerValue) → old.ending ≡ None → new.setting ≡ old.setting → new.tally ≡ old.tally → new.ending ≡ Some (ending_at end old.pending old.line) → new.last ≡ old.last → new.dropped ≡ old.dropped → Ends end old new
-ends_now end old new none setting tally ending last dropped = subst (λ (o : Option Ending). EndsBy o end old new) (sym none) (setting, tally, ending, last, dropped)
+pub ends_now : (end : StreamEnd) (old new : CheckerValue) → old.ending ≡ None → new.setting ≡ old.setting → new.tally ≡ old.tally
+    → new.ending ≡ Some (ending_at end old.pending old.line) → new.last ≡ old.last → new.dropped ≡ old.dropped → Ends end old new
+ends_now end old new none setting tally ending last dropped =
+    subst (λ (o : Option Ending). EndsBy o end old new) (sym none) (setting, tally, ending, last, dropped)
 
-pub reports_now : (end : StreamEnd) (old new : CheckerValue) → old.ending ≡ None → new.tally ≡ old.tally → new.ending ≡ Some (ending_at end old.pending old.line) → ReportsEnd end old new
+pub reports_now : (end : StreamEnd) (old new : CheckerValue) → old.ending ≡ None → new.tally ≡ old.tally
+    → new.ending ≡ Some (ending_at end old.pending old.line) → ReportsEnd end old new
 reports_now end old new none tally ending bytes blocks free leaves =
     let said : Ending = ending_at end old.pending old.line in
-    let going : Leaves old.setting bytes blocks (Going (holding_of old free)) = subst (λ (o : Option Ending). Leaves old.setting bytes blocks (state_by old free o)) none leaves in (
+    let going : Leaves old.setting bytes blocks (Going (holding_of old free)) =
+    subst (λ (o : Option Ending). Leaves old.setting bytes blocks (state_by old free o)) none leaves in (
       said,
       ending,
-      subst (JudgesBlocks old.setting bytes end blocks) (ap (λ (t : Tally). report_of_tally t said) (sym tally)) (end_judged old.setting bytes blocks (holding_of old free) end going),
+      subst (JudgesBlocks old.setting bytes end blocks) (ap (λ (t : Tally). report_of_tally t said) (sym tally))
+          (end_judged old.setting bytes blocks (holding_of old free) end going),
     )
 
 -- the end of the lines, where a line is open and where none is
@@ -143,11 +171,13 @@ reports_now end old new none tally ending bytes blocks free leaves =
 pub ended_clean : (r : ReaderState) (line : ℕ) → r ≡ Ok [] → ending_at stream_ends.Ended (read_of r) line ≡ endings.Ended
 ended_clean r line reads = ap (λ (s : ReaderState). ending_at stream_ends.Ended (read_of s) line) reads
 
-ended_open : (read : List ℕ) (line : ℕ) (fault : LineFault) → (read ≡ [] → ⊥) → fault ≡ texts.Truncated → ending_at stream_ends.Ended read line ≡ endings.Bad line (faults.Text fault)
+ended_open : (read : List ℕ) (line : ℕ) (fault : LineFault) → (read ≡ [] → ⊥) → fault ≡ texts.Truncated
+    → ending_at stream_ends.Ended read line ≡ endings.Bad line (faults.Text fault)
 ended_open [] line fault unread is = absurd (unread refl)
 ended_open (byte ∷ bytes) line fault unread is = ap (λ (f : LineFault). endings.Bad line (faults.Text f)) (sym is)
 
-pub ended_fault : (r new : ReaderState) (line : ℕ) (fault : LineFault) → r ≡ Ok (read_of r) → feeding.ReaderEnds r (ends.Fault fault) new → ending_at stream_ends.Ended (read_of r) line ≡ endings.Bad line (faults.Text fault)
+pub ended_fault : (r new : ReaderState) (line : ℕ) (fault : LineFault) → r ≡ Ok (read_of r) → feeding.ReaderEnds r (ends.Fault fault) new
+    → ending_at stream_ends.Ended (read_of r) line ≡ endings.Bad line (faults.Text fault)
 ended_fault r new line fault reads at_end =
     let left = subst (λ (s : ReaderState). feeding.ReaderEnds s (ends.Fault fault) new) reads at_end in
     ended_open (read_of r) line fault left.0 left.1
@@ -158,13 +188,16 @@ none_gone : (s : Bool) → false ≡ (s && false)
 none_gone true = refl
 none_gone false = refl
 
-pub new_left : FreshLeft → (layout : LayoutValue) (cube : CubeValue) (stream tries : ℕ) (h : StreamState) (r : ReaderState) → h.setting ≡ record { layout = layout; cube = cube; stream = stream; tries = tries } → h.last ≡ layout.clauses → h.dropped.ids ≡ [] → h.retired ≡ 0 → h.added ≡ 0
+pub new_left : FreshLeft → (layout : LayoutValue) (cube : CubeValue) (stream tries : ℕ) (h : StreamState) (r : ReaderState)
+    → h.setting ≡ record { layout = layout; cube = cube; stream = stream; tries = tries } → h.last ≡ layout.clauses → h.dropped.ids ≡ []
+    → h.retired ≡ 0 → h.added ≡ 0
     → h.empty ≡ false → h.within ≡ false → h.line ≡ 1 → r ≡ Ok [] → IsNew layout cube stream tries (value_of h (read_of r) None)
 new_left law layout cube stream tries h r setting last dropped retired added empty within line reads =
     let c : Setting = h.setting in
     let same : c.layout ≡ layout = ap (λ (s : Setting). s.layout) setting in
     let fresh : IsFresh c (hold h (read_of r) layout.room) = record {
-      tally = same_tally (tally_at h) (record { added = 0; deleted = 0; empty = false; within = false }) added (omega (arith, retired, ap (λ (ids : List ℕ). length ids) dropped)) empty within;
+      tally = same_tally (tally_at h) (record { added = 0; deleted = 0; empty = false; within = false }) added
+          (omega (arith, retired, ap (λ (ids : List ℕ). length ids) dropped)) empty within;
       standing = record {
         last = last ∙ sym (ap (λ (l : LayoutValue). l.clauses) same);
         free = omega (arith, ap (λ (l : LayoutValue). l.room) same);

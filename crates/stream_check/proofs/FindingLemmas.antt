@@ -1,5 +1,6 @@
 -- Good additions, and the clauses that their hints found.
-use Rattle.std.proofs.Common.{◌≡◌, ◌≢◌, ◌⊎◌, ℕ, ℤ, neg_ℤ, Bool, false, not, List, [], ◌∷◌, ◌++◌, replicate, inl, inr, refl, sym, ap, subst, ◌∙◌, append_assoc, append-nil}
+use Rattle.std.proofs.Common.{◌≡◌, ◌≢◌, ◌⊎◌, ℕ, ℤ, neg_ℤ, Bool, false, not, List, [], ◌∷◌, ◌++◌, replicate, inl, inr, refl, sym, ap, subst}
+use Rattle.std.proofs.Common.{◌∙◌, append_assoc, append-nil}
 use Rattle.std.specs.List.{AllByRecursion, filter}
 use Rattle.std.specs.Ordering.{int_eq}
 use Rattle.std.proofs.lemmas.Bool.Decides.{Decides-int_eq}
@@ -35,7 +36,8 @@ others-same : (x y : ℤ) (ls : List ℤ) → y ≡ x → others x (y ∷ ls) �
 others-same x y ls e = cond-false (not (int_eq y x)) (y ∷ others x ls) (others x ls) (ap not ((Decides-int_eq y x).1 e))
 
 others-other : (x y : ℤ) (ls : List ℤ) → y ≢ x → others x (y ∷ ls) ≡ y ∷ others x ls
-others-other x y ls ne = cond-true (not (int_eq y x)) (y ∷ others x ls) (others x ls) (ap not (false_from_ne_true (int_eq y x) (λ t. ne ((Decides-int_eq y x).0 t))))
+others-other x y ls ne = cond-true (not (int_eq y x)) (y ∷ others x ls) (others x ls)
+    (ap not (false_from_ne_true (int_eq y x) (λ t. ne ((Decides-int_eq y x).0 t))))
 
 Has-from_others : (x : ℤ) (ls : List ℤ) (l : ℤ) → Has (others x ls) l → Has ls l
 Has-from_others x [] l h = absurd h
@@ -72,7 +74,8 @@ refutes_more n d [] l unit refutes = absurd refutes
 refutes_more n d (e ∷ ds) l unit refutes = (l, unit, refutes)
 
 -- one hint more before those that are shown
-shown_more : (c : Setting) (gone : ℕ → Bool) (published : Event) (n : List ℤ) (h : ℕ) (hints : List ℕ) (es asked rest : History) (d : Clause) (l : ℤ)
+shown_more : (c : Setting) (gone : ℕ → Bool) (published : Event) (n : List ℤ) (h : ℕ) (hints : List ℕ) (es asked rest : History)
+    (d : Clause) (l : ℤ)
     → gone h ≡ false → es ≡ asked ++ rest → Asks c h asked (events.live d) → IsUnit n d l
     → Shown c gone published (n ++ neg_ℤ l ∷ []) hints rest → Shown c gone published n (h ∷ hints) es
 shown_more c gone published n h hints es asked rest d l here e asks unit shown = record {
@@ -84,7 +87,8 @@ shown_more c gone published n h hints es asked rest d l here e asks unit shown =
 }
 
 -- the last hint
-shown_last : (c : Setting) (gone : ℕ → Bool) (published : Event) (n : List ℤ) (h : ℕ) (hints : List ℕ) (es asked rest : History) (d : Clause)
+shown_last : (c : Setting) (gone : ℕ → Bool) (published : Event) (n : List ℤ) (h : ℕ) (hints : List ℕ)
+    (es asked rest : History) (d : Clause)
     → gone h ≡ false → es ≡ asked ++ rest → Asks c h asked (events.live d) → IsConflict n d
     → AtConflict hints published rest Good → Shown c gone published n (h ∷ hints) es
 shown_last c gone published n h [] es asked rest d here e asks conflict at = record {
@@ -96,7 +100,8 @@ shown_last c gone published n h [] es asked rest d here e asks conflict at = rec
 }
 shown_last c gone published n h (k ∷ hints) es asked rest d here e asks conflict at = absurd (fails_not (faults.Excess k) rest at)
 
-shown_reply : (reply : Reply) (c : Setting) (gone : ℕ → Bool) (published : Event) (n : List ℤ) (h : ℕ) (hints : List ℕ) (es asked rest : History) (A : List ℤ → Type 0)
+shown_reply : (reply : Reply) (c : Setting) (gone : ℕ → Bool) (published : Event) (n : List ℤ) (h : ℕ) (hints : List ℕ)
+    (es asked rest : History) (A : List ℤ → Type 0)
     → ((m : List ℤ) → A m → Shown c gone published m hints rest)
     → gone h ≡ false → es ≡ asked ++ rest → Asks c h asked reply
     → AtReply reply n h hints published rest Good A → Shown c gone published n (h ∷ hints) es
@@ -106,9 +111,11 @@ shown_reply (events.live d) c gone published n h hints es asked rest A next here
     shown_last c gone published n h hints es asked rest d here e asks conflict.0 conflict.1
 shown_reply (events.live d) c gone published n h hints es asked rest A next here e asks (inr (inl unit)) =
     shown_more c gone published n h hints es asked rest d unit.0 here e asks unit.1 (next (n ++ neg_ℤ unit.0 ∷ []) unit.2)
-shown_reply (events.live d) c gone published n h hints es asked rest A next here e asks (inr (inr neither)) = absurd (fails_not (faults.NotUnit h) rest neither.2)
+shown_reply (events.live d) c gone published n h hints es asked rest A next here e asks (inr (inr neither)) =
+    absurd (fails_not (faults.NotUnit h) rest neither.2)
 
-hints_show : (c : Setting) (gone : ℕ → Bool) (published : Event) (n : List ℤ) (hints : List ℕ) (es : History) → JudgesHints c gone published n hints es Good → Shown c gone published n hints es
+hints_show : (c : Setting) (gone : ℕ → Bool) (published : Event) (n : List ℤ) (hints : List ℕ) (es : History)
+    → JudgesHints c gone published n hints es Good → Shown c gone published n hints es
 hints_show c gone published n [] es judged = absurd (fails_not faults.NoConflict es judged)
 hints_show c gone published n (h ∷ hints) es (inl bad) = absurd (fails_not (faults.Dropped h) es bad.1)
 hints_show c gone published n (h ∷ hints) es (inr good) =
@@ -160,7 +167,8 @@ shown_judged c gone published n (h ∷ hints) (d ∷ d' ∷ ds) es fetches found
       },
     )
 
-good_shown : (c : Setting) (st : Standing) (id : ℕ) (lits : List ℤ) (hints : List ℕ) (es : History) → JudgesAddition c st id lits hints es Good → IsGoodAddition c st id lits hints es
+good_shown : (c : Setting) (st : Standing) (id : ℕ) (lits : List ℤ) (hints : List ℕ) (es : History)
+    → JudgesAddition c st id lits hints es Good → IsGoodAddition c st id lits hints es
 good_shown c st id lits hints es (inl bad) = absurd (fails_not faults.Identity es bad.1)
 good_shown c st id lits hints es (inr (a, inl bad)) = absurd (fails_not faults.Literal es bad.1)
 good_shown c st id lits hints es (inr (a, inr (b, inl bad))) = absurd (fails_not faults.Tautology es bad.1)
@@ -179,7 +187,8 @@ good_shown c st id lits hints es (inr (a, inr (b, inr (d, inr (e, judged))))) =
       published = shown.ends;
     }
 
-shown_good : (c : Setting) (st : Standing) (id : ℕ) (lits : List ℤ) (hints : List ℕ) (es : History) → IsGoodAddition c st id lits hints es → JudgesAddition c st id lits hints es Good
+shown_good : (c : Setting) (st : Standing) (id : ℕ) (lits : List ℤ) (hints : List ℕ) (es : History) → IsGoodAddition c st id lits hints es
+    → JudgesAddition c st id lits hints es Good
 shown_good c st id lits hints es g =
     inr (
       (g.owns, g.above),
@@ -205,7 +214,8 @@ all_front P [] b all = (tt, all)
 all_front P (e ∷ a) b all = let rest = all_front P a b all.1 in ((all.0, rest.0), rest.1)
 
 -- a hint that is live at last has an event that shows its clause
-live_sound : (side : Side) (f : Cnf) (c : Setting) (h : ℕ) (asked : History) (d : Clause) → AsksAt side c h asked (events.live d) → AllByRecursion (FindsSound f) asked → IsClause f.vars d × Follows f d
+live_sound : (side : Side) (f : Cnf) (c : Setting) (h : ℕ) (asked : History) (d : Clause) → AsksAt side c h asked (events.live d)
+    → AllByRecursion (FindsSound f) asked → IsClause f.vars d × Follows f d
 live_sound sides.Formula f c h asked d asks all = (subst (AllByRecursion (FindsSound f)) asks all).0
 live_sound sides.Own f c h asked d asks all = (subst (AllByRecursion (FindsSound f)) asks all).0
 live_sound sides.Foreign f c h asked d asks all =
@@ -213,7 +223,8 @@ live_sound sides.Foreign f c h asked d asks all =
     (subst (AllByRecursion (FindsSound f)) asks.3 all)).1.0
 live_sound sides.Outside f c h asked d asks all = absurd (let e : events.live d ≡ events.vacant = asks.1 in cc)
 
-found_sound : (f : Cnf) (c : Setting) (gone : ℕ → Bool) (hints : List ℕ) (ds : List Clause) (es : History) → AreFound c gone hints ds es → AllByRecursion (FindsSound f) es → AllByRecursion (λ d. IsClause f.vars d × Follows f d) ds
+found_sound : (f : Cnf) (c : Setting) (gone : ℕ → Bool) (hints : List ℕ) (ds : List Clause) (es : History) → AreFound c gone hints ds es
+    → AllByRecursion (FindsSound f) es → AllByRecursion (λ d. IsClause f.vars d × Follows f d) ds
 found_sound f c gone [] [] es found all = tt
 found_sound f c gone [] (d ∷ ds) es found all = absurd found
 found_sound f c gone (h ∷ hints) [] es found all = absurd found

@@ -22,7 +22,8 @@ pub never_fork_turned : (g h : History) → NeverFork g h → NeverFork h g
 never_fork_turned [] [] never = tt
 never_fork_turned [] (e ∷ h) never = tt
 never_fork_turned (d ∷ g) [] never = tt
-never_fork_turned (d ∷ g) (e ∷ h) never = (λ same. sym (never.0 (same_call_turned e d same)), λ is. never_fork_turned g h (never.1 (sym is)))
+never_fork_turned (d ∷ g) (e ∷ h) never =
+    (λ same. sym (never.0 (same_call_turned e d same)), λ is. never_fork_turned g h (never.1 (sym is)))
 
 pub never_fork_alone : (g : History) → NeverFork g g
 never_fork_alone [] = tt
@@ -51,7 +52,8 @@ same_fetches s id most done (suc k) (suc j) x y q r a b last other never =
     (λ is. let full = last is in omega arith) (λ is. let full = other is in omega arith) (never.1 refl) in
     (ap suc rest.0, rest.1)
 
-same_at : (side : Side) (c : Setting) (h : ℕ) (a b q r : History) (x y : Reply) → AsksAt side c h a x → AsksAt side c h b y → NeverFork (a ++ q) (b ++ r) → (a ≡ b) × (x ≡ y)
+same_at : (side : Side) (c : Setting) (h : ℕ) (a b q r : History) (x y : Reply) → AsksAt side c h a x → AsksAt side c h b y
+    → NeverFork (a ++ q) (b ++ r) → (a ≡ b) × (x ≡ y)
 same_at sides.Formula c h a b q r x y one two never =
     let here = subst (λ e. NeverFork (e ++ q) ((fetch c.stream h y ∷ []) ++ r)) one (subst (λ e. NeverFork (a ++ q) (e ++ r)) two never) in
     let e = here.0 (refl, refl) in
@@ -61,12 +63,14 @@ same_at sides.Own c h a b q r x y one two never =
     let e = here.0 (refl, refl) in
     let is : x ≡ y = cc in (one ∙ ap (λ z. fetch c.stream h z ∷ []) is ∙ sym two, is)
 same_at sides.Foreign c h a b q r x y one two never =
-    let here = subst (λ e. NeverFork (e ++ q) (fetches c.stream h two.0 y ++ r)) one.3 (subst (λ e. NeverFork (a ++ q) (e ++ r)) two.3 never) in
+    let here =
+    subst (λ e. NeverFork (e ++ q) (fetches c.stream h two.0 y ++ r)) one.3 (subst (λ e. NeverFork (a ++ q) (e ++ r)) two.3 never) in
     let same = same_fetches c.stream h c.tries 0 one.0 two.0 x y q r (omega (arith, one.1)) (omega (arith, two.1))
     (λ is. let full = one.2 is in omega arith) (λ is. let full = two.2 is in omega arith) here in
     (one.3 ∙ ap (λ k. fetches c.stream h k x) same.0 ∙ ap (λ z. fetches c.stream h two.0 z) same.1 ∙ sym two.3, same.1)
 same_at sides.Outside c h a b q r x y one two never = (one.0 ∙ sym two.0, one.1 ∙ sym two.1)
 
 -- the events of one hint, where they never fork
-pub same_asked : (c : Setting) (h : ℕ) (a b q r : History) (x y : Reply) → Asks c h a x → Asks c h b y → NeverFork (a ++ q) (b ++ r) → (a ≡ b) × (x ≡ y)
+pub same_asked : (c : Setting) (h : ℕ) (a b q r : History) (x y : Reply) → Asks c h a x → Asks c h b y → NeverFork (a ++ q) (b ++ r)
+    → (a ≡ b) × (x ≡ y)
 same_asked c h a b q r x y one two never = same_at (side_of c h) c h a b q r x y one two never

@@ -20,9 +20,15 @@ module _ (c : Setting) (st : Standing) (id : ℕ) (lits : List ℤ) (shared : is
 
   module _ (within : AllByRecursion (λ l. nat_abs l ≤ c.layout.vars) lits) where
     -- the lookup has a fault
-    pub import_unfound : (p : Place) (es : History) (fault : Fault) → LooksUp c st.gone id p es (Err fault) → JudgesImport c st id lits es (Bad 0 fault)
-    import_unfound p es fault looks = inr (shared, inr (within, lookup_fails c st.gone id p es fault (λ r rest. AtImported r id lits rest (Bad 0 fault)) looks (λ x. x) (λ x. x)))
+    pub import_unfound : (p : Place) (es : History) (fault : Fault) → LooksUp c st.gone id p es (Err fault)
+        → JudgesImport c st id lits es (Bad 0 fault)
+    import_unfound p es fault looks = inr (
+      shared,
+      inr (within, lookup_fails c st.gone id p es fault (λ r rest. AtImported r id lits rest (Bad 0 fault)) looks (λ x. x) (λ x. x)),
+    )
 
     -- the clause decides
-    pub import_found : (d : Clause) (es : History) (v : LineVerdict) → st.gone id ≡ false → Asks c id es (live d) → AtImported (live d) id lits [] v → JudgesImport c st id lits es v
-    import_found d es v kept asks next = inr (shared, inr (within, asked_last c st.gone id es (live d) v (λ r rest. AtImported r id lits rest v) kept asks next))
+    pub import_found : (d : Clause) (es : History) (v : LineVerdict) → st.gone id ≡ false → Asks c id es (live d)
+        → AtImported (live d) id lits [] v → JudgesImport c st id lits es v
+    import_found d es v kept asks next =
+        inr (shared, inr (within, asked_last c st.gone id es (live d) v (λ r rest. AtImported r id lits rest v) kept asks next))

@@ -1,5 +1,6 @@
 -- What a checker is left as.
-use Rattle.std.proofs.Common.{◌≡◌, ◌+◌, ◌-◌, ◌^◌, min, ℕ, List, [], ◌∷◌, ◌++◌, length, refl, sym, ap, subst, ◌∙◌, arith, append_assoc, append-nil, length-append}
+use Rattle.std.proofs.Common.{◌≡◌, ◌+◌, ◌-◌, ◌^◌, min, ℕ, List, [], ◌∷◌, ◌++◌, length, refl, sym, ap, subst, ◌∙◌, arith, append_assoc}
+use Rattle.std.proofs.Common.{append-nil, length-append}
 use Rattle.std.specs.List.{flat_map, AllByRecursion}
 use Rattle.std.proofs.lemmas.Grind.{flat_map-append}
 use Rattle.lrup_model.specs.Event.{History}
@@ -17,17 +18,20 @@ use Rattle.stream_check.specs.Setting.{Setting}
 use Rattle.stream_check.specs.Standing.{Standing, standing_of, capped}
 use Rattle.stream_check.specs.Verdicts.{Good, Bad}
 use Rattle.stream_check.specs.Deletions.{StopsDeletion}
-use Rattle.stream_check.specs.Judging.{JudgesLine, AreGood, report_of, EndsAfter, at_bad_line, at_bad_text, at_memory, at_end, ending_at, JudgesBlocks}
+use Rattle.stream_check.specs.Judging.{JudgesLine, AreGood, report_of, EndsAfter, at_bad_line, at_bad_text, at_memory, at_end, ending_at}
+use Rattle.stream_check.specs.Judging.{JudgesBlocks}
 use Rattle.stream_check.specs.CheckerValue.{Tally, report_of_tally}
 use Rattle.stream_check.specs.Leaving.{Holding, SameStanding, LeavesGoing, standing_after, tally_after}
-use Rattle.stream_check.specs.Laws.{FreshLeft, PendingGrows, GoodLineTaken, BadLineTaken, BadTextRead, MemoryWanted, EndJudged, OverStays, IsDecided, EitherEnd, DecidedBeforeFailure}
+use Rattle.stream_check.specs.Laws.{FreshLeft, PendingGrows, GoodLineTaken, BadLineTaken, BadTextRead, MemoryWanted, EndJudged, OverStays}
+use Rattle.stream_check.specs.Laws.{IsDecided, EitherEnd, DecidedBeforeFailure}
 use Rattle.stream_check.specs.StandingLemmas.{standing_of-snoc, counts_of, tally_is, tally_says, counts_of-snoc, same_standing}
 
 -- one good line more, with its block
 good_snoc : (c : Setting) (before lines : List StreamLine) (blocks : List History) (line : StreamLine) (block : History)
     → AreGood c before lines blocks → JudgesLine c (standing_of c (before ++ lines)) line block Good
     → AreGood c before (lines ++ line ∷ []) (blocks ++ block ∷ [])
-good_snoc c before [] [] line block good judged = (subst (λ ls. JudgesLine c (standing_of c ls) line block Good) (append-nil before) judged, tt)
+good_snoc c before [] [] line block good judged =
+    (subst (λ ls. JudgesLine c (standing_of c ls) line block Good) (append-nil before) judged, tt)
 good_snoc c before [] (b ∷ blocks) line block good judged = absurd good
 good_snoc c before (l ∷ lines) [] line block good judged = absurd good
 good_snoc c before (l ∷ lines) (b ∷ blocks) line block good judged = (
@@ -41,14 +45,16 @@ text_grows : (texts bytes rest piece : List ℕ) → bytes ≡ texts ++ rest →
 text_grows texts bytes rest piece e = ap (λ b. b ++ piece) e ∙ append_assoc texts rest piece
 
 -- and these bytes are one line more
-pub line_grows : (lines : List StreamLine) (line : StreamLine) (bytes rest piece : List ℕ) → bytes ≡ flat_map line_text lines ++ rest → rest ++ piece ≡ line_text line
-    → bytes ++ piece ≡ flat_map line_text (lines ++ line ∷ []) ++ []
+pub line_grows : (lines : List StreamLine) (line : StreamLine) (bytes rest piece : List ℕ) → bytes ≡ flat_map line_text lines ++ rest
+    → rest ++ piece ≡ line_text line → bytes ++ piece ≡ flat_map line_text (lines ++ line ∷ []) ++ []
 line_grows lines line bytes rest piece e whole =
     text_grows (flat_map line_text lines) bytes rest piece e
     ∙ ap (λ t. flat_map line_text lines ++ t) whole
-    ∙ sym (append-nil (flat_map line_text (lines ++ line ∷ [])) ∙ flat_map-append line_text lines (line ∷ []) ∙ ap (λ t. flat_map line_text lines ++ t) (append-nil (line_text line)))
+    ∙ sym (append-nil (flat_map line_text (lines ++ line ∷ [])) ∙ flat_map-append line_text lines (line ∷ [])
+    ∙ ap (λ t. flat_map line_text lines ++ t) (append-nil (line_text line)))
 
-pub all_snoc : (lines : List StreamLine) (line : StreamLine) → AllByRecursion IsWithinLimits lines → IsWithinLimits line → AllByRecursion IsWithinLimits (lines ++ line ∷ [])
+pub all_snoc : (lines : List StreamLine) (line : StreamLine) → AllByRecursion IsWithinLimits lines → IsWithinLimits line
+    → AllByRecursion IsWithinLimits (lines ++ line ∷ [])
 all_snoc [] line all one = (one, tt)
 all_snoc (l ∷ lines) line all one = (all.0, all_snoc lines line all.1 one)
 
@@ -77,7 +83,11 @@ fresh_left texts none c now fresh =
 pub pending_grows : PendingGrows
 pending_grows c bytes piece blocks old before pending = record {
   lines = before.lines;
-  cut = record { bytes = text_grows (flat_map line_text before.lines) bytes old.pending piece before.cut.bytes; each = before.cut.each; last = pending.whole };
+  cut = record {
+    bytes = text_grows (flat_map line_text before.lines) bytes old.pending piece before.cut.bytes;
+    each = before.cut.each;
+    last = pending.whole;
+  };
   pending = pending;
   good = before.good;
   tally = before.tally;
@@ -86,10 +96,12 @@ pending_grows c bytes piece blocks old before pending = record {
 }
 
 -- what is judged by what a checker holds is judged by what the lines leave
-by_lines : (c : Setting) (old : Holding) (lines : List StreamLine) (P : Standing → Type 0) → SameStanding old.standing (standing_of c lines) → P old.standing → P (standing_of c lines)
+by_lines : (c : Setting) (old : Holding) (lines : List StreamLine) (P : Standing → Type 0) → SameStanding old.standing (standing_of c lines)
+    → P old.standing → P (standing_of c lines)
 by_lines c old lines P same holds = subst P (same_standing old.standing (standing_of c lines) same) holds
 
-next_number : (lines : List StreamLine) (line : StreamLine) → min (capped (length lines + 1) + 1) (2 ^ 64 - 1) ≡ capped (length (lines ++ line ∷ []) + 1)
+next_number : (lines : List StreamLine) (line : StreamLine)
+    → min (capped (length lines + 1) + 1) (2 ^ 64 - 1) ≡ capped (length (lines ++ line ∷ []) + 1)
 next_number lines line = omega (arith, length-append lines (line ∷ []))
 
 same_trans : (a b d : Standing) → SameStanding a b → SameStanding b d → SameStanding a d
@@ -98,7 +110,8 @@ same_trans a b d x y = record { last = x.last ∙ y.last; free = x.free ∙ y.fr
 pub good_line_taken : TextsAreLines → EmptyCut → GoodLineTaken
 good_line_taken texts none c bytes piece blocks block old new line before text judged taken =
     let lines = before.lines in
-    let here : JudgesLine c (standing_of c lines) line block Good = by_lines c old lines (λ st. JudgesLine c st line block Good) before.standing judged in
+    let here : JudgesLine c (standing_of c lines) line block Good =
+    by_lines c old lines (λ st. JudgesLine c st line block Good) before.standing judged in
     let same_old = same_standing old.standing (standing_of c lines) before.standing in
     let cut : Cut (bytes ++ piece) (lines ++ line ∷ []) [] = record {
       bytes = line_grows lines line bytes old.pending piece before.cut.bytes text.1;
@@ -139,7 +152,8 @@ ends_behind c bytes piece blocks back old end report before ends = record {
 }
 
 -- the same report by what the checker holds and by the lines
-held_report : (c : Setting) (bytes : List ℕ) (blocks : List History) (old : Holding) (ending : ℕ → Ending) → (before : LeavesGoing c bytes blocks old)
+held_report : (c : Setting) (bytes : List ℕ) (blocks : List History) (old : Holding) (ending : ℕ → Ending)
+    → (before : LeavesGoing c bytes blocks old)
     → report_of_tally old.tally (ending old.line) ≡ report_of c before.lines 0 (ending (capped (length before.lines + 1)))
 held_report c bytes blocks old ending before =
     before.tally (ending old.line) ∙ ap (λ n. report_of c before.lines 0 (ending n)) before.line
@@ -149,8 +163,10 @@ abbrev with_deleted : Tally → ℕ → Tally
 with_deleted t deleted = record t { deleted = capped (t.deleted + deleted) }
 
 -- and where so many identities more were deleted
-held_more : (c : Setting) (bytes : List ℕ) (blocks : List History) (old : Holding) (deleted : ℕ) (ending : ℕ → Ending) → (before : LeavesGoing c bytes blocks old)
-    → report_of_tally (with_deleted old.tally deleted) (ending old.line) ≡ report_of c before.lines deleted (ending (capped (length before.lines + 1)))
+held_more : (c : Setting) (bytes : List ℕ) (blocks : List History) (old : Holding) (deleted : ℕ) (ending : ℕ → Ending)
+    → (before : LeavesGoing c bytes blocks old)
+    → report_of_tally (with_deleted old.tally deleted) (ending old.line)
+    ≡ report_of c before.lines deleted (ending (capped (length before.lines + 1)))
 held_more c bytes blocks old deleted ending before =
     let r : Report = report_of c before.lines deleted (ending old.line) in
     let count : (with_deleted (counts_of c before.lines) deleted).deleted ≡ r.deleted = omega arith in
@@ -210,7 +226,8 @@ end_judged c bytes blocks old end before =
 fault_stays : (rest more : List ℕ) (fault : LineFault) → HasTextFault rest fault → HasTextFault (rest ++ more) fault
 fault_stays rest more fault text = (text.0, text.1 ++ more, ap (λ r. r ++ more) text.2 ∙ append_assoc text.0 text.1 more, text.3)
 
-judges_longer : (c : Setting) (bytes more : List ℕ) (end other : StreamEnd) (blocks : List History) (report : Report) → (j : JudgesBlocks c bytes end blocks report)
+judges_longer : (c : Setting) (bytes more : List ℕ) (end other : StreamEnd) (blocks : List History) (report : Report)
+    → (j : JudgesBlocks c bytes end blocks report)
     → EndsAfter c j.lines (j.rest ++ more) other j.back report → JudgesBlocks c (bytes ++ more) other blocks report
 judges_longer c bytes more end other blocks report j ends = record {
   lines = j.lines;
@@ -225,16 +242,20 @@ judges_longer c bytes more end other blocks report j ends = record {
 }
 
 -- what is judged by a line, a text or memory that ran out is so for either end, whatever follows; what is judged by its end is left
-before_end : (c : Setting) (bytes more : List ℕ) (end other : StreamEnd) (blocks : List History) (report : Report) → (j : JudgesBlocks c bytes end blocks report)
-    → (report ≡ report_of c j.lines 0 (ending_at end j.rest (capped (length j.lines + 1))) → JudgesBlocks c (bytes ++ more) other blocks report)
-    → JudgesBlocks c (bytes ++ more) other blocks report
+before_end : (c : Setting) (bytes more : List ℕ) (end other : StreamEnd) (blocks : List History) (report : Report)
+    → (j : JudgesBlocks c bytes end blocks report)
+    → (report ≡ report_of c j.lines 0 (ending_at end j.rest (capped (length j.lines + 1)))
+    → JudgesBlocks c (bytes ++ more) other blocks report) → JudgesBlocks c (bytes ++ more) other blocks report
 before_end c bytes more end other blocks report j last =
     elim j.ends [
       | at_bad_line line after text fits block one_block deleted fault bad says ↦ judges_longer c bytes more end other blocks report j
-          (at_bad_line line (after ++ more) (ap (λ r. r ++ more) text ∙ append_assoc (line_text line) after more) fits block one_block deleted fault bad says)
-      | at_bad_text fault text no_block says ↦ judges_longer c bytes more end other blocks report j (at_bad_text fault (fault_stays j.rest more fault text) no_block says)
+          (at_bad_line line (after ++ more)
+          (ap (λ r. r ++ more) text ∙ append_assoc (line_text line) after more) fits block one_block deleted fault bad says)
+      | at_bad_text fault text no_block says ↦
+          judges_longer c bytes more end other blocks report j (at_bad_text fault (fault_stays j.rest more fault text) no_block says)
       | at_memory lead ids after text fits block one_block earlier stops says ↦ judges_longer c bytes more end other blocks report j
-          (at_memory lead ids (after ++ more) (ap (λ r. r ++ more) text ∙ append_assoc (line_text (Deletion lead ids)) after more) fits block one_block earlier stops says)
+          (at_memory lead ids (after ++ more)
+          (ap (λ r. r ++ more) text ∙ append_assoc (line_text (Deletion lead ids)) after more) fits block one_block earlier stops says)
       | at_end pending no_block says ↦ last says
     ]
 
@@ -256,16 +277,23 @@ decided_before_failure c bytes more end blocks report untold j = before_end c by
 says_failed : (c : Setting) (lines others : List StreamLine) (rest left : List ℕ) (report : Report)
     → report ≡ report_of c lines 0 (ending_at stream_ends.Ended rest (capped (length lines + 1)))
     → report ≡ report_of c others 0 (ending_at stream_ends.Failed left (capped (length others + 1))) → ⊥
-says_failed c lines others [] left report a b = let e : endings.Ended ≡ endings.ReadFailed (capped (length others + 1)) = ap (λ (r : Report). r.ending) (sym a ∙ b) in cc
-says_failed c lines others (byte ∷ rest) left report a b = let e : endings.Bad (capped (length lines + 1)) _ ≡ endings.ReadFailed (capped (length others + 1)) = ap (λ (r : Report). r.ending) (sym a ∙ b) in cc
+says_failed c lines others [] left report a b =
+    let e : endings.Ended ≡ endings.ReadFailed (capped (length others + 1)) = ap (λ (r : Report). r.ending) (sym a ∙ b) in cc
+says_failed c lines others (byte ∷ rest) left report a b =
+    let e : endings.Bad (capped (length lines + 1)) _ ≡ endings.ReadFailed (capped (length others + 1)) =
+    ap (λ (r : Report). r.ending) (sym a ∙ b) in cc
 
 -- A report that fits both ends is decided before the end, so that it fits whatever follows.
 over_longer : (c : Setting) (bytes more : List ℕ) (blocks : List History) (report : Report) (end : StreamEnd)
-    → JudgesBlocks c bytes stream_ends.Ended blocks report → JudgesBlocks c bytes stream_ends.Failed blocks report → JudgesBlocks c (bytes ++ more) end blocks report
+    → JudgesBlocks c bytes stream_ends.Ended blocks report → JudgesBlocks c bytes stream_ends.Failed blocks report
+    → JudgesBlocks c (bytes ++ more) end blocks report
 over_longer c bytes more blocks report end a b =
     before_end c bytes more stream_ends.Ended end blocks report a
     (λ says. before_end c bytes more stream_ends.Failed end blocks report b
     (λ told. absurd (says_failed c a.lines b.lines a.rest b.rest report says told)))
 
 pub over_stays : OverStays
-over_stays c bytes more blocks report over = (over_longer c bytes more blocks report stream_ends.Ended over.0 over.1, over_longer c bytes more blocks report stream_ends.Failed over.0 over.1)
+over_stays c bytes more blocks report over = (
+  over_longer c bytes more blocks report stream_ends.Ended over.0 over.1,
+  over_longer c bytes more blocks report stream_ends.Failed over.0 over.1,
+)

@@ -38,7 +38,8 @@ fetch_answers m s id events.vacant a = a
 fetch_answers m s id (events.live c) a = a
 fetch_answers m s id events.retired a = a
 
-same_published : (m : State) (s id : ℕ) (c : Clause) (r q : Published) → Answers m (events.publish s id c r) → Answers m (events.publish s id c q) → r ≡ q
+same_published : (m : State) (s id : ℕ) (c : Clause) (r q : Published) → Answers m (events.publish s id c r)
+    → Answers m (events.publish s id c q) → r ≡ q
 same_published m s id c publishing.Done publishing.Done a b = refl
 same_published m s id c publishing.Done publishing.Taken a b = absurd (b a)
 same_published m s id c publishing.Taken publishing.Done a b = absurd (a b)
@@ -68,7 +69,8 @@ same_event m (events.publish s id c r) (events.retire t j q) same a b = absurd s
 same_event m (events.retire s id r) (events.fetch t j q) same a b = absurd same
 same_event m (events.retire s id r) (events.publish t j c q) same a b = absurd same
 same_event m (events.retire s id r) (events.retire t j q) same a b =
-    let at_call : events.retire t j q ≡ events.retire s id q = sym (ap (λ x. events.retire x id q) same.0 ∙ ap (λ k. events.retire t k q) same.1) in
+    let at_call : events.retire t j q ≡ events.retire s id q =
+    sym (ap (λ x. events.retire x id q) same.0 ∙ ap (λ k. events.retire t k q) same.1) in
     let is = same_retired m s id r q a (subst (Answers m) at_call b) in
     ap (λ x. events.retire s id x) is ∙ sym at_call
 

@@ -1,5 +1,6 @@
 -- What one line leaves of what is held, and of the place.
-use Rattle.std.proofs.Common.{◌≡◌, ◌<◌, ◌+◌, ◌-◌, ℕ, ℤ, Bool, true, false, List, [], ◌∷◌, ◌++◌, length, Ok, Err, refl, sym, ap, subst, ◌∙◌, inl, inr, arith}
+use Rattle.std.proofs.Common.{◌≡◌, ◌<◌, ◌+◌, ◌-◌, ℕ, ℤ, Bool, true, false, List, [], ◌∷◌, ◌++◌, length, Ok, Err, refl, sym, ap, subst, ◌∙◌}
+use Rattle.std.proofs.Common.{inl, inr, arith}
 use Rattle.std.specs.Prelude.{◌||◌, ◌&&◌, ◌==◌, min, ◌^◌}
 use Rattle.std.specs.List.{AllByRecursion}
 use Rattle.std.proofs.lemmas.Bool.{cases_eq}
@@ -35,10 +36,12 @@ use Rattle.stream_check.specs.StandingLemmas.{same_tally}
 -- The place after fetches alone
 
 -- what the place before has at an own identity
-own_before : (p q : Place) (es : History) (j : ℕ) → Tells p q es → Owns q.caller.layout q.caller.stream j → Owns p.caller.layout p.caller.stream j
+own_before : (p q : Place) (es : History) (j : ℕ) → Tells p q es → Owns q.caller.layout q.caller.stream j
+    → Owns p.caller.layout p.caller.stream j
 own_before p q es j tells theirs = subst (λ (r : Caller). Owns r.layout r.stream j) tells.caller theirs
 
-vacant_on : (p q : Place) (es : History) (last : ℕ) → Tells p q es → ((j : ℕ) → p.own j ≡ absent → run p.own es j ≡ absent) → IsVacantAbove p last → IsVacantAbove q last
+vacant_on : (p q : Place) (es : History) (last : ℕ) → Tells p q es → ((j : ℕ) → p.own j ≡ absent → run p.own es j ≡ absent)
+    → IsVacantAbove p last → IsVacantAbove q last
 vacant_on p q es last tells stays vacant j theirs above =
     let mine = own_before p q es j tells theirs in tells.own j mine ∙ stays j (vacant j mine above)
 
@@ -68,25 +71,30 @@ spent-retires : (s : ℕ) (es : History) → AllByRecursion IsRetire es → spen
 spent-retires s [] h = refl
 spent-retires s (events.fetch t id r ∷ es) h = absurd h.0
 spent-retires s (events.publish t id c r ∷ es) h = absurd h.0
-spent-retires s (events.retire t id r ∷ es) h = spent-skips (events.retire t id r) (own es s) (stream_of (events.retire t id r) == s) refl ∙ spent-retires s es h.1
+spent-retires s (events.retire t id r ∷ es) h = spent-skips (events.retire t id r) (own es s) (stream_of (events.retire t id r) == s) refl
+    ∙ spent-retires s es h.1
 
 pub room_retires : (p q : Place) (es : History) → Tells p q es → AllByRecursion IsRetire es → q.room ≡ p.room
 room_retires p q es tells quiet = omega (arith, tells.room, spent-retires p.caller.stream es quiet)
 
 -- after the retires of a deletion
-pub ready_retires : (old new : StreamState) (p q : Place) (es : History) → Tells p q es → AllByRecursion IsRetire es → new.setting ≡ old.setting → new.last ≡ old.last → IsReady old p → IsReady new q
+pub ready_retires : (old new : StreamState) (p q : Place) (es : History) → Tells p q es → AllByRecursion IsRetire es
+    → new.setting ≡ old.setting → new.last ≡ old.last → IsReady old p → IsReady new q
 ready_retires old new p q es tells quiet setting last ready = record {
   at = subst (λ (c : Setting). IsPlaceOf c q) (sym setting) (still_at old.setting p q es ready.at tells);
-  vacant = subst (IsVacantAbove q) (sym last) (vacant_on p q es old.last tells (λ j none. run-retires-absent p.own es j quiet none) ready.vacant);
+  vacant = subst (IsVacantAbove q) (sym last)
+      (vacant_on p q es old.last tells (λ j none. run-retires-absent p.own es j quiet none) ready.vacant);
 }
 
 -- The place after a publish
 
-published_run : (m : State) (fetches : History) (c : Setting) (id : ℕ) (lits : List ℤ) → AllByRecursion IsFetch fetches → run m (fetches ++ published_by c id lits ∷ []) ≡ put m id (live (distinct lits))
-published_run m fetches c id lits quiet = run-append m fetches (published_by c id lits ∷ []) ∙ ap (λ (n : State). put n id (live (distinct lits))) (run-fetches m fetches quiet)
+published_run : (m : State) (fetches : History) (c : Setting) (id : ℕ) (lits : List ℤ) → AllByRecursion IsFetch fetches
+    → run m (fetches ++ published_by c id lits ∷ []) ≡ put m id (live (distinct lits))
+published_run m fetches c id lits quiet = run-append m fetches (published_by c id lits ∷ [])
+    ∙ ap (λ (n : State). put n id (live (distinct lits))) (run-fetches m fetches quiet)
 
-pub ready_publish : (old new : StreamState) (p q : Place) (es : History) (id : ℕ) (lits : List ℤ) → Tells p q es → MakesEvents old.setting id lits es (Ok tt) → new.setting ≡ old.setting → new.last ≡ id → old.last < id
-    → IsReady old p → IsReady new q
+pub ready_publish : (old new : StreamState) (p q : Place) (es : History) (id : ℕ) (lits : List ℤ) → Tells p q es
+    → MakesEvents old.setting id lits es (Ok tt) → new.setting ≡ old.setting → new.last ≡ id → old.last < id → IsReady old p → IsReady new q
 ready_publish old new p q es id lits tells made setting last above ready =
     let c = old.setting in
     let there : run p.own es ≡ put p.own id (live (distinct lits)) = ap (run p.own) made.2 ∙ published_run p.own made.0 c id lits made.1 in
@@ -97,15 +105,18 @@ ready_publish old new p q es id lits tells made setting last above ready =
       vacant = λ j theirs higher.
           let over : id < j = omega (arith, higher, last) in
           let other : j ≡ id → ⊥ = λ same. omega (arith, over, same) in
-          owned j theirs ∙ put-other p.own id (live (distinct lits)) j other ∙ ready.vacant j (own_before p q es j tells theirs) (omega (arith, over, above));
+          owned j theirs ∙ put-other p.own id (live (distinct lits)) j other
+          ∙ ready.vacant j (own_before p q es j tells theirs) (omega (arith, over, above));
     }
 
-pub room_publish : (old : StreamState) (p q : Place) (es : History) (id : ℕ) (lits : List ℤ) → IsPlaceOf old.setting p → Tells p q es → MakesEvents old.setting id lits es (Ok tt) → q.room ≡ p.room - length (distinct lits)
+pub room_publish : (old : StreamState) (p q : Place) (es : History) (id : ℕ) (lits : List ℤ) → IsPlaceOf old.setting p → Tells p q es
+    → MakesEvents old.setting id lits es (Ok tt) → q.room ≡ p.room - length (distinct lits)
 room_publish old p q es id lits at tells made =
     let e : Event = published_by old.setting id lits in
     let one : spent p.caller.stream (e ∷ []) ≡ length (distinct lits) = spent_one p.caller.stream e (sym at.stream) in
     let all : spent p.caller.stream es ≡ length (distinct lits) =
-    ap (spent p.caller.stream) made.2 ∙ spent-append p.caller.stream made.0 (e ∷ []) ∙ omega (arith, spent-fetches p.caller.stream made.0 made.1, one) in
+    ap (spent p.caller.stream) made.2 ∙ spent-append p.caller.stream made.0 (e ∷ [])
+    ∙ omega (arith, spent-fetches p.caller.stream made.0 made.1, one) in
     omega (arith, tells.room, all)
 
 -- What is held after a good line
@@ -134,9 +145,11 @@ pub record Adds (old new : StreamState) (id : ℕ) (is_empty within_cube : Bool)
   pub dropped : new.dropped ≡ old.dropped
   pub retired : new.retired ≡ old.retired
 
-pub takes_addition : (old new : StreamState) (free left : ℕ) (id : ℕ) (lits : List ℤ) (hints : List ℕ) (es : History) (is_empty within_cube : Bool) → Adds old new id is_empty within_cube
+pub takes_addition : (old new : StreamState) (free left : ℕ) (id : ℕ) (lits : List ℤ) (hints : List ℕ) (es : History)
+    (is_empty within_cube : Bool) → Adds old new id is_empty within_cube
     → is_empty ≡ (length lits == 0) → within_cube ≡ is_within old.setting.cube (distinct lits) → left ≡ free - length (distinct lits)
-    → JudgesAddition old.setting (standing_at old free) id lits hints es Good → TakesBy old free new left (Addition id lits hints) es (Ok tt)
+    → JudgesAddition old.setting (standing_at old free) id lits hints es Good
+    → TakesBy old free new left (Addition id lits hints) es (Ok tt)
 takes_addition old new free left id lits hints es is_empty within_cube adds is within room judged =
     let line : StreamLine = Addition id lits hints in (
       judged,
@@ -148,7 +161,8 @@ takes_addition old new free left id lits hints es is_empty within_cube adds is w
         standing = record {
           last = adds.last;
           free = omega (arith, room);
-          gone = λ j. ap (λ (d : DroppedValue). is_among d.ids j) adds.dropped ∙ none_gone (is_among old.dropped.ids j) (is_shared (side_of old.setting j));
+          gone = λ j. ap (λ (d : DroppedValue). is_among d.ids j) adds.dropped
+              ∙ none_gone (is_among old.dropped.ids j) (is_shared (side_of old.setting j));
         };
         pending = refl;
         line = adds.line;
@@ -165,7 +179,8 @@ pub record Counts (mid new : StreamState) : Type 0 where
   pub dropped : new.dropped ≡ mid.dropped
   pub retired : new.retired ≡ mid.retired
 
-pub takes_deletion : (old mid new : StreamState) (free left : ℕ) (lead : ℕ) (ids : List ℕ) (es : History) (count : ℕ) → KeepsLines old mid → Counts mid new → deleted_at mid ≡ capped (deleted_at old + count) → left ≡ free
+pub takes_deletion : (old mid new : StreamState) (free left : ℕ) (lead : ℕ) (ids : List ℕ) (es : History) (count : ℕ) → KeepsLines old mid
+    → Counts mid new → deleted_at mid ≡ capped (deleted_at old + count) → left ≡ free
     → Deletes old.setting old.dropped.ids mid.dropped.ids ids es count (Ok tt) → TakesBy old free new left (Deletion lead ids) es (Ok tt)
 takes_deletion old mid new free left lead ids es count kept counts more room deletes =
     let line : StreamLine = Deletion lead ids in (
@@ -200,7 +215,8 @@ takes_import old new free left id lits es counts room judged =
         standing = record {
           last = counts.last;
           free = omega (arith, room);
-          gone = λ j. ap (λ (d : DroppedValue). is_among d.ids j) counts.dropped ∙ none_gone (is_among old.dropped.ids j) (is_shared (side_of old.setting j));
+          gone = λ j. ap (λ (d : DroppedValue). is_among d.ids j) counts.dropped
+              ∙ none_gone (is_among old.dropped.ids j) (is_shared (side_of old.setting j));
         };
         pending = refl;
         line = counts.line;
@@ -216,23 +232,38 @@ still_ready mid new q setting last ready = record {
 
 -- What is held after a line that stopped
 
-pub deletes_more : (old mid : StreamState) (count : ℕ) → KeepsLines old mid → deleted_at mid ≡ capped (deleted_at old + count) → DeletesMore old mid count
-deletes_more old mid count kept more = record { added = kept.added; deleted = more; empty = kept.empty; within = kept.within; line = kept.line }
+pub deletes_more : (old mid : StreamState) (count : ℕ) → KeepsLines old mid → deleted_at mid ≡ capped (deleted_at old + count)
+    → DeletesMore old mid count
+deletes_more old mid count kept more = record {
+  added = kept.added;
+  deleted = more;
+  empty = kept.empty;
+  within = kept.within;
+  line = kept.line;
+}
 
-pub stops_deletion : (old mid : StreamState) (free left : ℕ) (lead : ℕ) (ids : List ℕ) (es : History) (count : ℕ) (stop : LineStop) → KeepsLines old mid → deleted_at mid ≡ capped (deleted_at old + count)
-    → Deletes old.setting old.dropped.ids mid.dropped.ids ids es count (Err stop) → TakesBy old free mid left (Deletion lead ids) es (Err stop)
-stops_deletion old mid free left lead ids es count (stops.Bad fault) kept more deletes = (count, deletes, deletes_more old mid count kept more)
+pub stops_deletion : (old mid : StreamState) (free left : ℕ) (lead : ℕ) (ids : List ℕ) (es : History) (count : ℕ) (stop : LineStop)
+    → KeepsLines old mid → deleted_at mid ≡ capped (deleted_at old + count)
+    → Deletes old.setting old.dropped.ids mid.dropped.ids ids es count (Err stop)
+    → TakesBy old free mid left (Deletion lead ids) es (Err stop)
+stops_deletion old mid free left lead ids es count (stops.Bad fault) kept more deletes =
+    (count, deletes, deletes_more old mid count kept more)
 stops_deletion old mid free left lead ids es count stops.Memory kept more deletes =
     (lead, ids, deletes.0, refl, deletes.2, deletes_more old mid (length deletes.0) kept (omega (arith, more, deletes.1)))
 
 pub stops_addition : (old : StreamState) (free left : ℕ) (id : ℕ) (lits : List ℤ) (hints : List ℕ) (es : History) (fault : Fault)
-    → JudgesAddition old.setting (standing_at old free) id lits hints es (Bad 0 fault) → TakesBy old free old left (Addition id lits hints) es (Err (stops.Bad fault))
-stops_addition old free left id lits hints es fault judged = (0, judged, record { added = refl; deleted = omega arith; empty = refl; within = refl; line = refl })
+    → JudgesAddition old.setting (standing_at old free) id lits hints es (Bad 0 fault)
+    → TakesBy old free old left (Addition id lits hints) es (Err (stops.Bad fault))
+stops_addition old free left id lits hints es fault judged =
+    (0, judged, record { added = refl; deleted = omega arith; empty = refl; within = refl; line = refl })
 
 pub stops_import : (old : StreamState) (free left : ℕ) (id : ℕ) (lits : List ℤ) (es : History) (fault : Fault)
-    → JudgesImport old.setting (standing_at old free) id lits es (Bad 0 fault) → TakesBy old free old left (Import id lits) es (Err (stops.Bad fault))
-stops_import old free left id lits es fault judged = (0, judged, record { added = refl; deleted = omega arith; empty = refl; within = refl; line = refl })
+    → JudgesImport old.setting (standing_at old free) id lits es (Bad 0 fault)
+    → TakesBy old free old left (Import id lits) es (Err (stops.Bad fault))
+stops_import old free left id lits es fault judged =
+    (0, judged, record { added = refl; deleted = omega arith; empty = refl; within = refl; line = refl })
 
 -- a good addition's identity is above the last one
-pub above_last : (c : Setting) (st : Standing) (id : ℕ) (lits : List ℤ) (hints : List ℕ) (es : History) → JudgesAddition c st id lits hints es Good → st.last < id
+pub above_last : (c : Setting) (st : Standing) (id : ℕ) (lits : List ℤ) (hints : List ℕ) (es : History)
+    → JudgesAddition c st id lits hints es Good → st.last < id
 above_last c st id lits hints es j = elim j [ inl bad ↦ absurd (let e : Good ≡ Bad 0 _ = bad.1.1 in cc) | inr next ↦ next.0.1 ]

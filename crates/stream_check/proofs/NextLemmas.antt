@@ -14,7 +14,8 @@ use Rattle.stream_check.specs.Laws.{GoAlike, BlocksGoAlike}
 use Rattle.stream_check.specs.ReportLemmas.{split_first}
 use Rattle.stream_check.proofs.ForkLemmas.{never_fork_alone}
 use Rattle.stream_check.proofs.AgreeLemmas.{line_agrees}
-use Rattle.stream_check.proofs.StreamLemmas.{TextLaws, EndsWithout, same_first, faulty_has_no_line, out_of_memory, ends_not_good, behind_one}
+use Rattle.stream_check.proofs.StreamLemmas.{TextLaws, EndsWithout, same_first, faulty_has_no_line, out_of_memory, ends_not_good}
+use Rattle.stream_check.proofs.StreamLemmas.{behind_one}
 
 -- the text begins with a line, of whose events the first block is
 record HasNext (c : Setting) (st : Standing) (text : List ℕ) (blocks : List History) : Type 0 where
@@ -34,14 +35,27 @@ Next c st text blocks = HasNext c st text blocks ⊎ ((blocks ≡ []) × HasNoLi
 
 next_at_end : TextLaws → (c : Setting) (lines : List StreamLine) (rest : List ℕ) (end : StreamEnd) (back : List History) (report : Report)
     → EndsWithout c lines rest end back report → Next c (standing_of c lines) rest back
-next_at_end laws c lines rest end back report (at_memory _ _ _ _ _ _ _ earlier _ says, no_memory) = absurd (no_memory (out_of_memory c lines (length earlier) report says))
+next_at_end laws c lines rest end back report (at_memory _ _ _ _ _ _ _ earlier _ says, no_memory) =
+    absurd (no_memory (out_of_memory c lines (length earlier) report says))
 next_at_end laws c lines rest end back report (at_bad_line line more text fits block one_block deleted fault bad says, no_memory) =
-    inl (record { line = line; more = more; fits = fits; is = text; block = block; later = []; first = one_block; verdict = Bad deleted fault; judged = bad })
-next_at_end laws c lines rest end back report (at_bad_text fault text no_block says, no_memory) = inr (no_block, faulty_has_no_line laws rest fault text)
+    inl (record {
+      line = line;
+      more = more;
+      fits = fits;
+      is = text;
+      block = block;
+      later = [];
+      first = one_block;
+      verdict = Bad deleted fault;
+      judged = bad;
+    })
+next_at_end laws c lines rest end back report (at_bad_text fault text no_block says, no_memory) =
+    inr (no_block, faulty_has_no_line laws rest fault text)
 next_at_end laws c lines rest end back report (at_end pending no_block says, no_memory) = inr (no_block, pending.whole)
 
 -- what comes after good lines
-next_of : TextLaws → (c : Setting) (before lines all : List StreamLine) (rest : List ℕ) (end : StreamEnd) (front back : List History) (report : Report)
+next_of : TextLaws
+    → (c : Setting) (before lines all : List StreamLine) (rest : List ℕ) (end : StreamEnd) (front back : List History) (report : Report)
     → all ≡ before ++ lines → AllByRecursion IsWithinLimits lines → AreGood c before lines front → EndsWithout c all rest end back report
     → Next c (standing_of c before) (flat_map line_text lines ++ rest) (front ++ back)
 next_of laws c before [] all rest end [] back report is fits good ends =
@@ -49,10 +63,21 @@ next_of laws c before [] all rest end [] back report is fits good ends =
 next_of laws c before [] all rest end (b ∷ front) back report is fits good ends = absurd good
 next_of laws c before (l ∷ lines) all rest end [] back report is fits good ends = absurd good
 next_of laws c before (l ∷ lines) all rest end (b ∷ front) back report is fits good ends =
-    inl (record { line = l; more = flat_map line_text lines ++ rest; fits = fits.0; is = split_first l lines rest; block = b; later = front ++ back; first = refl; verdict = Good; judged = good.0 })
+    inl (record {
+      line = l;
+      more = flat_map line_text lines ++ rest;
+      fits = fits.0;
+      is = split_first l lines rest;
+      block = b;
+      later = front ++ back;
+      first = refl;
+      verdict = Good;
+      judged = good.0;
+    })
 
 -- after the same text two such go on alike
-next_alike : TextLaws → (c : Setting) (st : Standing) (text : List ℕ) (xs ys : List History) → Next c st text xs → Next c st text ys → GoAlike xs ys
+next_alike : TextLaws → (c : Setting) (st : Standing) (text : List ℕ) (xs ys : List History) → Next c st text xs
+    → Next c st text ys → GoAlike xs ys
 next_alike laws c st text xs ys (inl a) (inl b) =
     let same = same_first laws a.line b.line a.more b.more a.fits b.fits (sym a.is ∙ b.is) in
     let judged = subst (λ l. JudgesLine c st l a.block a.verdict) same.0 a.judged in
@@ -64,19 +89,27 @@ next_alike laws c st text xs ys (inr a) (inr b) =
     subst (λ (bs : List History). GoAlike bs ys) (sym a.0) (subst (λ (bs : List History). GoAlike [] bs) (sym b.0) tt)
 
 -- where no line is good any more there is one block at most
-none_behind : TextLaws → (c : Setting) (lines : List StreamLine) (rest : List ℕ) (end : StreamEnd) (p : History) (back pre xs : List History) (report : Report)
+none_behind : TextLaws
+    → (c : Setting) (lines : List StreamLine) (rest : List ℕ) (end : StreamEnd) (p : History) (back pre xs : List History) (report : Report)
     → EndsWithout c lines rest end back report → p ∷ (pre ++ xs) ≡ back → xs ≡ []
-none_behind laws c lines rest end p back pre xs report (at_memory _ _ _ _ _ _ _ earlier _ says, no_memory) is = absurd (no_memory (out_of_memory c lines (length earlier) report says))
-none_behind laws c lines rest end p back [] xs report (at_bad_line line more text fits block one_block deleted fault bad says, no_memory) is =
+none_behind laws c lines rest end p back pre xs report (at_memory _ _ _ _ _ _ _ earlier _ says, no_memory) is =
+    absurd (no_memory (out_of_memory c lines (length earlier) report says))
+none_behind laws c lines rest end p back [] xs report
+    (at_bad_line line more text fits block one_block deleted fault bad says, no_memory) is =
     let e : p ∷ xs ≡ block ∷ [] = is ∙ one_block in cc
-none_behind laws c lines rest end p back (b ∷ pre) xs report (at_bad_line line more text fits block one_block deleted fault bad says, no_memory) is =
+none_behind laws c lines rest end p back (b ∷ pre) xs report
+    (at_bad_line line more text fits block one_block deleted fault bad says, no_memory) is =
     let e : p ∷ (b ∷ (pre ++ xs)) ≡ block ∷ [] = is ∙ one_block in absurd (cc)
-none_behind laws c lines rest end p back pre xs report (at_bad_text fault text no_block says, no_memory) is = let e : p ∷ (pre ++ xs) ≡ [] = is ∙ no_block in absurd (cc)
-none_behind laws c lines rest end p back pre xs report (at_end pending no_block says, no_memory) is = let e : p ∷ (pre ++ xs) ≡ [] = is ∙ no_block in absurd (cc)
+none_behind laws c lines rest end p back pre xs report (at_bad_text fault text no_block says, no_memory) is =
+    let e : p ∷ (pre ++ xs) ≡ [] = is ∙ no_block in absurd (cc)
+none_behind laws c lines rest end p back pre xs report (at_end pending no_block says, no_memory) is =
+    let e : p ∷ (pre ++ xs) ≡ [] = is ∙ no_block in absurd (cc)
 
 -- what ends the stream isn't a line that was good with the same block
-not_both : TextLaws → (c : Setting) (before all : List StreamLine) (rest : List ℕ) (end : StreamEnd) (p : History) (back pre xs : List History) (report : Report) (o : StreamLine) (more : List ℕ)
-    → all ≡ before ++ [] → EndsWithout c all rest end back report → p ∷ (pre ++ xs) ≡ back → IsWithinLimits o → rest ≡ line_text o ++ more → JudgesLine c (standing_of c before) o p Good → ⊥
+not_both : TextLaws → (c : Setting) (before all : List StreamLine) (rest : List ℕ) (end : StreamEnd) (p : History)
+    (back pre xs : List History) (report : Report) (o : StreamLine) (more : List ℕ)
+    → all ≡ before ++ [] → EndsWithout c all rest end back report → p ∷ (pre ++ xs) ≡ back → IsWithinLimits o → rest ≡ line_text o ++ more
+    → JudgesLine c (standing_of c before) o p Good → ⊥
 not_both laws c before all rest end p back pre xs report o more is ends split fits text good =
     let here = subst (λ ls. EndsWithout c ls rest end back report) (is ∙ append-nil before) ends in
     ends_not_good laws c before rest more end back report o p (joined (pre ++ xs)) here fits text good
@@ -90,28 +123,40 @@ go_alike : TextLaws → (c : Setting) (end : StreamEnd) (before lines others all
     → AreGood c before lines front → AreGood c before others fore
     → EndsWithout c all rest end back report → EndsWithout c both left end aft other
     → pre ++ xs ≡ front ++ back → pre ++ ys ≡ fore ++ aft → GoAlike xs ys
-go_alike laws c end before lines others all both rest left front back fore aft [] xs ys report other is also text fit fits good fine ends stops split also_split =
+go_alike laws c end before lines others all both rest left front back fore aft [] xs ys report other is also text fit fits good fine ends
+    stops split also_split =
     next_alike laws c (standing_of c before) (flat_map line_text others ++ left) xs ys
     (subst (λ (bs : List History). Next c (standing_of c before) (flat_map line_text others ++ left) bs) (sym split)
-    (subst (λ t. Next c (standing_of c before) t (front ++ back)) text (next_of laws c before lines all rest end front back report is fit good ends)))
+    (subst (λ t. Next c (standing_of c before) t (front ++ back)) text
+    (next_of laws c before lines all rest end front back report is fit good ends)))
     (subst (λ (bs : List History). Next c (standing_of c before) (flat_map line_text others ++ left) bs) (sym also_split)
     (next_of laws c before others both left end fore aft other also fits fine stops))
-go_alike laws c end before [] [] all both rest left [] back [] aft (p ∷ pre) xs ys report other is also text fit fits good fine ends stops split also_split =
+go_alike laws c end before [] [] all both rest left [] back [] aft
+    (p ∷ pre) xs ys report other is also text fit fits good fine ends stops split also_split =
     subst (λ (bs : List History). GoAlike bs ys) (sym (none_behind laws c all rest end p back pre xs report ends split))
     (subst (λ (bs : List History). GoAlike [] bs) (sym (none_behind laws c both left end p aft pre ys other stops also_split)) tt)
-go_alike laws c end before [] others all both rest left (b ∷ front) back fore aft (p ∷ pre) xs ys report other is also text fit fits good fine ends stops split also_split = absurd good
-go_alike laws c end before lines [] all both rest left front back (b ∷ fore) aft (p ∷ pre) xs ys report other is also text fit fits good fine ends stops split also_split = absurd fine
-go_alike laws c end before (l ∷ lines) others all both rest left [] back fore aft (p ∷ pre) xs ys report other is also text fit fits good fine ends stops split also_split = absurd good
-go_alike laws c end before lines (o ∷ others) all both rest left front back [] aft (p ∷ pre) xs ys report other is also text fit fits good fine ends stops split also_split = absurd fine
-go_alike laws c end before [] (o ∷ others) all both rest left [] back (d ∷ fore) aft (p ∷ pre) xs ys report other is also text fit fits good fine ends stops split also_split =
+go_alike laws c end before [] others all both rest left (b ∷ front) back fore aft
+    (p ∷ pre) xs ys report other is also text fit fits good fine ends stops split also_split = absurd good
+go_alike laws c end before lines [] all both rest left front back (b ∷ fore) aft
+    (p ∷ pre) xs ys report other is also text fit fits good fine ends stops split also_split = absurd fine
+go_alike laws c end before (l ∷ lines) others all both rest left [] back fore aft
+    (p ∷ pre) xs ys report other is also text fit fits good fine ends stops split also_split = absurd good
+go_alike laws c end before lines (o ∷ others) all both rest left front back [] aft
+    (p ∷ pre) xs ys report other is also text fit fits good fine ends stops split also_split = absurd fine
+go_alike laws c end before [] (o ∷ others) all both rest left [] back (d ∷ fore) aft
+    (p ∷ pre) xs ys report other is also text fit fits good fine ends stops split also_split =
     let same : d ≡ p = cc in
-    absurd (not_both laws c before all rest end p back pre xs report o (flat_map line_text others ++ left) is ends split fits.0 (text ∙ split_first o others left)
+    absurd (not_both laws c before all rest end p back pre xs report o (flat_map line_text others ++ left) is ends split fits.0
+    (text ∙ split_first o others left)
     (subst (λ (x : History). JudgesLine c (standing_of c before) o x Good) same fine.0))
-go_alike laws c end before (l ∷ lines) [] all both rest left (b ∷ front) back [] aft (p ∷ pre) xs ys report other is also text fit fits good fine ends stops split also_split =
+go_alike laws c end before (l ∷ lines) [] all both rest left (b ∷ front) back [] aft
+    (p ∷ pre) xs ys report other is also text fit fits good fine ends stops split also_split =
     let same : b ≡ p = cc in
-    absurd (not_both laws c before both left end p aft pre ys other l (flat_map line_text lines ++ rest) also stops also_split fit.0 (sym text ∙ split_first l lines rest)
+    absurd (not_both laws c before both left end p aft pre ys other l (flat_map line_text lines ++ rest) also stops also_split fit.0
+    (sym text ∙ split_first l lines rest)
     (subst (λ (x : History). JudgesLine c (standing_of c before) l x Good) same good.0))
-go_alike laws c end before (l ∷ lines) (o ∷ others) all both rest left (b ∷ front) back (d ∷ fore) aft (p ∷ pre) xs ys report other is also text fit fits good fine ends stops split also_split =
+go_alike laws c end before (l ∷ lines) (o ∷ others) all both rest left (b ∷ front) back (d ∷ fore) aft
+    (p ∷ pre) xs ys report other is also text fit fits good fine ends stops split also_split =
     let same = same_first laws l o (flat_map line_text lines ++ rest) (flat_map line_text others ++ left) fit.0 fits.0
     (sym (split_first l lines rest) ∙ text ∙ split_first o others left) in
     let tail : pre ++ xs ≡ front ++ back = cc in

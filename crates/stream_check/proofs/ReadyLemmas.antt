@@ -23,7 +23,8 @@ ready_new f layout cube stream tries v p new fits caller own = record {
 
 pub ready_stays : VacantAboveStays → ReadyStays
 ready_stays law v p q es ready same legal others own =
-    let before : (id : ℕ) → Owns q.caller.layout q.caller.stream id → Owns p.caller.layout p.caller.stream id = λ id owns. subst (λ (c : Caller). Owns c.layout c.stream id) same owns in
+    let before : (id : ℕ) → Owns q.caller.layout q.caller.stream id → Owns p.caller.layout p.caller.stream id =
+    λ id owns. subst (λ (c : Caller). Owns c.layout c.stream id) same owns in
     record {
       at = record {
         layout = ap (λ (c : Caller). c.layout) same ∙ ready.at.layout;

@@ -45,16 +45,20 @@ same_text : TextLaws → (l o : StreamLine) → IsWithinLimits l → IsWithinLim
 same_text laws l o a b e = laws.line l o (line_text l) (a, refl) (b, e)
 
 -- bytes begin with the text of one line at most
-pub same_first : TextLaws → (l o : StreamLine) (m n : List ℕ) → IsWithinLimits l → IsWithinLimits o → line_text l ++ m ≡ line_text o ++ n → (l ≡ o) × (m ≡ n)
+pub same_first : TextLaws → (l o : StreamLine) (m n : List ℕ) → IsWithinLimits l → IsWithinLimits o → line_text l ++ m ≡ line_text o ++ n
+    → (l ≡ o) × (m ≡ n)
 same_first laws l o m n a b e =
     let same : line_text l ≡ line_text o = elim (one_begins (line_text l) (line_text o) m n e) [
-      | inl longer ↦ sym (longer.1 ∙ ap (λ x. line_text l ++ x) (laws.begins l o (line_text l) (line_text o) longer.0 (a, refl) (b, refl) longer.1) ∙ append-nil (line_text l))
-      | inr longer ↦ longer.1 ∙ ap (λ x. line_text o ++ x) (laws.begins o l (line_text o) (line_text l) longer.0 (b, refl) (a, refl) longer.1) ∙ append-nil (line_text o)
+      | inl longer ↦ sym (longer.1 ∙ ap (λ x. line_text l ++ x) (laws.begins l o (line_text l) (line_text o) longer.0 (a, refl)
+          (b, refl) longer.1) ∙ append-nil (line_text l))
+      | inr longer ↦ longer.1 ∙ ap (λ x. line_text o ++ x) (laws.begins o l (line_text o) (line_text l) longer.0 (b, refl)
+          (a, refl) longer.1) ∙ append-nil (line_text o)
     ] in
     (same_text laws l o a b same, append_cancel_left (line_text o) m n (subst (λ t. t ++ m ≡ line_text o ++ n) same e))
 
 -- a line that begins with what was read goes on with the byte
-goes_on : (read : List ℕ) (byte : ℕ) (after more text x : List ℕ) → IsLine standard text → text ≡ read ++ x → read ++ (byte ∷ after) ≡ text ++ more → (text ≡ read) ⊎ Begins (read ++ byte ∷ [])
+goes_on : (read : List ℕ) (byte : ℕ) (after more text x : List ℕ) → IsLine standard text → text ≡ read ++ x
+    → read ++ (byte ∷ after) ≡ text ++ more → (text ≡ read) ⊎ Begins (read ++ byte ∷ [])
 goes_on read byte after more text [] whole e split = inl (e ∙ append-nil read)
 goes_on read byte after more text (y ∷ x) whole e split =
     let tails : byte ∷ after ≡ (y ∷ x) ++ more = append_cancel_left read (byte ∷ after) ((y ∷ x) ++ more)
@@ -89,11 +93,16 @@ pub out_of_memory : (c : Setting) (lines : List StreamLine) (deleted : ℕ) (rep
     → report ≡ report_of c lines deleted (endings.Memory (capped (length lines + 1))) → IsOfMemory report
 out_of_memory c lines deleted report says = (capped (length lines + 1), ap (λ (r : Report). r.ending) says)
 
-ends_agree : TextLaws → (c : Setting) (lines : List StreamLine) (rest : List ℕ) (end : StreamEnd) (back aft : List History) (report other : Report)
-    → EndsWithout c lines rest end back report → EndsWithout c lines rest end aft other → NeverFork (joined back) (joined aft) → (back ≡ aft) × (report ≡ other)
-ends_agree laws c lines rest end back aft report other (at_memory _ _ _ _ _ _ _ earlier _ says, no_memory) b never = absurd (no_memory (out_of_memory c lines (length earlier) report says))
-ends_agree laws c lines rest end back aft report other a (at_memory _ _ _ _ _ _ _ earlier _ says, none) never = absurd (none (out_of_memory c lines (length earlier) other says))
-ends_agree laws c lines rest end back aft report other (at_bad_line line more text fits block one_block deleted fault bad says, no_memory) (at_bad_line like much words fit events all_one gone wrong fails told, none) never =
+ends_agree : TextLaws
+    → (c : Setting) (lines : List StreamLine) (rest : List ℕ) (end : StreamEnd) (back aft : List History) (report other : Report)
+    → EndsWithout c lines rest end back report → EndsWithout c lines rest end aft other → NeverFork (joined back) (joined aft)
+    → (back ≡ aft) × (report ≡ other)
+ends_agree laws c lines rest end back aft report other (at_memory _ _ _ _ _ _ _ earlier _ says, no_memory) b never =
+    absurd (no_memory (out_of_memory c lines (length earlier) report says))
+ends_agree laws c lines rest end back aft report other a (at_memory _ _ _ _ _ _ _ earlier _ says, none) never =
+    absurd (none (out_of_memory c lines (length earlier) other says))
+ends_agree laws c lines rest end back aft report other (at_bad_line line more text fits block one_block deleted fault bad says, no_memory)
+    (at_bad_line like much words fit events all_one gone wrong fails told, none) never =
     let same = same_first laws line like more much fits fit (sym text ∙ words) in
     let here = subst (λ x. NeverFork (joined x) (events ++ [])) one_block (subst (λ x. NeverFork (joined back) (joined x)) all_one never) in
     let judged = subst (λ l. JudgesLine c (standing_of c lines) l block (Bad deleted fault)) same.0 bad in
@@ -105,30 +114,44 @@ ends_agree laws c lines rest end back aft report other (at_bad_line line more te
       says ∙ ap (λ d. report_of c lines d (endings.Bad (capped (length lines + 1)) fault)) same_deleted
           ∙ ap (λ f. report_of c lines gone (endings.Bad (capped (length lines + 1)) f)) same_fault ∙ sym told,
     )
-ends_agree laws c lines rest end back aft report other (at_bad_line line more text fits block one_block deleted fault bad says, no_memory) (at_bad_text wrong words no_block told, none) never =
+ends_agree laws c lines rest end back aft report other (at_bad_line line more text fits block one_block deleted fault bad says, no_memory)
+    (at_bad_text wrong words no_block told, none) never =
     absurd (faulty_has_no_line laws rest wrong words line more fits text)
-ends_agree laws c lines rest end back aft report other (at_bad_line line more text fits block one_block deleted fault bad says, no_memory) (at_end pending no_block told, none) never =
+ends_agree laws c lines rest end back aft report other (at_bad_line line more text fits block one_block deleted fault bad says, no_memory)
+    (at_end pending no_block told, none) never =
     absurd (pending.whole line more fits text)
-ends_agree laws c lines rest end back aft report other (at_bad_text fault text no_block says, no_memory) (at_bad_line like much words fit events all_one gone wrong fails told, none) never =
+ends_agree laws c lines rest end back aft report other (at_bad_text fault text no_block says, no_memory)
+    (at_bad_line like much words fit events all_one gone wrong fails told, none) never =
     absurd (faulty_has_no_line laws rest fault text like much fit words)
-ends_agree laws c lines rest end back aft report other (at_end pending no_block says, no_memory) (at_bad_line like much words fit events all_one gone wrong fails told, none) never =
+ends_agree laws c lines rest end back aft report other (at_end pending no_block says, no_memory)
+    (at_bad_line like much words fit events all_one gone wrong fails told, none) never =
     absurd (pending.whole like much fit words)
-ends_agree laws c lines rest end back aft report other (at_bad_text fault text no_block says, no_memory) (at_bad_text wrong words no_more told, none) never = (
-  no_block ∙ sym no_more,
-  says ∙ ap (λ f. report_of c lines 0 (endings.Bad (capped (length lines + 1)) (faults.Text f))) ((laws.fault rest fault wrong text).0 words) ∙ sym told,
-)
-ends_agree laws c lines rest end back aft report other (at_bad_text fault text no_block says, no_memory) (at_end pending no_more told, none) never = absurd ((laws.fault rest fault fault text).1 pending.begins)
-ends_agree laws c lines rest end back aft report other (at_end pending no_block says, no_memory) (at_bad_text wrong words no_more told, none) never = absurd ((laws.fault rest wrong wrong words).1 pending.begins)
-ends_agree laws c lines rest end back aft report other (at_end pending no_block says, no_memory) (at_end waiting no_more told, none) never = (no_block ∙ sym no_more, says ∙ sym told)
+ends_agree laws c lines rest end back aft report other (at_bad_text fault text no_block says, no_memory)
+    (at_bad_text wrong words no_more told, none) never = (
+      no_block ∙ sym no_more,
+      says ∙ ap (λ f. report_of c lines 0 (endings.Bad (capped (length lines + 1)) (faults.Text f)))
+          ((laws.fault rest fault wrong text).0 words) ∙ sym told,
+    )
+ends_agree laws c lines rest end back aft report other (at_bad_text fault text no_block says, no_memory)
+    (at_end pending no_more told, none) never = absurd ((laws.fault rest fault fault text).1 pending.begins)
+ends_agree laws c lines rest end back aft report other (at_end pending no_block says, no_memory)
+    (at_bad_text wrong words no_more told, none) never = absurd ((laws.fault rest wrong wrong words).1 pending.begins)
+ends_agree laws c lines rest end back aft report other (at_end pending no_block says, no_memory) (at_end waiting no_more told, none) never =
+    (no_block ∙ sym no_more, says ∙ sym told)
 
 -- a stream doesn't end at a line that is good
-pub ends_not_good : TextLaws → (c : Setting) (lines : List StreamLine) (rest more : List ℕ) (end : StreamEnd) (back : List History) (report : Report) (line : StreamLine) (block r : History)
-    → EndsWithout c lines rest end back report → IsWithinLimits line → rest ≡ line_text line ++ more → JudgesLine c (standing_of c lines) line block Good
-    → NeverFork (joined back) (block ++ r) → ⊥
-ends_not_good laws c lines rest more end back report line block r (at_memory _ _ _ _ _ _ _ earlier _ says, no_memory) fits text good never = no_memory (out_of_memory c lines (length earlier) report says)
-ends_not_good laws c lines rest more end back report line block r (at_bad_text fault words no_block says, no_memory) fits text good never = faulty_has_no_line laws rest fault words line more fits text
-ends_not_good laws c lines rest more end back report line block r (at_end pending no_block says, no_memory) fits text good never = pending.whole line more fits text
-ends_not_good laws c lines rest more end back report line block r (at_bad_line like much words fit events one_block deleted fault bad says, no_memory) fits text good never =
+pub ends_not_good : TextLaws → (c : Setting) (lines : List StreamLine) (rest more : List ℕ) (end : StreamEnd) (back : List History)
+    (report : Report) (line : StreamLine) (block r : History)
+    → EndsWithout c lines rest end back report → IsWithinLimits line → rest ≡ line_text line ++ more
+    → JudgesLine c (standing_of c lines) line block Good → NeverFork (joined back) (block ++ r) → ⊥
+ends_not_good laws c lines rest more end back report line block r (at_memory _ _ _ _ _ _ _ earlier _ says, no_memory) fits text good never =
+    no_memory (out_of_memory c lines (length earlier) report says)
+ends_not_good laws c lines rest more end back report line block r (at_bad_text fault words no_block says, no_memory) fits text good never =
+    faulty_has_no_line laws rest fault words line more fits text
+ends_not_good laws c lines rest more end back report line block r (at_end pending no_block says, no_memory) fits text good never =
+    pending.whole line more fits text
+ends_not_good laws c lines rest more end back report line block r
+    (at_bad_line like much words fit events one_block deleted fault bad says, no_memory) fits text good never =
     let same = same_first laws like line much more fit fits (sym words ∙ text) in
     let judged = subst (λ l. JudgesLine c (standing_of c lines) l events (Bad deleted fault)) same.0 bad in
     let here = subst (λ x. NeverFork (joined x) (block ++ r)) one_block never in
@@ -136,7 +159,8 @@ ends_not_good laws c lines rest more end back report line block r (at_bad_line l
     let verdict = agree.verdict in cc
 
 -- one line moves from the lines to those before them
-pub behind_one : (before : List StreamLine) (line : StreamLine) (lines all : List StreamLine) → all ≡ before ++ (line ∷ lines) → all ≡ (before ++ line ∷ []) ++ lines
+pub behind_one : (before : List StreamLine) (line : StreamLine) (lines all : List StreamLine) → all ≡ before ++ (line ∷ lines)
+    → all ≡ (before ++ line ∷ []) ++ lines
 behind_one before line lines all e = e ∙ sym (append_assoc before (line ∷ []) lines)
 
 -- the good lines, their blocks, what comes after, and the report are the same
@@ -154,26 +178,36 @@ streams_agree laws c end before [] [] all both rest left [] back [] aft report o
     let agree = ends_agree laws c both left end back aft report other
     (subst (λ r. EndsWithout c both r end back report) text (subst (λ ls. EndsWithout c ls rest end back report) same ends)) stops never in
     (refl, agree.0, agree.1)
-streams_agree laws c end before [] others all both rest left (b ∷ front) back fore aft report other is also text fit fits good fine ends stops never = absurd good
-streams_agree laws c end before lines [] all both rest left front back (b ∷ fore) aft report other is also text fit fits good fine ends stops never = absurd fine
-streams_agree laws c end before (l ∷ lines) others all both rest left [] back fore aft report other is also text fit fits good fine ends stops never = absurd good
-streams_agree laws c end before lines (o ∷ others) all both rest left front back [] aft report other is also text fit fits good fine ends stops never = absurd fine
-streams_agree laws c end before [] (o ∷ others) all both rest left [] back (b ∷ fore) aft report other is also text fit fits good fine ends stops never =
+streams_agree laws c end before [] others all both rest left
+    (b ∷ front) back fore aft report other is also text fit fits good fine ends stops never = absurd good
+streams_agree laws c end before lines [] all both rest left front back
+    (b ∷ fore) aft report other is also text fit fits good fine ends stops never = absurd fine
+streams_agree laws c end before (l ∷ lines) others all both rest left [] back fore aft report other is also text fit fits good fine ends
+    stops never = absurd good
+streams_agree laws c end before lines
+    (o ∷ others) all both rest left front back [] aft report other is also text fit fits good fine ends stops never = absurd fine
+streams_agree laws c end before [] (o ∷ others) all both rest left [] back
+    (b ∷ fore) aft report other is also text fit fits good fine ends stops never =
     let here = subst (λ ls. EndsWithout c ls rest end back report) (is ∙ append-nil before) ends in
     absurd (ends_not_good laws c before rest (flat_map line_text others ++ left) end back report o b (joined fore ++ joined aft)
-    here fits.0 (text ∙ split_first o others left) fine.0 (subst (λ e. NeverFork (joined back) e) (append_assoc b (joined fore) (joined aft)) never))
-streams_agree laws c end before (l ∷ lines) [] all both rest left (b ∷ front) back [] aft report other is also text fit fits good fine ends stops never =
+    here fits.0 (text ∙ split_first o others left) fine.0
+    (subst (λ e. NeverFork (joined back) e) (append_assoc b (joined fore) (joined aft)) never))
+streams_agree laws c end before (l ∷ lines) [] all both rest left
+    (b ∷ front) back [] aft report other is also text fit fits good fine ends stops never =
     let here = subst (λ ls. EndsWithout c ls left end aft other) (also ∙ append-nil before) stops in
     absurd (ends_not_good laws c before left (flat_map line_text lines ++ rest) end aft other l b (joined front ++ joined back)
     here fit.0 (sym text ∙ split_first l lines rest) good.0
-    (subst (λ e. NeverFork (joined aft) e) (append_assoc b (joined front) (joined back)) (never_fork_turned ((b ++ joined front) ++ joined back) (joined aft) never)))
-streams_agree laws c end before (l ∷ lines) (o ∷ others) all both rest left (b ∷ front) back (d ∷ fore) aft report other is also text fit fits good fine ends stops never =
+    (subst (λ e. NeverFork (joined aft) e) (append_assoc b (joined front) (joined back))
+    (never_fork_turned ((b ++ joined front) ++ joined back) (joined aft) never)))
+streams_agree laws c end before (l ∷ lines) (o ∷ others) all both rest left (b ∷ front) back
+    (d ∷ fore) aft report other is also text fit fits good fine ends stops never =
     let same = same_first laws l o (flat_map line_text lines ++ rest) (flat_map line_text others ++ left) fit.0 fits.0
     (sym (split_first l lines rest) ∙ text ∙ split_first o others left) in
     let here = subst (λ e. NeverFork e (d ++ (joined fore ++ joined aft))) (append_assoc b (joined front) (joined back))
     (subst (λ e. NeverFork ((b ++ joined front) ++ joined back) e) (append_assoc d (joined fore) (joined aft)) never) in
     let first = subst (λ x. JudgesLine c (standing_of c before) x b Good) same.0 good.0 in
-    let agree = line_agrees c (standing_of c before) o b d (joined front ++ joined back) (joined fore ++ joined aft) Good Good first fine.0 here in
+    let agree =
+    line_agrees c (standing_of c before) o b d (joined front ++ joined back) (joined fore ++ joined aft) Good Good first fine.0 here in
     let later = never_fork_behind d (joined front ++ joined back) (joined fore ++ joined aft)
     (subst (λ e. NeverFork (e ++ (joined front ++ joined back)) (d ++ (joined fore ++ joined aft))) agree.events here) in
     let step = streams_agree laws c end (before ++ o ∷ []) lines others all both rest left front back fore aft report other
@@ -193,4 +227,5 @@ replies_decide laws c bytes end blocks others report other never a b no_memory n
 
 pub one_report : TextLaws → OneReport
 one_report laws c bytes end blocks others report other same a b no_memory none =
-    replies_decide laws c bytes end blocks others report other (subst (λ e. NeverFork (joined blocks) e) same (never_fork_alone (joined blocks))) a b no_memory none
+    replies_decide laws c bytes end blocks others report other
+    (subst (λ e. NeverFork (joined blocks) e) same (never_fork_alone (joined blocks))) a b no_memory none

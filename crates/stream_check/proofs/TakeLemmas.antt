@@ -20,7 +20,9 @@ use Rattle.stream_check.specs.Laws.{GoodLineTaken}
 use Rattle.stream_check.proofs.LeavingLemmas.{pending_grows, bad_line_taken, bad_text_read, memory_wanted}
 
 -- the report after a line that stopped: what it deleted is counted already
-report_is : (old new : StreamState) (count : ℕ) (ending : ℕ → Ending) → DeletesMore old new count → report_of_tally (record (tally_at old) { deleted = capped ((tally_at old).deleted + count) }) (ending old.line) ≡ report_of_tally (tally_at new) (ending new.line)
+report_is : (old new : StreamState) (count : ℕ) (ending : ℕ → Ending) → DeletesMore old new count
+    → report_of_tally (record (tally_at old) { deleted = capped ((tally_at old).deleted + count) }) (ending old.line)
+    ≡ report_of_tally (tally_at new) (ending new.line)
 report_is old new count ending more =
     let made : ℕ → ℕ → Bool → Bool → Ending → Report = λ a d e w x. record { added = a; deleted = d; empty = e; within = w; ending = x } in
     ap (λ a. made a (capped ((tally_at old).deleted + count)) old.empty old.within (ending old.line)) (sym more.added)
@@ -30,29 +32,38 @@ report_is old new count ending more =
     ∙ ap (λ n. made new.added (tally_at new).deleted new.empty new.within (ending n)) (sym more.line)
 
 -- a good line
-pub leaves_good : GoodLineTaken → (old new : StreamState) (free left : ℕ) (read used : List ℕ) (line : StreamLine) (es : History) → LineText line (read ++ used) → TakesBy old free new left line es (Ok tt)
+pub leaves_good : GoodLineTaken → (old new : StreamState) (free left : ℕ) (read used : List ℕ) (line : StreamLine) (es : History)
+    → LineText line (read ++ used) → TakesBy old free new left line es (Ok tt)
     → LeavesOn old.setting (Going (hold old read free)) used (es ∷ []) (Going (hold new [] left))
 leaves_good law old new free left read used line es text takes bytes before leaves =
     law old.setting bytes used before es (hold old read free) (hold new [] left) line leaves text takes.0 (takes.1 read)
 
 -- a line that stopped
-pub leaves_stopped : (old new : StreamState) (free left : ℕ) (read used : List ℕ) (line : StreamLine) (es : History) (stop : LineStop) → LineText line (read ++ used) → TakesBy old free new left line es (Err stop)
+pub leaves_stopped : (old new : StreamState) (free left : ℕ) (read used : List ℕ) (line : StreamLine) (es : History) (stop : LineStop)
+    → LineText line (read ++ used) → TakesBy old free new left line es (Err stop)
     → LeavesOn old.setting (Going (hold old read free)) used (es ∷ []) (Over (report_of_tally (tally_at new) (ending_of new.line stop)))
 leaves_stopped old new free left read used line es (stops.Bad fault) text takes bytes before leaves =
-    subst (λ (r : Report). Leaves old.setting (bytes ++ used) (before ++ es ∷ []) (Over r)) (report_is old new takes.0 (λ n. endings.Bad n fault) takes.2)
+    subst (λ (r : Report). Leaves old.setting (bytes ++ used) (before ++ es ∷ []) (Over r))
+    (report_is old new takes.0 (λ n. endings.Bad n fault) takes.2)
     (bad_line_taken old.setting bytes used before es (hold old read free) line takes.0 fault leaves text takes.1)
 leaves_stopped old new free left read used line es stops.Memory text takes bytes before leaves =
-    subst (λ (r : Report). Leaves old.setting (bytes ++ used) (before ++ es ∷ []) (Over r)) (report_is old new (length takes.2) (λ n. endings.Memory n) takes.5)
-    (memory_wanted old.setting bytes used before es (hold old read free) takes.0 takes.1 takes.2 leaves (subst (λ (l : StreamLine). LineText l (read ++ used)) takes.3 text) takes.4)
+    subst (λ (r : Report). Leaves old.setting (bytes ++ used) (before ++ es ∷ []) (Over r))
+    (report_is old new (length takes.2) (λ n. endings.Memory n) takes.5)
+    (memory_wanted old.setting bytes used before es (hold old read free) takes.0 takes.1 takes.2 leaves
+    (subst (λ (l : StreamLine). LineText l (read ++ used)) takes.3 text) takes.4)
 
 -- the front of a line
-pub leaves_front : (old : StreamState) (free : ℕ) (read piece : List ℕ) → IsPending (read ++ piece) → LeavesOn old.setting (Going (hold old read free)) piece [] (Going (hold old (read ++ piece) free))
+pub leaves_front : (old : StreamState) (free : ℕ) (read piece : List ℕ) → IsPending (read ++ piece)
+    → LeavesOn old.setting (Going (hold old read free)) piece [] (Going (hold old (read ++ piece) free))
 leaves_front old free read piece pending bytes before leaves =
-    subst (λ (blocks : List History). Leaves old.setting (bytes ++ piece) blocks (Going (hold old (read ++ piece) free))) (sym (append-nil before)) (pending_grows old.setting bytes piece before (hold old read free) leaves pending)
+    subst (λ (blocks : List History). Leaves old.setting (bytes ++ piece) blocks (Going (hold old (read ++ piece) free)))
+    (sym (append-nil before)) (pending_grows old.setting bytes piece before (hold old read free) leaves pending)
 
 -- a text that begins no line
 pub leaves_refused : (old : StreamState) (free : ℕ) (read used : List ℕ) (fault : LineFault) → IsRefused (read ++ used) fault
-    → LeavesOn old.setting (Going (hold old read free)) used [] (Over (report_of_tally (tally_at old) (endings.Bad old.line (faults.Text fault))))
+    → LeavesOn old.setting (Going (hold old read free)) used []
+    (Over (report_of_tally (tally_at old) (endings.Bad old.line (faults.Text fault))))
 leaves_refused old free read used fault refused bytes before leaves =
-    subst (λ (blocks : List History). Leaves old.setting (bytes ++ used) blocks (Over (report_of_tally (tally_at old) (endings.Bad old.line (faults.Text fault))))) (sym (append-nil before))
+    subst (λ (blocks : List History). Leaves old.setting (bytes ++ used) blocks
+    (Over (report_of_tally (tally_at old) (endings.Bad old.line (faults.Text fault))))) (sym (append-nil before))
     (bad_text_read old.setting bytes used before (hold old read free) fault leaves refused)

@@ -1,5 +1,6 @@
 -- The counts of a report are at most the identities, in a legal history.
-use Rattle.std.proofs.Common.{◌≡◌, ◌<◌, ◌≤◌, ◌+◌, ◌||◌, ℕ, ℤ, nat_abs, Bool, true, false, List, [], ◌∷◌, ◌++◌, length, eqb, inl, inr, refl, sym, ap, subst, ◌∙◌, arith, append_assoc, append-nil}
+use Rattle.std.proofs.Common.{◌≡◌, ◌<◌, ◌≤◌, ◌+◌, ◌||◌, ℕ, ℤ, nat_abs, Bool, true, false, List, [], ◌∷◌, ◌++◌, length, eqb, inl, inr, refl}
+use Rattle.std.proofs.Common.{sym, ap, subst, ◌∙◌, arith, append_assoc, append-nil}
 use Rattle.std.specs.List.{AllByRecursion, list_any, sum_by}
 use Rattle.std.proofs.lemmas.Bool.Decides.{eqb_tells}
 use Rattle.std.proofs.lemmas.Map.Steps.{length-le_from_distinct_below}
@@ -43,23 +44,28 @@ taken_is : (c : Setting) (n : State) (gone : ℕ → Bool) (earlier : List ℕ) 
 taken_is c n gone earlier id t = identity_below c.layout id
     (λ e. subst (λ o. TakenAt (side_for c.stream o) n gone earlier id) e t)
 
-not_zero : (c : Setting) (n : State) (gone : ℕ → Bool) (earlier ids : List ℕ) → AllByRecursion (Taken c n gone earlier) ids → AllByRecursion (λ y. eqb 0 y ≡ false) ids
+not_zero : (c : Setting) (n : State) (gone : ℕ → Bool) (earlier ids : List ℕ) → AllByRecursion (Taken c n gone earlier) ids
+    → AllByRecursion (λ y. eqb 0 y ≡ false) ids
 not_zero c n gone earlier [] all = tt
 not_zero c n gone earlier (id ∷ ids) all =
     let is = taken_is c n gone earlier id all.0 in
     (elim (eqb_tells 0 id) [ inl same ↦ absurd (omega (arith, same.1, is.0)) | inr other ↦ other.0 ], not_zero c n gone earlier ids all.1)
 
-taken_below : (c : Setting) (n : State) (gone : ℕ → Bool) (earlier ids : List ℕ) → AllByRecursion (Taken c n gone earlier) ids → AllByRecursion (λ x. x < last_identity c.layout + 1) ids
+taken_below : (c : Setting) (n : State) (gone : ℕ → Bool) (earlier ids : List ℕ) → AllByRecursion (Taken c n gone earlier) ids
+    → AllByRecursion (λ x. x < last_identity c.layout + 1) ids
 taken_below c n gone earlier [] all = tt
 taken_below c n gone earlier (id ∷ ids) all =
     let is = taken_is c n gone earlier id all.0 in (omega (arith, is.1), taken_below c n gone earlier ids all.1)
 
-taken_within : (c : Setting) (n : State) (gone : ℕ → Bool) (earlier : List ℕ) (many : ℕ) → AreTaken c n gone earlier many → many ≤ last_identity c.layout
+taken_within : (c : Setting) (n : State) (gone : ℕ → Bool) (earlier : List ℕ) (many : ℕ) → AreTaken c n gone earlier many
+    → many ≤ last_identity c.layout
 taken_within c n gone earlier many are =
     let with_zero : Apart (0 ∷ are.ids) = (not_zero c n gone earlier are.ids are.taken, are.apart) in
-    let below : AllByRecursion (λ x. x < last_identity c.layout + 1) (0 ∷ are.ids) = (omega arith, taken_below c n gone earlier are.ids are.taken) in
+    let below : AllByRecursion (λ x. x < last_identity c.layout + 1) (0 ∷ are.ids) =
+    (omega arith, taken_below c n gone earlier are.ids are.taken) in
     let few : length (0 ∷ are.ids) ≤ last_identity c.layout + 1 =
-    length-le_from_distinct_below (0 ∷ are.ids) (last_identity c.layout + 1) (are_distinct (0 ∷ are.ids) with_zero) (all_below (0 ∷ are.ids) (last_identity c.layout + 1) below) in
+    length-le_from_distinct_below (0 ∷ are.ids) (last_identity c.layout + 1) (are_distinct (0 ∷ are.ids) with_zero)
+    (all_below (0 ∷ are.ids) (last_identity c.layout + 1) below) in
     omega (arith, few, are.count)
 
 -- A bad addition deletes nothing
@@ -72,7 +78,8 @@ failed_none : (fault : Fault) (es : History) (v : LineVerdict) → Fails 0 fault
 unfolding deleted_of
 failed_none fault es v f = ap deleted_of f.1
 
-test_none : (Holds : Type 0) (fault : Fault) (es : History) (v : LineVerdict) (A : Type 0) → (A → deleted_of v ≡ 0) → Test Holds fault es v A → deleted_of v ≡ 0
+test_none : (Holds : Type 0) (fault : Fault) (es : History) (v : LineVerdict) (A : Type 0) → (A → deleted_of v ≡ 0)
+    → Test Holds fault es v A → deleted_of v ≡ 0
 test_none Holds fault es v A next (inl bad) = failed_none fault es v bad.1
 test_none Holds fault es v A next (inr good) = next good.1
 
@@ -89,7 +96,8 @@ reply_none (events.live d) n h hints published es v A next (inl conflict) = conf
 reply_none (events.live d) n h hints published es v A next (inr (inl unit)) = next _ unit.2
 reply_none (events.live d) n h hints published es v A next (inr (inr neither)) = failed_none (faults.NotUnit h) es v neither.2
 
-hints_none : (c : Setting) (gone : ℕ → Bool) (published : Event) (n : List ℤ) (hints : List ℕ) (es : History) (v : LineVerdict) → JudgesHints c gone published n hints es v → deleted_of v ≡ 0
+hints_none : (c : Setting) (gone : ℕ → Bool) (published : Event) (n : List ℤ) (hints : List ℕ) (es : History) (v : LineVerdict)
+    → JudgesHints c gone published n hints es v → deleted_of v ≡ 0
 hints_none c gone published n [] es v judged = failed_none faults.NoConflict es v judged
 hints_none c gone published n (h ∷ hints) es v judged =
     test_none (gone h ≡ false) (faults.Dropped h) es v _
@@ -97,7 +105,8 @@ hints_none c gone published n (h ∷ hints) es v judged =
     (λ m k. hints_none c gone published m hints a.rest v k) a.next)
     judged
 
-addition_none : (c : Setting) (st : Standing) (id : ℕ) (lits : List ℤ) (hints : List ℕ) (es : History) (v : LineVerdict) → JudgesAddition c st id lits hints es v → deleted_of v ≡ 0
+addition_none : (c : Setting) (st : Standing) (id : ℕ) (lits : List ℤ) (hints : List ℕ) (es : History) (v : LineVerdict)
+    → JudgesAddition c st id lits hints es v → deleted_of v ≡ 0
 addition_none c st id lits hints es v judged =
     test_none (Owns c.layout c.stream id × (st.last < id)) faults.Identity es v _
     (λ a. test_none (AllByRecursion (λ l. nat_abs l ≤ c.layout.vars) lits) faults.Literal es v _
@@ -113,7 +122,8 @@ imported_none events.vacant id lits es v at = failed_none (faults.Missing id) es
 imported_none events.retired id lits es v at = failed_none (faults.Retired id) es v at
 imported_none (events.live d) id lits es v at = test_none _ (faults.Differs id) es v _ (λ good. ap deleted_of good.1) at
 
-import_none : (c : Setting) (st : Standing) (id : ℕ) (lits : List ℤ) (es : History) (v : LineVerdict) → JudgesImport c st id lits es v → deleted_of v ≡ 0
+import_none : (c : Setting) (st : Standing) (id : ℕ) (lits : List ℤ) (es : History) (v : LineVerdict) → JudgesImport c st id lits es v
+    → deleted_of v ≡ 0
 import_none c st id lits es v judged =
     test_none (is_shared (side_of c id) ≡ true) faults.Identity es v _
     (λ a. test_none (AllByRecursion (λ l. nat_abs l ≤ c.layout.vars) lits) faults.Literal es v _
@@ -122,8 +132,10 @@ import_none c st id lits es v judged =
 
 -- Deleted
 
-line_deletes : (c : Setting) (n : State) (before : List StreamLine) (line : StreamLine) (many deleted : ℕ) (fault : Fault) (es rest : History)
-    → JudgesLine c (standing_of c before) line es (Bad deleted fault) → OwnRun n (es ++ rest) → AreTaken c n (standing_of c before).gone [] many → many + deleted ≤ last_identity c.layout
+line_deletes : (c : Setting) (n : State) (before : List StreamLine) (line : StreamLine) (many deleted : ℕ) (fault : Fault)
+    (es rest : History)
+    → JudgesLine c (standing_of c before) line es (Bad deleted fault) → OwnRun n (es ++ rest)
+    → AreTaken c n (standing_of c before).gone [] many → many + deleted ≤ last_identity c.layout
 unfolding deleted_of
 line_deletes c n before (Addition id lits hints) many deleted fault es rest judged answers are =
     let none = addition_none c (standing_of c before) id lits hints es (Bad deleted fault) judged in
@@ -136,8 +148,8 @@ line_deletes c n before (Deletion lead ids) many deleted fault es rest judged an
     omega (arith, took.4, taken_within c took.0 (standing_of c before).gone took.1 took.2 took.3)
 
 ends_delete : (c : Setting) (n : State) (lines : List StreamLine) (rest : List ℕ) (end : StreamEnd) (back : List History) (report : Report)
-    → OwnRun n (joined back) → AreTaken c n (standing_of c lines).gone [] (sum_by (λ l. length (deleted_by l)) lines) → EndsAfter c lines rest end back report
-    → report.deleted ≤ last_identity c.layout
+    → OwnRun n (joined back) → AreTaken c n (standing_of c lines).gone [] (sum_by (λ l. length (deleted_by l)) lines)
+    → EndsAfter c lines rest end back report → report.deleted ≤ last_identity c.layout
 ends_delete c n lines rest end back report answers are (at_bad_line line more text fits block one_block deleted fault bad says) =
     let here = subst (λ b. OwnRun n (joined b)) one_block answers in
     let few = line_deletes c n lines line (sum_by (λ l. length (deleted_by l)) lines) deleted fault block [] bad here are in
@@ -147,8 +159,10 @@ ends_delete c n lines rest end back report answers are (at_bad_text fault text n
     subst (λ (r : Report). r.deleted ≤ last_identity c.layout) (sym says) (omega (arith, few))
 ends_delete c n lines rest end back report answers are (at_memory lead ids more text fits block one_block earlier stops says) =
     let here = subst (λ b. OwnRun n (joined b)) one_block answers in
-    let took = identities_took c n (standing_of c lines).gone [] earlier (sum_by (λ l. length (deleted_by l)) lines) block [] Good stops.before here are in
-    let few = taken_within c (run n block) (standing_of c lines).gone earlier (sum_by (λ l. length (deleted_by l)) lines + length earlier) took in
+    let took = identities_took c n (standing_of c lines).gone [] earlier
+    (sum_by (λ l. length (deleted_by l)) lines) block [] Good stops.before here are in
+    let few =
+    taken_within c (run n block) (standing_of c lines).gone earlier (sum_by (λ l. length (deleted_by l)) lines + length earlier) took in
     subst (λ (r : Report). r.deleted ≤ last_identity c.layout) (sym says) (omega (arith, few))
 ends_delete c n lines rest end back report answers are (at_end pending no_block says) =
     let few = taken_within c n (standing_of c lines).gone [] (sum_by (λ l. length (deleted_by l)) lines) are in
@@ -157,7 +171,8 @@ ends_delete c n lines rest end back report answers are (at_end pending no_block 
 -- Added
 
 -- an addition that is good has an identity of the stream's own
-owns_good : (c : Setting) (st : Standing) (id : ℕ) (lits : List ℤ) (hints : List ℕ) (es : History) → JudgesAddition c st id lits hints es Good → Owns c.layout c.stream id
+owns_good : (c : Setting) (st : Standing) (id : ℕ) (lits : List ℤ) (hints : List ℕ) (es : History)
+    → JudgesAddition c st id lits hints es Good → Owns c.layout c.stream id
 owns_good c st id lits hints es (inl bad) = absurd (let e : Good ≡ Bad 0 faults.Identity = bad.1.1 in cc)
 owns_good c st id lits hints es (inr good) = good.0.0
 
@@ -169,7 +184,8 @@ record AreFewAdded (c : Setting) (lines : List StreamLine) : Type 0 where
   few : length (additions_of lines) + c.layout.clauses ≤ (standing_of c lines).last
   below : (standing_of c lines).last ≤ last_identity c.layout
 
-one_added : (c : Setting) (before : List StreamLine) (line : StreamLine) (es : History) → JudgesLine c (standing_of c before) line es Good → AreFewAdded c before → AreFewAdded c (before ++ line ∷ [])
+one_added : (c : Setting) (before : List StreamLine) (line : StreamLine) (es : History) → JudgesLine c (standing_of c before) line es Good
+    → AreFewAdded c before → AreFewAdded c (before ++ line ∷ [])
 one_added c before (Addition id lits hints) es judged are =
     let last = same_last c before (Addition id lits hints) es judged in
     let above = last_below c (standing_of c before) id lits hints es judged in
@@ -191,14 +207,16 @@ one_added c before (Import id lits) es judged are =
       below = omega (arith, last, are.below);
     }
 
-lines_added : (c : Setting) (before lines : List StreamLine) (blocks : List History) → AreGood c before lines blocks → AreFewAdded c before → AreFewAdded c (before ++ lines)
+lines_added : (c : Setting) (before lines : List StreamLine) (blocks : List History) → AreGood c before lines blocks → AreFewAdded c before
+    → AreFewAdded c (before ++ lines)
 lines_added c before [] blocks good are = subst (AreFewAdded c) (sym (append-nil before)) are
 lines_added c before (line ∷ lines) [] good are = absurd good
 lines_added c before (line ∷ lines) (block ∷ blocks) good are =
     subst (AreFewAdded c) (append_assoc before (line ∷ []) lines)
     (lines_added c (before ++ line ∷ []) lines blocks good.1 (one_added c before line block good.0 are))
 
-added_is : (c : Setting) (lines : List StreamLine) (rest : List ℕ) (end : StreamEnd) (back : List History) (report : Report) → EndsAfter c lines rest end back report → report.added ≡ length (additions_of lines)
+added_is : (c : Setting) (lines : List StreamLine) (rest : List ℕ) (end : StreamEnd) (back : List History) (report : Report)
+    → EndsAfter c lines rest end back report → report.added ≡ length (additions_of lines)
 added_is c lines rest end back report (at_bad_line _ _ _ _ _ _ _ _ _ says) = ap (λ (r : Report). r.added) says
 added_is c lines rest end back report (at_bad_text _ _ _ says) = ap (λ (r : Report). r.added) says
 added_is c lines rest end back report (at_memory _ _ _ _ _ _ _ _ _ says) = ap (λ (r : Report). r.added) says
@@ -207,13 +225,16 @@ added_is c lines rest end back report (at_end _ _ says) = ap (λ (r : Report). r
 pub counts_within : CountsWithin
 unfolding SameOwn
 counts_within f c h bytes end blocks report legal mine j =
-    let answers : OwnRun (opening f) (own h c.stream) = own_runs f c.layout c.stream (opening f) (opening f) h legal.events (λ id owns. refl) in
+    let answers : OwnRun (opening f) (own h c.stream) =
+    own_runs f c.layout c.stream (opening f) (opening f) h legal.events (λ id owns. refl) in
     let split = subst (OwnRun (opening f)) (mine ∙ ap joined j.split ∙ joined-append j.front j.back) answers in
     let none : AreTaken c (opening f) (standing_of c []).gone [] 0 = record { ids = []; apart = tt; taken = tt; count = refl } in
     let taken = lines_took c (opening f) [] j.lines j.front 0 (joined j.back) j.good split none in
-    let exact : AreTaken c (run (opening f) (joined j.front)) (standing_of c j.lines).gone [] (sum_by (λ l. length (deleted_by l)) j.lines) =
+    let exact : AreTaken c (run (opening f) (joined j.front)) (standing_of c j.lines).gone []
+    (sum_by (λ l. length (deleted_by l)) j.lines) =
     subst (AreTaken c (run (opening f) (joined j.front)) (standing_of c j.lines).gone []) (omega arith) taken in
     let added = lines_added c [] j.lines j.front j.good (record { few = omega arith; below = omega arith }) in (
       omega (arith, added_is c j.lines j.rest end j.back report j.ends, added.few, added.below),
-      ends_delete c (run (opening f) (joined j.front)) j.lines j.rest end j.back report (run_on (opening f) (joined j.front) (joined j.back) split) exact j.ends,
+      ends_delete c (run (opening f) (joined j.front)) j.lines j.rest end j.back report
+          (run_on (opening f) (joined j.front) (joined j.back) split) exact j.ends,
     )

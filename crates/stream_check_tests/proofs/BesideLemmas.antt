@@ -16,13 +16,15 @@ use Rattle.lrup_model.specs.CallerLemmas.{calls_differ}
 use Rattle.stream_check_tests.specs.TellsLemmas.{tells_append}
 
 -- the calls of stream t are none of stream s
-pub tells_beside : (old new : Plain) (s t : ℕ) (es : History) → 0 < s → s ≢ t → PlainMoves old new t es → Tells (plain_place old s) (plain_place new s) []
+pub tells_beside : (old new : Plain) (s t : ℕ) (es : History) → 0 < s → s ≢ t → PlainMoves old new t es
+    → Tells (plain_place old s) (plain_place new s) []
 tells_beside old new s t es positive other moves = record {
   caller = ap₂ (λ (f : Cnf) (p : LayoutValue). record { formula = f; layout = p; stream = s }) moves.formula moves.layout;
   callers = tt;
   room = omega (arith, moves.others s positive other);
   own = λ id owns. ap (λ (m : State). m id) moves.state
-      ∙ run-others (formula_of old) old.layout (plain_state old) es s id moves.answers (calls_differ s t es (λ same. other (sym same)) moves.callers) owns;
+      ∙ run-others (formula_of old) old.layout (plain_state old) es s id moves.answers
+      (calls_differ s t es (λ same. other (sym same)) moves.callers) owns;
   spelt = moves.spelt;
   follow = λ all. record { each = (moves.follow (record { each = all.each })).each };
 }
@@ -32,18 +34,23 @@ pub tells_then : (p q r : Place) (es : History) → Tells p q [] → Tells q r e
 tells_then p q r es none later = tells_append p q r [] es none later
 
 -- the calls of a desk that held the map from m to n
-pub desk_told : (a b : PlainDesk) (m n : Plain) (s : ℕ) (es : History) → PlainDeskMoves a b es → map_of a ≡ m → stream_at a ≡ s → n ≡ map_of b → Tells (plain_place m s) (plain_place n s) es
+pub desk_told : (a b : PlainDesk) (m n : Plain) (s : ℕ) (es : History) → PlainDeskMoves a b es → map_of a ≡ m → stream_at a ≡ s
+    → n ≡ map_of b → Tells (plain_place m s) (plain_place n s) es
 desk_told a b m n s es moves before stream behind =
-    let told : Tells (plain_place (map_of a) (stream_at a)) (plain_place (map_of b) (stream_at a)) es = plain_moves_tells (map_of a) (map_of b) (stream_at a) es moves.moves in
+    let told : Tells (plain_place (map_of a) (stream_at a)) (plain_place (map_of b) (stream_at a)) es =
+    plain_moves_tells (map_of a) (map_of b) (stream_at a) es moves.moves in
     subst (λ (k : ℕ). Tells (plain_place m k) (plain_place n k) es) stream
     (subst (λ (x : Plain). Tells (plain_place x (stream_at a)) (plain_place n (stream_at a)) es) before
     (subst (λ (x : Plain). Tells (plain_place (map_of a) (stream_at a)) (plain_place x (stream_at a)) es) (sym behind) told))
 
 -- and its fetch
-pub desk_fetched : (a b : PlainDesk) (m n : Plain) (s id : ℕ) (answer : Fetched) → PlainDeskMoves a b (fetch (stream_at a) id (reply_of (plain_desk_place b) answer) ∷ [])
-    → map_of a ≡ m → stream_at a ≡ s → n ≡ map_of b → Tells (plain_place m s) (plain_place n s) (fetch s id (reply_of (plain_place n s) answer) ∷ [])
+pub desk_fetched : (a b : PlainDesk) (m n : Plain) (s id : ℕ) (answer : Fetched)
+    → PlainDeskMoves a b (fetch (stream_at a) id (reply_of (plain_desk_place b) answer) ∷ [])
+    → map_of a ≡ m → stream_at a ≡ s → n ≡ map_of b
+    → Tells (plain_place m s) (plain_place n s) (fetch s id (reply_of (plain_place n s) answer) ∷ [])
 desk_fetched a b m n s id answer moves before stream behind =
     let event : ℕ → Plain → History = λ k x. fetch k id (reply_of (plain_place x k) answer) ∷ [] in
-    let told : Tells (plain_place m s) (plain_place n s) (event (stream_at a) (map_of b)) = desk_told a b m n s (event (stream_at a) (map_of b)) moves before stream behind in
+    let told : Tells (plain_place m s) (plain_place n s) (event (stream_at a) (map_of b)) =
+    desk_told a b m n s (event (stream_at a) (map_of b)) moves before stream behind in
     subst (λ (k : ℕ). Tells (plain_place m s) (plain_place n s) (event k n)) stream
     (subst (λ (x : Plain). Tells (plain_place m s) (plain_place n s) (event (stream_at a) x)) (sym behind) told)

@@ -1,5 +1,6 @@
 -- What a checker took, piece by piece, and what both ends know together.
-use Rattle.std.proofs.Common.{◌≡◌, ◌++◌, ◌∙◌, ◌⊎◌, inl, inr, ℕ, Bool, true, false, List, [], Option, Some, None, IsSome, IfSome, refl, sym, ap, subst, append_assoc, append-nil}
+use Rattle.std.proofs.Common.{◌≡◌, ◌++◌, ◌∙◌, ◌⊎◌, inl, inr, ℕ, Bool, true, false, List, [], Option, Some, None, IsSome, IfSome, refl, sym}
+use Rattle.std.proofs.Common.{ap, subst, append_assoc, append-nil}
 use Rattle.lrup_model.specs.Event.{History}
 use Rattle.lrup_text.specs.declared.device.StreamEnd.{StreamEnd}
 use Rattle.lrup_text.specs.declared.device.StreamEnd.TheVariants as stream_ends
@@ -22,8 +23,10 @@ leaves_append c one two three xs ys front back first second bytes before left =
     (second (bytes ++ xs) (before ++ front) (first bytes before left)))
 
 -- a checker that is over takes the rest too
-over_takes : OverStays → (c : Setting) (old : CheckerState) (used rest : List ℕ) (blocks : List History) (v : CheckerValue) (free : ℕ) (ending : Ending)
-    → v.ending ≡ Some ending → LeavesOn c old used blocks (checker_state v free) → LeavesOn c old (used ++ rest) blocks (checker_state v free)
+over_takes : OverStays
+    → (c : Setting) (old : CheckerState) (used rest : List ℕ) (blocks : List History) (v : CheckerValue) (free : ℕ) (ending : Ending)
+    → v.ending ≡ Some ending → LeavesOn c old used blocks (checker_state v free)
+    → LeavesOn c old (used ++ rest) blocks (checker_state v free)
 over_takes stays c old used rest blocks v free ending is leaves bytes before left =
     let over : checker_state v free ≡ Over (report_of_tally v.tally ending) = ap (state_by v free) is in
     let taken = subst (Leaves c (bytes ++ used) (before ++ blocks)) over (leaves bytes before left) in
@@ -32,7 +35,8 @@ over_takes stays c old used rest blocks v free ending is leaves bytes before lef
     subst (Leaves c (bytes ++ (used ++ rest)) (before ++ blocks)) (sym over) all
 
 -- a call that ends no line has come to the piece's end, or to the checker's
-pub stopped_takes : OverStays → (turn : CheckTurn) (old new : CheckerValue) (piece used rest : List ℕ) (c : Setting) (state : CheckerState) (blocks : List History) (free : ℕ)
+pub stopped_takes : OverStays → (turn : CheckTurn) (old new : CheckerValue) (piece used rest : List ℕ) (c : Setting) (state : CheckerState)
+    (blocks : List History) (free : ℕ)
     → (turn ≡ turns.Line → ⊥) → Turns turn old new piece used → piece ≡ used ++ rest
     → LeavesOn c state used blocks (checker_state new free) → LeavesOn c state piece blocks (checker_state new free)
 stopped_takes stays turns.Line old new piece used rest c state blocks free other turn split leaves = absurd (other refl)
@@ -47,9 +51,11 @@ pub no_line : (turn : CheckTurn) → (turn ≡ turns.More) ⊎ (turn ≡ turns.O
 no_line turn (inl more) line = cc
 no_line turn (inr over) line = cc
 
-ends_by : (ending : Option Ending) (end : StreamEnd) (old new : CheckerValue) → old.ending ≡ ending → EndsBy ending end old new → IsSome new.ending
+ends_by : (ending : Option Ending) (end : StreamEnd) (old new : CheckerValue) → old.ending ≡ ending → EndsBy ending end old new
+    → IsSome new.ending
 ends_by None end old new is ends = subst (λ (e : Option Ending). IsSome e) (sym ends.2) refl
-ends_by (Some ending) end old new is ends = subst (λ (e : Option Ending). IsSome e) (sym (ap (λ (v : CheckerValue). v.ending) ends ∙ is)) refl
+ends_by (Some ending) end old new is ends =
+    subst (λ (e : Option Ending). IsSome e) (sym (ap (λ (v : CheckerValue). v.ending) ends ∙ is)) refl
 
 -- the end, or a failed read, leaves a checker over
 pub ends_over : (end : StreamEnd) (old new : CheckerValue) → Ends end old new → IsSome new.ending
@@ -71,15 +77,19 @@ leaves_more c d one two three xs ys all front back same split first second =
     (leaves_append c one two three xs ys front back first (subst (λ (e : Setting). LeavesOn e two ys back three) same second))
 
 -- the report of a checker that was ended
-pub closes : (end : StreamEnd) (v u : CheckerValue) (report : Report) → ReportsEnd end v u → IfSome u.ending (λ ending. report ≡ report_of_tally u.tally ending)
-    → (bytes : List ℕ) (blocks : List History) (free : ℕ) → Leaves v.setting bytes blocks (checker_state v free) → JudgesBlocks v.setting bytes end blocks report
+pub closes : (end : StreamEnd) (v u : CheckerValue) (report : Report) → ReportsEnd end v u
+    → IfSome u.ending (λ ending. report ≡ report_of_tally u.tally ending)
+    → (bytes : List ℕ) (blocks : List History) (free : ℕ) → Leaves v.setting bytes blocks (checker_state v free)
+    → JudgesBlocks v.setting bytes end blocks report
 closes end v u report reports told bytes blocks free leaves =
     let judged = reports bytes blocks free leaves in
-    let same : report ≡ report_of_tally u.tally judged.0 = subst (λ (e : Option Ending). IfSome e (λ ending. report ≡ report_of_tally u.tally ending)) judged.1 told in
+    let same : report ≡ report_of_tally u.tally judged.0 =
+    subst (λ (e : Option Ending). IfSome e (λ ending. report ≡ report_of_tally u.tally ending)) judged.1 told in
     subst (JudgesBlocks v.setting bytes end blocks) (sym same) judged.2
 
 -- where it was over before, its ending stays
-pub stays_over : (end : StreamEnd) (v u : CheckerValue) (report : Report) → Ends end v u → IfSome u.ending (λ ending. report ≡ report_of_tally u.tally ending)
+pub stays_over : (end : StreamEnd) (v u : CheckerValue) (report : Report) → Ends end v u
+    → IfSome u.ending (λ ending. report ≡ report_of_tally u.tally ending)
     → (ending : Ending) → v.ending ≡ Some ending → report.ending ≡ ending
 stays_over end v u report ends told ending is =
     let same : u ≡ v = subst (λ (o : Option Ending). EndsBy o end v u) is ends in

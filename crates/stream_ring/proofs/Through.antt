@@ -1,5 +1,6 @@
 -- Bytes and a mark, sent and received.
-use Rattle.std.proofs.Common.{◌≡◌, ℕ, suc, ◌<◌, ◌≤◌, ◌+◌, ◌-◌, List, [], ◌∷◌, ◌++◌, length, take, get_or, map, refl, ap, sym, ◌∙◌, arith, append_assoc}
+use Rattle.std.proofs.Common.{◌≡◌, ℕ, suc, ◌<◌, ◌≤◌, ◌+◌, ◌-◌, List, [], ◌∷◌, ◌++◌, length, take, get_or, map, refl, ap, sym, ◌∙◌, arith}
+use Rattle.std.proofs.Common.{append_assoc}
 use Rattle.std.specs.Prelude.{All}
 use native.Mathlib.Numerals.{unary_clauses}
 use Rattle.std.proofs.Math.Seq.{take-suc, take-append_seam}
@@ -49,7 +50,8 @@ pub last_is_mark : (past items bytes : List ℕ) (n : ℕ) → 0 < n → n ≤ l
 last_is_mark past items bytes n some fits m same =
     let i : suc (n - 1) ≡ n = omega (arith, some) in
     let below : n - 1 < length items = omega (arith, some, fits) in
-    let e : take n items ≡ take (n - 1) items ++ get_or items (n - 1) 0 ∷ [] = ap (λ k. take k items) (sym i) ∙ take-suc items (n - 1) 0 below in
+    let e : take n items ≡ take (n - 1) items ++ get_or items (n - 1) 0 ∷ [] = ap (λ k. take k items) (sym i)
+    ∙ take-suc items (n - 1) 0 below in
     record {
       taken = past ++ take (n - 1) items;
       mark = get_or items (n - 1) 0;
@@ -67,7 +69,8 @@ front_bytes items rest k n i fits =
     let t = take k items in
     let b = byte_of (get_or items k 0) in
     let e : take n items ≡ t ++ get_or items k 0 ∷ [] = ap (λ m. take m items) (sym i) ∙ take-suc items k 0 below in
-    let f : map byte_of (take n items) ≡ map byte_of t ++ b ∷ [] = ap (λ u. map byte_of u) e ∙ map-append byte_of t (get_or items k 0 ∷ []) in
+    let f : map byte_of (take n items) ≡ map byte_of t ++ b ∷ [] = ap (λ u. map byte_of u) e
+    ∙ map-append byte_of t (get_or items k 0 ∷ []) in
     let j : length (map byte_of t) ≡ k = length-map t byte_of ∙ length-take-le k items (omega (arith, below)) in
     ap (λ u. take k (u ++ rest)) f ∙ (ap (λ u. take k u) (append_assoc (map byte_of t) (b ∷ []) rest)
     ∙ (ap (λ m. take m (map byte_of t ++ b ∷ rest)) (sym j) ∙ take-append_seam (map byte_of t) (b ∷ rest)))
@@ -98,6 +101,7 @@ mark_tells stream_ends.Failed = refl
 pub came_by : (items received known : List ℕ) → received ++ known ≡ items → (bytes came : List ℕ) (sent end : StreamEnd)
     → IsSentOf bytes sent items → EndsAtMark came end received → (came ≡ bytes) × (end ≡ sent)
 came_by items received known whole bytes came sent end s t =
-    let both : t.taken ++ t.mark ∷ known ≡ bytes ++ mark_of sent ∷ [] = sym (append_assoc t.taken (t.mark ∷ []) known) ∙ (ap (λ u. u ++ known) (sym t.items_are) ∙ (whole ∙ s.items_are)) in
+    let both : t.taken ++ t.mark ∷ known ≡ bytes ++ mark_of sent ∷ [] = sym (append_assoc t.taken (t.mark ∷ []) known)
+    ∙ (ap (λ u. u ++ known) (sym t.items_are) ∙ (whole ∙ s.items_are)) in
     let same = same_mark t.taken bytes known t.mark (mark_of sent) s.small t.is_mark (mark_is sent) both in
     (t.bytes_are ∙ same.0, t.end_is ∙ (ap end_told same.1 ∙ mark_tells sent))

@@ -1,5 +1,6 @@
 -- What the threads of a stream gave back, and lists of them.
-use Rattle.std.proofs.Common.{◌≡◌, ◌++◌, ◌+◌, ◌∙◌, ℕ, List, [], ◌∷◌, Option, Some, None, IfSome, Result, Ok, Err, IfOk, IfErr, ◌<◌, ◌≤◌, ◌-◌, length, map, take, refl, sym, ap, subst, arith, append_assoc, append-nil}
+use Rattle.std.proofs.Common.{◌≡◌, ◌++◌, ◌+◌, ◌∙◌, ℕ, List, [], ◌∷◌, Option, Some, None, IfSome, Result, Ok, Err, IfOk, IfErr, ◌<◌, ◌≤◌}
+use Rattle.std.proofs.Common.{◌-◌, length, map, take, refl, sym, ap, subst, arith, append_assoc, append-nil}
 use Rattle.std.proofs.lemmas.List.{length-append, length-map, map-append, nil_from_length}
 use Rattle.std.specs.declared.vec.IntoIter.{IntoIter}
 use Rattle.std.specs.Vec.Iter.{into_iter_items, into_iter_len}
@@ -19,8 +20,10 @@ use Rattle.stream_threads.specs.declared.jobs.ThreadFault.TheVariants.{Spawn, Ri
 use Rattle.runs.specs.Streams.{TermsValue}
 
 -- what was judged at a desk was judged at its pass
-pub judged_at : (v : CheckerValue) (old new : Desk) (from to : PassValue) (items ids : List ℕ) (report : Option Report) → old.pass ≡ from → to ≡ new.pass
-    → IfSome report (λ r. (blocks : List History) × DeskMoves old new (joined blocks) × JudgesAtMark v (desk_place old).room items blocks ids r)
+pub judged_at : (v : CheckerValue) (old new : Desk) (from to : PassValue) (items ids : List ℕ) (report : Option Report)
+    → old.pass ≡ from → to ≡ new.pass
+    → IfSome report (λ r. (blocks : List History) × DeskMoves old new (joined blocks)
+    × JudgesAtMark v (desk_place old).room items blocks ids r)
     → IfSome report (JudgesAtPass v from to items ids)
 judged_at v old new from to items ids None first last judged = tt
 judged_at v old new from to items ids (Some r) first last judged =
@@ -29,24 +32,29 @@ judged_at v old new from to items ids (Some r) first last judged =
     (record { store = judged.1.store; blocks = judged.0; moves = judged.1.moves; judged = judged.2 }))
 
 -- one more of a list was taken and put at the end of another
-pub moved_more : {A : Type 0} (done before rest all new : List A) (x : A) → before ≡ x ∷ rest → new ≡ done ++ x ∷ [] → done ++ before ≡ all → new ++ rest ≡ all
+pub moved_more : {A : Type 0} (done before rest all new : List A) (x : A) → before ≡ x ∷ rest → new ≡ done ++ x ∷ [] → done ++ before ≡ all
+    → new ++ rest ≡ all
 moved_more done before rest all new x taken pushed whole =
     ap (λ xs. xs ++ rest) pushed ∙ append_assoc done (x ∷ []) rest ∙ ap (λ xs. done ++ xs) (sym taken) ∙ whole
 
 -- one more stream has ended
-all_end-snoc : {S : Type 0} (view : SourceView S) (jobs : List (JobsValue S)) (ends : List (Option (FoundValue S))) (one : JobsValue S) (end : Option (FoundValue S))
+all_end-snoc : {S : Type 0} (view : SourceView S) (jobs : List (JobsValue S)) (ends : List (Option (FoundValue S))) (one : JobsValue S)
+    (end : Option (FoundValue S))
     → AllEnd view jobs ends → IfSome end (Finishes view one) → AllEnd view (jobs ++ one ∷ []) (ends ++ end ∷ [])
 all_end-snoc view [] [] one end all here = (here, tt)
 all_end-snoc view [] (e ∷ ends) one end all here = absurd all
 all_end-snoc view (j ∷ jobs) [] one end all here = absurd all
 all_end-snoc view (j ∷ jobs) (e ∷ ends) one end all here = (all.0, all_end-snoc view jobs ends one end all.1 here)
 
-pub all_end-more : {S : Type 0} (view : SourceView S) (jobs : List (JobsValue S)) (old new : List (Option (FoundValue S))) (one : JobsValue S) (end : Option (FoundValue S))
+pub all_end-more : {S : Type 0} (view : SourceView S) (jobs : List (JobsValue S)) (old new : List (Option (FoundValue S)))
+    (one : JobsValue S) (end : Option (FoundValue S))
     → AllEnd view jobs old → IfSome end (Finishes view one) → new ≡ old ++ end ∷ [] → AllEnd view (jobs ++ one ∷ []) new
-all_end-more view jobs old new one end all here pushed = subst (AllEnd view (jobs ++ one ∷ [])) (sym pushed) (all_end-snoc view jobs old one end all here)
+all_end-more view jobs old new one end all here pushed =
+    subst (AllEnd view (jobs ++ one ∷ [])) (sym pushed) (all_end-snoc view jobs old one end all here)
 
 -- something was found of each
-pub all_finish : {S : Type 0} (view : SourceView S) (jobs : List (JobsValue S)) (ends : List (Option (FoundValue S))) (found : List (FoundValue S)) → AllEnd view jobs ends → ends ≡ map (λ f. Some f) found → AllFinish view jobs found
+pub all_finish : {S : Type 0} (view : SourceView S) (jobs : List (JobsValue S)) (ends : List (Option (FoundValue S)))
+    (found : List (FoundValue S)) → AllEnd view jobs ends → ends ≡ map (λ f. Some f) found → AllFinish view jobs found
 all_finish {S} view [] [] [] all is = tt
 all_finish {S} view [] [] (f ∷ found) all is = cc
 all_finish {S} view [] (e ∷ ends) found all is = absurd all
@@ -57,12 +65,14 @@ all_finish {S} view (j ∷ jobs) (e ∷ ends) (f ∷ found) all is =
     let more : ends ≡ map (λ f. Some f) found = cc in
     (subst (λ (o : Option (FoundValue S)). IfSome o (Finishes view j)) here all.0, all_finish view jobs ends found all.1 more)
 
-pub finish_if_ok : {A : Type 0} {S : Type 0} (view : SourceView S) (found_in : A → List (FoundValue S)) (jobs : List (JobsValue S)) (ends : List (Option (FoundValue S))) (r : Result A (ThreadFault S)) → AllEnd view jobs ends
+pub finish_if_ok : {A : Type 0} {S : Type 0} (view : SourceView S) (found_in : A → List (FoundValue S)) (jobs : List (JobsValue S))
+    (ends : List (Option (FoundValue S))) (r : Result A (ThreadFault S)) → AllEnd view jobs ends
     → IfOk r (λ a. ends ≡ map (λ f. Some f) (found_in a)) → IfOk r (λ a. AllFinish view jobs (found_in a))
 finish_if_ok view found_in jobs ends (Ok a) all is = all_finish view jobs ends (found_in a) all is
 finish_if_ok view found_in jobs ends (Err fault) all is = tt
 
-ends_count : {S : Type 0} (view : SourceView S) (jobs : List (JobsValue S)) (ends : List (Option (FoundValue S))) → AllEnd view jobs ends → length ends ≡ length jobs
+ends_count : {S : Type 0} (view : SourceView S) (jobs : List (JobsValue S)) (ends : List (Option (FoundValue S))) → AllEnd view jobs ends
+    → length ends ≡ length jobs
 ends_count view [] [] all = refl
 ends_count view [] (e ∷ ends) all = absurd all
 ends_count view (j ∷ jobs) [] all = absurd all
@@ -71,28 +81,33 @@ ends_count view (j ∷ jobs) (e ∷ ends) all = omega (arith, ends_count view jo
 -- what was found of each stream before the first of which nothing was
 abbrev EndsAtRing : {S : Type 0} → List (Option (FoundValue S)) → ThreadFault S → Type 0
 EndsAtRing {S} ends fault =
-    (before : List (FoundValue S)) × (after : List (Option (FoundValue S))) × (ends ≡ map (λ f. Some f) before ++ None ∷ after) × IsRingBehind before fault
+    (before : List (FoundValue S)) × (after : List (Option (FoundValue S))) × (ends ≡ map (λ f. Some f) before ++ None ∷ after)
+    × IsRingBehind before fault
 
 -- that one is one of the streams
-pub first_within : {A : Type 0} {S : Type 0} (view : SourceView S) (count : ℕ) (jobs : List (JobsValue S)) (ends : List (Option (FoundValue S))) (r : Result A (ThreadFault S)) → AllEnd view jobs ends → count ≡ length jobs
+pub first_within : {A : Type 0} {S : Type 0} (view : SourceView S) (count : ℕ) (jobs : List (JobsValue S))
+    (ends : List (Option (FoundValue S))) (r : Result A (ThreadFault S)) → AllEnd view jobs ends → count ≡ length jobs
     → IfErr r (EndsAtRing ends) → IfErr r (IsFaultWithin count)
 first_within view count jobs ends (Ok a) all same first = tt
 first_within view count jobs ends (Err (Spawn stream)) all same first = absurd first.3
 first_within view count jobs ends (Err (Ring found)) all same first =
     let whole : length ends ≡ length first.0 + length (None ∷ first.1) =
-    ap length first.2 ∙ length-append (map (λ f. Some f) first.0) (None ∷ first.1) ∙ ap (λ k. k + length (None ∷ first.1)) (length-map first.0 (λ f. Some f)) in
+    ap length first.2 ∙ length-append (map (λ f. Some f) first.0) (None ∷ first.1)
+    ∙ ap (λ k. k + length (None ∷ first.1)) (length-map first.0 (λ f. Some f)) in
     let before : length found.items ≡ length first.0 = ap length first.3 in
     (omega arith, omega (arith, whole, before, ends_count view jobs ends all, same))
 
 -- something was found of each stream before it
-finish_before : {S : Type 0} (view : SourceView S) (jobs : List (JobsValue S)) (before : List (FoundValue S)) (after : List (Option (FoundValue S)))
+finish_before : {S : Type 0} (view : SourceView S) (jobs : List (JobsValue S)) (before : List (FoundValue S))
+    (after : List (Option (FoundValue S)))
     → AllEnd view jobs (map (λ f. Some f) before ++ None ∷ after) → AllFinish view (take (length before) jobs) before
 finish_before view [] [] after all = absurd all
 finish_before view [] (f ∷ before) after all = absurd all
 finish_before view (j ∷ jobs) [] after all = tt
 finish_before view (j ∷ jobs) (f ∷ before) after all = (all.0, finish_before view jobs before after all.1)
 
-pub first_fault : {A : Type 0} {S : Type 0} (view : SourceView S) (jobs : List (JobsValue S)) (ends : List (Option (FoundValue S))) (r : Result A (ThreadFault S)) → AllEnd view jobs ends
+pub first_fault : {A : Type 0} {S : Type 0} (view : SourceView S) (jobs : List (JobsValue S)) (ends : List (Option (FoundValue S)))
+    (r : Result A (ThreadFault S)) → AllEnd view jobs ends
     → IfErr r (EndsAtRing ends) → IfErr r (IsFirstFault view jobs)
 first_fault view jobs ends (Ok a) all first = tt
 first_fault view jobs ends (Err (Spawn stream)) all first = tt
@@ -103,9 +118,12 @@ first_fault {A} {S} view jobs ends (Err (Ring found)) all first =
 
 -- ---- the jobs of all streams
 
-jobs_more : {S : Type 0} (terms : TermsValue) (k : ℕ) (readers : List S) (ps : List PassValue) (js : List (JobsValue S)) (reader : S) (p : PassValue) (j : JobsValue S)
-    → AreJobs terms k readers ps js → IsJob terms (k + length js) reader p j → AreJobs terms k (readers ++ reader ∷ []) (ps ++ p ∷ []) (js ++ j ∷ [])
-jobs_more terms k [] [] [] reader p j all here = let place : k + 0 ≡ k = omega arith in (subst (λ s. IsJob terms s reader p j) place here, tt)
+jobs_more : {S : Type 0} (terms : TermsValue) (k : ℕ) (readers : List S) (ps : List PassValue) (js : List (JobsValue S)) (reader : S)
+    (p : PassValue) (j : JobsValue S)
+    → AreJobs terms k readers ps js → IsJob terms (k + length js) reader p j
+    → AreJobs terms k (readers ++ reader ∷ []) (ps ++ p ∷ []) (js ++ j ∷ [])
+jobs_more terms k [] [] [] reader p j all here =
+    let place : k + 0 ≡ k = omega arith in (subst (λ s. IsJob terms s reader p j) place here, tt)
 jobs_more terms k [] [] (i ∷ js) reader p j all here = absurd all
 jobs_more terms k [] (q ∷ ps) js reader p j all here = absurd all
 jobs_more terms k (e ∷ readers) [] js reader p j all here = absurd all
@@ -115,7 +133,8 @@ jobs_more terms k (e ∷ readers) (q ∷ ps) (i ∷ js) reader p j all here =
     (all.0, jobs_more terms (k + 1) readers ps js reader p j all.1 (subst (λ s. IsJob terms s reader p j) place here))
 
 -- one stream's more, and of what they are
-pub jobs_pushed : {S X : Type 0} (terms : TermsValue) (s : ℕ) (read : X → S) (pass : X → PassValue) (xs : List X) (x : X) (js new : List (JobsValue S)) (j : JobsValue S)
+pub jobs_pushed : {S X : Type 0} (terms : TermsValue) (s : ℕ) (read : X → S) (pass : X → PassValue) (xs : List X) (x : X)
+    (js new : List (JobsValue S)) (j : JobsValue S)
     → new ≡ js ++ j ∷ [] → s ≡ length js + 1 → AreJobs terms 1 (map read xs) (map pass xs) js → IsJob terms s (read x) (pass x) j
     → AreJobs terms 1 (map read (xs ++ x ∷ [])) (map pass (xs ++ x ∷ [])) new
 jobs_pushed {S} {X} terms s read pass xs x js new j pushed place all here =

@@ -13,10 +13,14 @@ pub returns-clause-formula : goal.returns-clause-formula
 returns-clause-formula c =
     let header = c.in_ok-header.header in
     let left = c.next_line.new.self in
-    IfOk-weaker c.read_clauses.result _ _ (λ (f : Cnf) read. text_of_body c.args.bytes.now f (in_body (AreClauses f) c.args.bytes.now (runs c.in-Some.line.now) left.rest.now left.line left.line header.vars header.clauses (sym c.new-tokens.ensures ∙ c.in-Some.ensures) c.in_ok-header.ensures read)) c.read_clauses.ensures.ok
+    IfOk-weaker c.read_clauses.result _ _ (λ (f : Cnf) read. text_of_body c.args.bytes.now f
+    (in_body (AreClauses f) c.args.bytes.now (runs c.in-Some.line.now) left.rest.now left.line left.line header.vars header.clauses
+    (sym c.new-tokens.ensures ∙ c.in-Some.ensures) c.in_ok-header.ensures read)) c.read_clauses.ensures.ok
 
 pub returns-clause-fault : goal.returns-clause-fault
 returns-clause-fault c =
     let header = c.in_ok-header.header in
     let left = c.next_line.new.self in
-    IfErr-weaker c.read_clauses.result _ _ (λ (fault : DimacsFault) read other. inr (in_body (IsBodyFault fault) c.args.bytes.now (runs c.in-Some.line.now) left.rest.now left.line left.line header.vars header.clauses (sym c.new-tokens.ensures ∙ c.in-Some.ensures) c.in_ok-header.ensures (read other))) c.read_clauses.ensures.err
+    IfErr-weaker c.read_clauses.result _ _ (λ (fault : DimacsFault) read other. inr
+    (in_body (IsBodyFault fault) c.args.bytes.now (runs c.in-Some.line.now) left.rest.now left.line left.line header.vars header.clauses
+    (sym c.new-tokens.ensures ∙ c.in-Some.ensures) c.in_ok-header.ensures (read other))) c.read_clauses.ensures.err

@@ -23,8 +23,10 @@ returns-in_err-push-in-Live-clause-fetched g c =
     (moves c.args.map.now c.loop-before.map) (moves c.args.map.now c.fetch.new.self) c.loop-before.before
     c.loop-before.clips.items (clip ∷ []) (c.loop-before.clips.items ++ clip ∷ []) (live (clip_clause (place c.fetch.new.self) clip))
     c.loop-before.invariant (λ es before. g.met.M.ClauseMap.moves_append _ _ _ _ _ before c.in-Live.ensures.event)
-    (g.met.M.ClauseMap.moves_tells _ _ _ c.in-Live.ensures.event) c.in-Live.ensures.formula c.in-Live.ensures.follow (c.in-Live.ensures.fetched.1, tt)
-    (kept_wanted wants (place c.fetch.new.self) (c.loop-before.before + 1) clip (sym c.wants.ensures ∙ c.if-wants.true) c.in-Live.ensures.fetched.0) refl in
+    (g.met.M.ClauseMap.moves_tells _ _ _ c.in-Live.ensures.event) c.in-Live.ensures.formula c.in-Live.ensures.follow
+    (c.in-Live.ensures.fetched.1, tt)
+    (kept_wanted wants (place c.fetch.new.self) (c.loop-before.before + 1) clip
+    (sym c.wants.ensures ∙ c.if-wants.true) c.in-Live.ensures.fetched.0) refl in
     (found.replies, found.moved, omega (arith, found.count), no_ok c.from_residual.result _ c.from_residual.ensures.0)
 
 pub loop-before-preserved : goal.loop-before-preserved
@@ -41,8 +43,10 @@ loop-before-preserved g c =
           found_next wants (place c.args.map.now) (place c.loop-before.map) (place c.fetch.new.self) before after c.loop-before.before
           clips (clip ∷ []) c.match-fetch.clips.items (live (clip_clause (place c.fetch.new.self) clip))
           c.loop-before.invariant (λ es moved. g.met.M.ClauseMap.moves_append _ _ _ _ _ moved w.in-Live.ensures.event)
-          (g.met.M.ClauseMap.moves_tells _ _ _ w.in-Live.ensures.event) w.in-Live.ensures.formula w.in-Live.ensures.follow (w.in-Live.ensures.fetched.1, tt)
-          (kept_wanted wants (place c.fetch.new.self) (c.loop-before.before + 1) clip (sym w.wants.ensures ∙ w.if-wants.true) w.in-Live.ensures.fetched.0)
+          (g.met.M.ClauseMap.moves_tells _ _ _ w.in-Live.ensures.event) w.in-Live.ensures.formula w.in-Live.ensures.follow
+          (w.in-Live.ensures.fetched.1, tt)
+          (kept_wanted wants (place c.fetch.new.self) (c.loop-before.before + 1) clip
+          (sym w.wants.ensures ∙ w.if-wants.true) w.in-Live.ensures.fetched.0)
           (ap (λ v. v.items) w.clips-is ∙ w.in_ok-push-in-Live.ensures.items)
       | in-Live+else-wants w ↦
           let clip = w.in-Live.clip in
@@ -65,5 +69,6 @@ pub returns-clause-formula : goal.returns-clause-formula
 returns-clause-formula g c = λ all within.
     let found = c.loop-before.invariant in
     let caller = (g.M.ClauseMap.place c.args.map.now).caller in
-    let whole = first_whole (g.K.Wanted.wants c.args.wanted.now) caller.formula caller.layout.clauses c.loop-before.before found.replies all (omega arith) (found.first all) in
+    let whole = first_whole (g.K.Wanted.wants c.args.wanted.now) caller.formula caller.layout.clauses c.loop-before.before found.replies all
+    (omega arith) (found.first all) in
     (whole.0, found.entries ∙ whole.1)

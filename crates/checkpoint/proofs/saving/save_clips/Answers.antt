@@ -18,5 +18,6 @@ returns-in-Ok-clause-checkpoint g c =
     let few = few_clauses place c.args.clips.now c.requires.known in (
       formula_text c.args.vars entries,
       c.in-Ok.ensures.text,
-      checkpoint_of place.caller.formula c.args.vars entries c.requires.vars c.requires.few (few.0 (c.are_few.ensures.0 c.if-not-are_few.false)) c.requires.follow,
+      checkpoint_of place.caller.formula c.args.vars entries c.requires.vars c.requires.few
+          (few.0 (c.are_few.ensures.0 c.if-not-are_few.false)) c.requires.follow,
     )

@@ -44,7 +44,8 @@ loop-i-preserved g c =
     elim c.match-second.branch [
       | in-Some+in_ok-put_literal-2 w ↦ rw (w.buffer-is, w.sink-is) (record {
         running = w.in_ok-put_literal-2.ensures.failed;
-        puts = puts_next puts w.in_ok-put_literal-2.ensures.puts (pair_both clause i c.pair-first.result.0 first w.in-Some.second (second ∙ w.in-Some.is));
+        puts = puts_next puts w.in_ok-put_literal-2.ensures.puts
+            (pair_both clause i c.pair-first.result.0 first w.in-Some.second (second ∙ w.in-Some.is));
         event = event;
         stays = stays;
       })

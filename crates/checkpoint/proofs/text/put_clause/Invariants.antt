@@ -10,7 +10,8 @@ invariant-loop-i g l =
     let written = g.W.Sink.written in
     record {
       running : g.W.Sink.has_failed l.sink ≡ false;
-      puts : Puts (written l.fn.sink) (written l.sink) l.fn.buffer l.buffer (literals_text (take (2 * l.i) (clip_clause (place l.fn.map) l.clip)));
+      puts : Puts (written l.fn.sink) (written l.sink) l.fn.buffer l.buffer
+          (literals_text (take (2 * l.i) (clip_clause (place l.fn.map) l.clip)));
       event : g.M.ClauseMap.moves l.fn.map l.map [];
       stays : place l.map ≡ place l.fn.map;
     }

@@ -12,7 +12,8 @@ returns-in_err-put-clause-puts g c =
 pub returns-in_err-put_number-clause-puts : goal.returns-in_err-put_number-clause-puts
 returns-in_err-put_number-clause-puts g c =
     let first = breaks_more (breaks_then c.in_ok-put.ensures.puts c.in_err-put_number.ensures.puts) (codes " ") in
-    at_err c.from_residual-in_err-put_number.result _ _ c.from_residual-in_err-put_number.ensures.0 (breaks_more (breaks_more first (decimal c.args.count)) (codes "\n"))
+    at_err c.from_residual-in_err-put_number.result _ _ c.from_residual-in_err-put_number.ensures.0
+    (breaks_more (breaks_more first (decimal c.args.count)) (codes "\n"))
 
 pub returns-in_err-put-2-clause-puts : goal.returns-in_err-put-2-clause-puts
 returns-in_err-put-2-clause-puts g c =

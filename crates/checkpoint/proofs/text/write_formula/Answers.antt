@@ -9,7 +9,8 @@ pub returns-in_err-put_header-clause-text : goal.returns-in_err-put_header-claus
 returns-in_err-put_header-clause-text g c =
     let entry = entry_of (g.M.ClauseMap.place c.args.map.now) in
     breaks_from_empty c.from_residual.result c.new-buffer.ensures c.from_residual.ensures.0
-    (breaks_first c.in_err-put_header.ensures.puts (later_entries entry c.args.clips.now 0) (header_first c.args.vars entry c.args.clips.now))
+    (breaks_first c.in_err-put_header.ensures.puts (later_entries entry c.args.clips.now 0)
+    (header_first c.args.vars entry c.args.clips.now))
 
 pub returns-in_err-put_entry-clause-text : goal.returns-in_err-put_entry-clause-text
 returns-in_err-put_entry-clause-text g c =
@@ -19,11 +20,14 @@ returns-in_err-put_entry-clause-text g c =
     let text = rw c.loop-before.invariant.stays at c.in_err-put_entry.ensures.puts in
     let is = entries_split c.args.vars entry clips k c.index-clips-before.result c.loop-before-test.true in
     let broken = breaks_next c.loop-before.invariant.puts text (later_entries entry clips (k + 1))
-    (is ∙ ap (λ clip. (header_entries c.args.vars entry clips k ++ entry_text (k + 1) (entry clip)) ++ later_entries entry clips (k + 1)) (sym c.index-clips-before.is)) in
-    at_err c.from_residual-in_err-put_entry.result _ _ c.from_residual-in_err-put_entry.ensures.0 (broken.went, broken.rest, broken.is, broken.appends)
+    (is ∙ ap (λ clip. (header_entries c.args.vars entry clips k ++ entry_text (k + 1) (entry clip)) ++ later_entries entry clips (k + 1))
+    (sym c.index-clips-before.is)) in
+    at_err c.from_residual-in_err-put_entry.result _ _ c.from_residual-in_err-put_entry.ensures.0
+    (broken.went, broken.rest, broken.is, broken.appends)
 
 pub returns-in_err-put_entry-clause-event : goal.returns-in_err-put_entry-clause-event
-returns-in_err-put_entry-clause-event g c = g.met.M.ClauseMap.moves_append _ _ _ _ _ c.loop-before.invariant.event c.in_err-put_entry.ensures.event
+returns-in_err-put_entry-clause-event g c =
+    g.met.M.ClauseMap.moves_append _ _ _ _ _ c.loop-before.invariant.event c.in_err-put_entry.ensures.event
 
 pub loop-before-preserved : goal.loop-before-preserved
 loop-before-preserved g c =

@@ -7,7 +7,8 @@ use Rattle.clause_store_tests.specs.Worked.{IsPassAt, ArePassesAt, raced}
 use Rattle.clause_store_tests.proofs.tests.open_race.Goals as goal
 
 -- where the pass at each place is of the store and formula, all are
-are_at : (f : Cnf) (store : StoreValue) (ps : List PassValue) → ((k : ℕ) (p : PassValue) → slice_get ps k ≡ Some p → IsPassAt f store p) → ArePassesAt f store ps
+are_at : (f : Cnf) (store : StoreValue) (ps : List PassValue) → ((k : ℕ) (p : PassValue) → slice_get ps k ≡ Some p → IsPassAt f store p)
+    → ArePassesAt f store ps
 are_at f store [] each = tt
 are_at f store (p ∷ ps) each = (each 0 p refl, are_at f store ps (λ k q here. each (suc k) q here))
 

@@ -9,7 +9,8 @@ use Rattle.lrup_model.specs.Place.{Caller}
 use Rattle.clause_store_tests.proofs.tests.open_two.Goals as goal
 
 -- two passes, taken from the end of a list of two
-two_taken : (ps qs rs : List PassValue) (a b : PassValue) → ps ≡ qs ++ b ∷ [] → qs ≡ rs ++ a ∷ [] → length ps ≡ 2 → (slice_get ps 0 ≡ Some a) × (slice_get ps 1 ≡ Some b)
+two_taken : (ps qs rs : List PassValue) (a b : PassValue) → ps ≡ qs ++ b ∷ [] → qs ≡ rs ++ a ∷ [] → length ps ≡ 2
+    → (slice_get ps 0 ≡ Some a) × (slice_get ps 1 ≡ Some b)
 two_taken ps qs [] a b last first two =
     let all : ps ≡ a ∷ b ∷ [] = last ∙ ap (λ (xs : List PassValue). xs ++ b ∷ []) first in
     (ap (λ (xs : List PassValue). slice_get xs 0) all, ap (λ (xs : List PassValue). slice_get xs 1) all)
@@ -27,7 +28,8 @@ returns c =
     let two : length passes.items ≡ 2 = omega (arith, c.in_ok-store.ensures.count, streams, passes.ok.0) in
     let taken = two_taken passes.items c.pop.new.self.items c.pop-2.new.self.items c.in_ok-first.first c.in_ok-second.second
     (c.pop.ensures.items ∙ ap (λ (o : Option PassValue). c.pop.new.self.items ++ option_to_list o) c.in_ok-second.ensures.ok_part)
-    (c.pop-2.ensures.items ∙ ap (λ (o : Option PassValue). c.pop-2.new.self.items ++ option_to_list o) c.in_ok-first.ensures.ok_part) two in (
+    (c.pop-2.ensures.items ∙ ap (λ (o : Option PassValue). c.pop-2.new.self.items ++ option_to_list o) c.in_ok-first.ensures.ok_part)
+    two in (
       is_at c.in_ok-store.store c.in_ok-formula.formula 1 c.in_ok-first.first c.in_ok-formula.ensures
           (c.in_ok-store.ensures.passes 1 c.in_ok-first.first (omega arith, omega (arith, streams)) taken.0),
       (

@@ -7,4 +7,5 @@ use Rattle.command.proofs.arguments.after_name.Goals as goal
 pub returns : goal.returns
 returns c =
     items_from_collect c.collect.result c.collect.ensures.ran
-    (YieldsList-from_skip 1 (YieldsList-from_vec (into_iter_items c.args.arguments) (ap into_iter_items c.skip.ensures.source) (search rules)) c.skip.ensures.count)
+    (YieldsList-from_skip 1
+    (YieldsList-from_vec (into_iter_items c.args.arguments) (ap into_iter_items c.skip.ensures.source) (search rules)) c.skip.ensures.count)

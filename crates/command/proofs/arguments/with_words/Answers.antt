@@ -28,7 +28,8 @@ returns-in_default-words_of-clause-ends g c = inr (record {
 
 -- the words are those of the arguments
 same_words : (g : Given.Over) (c : goal.After-drop-arguments-2 g) → texts c.deref-2.result.now ≡ words_after_name c.args.arguments
-same_words g c = read_all texts (map string_bytes) c.deref-2.result.now c.in-Ok-words_of.words.items c.deref.result.now c.in-Ok.arguments.items _
+same_words g c =
+    read_all texts (map string_bytes) c.deref-2.result.now c.in-Ok-words_of.words.items c.deref.result.now c.in-Ok.arguments.items _
     c.deref-2.ensures.value c.in-Ok-words_of.ensures c.deref.ensures.value c.in-Ok.ensures
 
 pub returns-clause-sound : goal.returns-clause-sound
@@ -39,14 +40,16 @@ returns-clause-sound g c zero =
 pub returns-clause-sound_under : goal.returns-clause-sound_under
 returns-clause-sound_under g c eight =
     let Read = WasRead g.F.Files.opens g.F.Input.Source.reads (g.F.Files.tells c.args.files.now) in
-    subst (λ (words : List Text). NameUnsatisfiableUnder _ Read c.args.files.now words) (same_words g c) (c.command.ensures.sound_under eight)
+    subst (λ (words : List Text). NameUnsatisfiableUnder _ Read c.args.files.now words) (same_words g c)
+    (c.command.ensures.sound_under eight)
 
 pub returns-clause-saved : goal.returns-clause-saved
 returns-clause-saved g c path ask is =
     let Read = WasRead g.F.Files.opens g.F.Input.Source.reads (g.F.Files.tells c.args.files.now) in
     let Save = WasSaved g.F.Files.creates g.F.Output.Sink.written g.F.Files.keeps in
     let asked = subst (λ (words : List Text). AskToSave words path) (sym (same_words g c)) ask in
-    subst (λ (words : List Text). NameCheckpoint Read Save c.args.files.now words path c.command.new.files) (same_words g c) (c.command.ensures.saved path asked is)
+    subst (λ (words : List Text). NameCheckpoint Read Save c.args.files.now words path c.command.new.files) (same_words g c)
+    (c.command.ensures.saved path asked is)
 
 pub returns-clause-usage : goal.returns-clause-usage
 returns-clause-usage g c fault = c.command.ensures.usage (subst HaveFault (sym (same_words g c)) fault)

@@ -35,7 +35,8 @@ returns-clause-checked g c =
 
 pub save_live-requires-clause-running : goal.save_live-requires-clause-running
 save_live-requires-clause-running g c =
-    running_to_write g.F.Output.Sink.has_failed c.in_ok-outcome.outcome.verdict c.args.output c.in-Some.sink c.requires.created (sym c.to_write.ensures ∙ c.in-Some.is)
+    running_to_write g.F.Output.Sink.has_failed c.in_ok-outcome.outcome.verdict c.args.output c.in-Some.sink c.requires.created
+    (sym c.to_write.ensures ∙ c.in-Some.is)
 
 pub returns-clause-written : goal.returns-clause-written
 returns-clause-written g c =
@@ -46,10 +47,13 @@ returns-clause-written g c =
     let Written : Result (Option W) SaveFault → Type 0 = λ saved. WritesCheckpoint written formula outcome.verdict c.args.output saved in
     let history = rw (← c.in_ok-outcome.ensures.kept) at c.in_ok-outcome.ensures.history in
     elim c.match-to_write.branch [
-      | in-None w ↦ subst Written (sym w.saved-is) (written_none written formula outcome.verdict c.args.output (sym c.to_write.ensures ∙ w.in-None.is))
+      | in-None w ↦ subst Written (sym w.saved-is)
+          (written_none written formula outcome.verdict c.args.output (sym c.to_write.ensures ∙ w.in-None.is))
       | in-Some w ↦ elim w.match-save_live.branch [
-        | in-Ok w' ↦ subst Written (sym (w.saved-is ∙ w'.saved-is)) (written_ok written formula outcome.verdict c.args.output w.in-Some.sink w.save_live.new.sink
+        | in-Ok w' ↦ subst Written (sym (w.saved-is ∙ w'.saved-is))
+            (written_ok written formula outcome.verdict c.args.output w.in-Some.sink w.save_live.new.sink
             (sym c.to_write.ensures ∙ w.in-Some.is) (w'.in-Ok.ensures.checkpoint formula _ history))
-        | in-Err w' ↦ subst Written (sym (w.saved-is ∙ w'.saved-is)) (written_err written formula outcome.verdict c.args.output w.in-Some.sink w'.in-Err.fault (sym c.to_write.ensures ∙ w.in-Some.is))
+        | in-Err w' ↦ subst Written (sym (w.saved-is ∙ w'.saved-is)) (written_err written formula outcome.verdict c.args.output
+            w.in-Some.sink w'.in-Err.fault (sym c.to_write.ensures ∙ w.in-Some.is))
       ]
     ]

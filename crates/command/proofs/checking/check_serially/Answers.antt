@@ -37,8 +37,11 @@ returns-clause-written g c =
     let outcome = c.in_ok-outcome.outcome in
     let Written : Result (Option W) SaveFault → Type 0 = λ saved. WritesCheckpoint written formula outcome.verdict c.args.output saved in
     elim c.match-to_write.branch [
-      | in-None w ↦ subst Written (sym w.saved-is) (written_none written formula outcome.verdict c.args.output (sym c.to_write.ensures ∙ w.in-None.is))
-      | in-Some+in-Ok w ↦ subst Written (sym w.saved-is) (written_ok written formula outcome.verdict c.args.output w.in-Some.sink w.save_plain.new.sink
+      | in-None w ↦ subst Written (sym w.saved-is)
+          (written_none written formula outcome.verdict c.args.output (sym c.to_write.ensures ∙ w.in-None.is))
+      | in-Some+in-Ok w ↦
+          subst Written (sym w.saved-is) (written_ok written formula outcome.verdict c.args.output w.in-Some.sink w.save_plain.new.sink
           (sym c.to_write.ensures ∙ w.in-Some.is) (rw c.in_ok-outcome.ensures.kept.0 at w.in-Ok.ensures.checkpoint))
-      | in-Some+in-Err w ↦ subst Written (sym w.saved-is) (written_err written formula outcome.verdict c.args.output w.in-Some.sink w.in-Err.fault (sym c.to_write.ensures ∙ w.in-Some.is))
+      | in-Some+in-Err w ↦ subst Written (sym w.saved-is)
+          (written_err written formula outcome.verdict c.args.output w.in-Some.sink w.in-Err.fault (sym c.to_write.ensures ∙ w.in-Some.is))
     ]

@@ -11,12 +11,15 @@ loop-path-preserved g c =
     let files = g.F.Files.tells in
     let pushed = c.push_reserved.ensures in
     record {
-      left = opened_more left (files c.args.files.now) (files now.files) (λ p. p.now) now.readers.items c.push_reserved.new.self.items c.in-Ok.reader c.args.paths.now now.path-index _
+      left = opened_more left (files c.args.files.now) (files now.files)
+          (λ p. p.now) now.readers.items c.push_reserved.new.self.items c.in-Ok.reader c.args.paths.now now.path-index _
           c.loop-path-test.true pushed.items now.invariant.left now.invariant.stays c.in-Ok.ensures.left;
-      opened = all_opened_more g.F.Files.opens (λ p. p.now) c.args.files.now now.readers.items c.push_reserved.new.self.items c.in-Ok.reader c.args.paths.now now.path-index _
+      opened = all_opened_more g.F.Files.opens
+          (λ p. p.now) c.args.files.now now.readers.items c.push_reserved.new.self.items c.in-Ok.reader c.args.paths.now now.path-index _
           now.files c.open.new.self c.loop-path-test.true pushed.items now.invariant.opened c.in-Ok.ensures.opens;
       running = subst (AllByRecursion (λ r. g.F.Input.Source.has_failed r ≡ false)) (sym pushed.items)
-          (All-push (λ r. g.F.Input.Source.has_failed r ≡ false) now.readers.items c.in-Ok.reader now.invariant.running c.in-Ok.ensures.running);
+          (All-push (λ r. g.F.Input.Source.has_failed r ≡ false) now.readers.items c.in-Ok.reader now.invariant.running
+          c.in-Ok.ensures.running);
       count = omega (arith, pushed.len, now.invariant.count);
       room = omega (arith, pushed.capacity, now.invariant.room);
       stays = c.open.ensures.stays ∙ now.invariant.stays;
@@ -27,5 +30,7 @@ loop-path-preserved g c =
 pub returns-in-Err-NotOpened-clause-cause : goal.returns-in-Err-NotOpened-clause-cause
 returns-in-Err-NotOpened-clause-cause g c =
     let now = c.loop-path in
-    refused_at g.F.Files.opens (λ p. p.now) (g.F.Files.may_refuse c.args.files.now) (g.F.Files.may_refuse now.files) c.args.files.now c.args.paths.now now.readers.items now.files
-    now.path-index c.len.result _ c.loop-path-test.true (c.len.ensures ∙ now.invariant.count) now.invariant.opened now.invariant.stays_refused (c.open.ensures.refused (c.in-Err-NotOpened.is ∙ ap Err c.in-Err-NotOpened.field-0-is))
+    refused_at g.F.Files.opens (λ p. p.now) (g.F.Files.may_refuse c.args.files.now)
+    (g.F.Files.may_refuse now.files) c.args.files.now c.args.paths.now now.readers.items now.files
+    now.path-index c.len.result _ c.loop-path-test.true (c.len.ensures ∙ now.invariant.count) now.invariant.opened
+    now.invariant.stays_refused (c.open.ensures.refused (c.in-Err-NotOpened.is ∙ ap Err c.in-Err-NotOpened.field-0-is))

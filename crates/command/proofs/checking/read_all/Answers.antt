@@ -25,8 +25,8 @@ loop-preserved g c =
 
 -- why the source wasn't read to its end
 broken_off : (R : Type 0) (reading : SourceView R) (first last after : R) (bytes : List ℕ) (room : ℕ) (fault : CommandFault)
-    → Gave R reading.reads first bytes last → Consumes (reading.left first) (reading.left last) bytes → reading.reads last room None after → reading.has_failed after ≡ true
-    → fault ≡ faults.Unread → IsFailedRead reading first fault
+    → Gave R reading.reads first bytes last → Consumes (reading.left first) (reading.left last) bytes → reading.reads last room None after
+    → reading.has_failed after ≡ true → fault ≡ faults.Unread → IsFailedRead reading first fault
 broken_off R reading first last after bytes room fault gave consumed read failed is =
     let broken : HasBrokenOff reading first = record {
       bytes = bytes;

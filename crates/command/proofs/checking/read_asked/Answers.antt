@@ -11,6 +11,7 @@ returns-in_err-formula-clause-cause g c =
     let words = texts c.args.words.now in
     let line = c.in_ok-line.line in
     let fault = c.in_err-formula.field-0.0 in
-    let cause = read_cause files words line c.in_ok-line.ensures.ok fault (formula_file_cause files line.formula.now fault c.in_err-formula.ensures.cause) in
+    let cause = read_cause files words line c.in_ok-line.ensures.ok fault
+    (formula_file_cause files line.formula.now fault c.in_err-formula.ensures.cause) in
     err_given c.from_residual-in_err-formula.result _ (IsCause files words)
     (λ other is. subst (IsCause files words) (sym is) cause) c.from_residual-in_err-formula.ensures.1

@@ -10,12 +10,15 @@ returns-in_err-read_cube-in-Ok-clause-cause g c =
     let files = files_view g.F.Files g.F.Input.Source g.F.Output.Sink c.args.files.now in
     let IsCause = IsAssumeCause files c.args.formula.now.vars c.args.files.now (Some c.args.path.now) in
     let faulty = subst (λ (n : ℕ). IsCubeFault n c.in-Ok.bytes.items c.in_err-read_cube-in-Ok.field-0.0) c.vars.ensures.vars
-    (subst (λ (bytes : List ℕ). IsCubeFault c.vars.result bytes c.in_err-read_cube-in-Ok.field-0.0) c.deref.ensures.value c.in_err-read_cube-in-Ok.ensures.fault) in
-    let cause = cube_text_cause files c.args.formula.now.vars c.args.files.now c.args.path.now c.in-Ok.bytes.items c.read_file.new.files c.in-Ok.ensures.bytes c.in_err-read_cube-in-Ok.field-0.0 faulty in
+    (subst (λ (bytes : List ℕ). IsCubeFault c.vars.result bytes c.in_err-read_cube-in-Ok.field-0.0) c.deref.ensures.value
+    c.in_err-read_cube-in-Ok.ensures.fault) in
+    let cause = cube_text_cause files c.args.formula.now.vars c.args.files.now c.args.path.now c.in-Ok.bytes.items c.read_file.new.files
+    c.in-Ok.ensures.bytes c.in_err-read_cube-in-Ok.field-0.0 faulty in
     err_given c.from_residual.result _ IsCause (λ fault is. subst IsCause (sym is) cause) c.from_residual.ensures.1
 
 pub returns-in-Err-clause-cause : goal.returns-in-Err-clause-cause
 returns-in-Err-clause-cause g c =
     let files = files_view g.F.Files g.F.Input.Source g.F.Output.Sink c.args.files.now in
     let IsCause = IsAssumeCause files c.args.formula.now.vars c.args.files.now (Some c.args.path.now) in
-    subst IsCause (sym c.of_cube_file.ensures) (cube_file_cause files c.args.formula.now.vars c.args.files.now c.args.path.now c.in-Err.fault c.in-Err.ensures.cause)
+    subst IsCause (sym c.of_cube_file.ensures)
+    (cube_file_cause files c.args.formula.now.vars c.args.files.now c.args.path.now c.in-Err.fault c.in-Err.ensures.cause)

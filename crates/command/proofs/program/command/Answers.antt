@@ -28,10 +28,14 @@ returns-in-Ok-clause-ends g c =
     let next = c.read_asked.new.files in
     let view : (Text → Option (List ℕ)) → (Text → Bool) → (Text → Bool) → FilesView =
     λ t m n. record (files_view g.F.Files g.F.Input.Source g.F.Output.Sink first) { tells = t; may_refuse = m; may_refuse_new = n } in
-    let output = change (g.O.Sink.written c.args.out.now) (g.O.Sink.written c.check_formula.new.out) (g.O.Sink.has_failed c.check_formula.new.out) in
-    let errors = change (g.E.Sink.written c.args.err.now) (g.E.Sink.written c.check_formula.new.err) (g.E.Sink.has_failed c.check_formula.new.err) in
-    let Ends : (Text → Option (List ℕ)) → (Text → Bool) → (Text → Bool) → Type 0 = λ t m n. WasReadIn (view t m n) first asked.line.formula.now asked.formula.items next
-    → EndsWithReport (view t m n) words c.check_formula.new.files output errors c.check_formula.result ⊎ EndsWithFault (view t m n) words output errors c.check_formula.result in
+    let output =
+    change (g.O.Sink.written c.args.out.now) (g.O.Sink.written c.check_formula.new.out) (g.O.Sink.has_failed c.check_formula.new.out) in
+    let errors =
+    change (g.E.Sink.written c.args.err.now) (g.E.Sink.written c.check_formula.new.err) (g.E.Sink.has_failed c.check_formula.new.err) in
+    let Ends : (Text → Option (List ℕ)) → (Text → Bool) → (Text → Bool)
+    → Type 0 = λ t m n. WasReadIn (view t m n) first asked.line.formula.now asked.formula.items next
+    → EndsWithReport (view t m n) words c.check_formula.new.files output errors c.check_formula.result
+    ⊎ EndsWithFault (view t m n) words output errors c.check_formula.result in
     let ends = c.check_formula.ensures.ends words first c.in-Ok.ensures.line in
     let told = subst (λ t. Ends t (g.F.Files.may_refuse next) (g.F.Files.may_refuse_new next)) c.in-Ok.ensures.stays ends in
     let refused = subst (λ m. Ends (g.F.Files.tells first) m (g.F.Files.may_refuse_new next)) c.in-Ok.ensures.stays_refused told in

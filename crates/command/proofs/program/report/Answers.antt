@@ -11,7 +11,8 @@ returns-in-Err-clause-said g c =
     let err = change (written c.args.err.now) (written c.say_next.new.err) (has_failed c.say_next.new.err) in
     let failed : g.O.Sink.has_failed c.write_report.new.sink ≡ true = c.write_report.ensures.failed ∙ ap is_err c.in-Err.is in
     subst (λ (b : Bool). SaysOfReport b c.args.found.now.unsaved err) (sym failed)
-    (says_both (written c.args.err.now) (written c.say_unsaved.new.err) (written c.say_next.new.err) (has_failed c.say_unsaved.new.err) (has_failed c.say_next.new.err) c.args.found.now.unsaved
+    (says_both (written c.args.err.now) (written c.say_unsaved.new.err) (written c.say_next.new.err) (has_failed c.say_unsaved.new.err)
+    (has_failed c.say_next.new.err) c.args.found.now.unsaved
     c.say_unsaved.ensures
     (λ broken. let same = c.say_next.ensures.failed broken in (ap written same, ap has_failed same ∙ broken))
     c.say_next.ensures.said)

@@ -10,4 +10,5 @@ returns c =
     let three = c.in_ok-command-4.ensures.shape c.flag.ensures.local ∙ ap₂ with_rule two c.flag.ensures.rule in
     let four = c.in_ok-command-5.ensures.shape c.flag-2.ensures.local ∙ ap₂ with_rule three c.flag-2.ensures.rule in
     let five = c.in_ok-command-6.ensures.shape c.formula.ensures.local ∙ ap₂ with_rule four c.formula.ensures.rule in
-    IfOk-weaker c.arg-6.result _ _ (λ r added. added.shape c.stream.ensures.local ∙ ap₂ with_rule five c.stream.ensures.rule) c.arg-6.ensures
+    IfOk-weaker c.arg-6.result _ _
+    (λ r added. added.shape c.stream.ensures.local ∙ ap₂ with_rule five c.stream.ensures.rule) c.arg-6.ensures

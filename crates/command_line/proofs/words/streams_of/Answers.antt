@@ -14,5 +14,6 @@ unwrap-requires c =
 pub returns : goal.returns
 returns c =
     let same = c.get_strs.ensures ∙ raw_values-rows (found_of c.args.matches.now) (codes "STREAM") in
-    let items : c.extend_from_slice.new.self.items ≡ c.unwrap.result.now = c.in_ok-extend_from_slice.ensures.items ∙ ap (λ l. l ++ c.unwrap.result.now) c.new-paths.ensures.items in
+    let items : c.extend_from_slice.new.self.items ≡ c.unwrap.result.now = c.in_ok-extend_from_slice.ensures.items
+    ∙ ap (λ l. l ++ c.unwrap.result.now) c.new-paths.ensures.items in
     sym same ∙ ap (option_map (λ s. texts s.now)) c.unwrap.ensures ∙ sym (ap (λ l. Some (texts l)) items)

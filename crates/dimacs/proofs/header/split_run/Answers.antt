@@ -23,7 +23,8 @@ returns-clause-run c =
       | then-loop-end-test+else-not-is_separator w ↦ ended_within text k w.loop-end-test.true (sym w.if-not-is_separator.ensures)
       | else-loop-end-test w ↦ ended_past text k w.loop-end-test.false
     ] in
-    c.split_at.ensures.front ∙ sym (append-nil (take k text)) ∙ ap (λ (x : List ℕ). take k text ++ x) (sym ended.0) ∙ sym c.loop-end.invariant.run_is
+    c.split_at.ensures.front ∙ sym (append-nil (take k text)) ∙ ap (λ (x : List ℕ). take k text ++ x) (sym ended.0)
+    ∙ sym c.loop-end.invariant.run_is
 
 pub returns-clause-after : goal.returns-clause-after
 returns-clause-after c =

@@ -11,7 +11,9 @@ mark_all-requires-clause-marks c =
     let ensures = c.in_ok-resize.ensures in
     let same : (k : ℕ) → (get_or new.items k 0 ≡ get_or old.items k 0) ⊎ (get_or new.items k 0 ≡ 0) = λ k.
     ⊎_elim
-    (λ (within : k < 524288). ⊎_elim (λ (before : k < length old.items). inl (ensures.by_index.0 k 0 within (omega (arith, old.ok.0)))) (λ (after_run : length old.items ≤ k). inr (ensures.by_index.1 k 0 refl (omega (arith, old.ok.0)) within)) (cases_lt k (length old.items)))
+    (λ (within : k < 524288). ⊎_elim (λ (before : k < length old.items). inl (ensures.by_index.0 k 0 within (omega (arith, old.ok.0))))
+    (λ (after_run : length old.items ≤ k). inr (ensures.by_index.1 k 0 refl (omega (arith, old.ok.0)) within))
+    (cases_lt k (length old.items)))
     (λ (past : 524288 ≤ k). inr (get_or_past new.items k 0 (omega (arith, ensures.len, new.ok.0))))
     (cases_lt k 524288)
     in

@@ -7,7 +7,8 @@ use Rattle.dimacs.proofs.tokens.skip_digits.Goals.{in-Some+then-is_separator, in
 
 pub returns-then-not-is_digit : goal.returns-then-not-is_digit
 returns-then-not-is_digit c =
-    sym c.loop-byte.invariant.digits ∙ ap (λ (x : List ℕ). all_digits (first_run x)) c.in-Some.ensures.cases.0 ∙ digits_broken c.in-Some.field-0-0.now c.in-Some.after.now (sym c.if-is_separator.ensures) (sym c.if-not-is_digit.ensures.value)
+    sym c.loop-byte.invariant.digits ∙ ap (λ (x : List ℕ). all_digits (first_run x)) c.in-Some.ensures.cases.0
+    ∙ digits_broken c.in-Some.field-0-0.now c.in-Some.after.now (sym c.if-is_separator.ensures) (sym c.if-not-is_digit.ensures.value)
 
 pub loop-byte-preserved : goal.loop-byte-preserved
 loop-byte-preserved c =
@@ -24,7 +25,8 @@ pub returns : goal.returns
 returns c =
     let rest = c.loop-byte.rest.now in
     let ended : (first_run rest ≡ []) × (after_run rest ≡ rest) = elim c.match-split_first.branch [
-      | in-Some+then-is_separator w ↦ ended_at_separator rest w.in-Some.field-0-0.now w.in-Some.after.now w.in-Some.ensures.cases.0 (sym w.if-is_separator.ensures)
+      | in-Some+then-is_separator w ↦
+          ended_at_separator rest w.in-Some.field-0-0.now w.in-Some.after.now w.in-Some.ensures.cases.0 (sym w.if-is_separator.ensures)
       | in_default w ↦ ended_at_end rest w.in_default.ensures.cases
     ] in
     (sym c.loop-byte.invariant.digits ∙ ap all_digits ended.0, sym ended.1 ∙ c.loop-byte.invariant.left)

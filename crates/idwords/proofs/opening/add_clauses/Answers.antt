@@ -14,7 +14,8 @@ loop-i-preserved c =
     let within : c.loop-i.i < length cs = omega arith in
     let here : clause ≡ get_or cs c.loop-i.i [] = ◌∙◌ {A = Clause} c.clause.ensures (clause_at-suc c.args.formula.now c.loop-i.i) in
     record {
-      words = clause_words_more c.args.first c.loop-i.start c.loop-i.i cs clause c.push.new.self.items c.loop-i.words.items c.args.words.now.items c.live_word.result within here
+      words = clause_words_more c.args.first c.loop-i.start c.loop-i.i cs clause c.push.new.self.items c.loop-i.words.items
+          c.args.words.now.items c.live_word.result within here
           c.loop-i.invariant.start c.loop-i.invariant.words c.in_ok-push.ensures.items c.live_word.ensures;
       start = omega (arith, c.loop-i.invariant.start, words_more cs c.loop-i.i clause within here);
     }

@@ -9,4 +9,5 @@ loop-i-preserved c =
     let clause = c.clause.result.now in
     let within : c.loop-i.i < length cs = omega arith in
     let here : clause ≡ get_or cs c.loop-i.i [] = c.clause.ensures ∙ clause_at-suc c.args.formula.now c.loop-i.i in
-    c.in_ok-add_clause.ensures ∙ literal_words_more c.loop-i.i cs clause c.loop-i.words.items c.args.words.now.items within here c.loop-i.invariant
+    c.in_ok-add_clause.ensures
+    ∙ literal_words_more c.loop-i.i cs clause c.loop-i.words.items c.args.words.now.items within here c.loop-i.invariant

@@ -34,7 +34,8 @@ loop-s-preserved c =
     let parts = ap (λ (m : Me ℕ (List Part)). m.0) c.loop-s.invariant.parts ∙ parts_next f p (i + 1) p.streams i within in
     let none = ap (λ (m : Me ℕ (List Part)). m.1) c.loop-s.invariant.parts in
     let result = c.split_seat-part.result in
-    let dealt_part : first_part result.me.0 ≡ opening_part f p (i + 1) = ap (λ (m : Me ℕ (List Part)). first_part m.0) (c.split_seat-part.ensures.4 ∙ ap (λ (vs : List Part). (first_only vs, [])) parts) in
+    let dealt_part : first_part result.me.0 ≡ opening_part f p (i + 1) =
+    ap (λ (m : Me ℕ (List Part)). first_part m.0) (c.split_seat-part.ensures.4 ∙ ap (λ (vs : List Part). (first_only vs, [])) parts) in
     let seat : seat_value result.table_id (first_part result.me.0) ≡ opening_seat c.args.table.now.shared.table_id f p (i + 1) =
     ap₂ seat_value (c.split_seat-part.ensures.3 ∙ c.loop-s.invariant.table) dealt_part in
     let len : length c.loop-s.seats.items ≡ i = sym c.loop-s.seats.ok.0 ∙ c.loop-s.invariant.count in
@@ -45,7 +46,10 @@ loop-s-preserved c =
       top = omega (arith, c.loop-s.invariant.top, c.room-top.ensures.room, first_next p i);
       count = omega (arith, c.push_reserved.ensures.len, c.loop-s.invariant.count);
       room = omega (arith, c.push_reserved.ensures.capacity, c.loop-s.invariant.room);
-      seats = below_more (λ (k : ℕ). slice_get c.push_reserved.new.self.items k ≡ Some (opening_seat c.args.table.now.shared.table_id f p (k + 1))) i
-          (λ k below. ap (λ (xs : List SeatValue). slice_get xs k) grown ∙ get_old c.loop-s.seats.items (seat_value result.table_id (first_part result.me.0)) _ k (c.loop-s.invariant.seats k below))
-          (ap (λ (xs : List SeatValue). slice_get xs i) grown ∙ get_new c.loop-s.seats.items (seat_value result.table_id (first_part result.me.0)) i len ∙ ap Some seat);
+      seats = below_more
+          (λ (k : ℕ). slice_get c.push_reserved.new.self.items k ≡ Some (opening_seat c.args.table.now.shared.table_id f p (k + 1))) i
+          (λ k below. ap (λ (xs : List SeatValue). slice_get xs k) grown
+          ∙ get_old c.loop-s.seats.items (seat_value result.table_id (first_part result.me.0)) _ k (c.loop-s.invariant.seats k below))
+          (ap (λ (xs : List SeatValue). slice_get xs i) grown
+          ∙ get_new c.loop-s.seats.items (seat_value result.table_id (first_part result.me.0)) i len ∙ ap Some seat);
     }

@@ -12,5 +12,6 @@ invariant-loop-s l = record {
   top : l.top ≡ first_place l.layout (l._s + 1);
   count : vec_len l.seats ≡ l._s;
   room : l.layout.streams ≤ vec_capacity l.seats;
-  seats : (k : ℕ) → k < l._s → slice_get l.seats.items k ≡ Some (opening_seat l.table.shared.table_id l.table.shared.key.formula.value l.layout (k + 1));
+  seats : (k : ℕ) → k < l._s
+      → slice_get l.seats.items k ≡ Some (opening_seat l.table.shared.table_id l.table.shared.key.formula.value l.layout (k + 1));
 }

@@ -11,5 +11,6 @@ between-requires-clause-within c = (AreEnds-at 0 c.args.ends.now _ c.args.i c.re
 
 pub returns : goal.returns
 returns c =
-    let there : get_or (pieces c.args.literals.now 0 c.args.ends.now) c.args.i _ ≡ _ = pieces-at c.args.literals.now 0 c.args.ends.now c.args.i c.requires.within in
+    let there : get_or (pieces c.args.literals.now 0 c.args.ends.now) c.args.i _ ≡ _ =
+    pieces-at c.args.literals.now 0 c.args.ends.now c.args.i c.requires.within in
     rw (there, ← c.start.ensures) c.between.ensures

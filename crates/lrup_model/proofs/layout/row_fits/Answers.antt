@@ -1,7 +1,9 @@
 use Rattle.std.proofs.Common.{arith, ◌≤◌, ◌*◌}
 use Rattle.lrup_model.proofs.NumberLemmas.{le_multiple}
 use Rattle.lrup_model.proofs.layout.row_fits.Goals as goal
-use Rattle.lrup_model.proofs.layout.row_fits.Goals.{then-literals-gt-MOST-via-then-literals-gt-MOST, then-literals-gt-MOST-via-else-literals-gt-MOST+then-lines-gt-MOST, then-literals-gt-MOST-via-else-literals-gt-MOST+else-lines-gt-MOST+then-room-gt-MOST}
+use Rattle.lrup_model.proofs.layout.row_fits.Goals.{then-literals-gt-MOST-via-then-literals-gt-MOST}
+use Rattle.lrup_model.proofs.layout.row_fits.Goals.{then-literals-gt-MOST-via-else-literals-gt-MOST+then-lines-gt-MOST}
+use Rattle.lrup_model.proofs.layout.row_fits.Goals.{then-literals-gt-MOST-via-else-literals-gt-MOST+else-lines-gt-MOST+then-room-gt-MOST}
 
 pub returns-then-literals-gt-MOST : goal.returns-then-literals-gt-MOST
 returns-then-literals-gt-MOST c =

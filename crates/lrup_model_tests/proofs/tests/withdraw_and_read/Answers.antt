@@ -10,6 +10,7 @@ pub returns : goal.returns
 returns g c = (
   _,
   g.met.M.ClauseMap.moves_append c.args.desk.now c.retire-answer.new.self c.literal.new.self _ _
-      (g.met.M.ClauseMap.moves_append c.args.desk.now c.fetch.new.self c.retire-answer.new.self _ _ c.in-Live.ensures.event c.retire-answer.ensures.event)
+      (g.met.M.ClauseMap.moves_append c.args.desk.now c.fetch.new.self c.retire-answer.new.self _ _ c.in-Live.ensures.event
+      c.retire-answer.ensures.event)
       c.literal.ensures.event,
 )

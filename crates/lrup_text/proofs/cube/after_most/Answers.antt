@@ -20,6 +20,7 @@ pub returns-else-begins_number : goal.returns-else-begins_number
 returns-else-begins_number c read after stands =
     elim c.if-byte-eq45.branch [
       | then-byte-eq45 w ↦ absurd (true≢false (sym (w.value-is ∙ eq-eqb c.args.byte 45 w.if-byte-eq45.true) ∙ c.if-begins_number.false))
-      | else-byte-eq45 w ↦ misspelled read (BeforeLiteral true 65535) c.args.byte after stands (omega arith) (λ signed. body_blocks signed true 65535 c.args.byte c.requires w.if-byte-eq45.false
+      | else-byte-eq45 w ↦ misspelled read (BeforeLiteral true 65535) c.args.byte after stands (omega arith)
+          (λ signed. body_blocks signed true 65535 c.args.byte c.requires w.if-byte-eq45.false
           (λ low high. true≢false (sym (w.value-is ∙ w.begins_number.ensures.1 (low, high)) ∙ c.if-begins_number.false)) (λ none adds. cc))
     ]

@@ -17,21 +17,27 @@ loop-first-init c = ([], literals_start c.args.text.now, (c.new.ensures.items, t
 pub returns-then-is_end-clause-text : goal.returns-then-is_end-clause-text
 returns-then-is_end-clause-text c =
     let read = c.loop-first.invariant in
-    let ends = c.in-Some.ensures.cases.0 ∙ ap (λ b. b ∷ c.in-Some.after.now) c.if-first-eq48.true ∙ ap (λ (t : List ℕ). 48 ∷ t) (c.is_end.ensures.0 c.if-is_end.true) in
-    kept_text (λ kept. kept.items) c.args.vars read.0 c.args.text.now (text_read c.args.text.now read.0 c.loop-first.count c.loop-first.rest.now read.1 ends) c.loop-first.kept read.2
+    let ends = c.in-Some.ensures.cases.0 ∙ ap (λ b. b ∷ c.in-Some.after.now) c.if-first-eq48.true
+    ∙ ap (λ (t : List ℕ). 48 ∷ t) (c.is_end.ensures.0 c.if-is_end.true) in
+    kept_text (λ kept. kept.items) c.args.vars read.0 c.args.text.now
+    (text_read c.args.text.now read.0 c.loop-first.count c.loop-first.rest.now read.1 ends) c.loop-first.kept read.2
 
 pub returns-then-is_end-clause-fault : goal.returns-then-is_end-clause-fault
 returns-then-is_end-clause-fault c =
     let read = c.loop-first.invariant in
-    let ends = c.in-Some.ensures.cases.0 ∙ ap (λ b. b ∷ c.in-Some.after.now) c.if-first-eq48.true ∙ ap (λ (t : List ℕ). 48 ∷ t) (c.is_end.ensures.0 c.if-is_end.true) in
-    kept_fault (λ kept. kept.items) c.args.vars read.0 c.args.text.now (text_read c.args.text.now read.0 c.loop-first.count c.loop-first.rest.now read.1 ends) c.loop-first.kept read.2
+    let ends = c.in-Some.ensures.cases.0 ∙ ap (λ b. b ∷ c.in-Some.after.now) c.if-first-eq48.true
+    ∙ ap (λ (t : List ℕ). 48 ∷ t) (c.is_end.ensures.0 c.if-is_end.true) in
+    kept_fault (λ kept. kept.items) c.args.vars read.0 c.args.text.now
+    (text_read c.args.text.now read.0 c.loop-first.count c.loop-first.rest.now read.1 ends) c.loop-first.kept read.2
 
 pub returns-else-is_end-clause-fault : goal.returns-else-is_end-clause-fault
 returns-else-is_end-clause-fault c =
     let read = c.loop-first.invariant in
     literals_fault c.args.text.now read.0 c.loop-first.count c.loop-first.rest.now Spelling read.1
-    (λ before stands. subst (λ (t : List ℕ). IsTextFault IsCubeLine (before ++ t) Spelling) (sym (c.in-Some.ensures.cases.0 ∙ ap (λ b. b ∷ c.in-Some.after.now) c.if-first-eq48.true))
-    (wrong_end before c.loop-first.count c.in-Some.after.now stands read.1.few (λ is. true≢false (sym (c.is_end.ensures.1 is) ∙ c.if-is_end.false))))
+    (λ before stands. subst (λ (t : List ℕ). IsTextFault IsCubeLine (before ++ t) Spelling)
+    (sym (c.in-Some.ensures.cases.0 ∙ ap (λ b. b ∷ c.in-Some.after.now) c.if-first-eq48.true))
+    (wrong_end before c.loop-first.count c.in-Some.after.now stands read.1.few
+    (λ is. true≢false (sym (c.is_end.ensures.1 is) ∙ c.if-is_end.false))))
 
 pub returns-then-count-eq-MAX_LITERALS-clause-fault :
     goal.returns-then-count-eq-MAX_LITERALS-clause-fault
@@ -41,7 +47,8 @@ returns-then-count-eq-MAX_LITERALS-clause-fault c =
     spelling_fault c.args.vars c.args.text.now fault
     (literals_fault c.args.text.now read.0 c.loop-first.count c.loop-first.rest.now fault read.1
     (λ before stands. subst (λ (t : List ℕ). IsTextFault IsCubeLine (before ++ t) fault) (sym c.in-Some.ensures.cases.0)
-    (c.after_most.ensures before c.in-Some.after.now (subst (λ n. EndsAtSpot before (BeforeLiteral true n)) c.if-count-eq-MAX_LITERALS.true stands))))
+    (c.after_most.ensures before c.in-Some.after.now
+    (subst (λ n. EndsAtSpot before (BeforeLiteral true n)) c.if-count-eq-MAX_LITERALS.true stands))))
 
 pub returns-in_err-literal-clause-fault : goal.returns-in_err-literal-clause-fault
 returns-in_err-literal-clause-fault c =
@@ -51,7 +58,8 @@ returns-in_err-literal-clause-fault c =
     let few : c.loop-first.count < 65535 = omega (arith, read.1.few, c.if-count-eq-MAX_LITERALS.false) in
     rw (p.1, p.2) (spelling_fault c.args.vars c.args.text.now fault
     (literals_fault c.args.text.now read.0 c.loop-first.count c.loop-first.rest.now fault read.1
-    (λ before stands. subst (λ (t : List ℕ). IsTextFault IsCubeLine (before ++ t) fault) (sym c.in-Some.ensures.cases.0) (c.in_err-literal.ensures.fault before c.loop-first.count few stands))))
+    (λ before stands. subst (λ (t : List ℕ). IsTextFault IsCubeLine (before ++ t) fault) (sym c.in-Some.ensures.cases.0)
+    (c.in_err-literal.ensures.fault before c.loop-first.count few stands))))
 
 pub loop-first-preserved : goal.loop-first-preserved
 loop-first-preserved c =
@@ -59,11 +67,13 @@ loop-first-preserved c =
     let few : c.loop-first.count < 65535 = omega (arith, read.1.few, c.if-count-eq-MAX_LITERALS.false) in
     let literal = c.in_ok-literal.literal in
     let taken : ReadsLiteral c.loop-first.rest.now literal c.in_ok-literal.next.now =
-    subst (λ (t : List ℕ). ReadsLiteral t literal c.in_ok-literal.next.now) (sym c.in-Some.ensures.cases.0) c.in_ok-literal.ensures.literal in
+    subst (λ (t : List ℕ). ReadsLiteral t literal c.in_ok-literal.next.now)
+    (sym c.in-Some.ensures.cases.0) c.in_ok-literal.ensures.literal in
     let same = to_z-of_z w64 literal (fits_signed_from_abs w64 literal (omega (arith, taken.fits))) in (
       read.0 ++ literal ∷ [],
       literals_next c.args.text.now read.0 c.loop-first.count c.loop-first.rest.now c.in_ok-literal.next.now literal read.1 taken few,
-      subst (λ z. MatchResult c.with_literal-kept.result (λ kept. AreKept c.args.vars (read.0 ++ z ∷ []) kept.items) (AreNotKept c.args.vars (read.0 ++ z ∷ []))) same
+      subst (λ z. MatchResult c.with_literal-kept.result (λ kept. AreKept c.args.vars (read.0 ++ z ∷ []) kept.items)
+          (AreNotKept c.args.vars (read.0 ++ z ∷ []))) same
           (c.with_literal-kept.ensures read.0 read.2),
     )
 
@@ -71,5 +81,6 @@ pub returns-clause-fault : goal.returns-clause-fault
 returns-clause-fault c =
     let read = c.loop-first.invariant in
     literals_fault c.args.text.now read.0 c.loop-first.count c.loop-first.rest.now Spelling read.1
-    (λ before stands. subst (λ (t : List ℕ). IsTextFault IsCubeLine (before ++ t) Spelling) (sym (nil_from_length c.loop-first.rest.now c.in_default.ensures.cases))
+    (λ before stands. subst (λ (t : List ℕ). IsTextFault IsCubeLine (before ++ t) Spelling)
+    (sym (nil_from_length c.loop-first.rest.now c.in_default.ensures.cases))
     (too_short before (BeforeLiteral true c.loop-first.count) stands read.1.few))

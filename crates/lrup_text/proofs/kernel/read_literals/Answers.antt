@@ -17,9 +17,12 @@ loop-at-preserved c =
     let negative = eqb (get_or text at 0) 45 in
     let sign : take c.if-negative.digits text ≡ take at text ++ sign_text negative =
     elim c.if-negative.branch [
-      | then-negative w ↦ sign_there text at c.if-negative.digits negative c.loop-at-test.true (eq-eqb (get_or text at 0) 45 w.if-negative.true) w.if-negative.true w.digits-is
+      | then-negative w ↦ sign_there text at c.if-negative.digits negative c.loop-at-test.true
+          (eq-eqb (get_or text at 0) 45 w.if-negative.true) w.if-negative.true w.digits-is
       | else-negative w ↦ sign_absent text at c.if-negative.digits negative (ne_eqb (get_or text at 0) 45 w.if-negative.false) w.digits-is
     ] in
     let same = to_z-of_z w64 c.literal_of.result (search (arith, ints, c.literal_of.type_inv)) in
-    literals_next text c.args.start c.args.out.now c.loop-at.out c.args.first c.loop-at.count at negative c.if-negative.digits c.in-Some.magnitude c.in-Some.end _ c.loop-at.invariant
-    sign c.in-Some.ensures c.if-text-end-ne-SPACE.false c.if-count-out.true (ap signed_decimal same ∙ c.literal_of.ensures.text) (ap unsigned_abs same ∙ c.literal_of.ensures.magnitude)
+    literals_next text c.args.start c.args.out.now c.loop-at.out c.args.first c.loop-at.count at negative c.if-negative.digits
+    c.in-Some.magnitude c.in-Some.end _ c.loop-at.invariant
+    sign c.in-Some.ensures c.if-text-end-ne-SPACE.false c.if-count-out.true (ap signed_decimal same ∙ c.literal_of.ensures.text)
+    (ap unsigned_abs same ∙ c.literal_of.ensures.magnitude)

@@ -9,8 +9,11 @@ loop-end-init c =
 
 pub loop-end-preserved : goal.loop-end-preserved
 loop-end-preserved c =
-    more_so_far c.args.text.now c.args.start c.loop-end.number c.loop-end.end _ c.requires.ends c.loop-end.invariant c.loop-end-test.true c.if-text-end-le-NINE.true
-    (wrapped c.args.text.now c.args.start c.loop-end.number c.loop-end.end c.from.result c.loop-end.invariant c.loop-end-test.true c.if-text-end-le-NINE.true c.from.ensures)
+    more_so_far c.args.text.now c.args.start c.loop-end.number c.loop-end.end _ c.requires.ends c.loop-end.invariant c.loop-end-test.true
+    c.if-text-end-le-NINE.true
+    (wrapped c.args.text.now c.args.start c.loop-end.number c.loop-end.end c.from.result c.loop-end.invariant c.loop-end-test.true
+    c.if-text-end-le-NINE.true c.from.ensures)
 
 pub returns : goal.returns
-returns c = number_read c.args.text.now c.args.start c.loop-end.number c.loop-end.end c.loop-end.invariant c.if-end-start-gt-MAX_DIGITS.false
+returns c =
+    number_read c.args.text.now c.args.start c.loop-end.number c.loop-end.end c.loop-end.invariant c.if-end-start-gt-MAX_DIGITS.false

@@ -13,5 +13,6 @@ returns-clause-end t c = omega (arith, length-decimal_fours c.args.number (omega
 pub returns-clause-text : goal.returns-clause-text
 returns-clause-text t c =
     let n = c.args.number in
-    written_more (take c.args.at c.args.bytes.now) (decimal (n / 10000)) (four_digits (n % 10000)) (decimal n) c.write_long-last.ensures.text c.write_four.ensures.text
+    written_more (take c.args.at c.args.bytes.now) (decimal (n / 10000)) (four_digits (n % 10000))
+    (decimal n) c.write_long-last.ensures.text c.write_four.ensures.text
     (decimal_fours n (omega arith) (omega arith))

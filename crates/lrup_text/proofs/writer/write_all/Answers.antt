@@ -14,7 +14,8 @@ returns-in_err-at-clause-text g c =
       take at bytes,
       drop at bytes,
       sym (take-append-drop at bytes),
-      appends_keeps (written c.args.sink.now) (written c.loop-at.sink) (written c.write.new.self) (take at bytes) c.loop-at.invariant.went c.in_err-at.ensures.bytes,
+      appends_keeps (written c.args.sink.now) (written c.loop-at.sink) (written c.write.new.self)
+          (take at bytes) c.loop-at.invariant.went c.in_err-at.ensures.bytes,
     )
 
 pub loop-at-preserved : goal.loop-at-preserved
@@ -29,5 +30,6 @@ loop-at-preserved g c =
       bound = omega (arith, c.in_ok-at.ensures.bound, ap length rest, length-drop at bytes, c.loop-at.invariant.bound, c.loop-at-test.true);
       running = c.in_ok-at.ensures.failed;
       went = subst (λ t. Appends (written c.args.sink.now) (written c.write.new.self) t) both
-          (appends_then (written c.args.sink.now) (written c.loop-at.sink) (written c.write.new.self) (take at bytes) _ c.loop-at.invariant.went c.in_ok-at.ensures.bytes);
+          (appends_then (written c.args.sink.now) (written c.loop-at.sink) (written c.write.new.self)
+          (take at bytes) _ c.loop-at.invariant.went c.in_ok-at.ensures.bytes);
     }

@@ -9,7 +9,8 @@ returns-then-number-ge1000-clause-end c = omega (arith, ap length (decimal_four 
 
 pub returns-then-number-ge1000-clause-text : goal.returns-then-number-ge1000-clause-text
 returns-then-number-ge1000-clause-text c =
-    c.write_four.ensures.text ∙ ap (λ t. take c.args.at c.args.bytes.now ++ t) (sym (decimal_four c.args.number (omega arith) (omega arith)))
+    c.write_four.ensures.text
+    ∙ ap (λ t. take c.args.at c.args.bytes.now ++ t) (sym (decimal_four c.args.number (omega arith) (omega arith)))
 
 pub returns-then-number-ge100-clause-end : goal.returns-then-number-ge100-clause-end
 returns-then-number-ge100-clause-end c = omega (arith, ap length (decimal_three c.args.number (omega arith) (omega arith)))
@@ -18,8 +19,10 @@ pub returns-then-number-ge100-clause-text : goal.returns-then-number-ge100-claus
 returns-then-number-ge100-clause-text c =
     let n = c.args.number in
     let begun = take c.args.at c.args.bytes.now in
-    let two = written_more begun ((48 + n / 100) ∷ []) ((48 + n / 10 % 10) ∷ []) ((48 + n / 100) ∷ (48 + n / 10 % 10) ∷ []) c.write_byte-second.ensures.text c.write_byte-third.ensures.text refl in
-    written_more begun ((48 + n / 100) ∷ (48 + n / 10 % 10) ∷ []) ((48 + n % 10) ∷ []) (decimal n) two c.write_byte.ensures.text (decimal_three n (omega arith) (omega arith))
+    let two = written_more begun ((48 + n / 100) ∷ []) ((48 + n / 10 % 10) ∷ [])
+    ((48 + n / 100) ∷ (48 + n / 10 % 10) ∷ []) c.write_byte-second.ensures.text c.write_byte-third.ensures.text refl in
+    written_more begun ((48 + n / 100) ∷ (48 + n / 10 % 10) ∷ []) ((48 + n % 10) ∷ []) (decimal n) two c.write_byte.ensures.text
+    (decimal_three n (omega arith) (omega arith))
 
 pub returns-then-number-ge10-clause-end : goal.returns-then-number-ge10-clause-end
 returns-then-number-ge10-clause-end c = omega (arith, ap length (decimal_two c.args.number (omega arith) (omega arith)))
@@ -27,7 +30,8 @@ returns-then-number-ge10-clause-end c = omega (arith, ap length (decimal_two c.a
 pub returns-then-number-ge10-clause-text : goal.returns-then-number-ge10-clause-text
 returns-then-number-ge10-clause-text c =
     let n = c.args.number in
-    written_more (take c.args.at c.args.bytes.now) ((48 + n / 10) ∷ []) ((48 + n % 10) ∷ []) (decimal n) c.write_byte-second-then-number-ge10.ensures.text c.write_byte-then-number-ge10.ensures.text
+    written_more (take c.args.at c.args.bytes.now) ((48 + n / 10) ∷ []) ((48 + n % 10) ∷ [])
+    (decimal n) c.write_byte-second-then-number-ge10.ensures.text c.write_byte-then-number-ge10.ensures.text
     (decimal_two n (omega arith) (omega arith))
 
 pub returns-else-number-ge10-clause-end : goal.returns-else-number-ge10-clause-end
@@ -35,4 +39,5 @@ returns-else-number-ge10-clause-end c = omega (arith, ap length (decimal_digit c
 
 pub returns-else-number-ge10-clause-text : goal.returns-else-number-ge10-clause-text
 returns-else-number-ge10-clause-text c =
-    c.write_byte-else-number-ge10.ensures.text ∙ ap (λ t. take c.args.at c.args.bytes.now ++ t) (sym (decimal_digit c.args.number (omega arith)))
+    c.write_byte-else-number-ge10.ensures.text
+    ∙ ap (λ t. take c.args.at c.args.bytes.now ++ t) (sym (decimal_digit c.args.number (omega arith)))

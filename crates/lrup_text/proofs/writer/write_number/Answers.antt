@@ -13,5 +13,6 @@ returns-then-number-lt100000000-clause-end c = omega (arith, length-decimal_four
 pub returns-then-number-lt100000000-clause-text : goal.returns-then-number-lt100000000-clause-text
 returns-then-number-lt100000000-clause-text c =
     let n = c.args.number in
-    written_more (take c.args.at c.args.bytes.now) (decimal (n / 10000)) (four_digits (n % 10000)) (decimal n) c.write_few-last.ensures.text c.write_four.ensures.text
+    written_more (take c.args.at c.args.bytes.now) (decimal (n / 10000)) (four_digits (n % 10000))
+    (decimal n) c.write_few-last.ensures.text c.write_four.ensures.text
     (decimal_fours n (omega arith) (omega arith))

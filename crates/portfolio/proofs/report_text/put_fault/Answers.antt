@@ -8,7 +8,8 @@ returns-in-None-clause-puts g c =
     let words = c.as_bytes-text.result.now in
     let written = g.W.Sink.written in
     let text : fault_text c.args.fault ≡ words =
-    rw c.as_bytes-text.ensures.value c.words-number.ensures ∙ ap (λ (n : Option ℕ). words ++ number_text n) c.in-None.is ∙ append-nil words in
+    rw c.as_bytes-text.ensures.value c.words-number.ensures ∙ ap (λ (n : Option ℕ). words ++ number_text n) c.in-None.is
+    ∙ append-nil words in
     subst (λ (t : List ℕ). PutsAll c.put.result (written c.args.sink.now) (written c.put.new.sink) c.args.buffer.now c.put.new.self t)
     (sym text) c.put.ensures.puts
 
@@ -18,5 +19,6 @@ returns-in-Some-clause-puts g c =
     let written = g.W.Sink.written in
     let text : fault_text c.args.fault ≡ words ++ number_text (Some c.in-Some.number) =
     rw c.as_bytes-text.ensures.value c.words-number.ensures ∙ ap (λ (n : Option ℕ). words ++ number_text n) c.in-Some.is in
-    subst (λ (t : List ℕ). PutsAll c.put_numbered.result (written c.args.sink.now) (written c.put_numbered.new.sink) c.args.buffer.now c.put_numbered.new.buffer t)
+    subst (λ (t : List ℕ). PutsAll c.put_numbered.result (written c.args.sink.now)
+    (written c.put_numbered.new.sink) c.args.buffer.now c.put_numbered.new.buffer t)
     (sym text) c.put_numbered.ensures.puts

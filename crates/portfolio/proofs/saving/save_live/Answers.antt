@@ -17,17 +17,21 @@ returns-clause-checkpoint g c = λ f h history.
     let rest : List PassValue = c.pop.new.self.items in
     let pass : PassValue = c.in-Some.pass in
     let vs : List View = views rest in
-    let all : views c.args.passes.items ≡ vs ++ pass.view ∷ [] = ap views c.in-Some.ensures.items ∙ map-append (λ (p : PassValue). p.view) rest (pass ∷ []) in
+    let all : views c.args.passes.items ≡ vs ++ pass.view ∷ [] = ap views c.in-Some.ensures.items
+    ∙ map-append (λ (p : PassValue). p.view) rest (pass ∷ []) in
     let stream : length vs + 1 - 1 ≡ length vs = omega arith in
     let at : slice_get (views c.args.passes.items) (length vs + 1 - 1) ≡ Some pass.view =
     ap (slice_get (views c.args.passes.items)) stream ∙ ap (λ (ws : List View). slice_get ws (length vs)) all ∙ last_at vs pass.view in
     let caller = (history.calls (length vs + 1) pass.view (omega arith, at)).0 in
-    let formula : c.new-desk.result.pass.view.caller.formula ≡ f = ap (λ (p : PassValue). p.view.caller.formula) c.new-desk.ensures ∙ ap (λ (k : Caller). k.formula) caller in
-    subst (λ (k : Cnf). IfOk c.save-saved.result (λ _. (bytes : List ℕ) × Appends (g.W.Sink.written c.args.sink.now) (g.W.Sink.written c.save-saved.new.sink) bytes × IsCheckpoint k bytes))
+    let formula : c.new-desk.result.pass.view.caller.formula ≡ f = ap (λ (p : PassValue). p.view.caller.formula) c.new-desk.ensures
+    ∙ ap (λ (k : Caller). k.formula) caller in
+    subst (λ (k : Cnf). IfOk c.save-saved.result (λ _. (bytes : List ℕ)
+    × Appends (g.W.Sink.written c.args.sink.now) (g.W.Sink.written c.save-saved.new.sink) bytes × IsCheckpoint k bytes))
     formula c.save-saved.ensures.checkpoint
 
 -- the store's passes, of which the last is another
-other_last : (store : StoreValue) (ps : List PassValue) (p q : PassValue) → AreOf store (ps ++ p ∷ []) → store_of q ≡ store_of p → AreOf store (ps ++ q ∷ [])
+other_last : (store : StoreValue) (ps : List PassValue) (p q : PassValue) → AreOf store (ps ++ p ∷ []) → store_of q ≡ store_of p
+    → AreOf store (ps ++ q ∷ [])
 other_last store [] p q all same = (same ∙ all.0, tt)
 other_last store (x ∷ ps) p q all same = (all.0, other_last store ps p q all.1 same)
 
@@ -55,7 +59,8 @@ returns-clause-saves g c = λ f h history.
     ap views c.in-Some.ensures.items ∙ map-append (λ (p : PassValue). p.view) rest (c.in-Some.pass ∷ [])
     ∙ ap (λ (p : PassValue). vs ++ p.view ∷ []) (sym c.new-desk.ensures) in
     let after : views c.deref_mut.result.now ≡ vs ++ w ∷ [] =
-    ap views (c.deref_mut.ensures.value ∙ c.push_reserved.ensures.items) ∙ map-append (λ (p : PassValue). p.view) rest (c.into_pass.result ∷ [])
+    ap views (c.deref_mut.ensures.value ∙ c.push_reserved.ensures.items)
+    ∙ map-append (λ (p : PassValue). p.view) rest (c.into_pass.result ∷ [])
     ∙ ap (λ (p : PassValue). vs ++ p.view ∷ []) c.into_pass.ensures in
     let one : HaveOneHistory f c.args.layout.now h (vs ++ v ∷ []) = subst (HaveOneHistory f c.args.layout.now h) before history in
     let met : AreMet (vs ++ w ∷ []) us = subst (λ (xs : List View). AreMet xs us) after c.meet_all.ensures.met in

@@ -18,7 +18,9 @@ returns-clause-saves g c =
     record {
       replies = saved.0;
       answers = λ t. subst (λ (m : Plain). AllByRecursion (Answers (plain_state m)) (fetches t 1 saved.0)) c.desk-desk.ensures.map_now
-          (fetches_answer (formula_of (map_of desk)) (map_of desk).layout (plain_state (map_of desk)) (stream_at desk) saved.0 saved.1.moves.answers t);
-      saves = subst (λ (p : LayoutValue). SavesFound g.W.Sink.written c.save.result p (is_wanted c.args.dropped.now) saved.0 c.args.sink.now c.save.new.sink)
+          (fetches_answer (formula_of (map_of desk)) (map_of desk).layout (plain_state (map_of desk))
+          (stream_at desk) saved.0 saved.1.moves.answers t);
+      saves = subst (λ (p : LayoutValue). SavesFound g.W.Sink.written c.save.result p
+          (is_wanted c.args.dropped.now) saved.0 c.args.sink.now c.save.new.sink)
           c.layout.ensures (saved.2, saved.3);
     }

@@ -21,12 +21,16 @@ loop-worker-preserved g c =
     let reader = c.push_reserved-in-loop-worker.ensures in
     let gone = c.push_reserved-in-loop-worker-2.ensures in
     record {
-      whole = whole_more now.yielded (into_iter_items now.worker-iterator) (into_iter_items c.next.new.self) _ w steps.0 now.invariant.whole;
+      whole =
+          whole_more now.yielded (into_iter_items now.worker-iterator) (into_iter_items c.next.new.self) _ w steps.0 now.invariant.whole;
       over = over.1;
-      reports = reports_pushed (source_view g.R.Source.left g.R.Source.has_failed g.R.Source.reads) now.yielded now.reports.items c.push_reserved.new.self.items w parts.result.0 c.push_reserved.ensures.items now.invariant.reports over.0 parts.ensures.report;
-      readers = pushed_more (λ (v : WorkerValue g.row.R.Denot). v.reader) now.readers.items c.push_reserved-in-loop-worker.new.self.items now.yielded parts.result.1 w
+      reports = reports_pushed (source_view g.R.Source.left g.R.Source.has_failed g.R.Source.reads) now.yielded now.reports.items
+          c.push_reserved.new.self.items w parts.result.0 c.push_reserved.ensures.items now.invariant.reports over.0 parts.ensures.report;
+      readers = pushed_more (λ (v : WorkerValue g.row.R.Denot). v.reader) now.readers.items c.push_reserved-in-loop-worker.new.self.items
+          now.yielded parts.result.1 w
           reader.items now.invariant.readers parts.ensures.reader;
-      dropped = pushed_both (λ (d : DroppedValue). d.ids) (λ (v : WorkerValue g.row.R.Denot). v.checker.dropped) now.dropped.items c.push_reserved-in-loop-worker-2.new.self.items
+      dropped = pushed_both (λ (d : DroppedValue). d.ids)
+          (λ (v : WorkerValue g.row.R.Denot). v.checker.dropped) now.dropped.items c.push_reserved-in-loop-worker-2.new.self.items
           now.yielded parts.result.2 w gone.items now.invariant.dropped parts.ensures.dropped;
       report_count = omega (arith, c.push_reserved.ensures.len, steps.1, now.invariant.report_count);
       reader_count = omega (arith, reader.len, steps.1, now.invariant.reader_count);
@@ -40,17 +44,20 @@ pub returns-clause-reports : goal.returns-clause-reports
 returns-clause-reports g c =
     let now = c.loop-worker in
     subst (λ (ws : List (WorkerValue g.row.R.Denot)). HaveReports ws now.reports.items)
-    (whole_end now.yielded c.args.workers.items now.worker-iterator c.next.new.self c.in-None.ensures.steps now.invariant.whole) now.invariant.reports
+    (whole_end now.yielded c.args.workers.items now.worker-iterator c.next.new.self c.in-None.ensures.steps now.invariant.whole)
+    now.invariant.reports
 
 pub returns-clause-readers : goal.returns-clause-readers
 returns-clause-readers g c =
     let now = c.loop-worker in
-    now.invariant.readers ∙ ap (map (λ (w : WorkerValue g.row.R.Denot). w.reader)) (whole_end now.yielded c.args.workers.items now.worker-iterator c.next.new.self c.in-None.ensures.steps now.invariant.whole)
+    now.invariant.readers ∙ ap (map (λ (w : WorkerValue g.row.R.Denot). w.reader))
+    (whole_end now.yielded c.args.workers.items now.worker-iterator c.next.new.self c.in-None.ensures.steps now.invariant.whole)
 
 pub returns-clause-dropped : goal.returns-clause-dropped
 returns-clause-dropped g c =
     let now = c.loop-worker in
-    now.invariant.dropped ∙ ap (map (λ (w : WorkerValue g.row.R.Denot). w.checker.dropped)) (whole_end now.yielded c.args.workers.items now.worker-iterator c.next.new.self c.in-None.ensures.steps now.invariant.whole)
+    now.invariant.dropped ∙ ap (map (λ (w : WorkerValue g.row.R.Denot). w.checker.dropped))
+    (whole_end now.yielded c.args.workers.items now.worker-iterator c.next.new.self c.in-None.ensures.steps now.invariant.whole)
 
 pub returns-clause-verdict : goal.returns-clause-verdict
 returns-clause-verdict g c = subst (λ (rs : List Report). c.of-verdict.result ≡ verdict_of rs) c.deref.ensures.value c.of-verdict.ensures

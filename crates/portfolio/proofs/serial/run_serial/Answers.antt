@@ -38,7 +38,15 @@ take_turns-requires g c =
     let count : length firsts ≡ p.streams = omega (arith, same, c.len.ensures, c.args.readers.ok.0) in
     let terms : TermsValue = record { layout = p; cube = c.args.cube.now; tries = c.tries.result } in
     record {
-      running = (f, terms, firsts, subst (Runs view f terms firsts 0 m) (sym c.deref_mut.ensures.value) (runs_opened view f terms m opened firsts c.in_ok-workers.workers.items count (subst (λ (t : TermsValue). AreStarted (source_view g.R.Source.left g.R.Source.has_failed g.R.Source.reads) t 1 c.args.readers.items c.in_ok-workers.workers.items) c.new-terms.ensures c.in_ok-workers.ensures)));
+      running = (
+        f,
+        terms,
+        firsts,
+        subst (Runs view f terms firsts 0 m) (sym c.deref_mut.ensures.value)
+            (runs_opened view f terms m opened firsts c.in_ok-workers.workers.items count
+            (subst (λ (t : TermsValue). AreStarted (source_view g.R.Source.left g.R.Source.has_failed g.R.Source.reads) t 1
+            c.args.readers.items c.in_ok-workers.workers.items) c.new-terms.ensures c.in_ok-workers.ensures)),
+      );
     }
 
 pub outcome_of-requires-clause-over : goal.outcome_of-requires-clause-over
@@ -55,7 +63,8 @@ returns-clause-layout g c =
     c.in_ok-layout.ensures.layout.0 ∙ ap (layout_of c.args.options c.args.formula.now) streams in
     λ fault. (
       (λ e. absurd (cc)),
-      λ bad. absurd (no_fault c.in_ok-layout.layout fault c.in_ok-layout.ensures.layout.1 (subst (λ (l : LayoutValue). IsFault l fault) (sym same) bad)),
+      λ bad. absurd (no_fault c.in_ok-layout.layout fault c.in_ok-layout.ensures.layout.1
+          (subst (λ (l : LayoutValue). IsFault l fault) (sym same) bad)),
     )
 
 pub returns-clause-ordered : goal.returns-clause-ordered
@@ -76,16 +85,21 @@ returns-clause-ordered g c =
       room = c.in_ok-map.ensures.room;
     } in
     let streams : c.len.result ≡ length readers = c.len.ensures ∙ c.args.readers.ok.0 in
-    let same : p ≡ layout_of c.args.options f (length readers) = c.in_ok-layout.ensures.layout.0 ∙ ap (layout_of c.args.options f) streams in
+    let same : p ≡ layout_of c.args.options f (length readers) = c.in_ok-layout.ensures.layout.0
+    ∙ ap (layout_of c.args.options f) streams in
     let each : p.streams ≡ length readers = streams_asked c.args.options f (length readers) p same in
     let count : length readers ≡ p.streams = omega (arith, each) in
     let back = written_back started.len worked (drop (length worked) started.items) (c.take_turns.auto.workers ∙ c.deref_mut.ensures.len) in
     let wanted = terms_of c.args.options c.args.cube.now f (length readers) in
     let terms : TermsValue = record { layout = p; cube = c.args.cube.now; tries = c.tries.result } in
-    let are : terms ≡ wanted = ap₂ (λ (l : LayoutValue) (n : ℕ). record { layout = l; cube = c.args.cube.now; tries = n }) same c.tries.ensures.tries in
+    let are : terms ≡ wanted =
+    ap₂ (λ (l : LayoutValue) (n : ℕ). record { layout = l; cube = c.args.cube.now; tries = n }) same c.tries.ensures.tries in
     run_ordered c.early_is_decided.ensures view f terms wanted readers outcome.readers.items
-    m c.take_turns.new.map started.items c.deref_mut.result.now worked _ outcome.reports.items _ opened are count (subst (λ (t : TermsValue). AreStarted (source_view g.R.Source.left g.R.Source.has_failed g.R.Source.reads) t 1 c.args.readers.items c.in_ok-workers.workers.items) c.new-terms.ensures c.in_ok-workers.ensures)
-    c.deref_mut.ensures.value c.take_turns.ensures.runs back c.outcome_of.ensures.reports c.outcome_of.ensures.readers c.outcome_of.ensures.dropped
+    m c.take_turns.new.map started.items c.deref_mut.result.now worked _ outcome.reports.items _ opened are count
+    (subst (λ (t : TermsValue). AreStarted (source_view g.R.Source.left g.R.Source.has_failed g.R.Source.reads) t 1 c.args.readers.items
+    c.in_ok-workers.workers.items) c.new-terms.ensures c.in_ok-workers.ensures)
+    c.deref_mut.ensures.value c.take_turns.ensures.runs back c.outcome_of.ensures.reports c.outcome_of.ensures.readers
+    c.outcome_of.ensures.dropped
 
 -- the law's premise is the layout of the formula and the readers
 pub returns-clause-isolated : goal.returns-clause-isolated
@@ -121,9 +135,12 @@ returns-clause-kept g c =
     let count : length firsts ≡ p.streams = omega (arith, each, c.len.ensures, c.args.readers.ok.0) in
     let terms : TermsValue = record { layout = p; cube = c.args.cube.now; tries = c.tries.result } in
     let runs : Runs view f terms firsts 0 m c.deref_mut.result.now =
-    subst (Runs view f terms firsts 0 m) (sym c.deref_mut.ensures.value) (runs_opened view f terms m opened firsts c.in_ok-workers.workers.items count (subst (λ (t : TermsValue). AreStarted view t 1 firsts c.in_ok-workers.workers.items) c.new-terms.ensures c.in_ok-workers.ensures)) in
+    subst (Runs view f terms firsts 0 m) (sym c.deref_mut.ensures.value)
+    (runs_opened view f terms m opened firsts c.in_ok-workers.workers.items count
+    (subst (λ (t : TermsValue). AreStarted view t 1 firsts c.in_ok-workers.workers.items) c.new-terms.ensures c.in_ok-workers.ensures)) in
     let after = (c.take_turns.ensures.runs f terms firsts runs).map_is in
-    let same : p ≡ layout_of c.args.options f (length firsts) = c.in_ok-layout.ensures.layout.0 ∙ ap (layout_of c.args.options f) (c.len.ensures ∙ c.args.readers.ok.0) in (
+    let same : p ≡ layout_of c.args.options f (length firsts) = c.in_ok-layout.ensures.layout.0
+    ∙ ap (layout_of c.args.options f) (c.len.ensures ∙ c.args.readers.ok.0) in (
       ap formula_of c.outcome_of.ensures.kept ∙ after.formula,
       ap (λ (n : Plain). n.layout) c.outcome_of.ensures.kept ∙ after.layout ∙ same,
     )
@@ -148,20 +165,25 @@ returns-clause-dropped g c =
     let count : length firsts ≡ p.streams = omega (arith, each, c.len.ensures, c.args.readers.ok.0) in
     let terms : TermsValue = record { layout = p; cube = c.args.cube.now; tries = c.tries.result } in
     let runs : Runs view f terms firsts 0 m c.deref_mut.result.now =
-    subst (Runs view f terms firsts 0 m) (sym c.deref_mut.ensures.value) (runs_opened view f terms m opened firsts c.in_ok-workers.workers.items count (subst (λ (t : TermsValue). AreStarted view t 1 firsts c.in_ok-workers.workers.items) c.new-terms.ensures c.in_ok-workers.ensures)) in
+    subst (Runs view f terms firsts 0 m) (sym c.deref_mut.ensures.value)
+    (runs_opened view f terms m opened firsts c.in_ok-workers.workers.items count
+    (subst (λ (t : TermsValue). AreStarted view t 1 firsts c.in_ok-workers.workers.items) c.new-terms.ensures c.in_ok-workers.ensures)) in
     let back = written_back started.len worked (drop (length worked) started.items) (c.take_turns.auto.workers ∙ c.deref_mut.ensures.len) in
     let out = c.outcome_of in
     out.result.dropped.ok.0 ∙ sym (length-map out.result.dropped.items (λ (d : DroppedValue). d.ids)) ∙ ap length out.ensures.dropped
-    ∙ length-map _ (λ (w : WorkerValue g.row.R.Denot). w.checker.dropped) ∙ ap length back ∙ (c.take_turns.ensures.runs f terms firsts runs).count ∙ sym count
+    ∙ length-map _ (λ (w : WorkerValue g.row.R.Denot). w.checker.dropped) ∙ ap length back
+    ∙ (c.take_turns.ensures.runs f terms firsts runs).count ∙ sym count
 
 pub returns-clause-sound : goal.returns-clause-sound
 returns-clause-sound g c unsatisfiable =
     let ordered = returns-clause-ordered g c in
-    sound_over c.args.formula.now (terms_of c.args.options c.args.cube.now c.args.formula.now (length c.args.readers.items)) ordered.streams c.outcome_of.result.reports.items ordered.judged.0.order
+    sound_over c.args.formula.now (terms_of c.args.options c.args.cube.now c.args.formula.now (length c.args.readers.items)) ordered.streams
+    c.outcome_of.result.reports.items ordered.judged.0.order
     (is_empty c.outcome_of.result.reports.items c.outcome_of.result.verdict c.outcome_of.ensures.verdict unsatisfiable)
 
 pub returns-clause-sound_under : goal.returns-clause-sound_under
 returns-clause-sound_under g c =
     let ordered = returns-clause-ordered g c in
-    sound_under_order c.args.formula.now (terms_of c.args.options c.args.cube.now c.args.formula.now (length c.args.readers.items)) ordered.streams c.outcome_of.result.reports.items
+    sound_under_order c.args.formula.now (terms_of c.args.options c.args.cube.now c.args.formula.now (length c.args.readers.items))
+    ordered.streams c.outcome_of.result.reports.items
     c.outcome_of.result.verdict ordered.judged.0.order c.outcome_of.ensures.verdict

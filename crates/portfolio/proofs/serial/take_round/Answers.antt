@@ -5,7 +5,8 @@ use Rattle.portfolio.proofs.TurnsLemmas.{goes_twice, over_each, over_more, runs_
 use Rattle.portfolio.proofs.serial.take_round.Goals as goal
 
 pub take_turn-going-requires-clause-running : goal.take_turn-going-requires-clause-running
-take_turn-going-requires-clause-running g c = running_on (source_view g.R.Source.left g.R.Source.has_failed g.R.Source.reads) 0 c.loop-i.i c.args.map.now c.loop-i.map c.args.workers.now c.loop-i.workers c.requires.running c.loop-i.invariant.runs
+take_turn-going-requires-clause-running g c = running_on (source_view g.R.Source.left g.R.Source.has_failed g.R.Source.reads) 0 c.loop-i.i
+    c.args.map.now c.loop-i.map c.args.workers.now c.loop-i.workers c.requires.running c.loop-i.invariant.runs
 
 pub loop-i-init : goal.loop-i-init
 loop-i-init g c = record {
@@ -18,8 +19,10 @@ loop-i-preserved g c =
     let now = c.loop-i in
     let turn = c.take_turn-going in
     record {
-      runs = goes_twice (source_view g.R.Source.left g.R.Source.has_failed g.R.Source.reads) 0 now.i (now.i + 1) c.args.map.now now.map turn.new.map c.args.workers.now now.workers turn.new.workers now.invariant.runs turn.ensures.runs;
-      over = λ none. over_more (source_view g.R.Source.left g.R.Source.has_failed g.R.Source.reads) now.i now.going turn.result c.args.workers.now now.workers turn.new.workers none now.invariant.over turn.ensures.over;
+      runs = goes_twice (source_view g.R.Source.left g.R.Source.has_failed g.R.Source.reads) 0 now.i (now.i + 1) c.args.map.now now.map
+          turn.new.map c.args.workers.now now.workers turn.new.workers now.invariant.runs turn.ensures.runs;
+      over = λ none. over_more (source_view g.R.Source.left g.R.Source.has_failed g.R.Source.reads) now.i now.going turn.result
+          c.args.workers.now now.workers turn.new.workers none now.invariant.over turn.ensures.over;
     }
 
 pub returns-clause-runs : goal.returns-clause-runs
@@ -28,7 +31,9 @@ returns-clause-runs g c f terms firsts runs =
     let map = c.loop-i.map in
     let workers = c.loop-i.workers in
     let all : c.loop-i.i ≡ length workers = omega arith in
-    runs_round view f terms firsts map workers (subst (λ (k : ℕ). Runs view f terms firsts k map workers) all (c.loop-i.invariant.runs f terms firsts runs))
+    runs_round view f terms firsts map workers
+    (subst (λ (k : ℕ). Runs view f terms firsts k map workers) all (c.loop-i.invariant.runs f terms firsts runs))
 
 pub returns-clause-over : goal.returns-clause-over
-returns-clause-over g c none = let over = c.loop-i.invariant.over none in over_each (source_view g.R.Source.left g.R.Source.has_failed g.R.Source.reads) c.loop-i.workers (λ k below. over.1 k (omega arith))
+returns-clause-over g c none = let over = c.loop-i.invariant.over none in
+    over_each (source_view g.R.Source.left g.R.Source.has_failed g.R.Source.reads) c.loop-i.workers (λ k below. over.1 k (omega arith))

@@ -4,7 +4,10 @@ use Rattle.portfolio.proofs.TurnsLemmas.{running_on}
 use Rattle.portfolio.proofs.serial.take_turns.Goals as goal
 
 pub take_round-requires : goal.take_round-requires
-take_round-requires g c = record { running = running_on (source_view g.R.Source.left g.R.Source.has_failed g.R.Source.reads) 0 0 c.args.map.now c.loop.map c.args.workers.now c.loop.workers c.requires.running c.loop.invariant }
+take_round-requires g c = record {
+  running = running_on (source_view g.R.Source.left g.R.Source.has_failed g.R.Source.reads) 0 0 c.args.map.now c.loop.map c.args.workers.now
+      c.loop.workers c.requires.running c.loop.invariant;
+}
 
 -- the loop has no end but its return
 pub returns-clause-over : goal.returns-clause-over

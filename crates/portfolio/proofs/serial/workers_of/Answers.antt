@@ -15,11 +15,13 @@ loop-reader-preserved g c =
     let before = into_iter_items (zip_first now.reader-iterator) in
     let rest = into_iter_items (zip_first c.next.new.self) in
     let steps = c.in-Some.ensures.steps in
-    let running : AllByRecursion (λ r. g.R.Source.has_failed r ≡ false) (reader ∷ rest) = subst (AllByRecursion (λ r. g.R.Source.has_failed r ≡ false)) steps.0.0 now.invariant.running in
+    let running : AllByRecursion (λ r. g.R.Source.has_failed r ≡ false) (reader ∷ rest) =
+    subst (AllByRecursion (λ r. g.R.Source.has_failed r ≡ false)) steps.0.0 now.invariant.running in
     let pushed = c.push_reserved.ensures in
     record {
       running = running.1;
-      started = started_pushed (source_view g.R.Source.left g.R.Source.has_failed g.R.Source.reads) c.args.terms.now _ (λ x. x.0) now.yielded item now.workers.items c.push_reserved.new.self.items c.in_ok-new.field-0 pushed.items
+      started = started_pushed (source_view g.R.Source.left g.R.Source.has_failed g.R.Source.reads) c.args.terms.now _
+          (λ x. x.0) now.yielded item now.workers.items c.push_reserved.new.self.items c.in_ok-new.field-0 pushed.items
           (omega (arith, now.workers.ok.0, c.len-in-loop-reader.ensures)) now.invariant.started c.in_ok-new.ensures;
       readers = taken_next (λ x. x.0) now.yielded item before rest reader _ steps.0.0 refl now.invariant.readers;
       count = omega (arith, pushed.len, steps.0.1, now.invariant.count);

@@ -11,7 +11,8 @@ invariant-loop-reader g l =
     let rest = zip_first l.reader-iterator in
     record {
       running : AllByRecursion (λ r. g.R.Source.has_failed r ≡ false) (into_iter_items rest);
-      started : AreStarted (source_view g.R.Source.left g.R.Source.has_failed g.R.Source.reads) l.terms 1 (map (λ x. x.0) l.yielded) l.workers.items;
+      started : AreStarted (source_view g.R.Source.left g.R.Source.has_failed g.R.Source.reads) l.terms 1
+          (map (λ x. x.0) l.yielded) l.workers.items;
       readers : map (λ x. x.0) l.yielded ++ into_iter_items rest ≡ l.fn.readers.items;
       count : vec_len l.workers + into_iter_len rest ≡ vec_len l.fn.readers;
       gates : into_iter_len (zip_second l.reader-iterator) ≡ into_iter_len rest;

@@ -21,13 +21,17 @@ loop-one-preserved g c =
     let gone = c.push_reserved-in-loop-one-3.ensures in
     record {
       whole = whole_more now.yielded (into_iter_items now.one-iterator) (into_iter_items c.next.new.self) _ one steps.0 now.invariant.whole;
-      reports = pushed_more (λ (f : FoundValue g.row.R.Denot). f.report) now.reports.items c.push_reserved.new.self.items now.yielded parts.report one
+      reports = pushed_more (λ (f : FoundValue g.row.R.Denot). f.report) now.reports.items c.push_reserved.new.self.items now.yielded
+          parts.report one
           report.items now.invariant.reports (ap (λ (f : FoundValue g.row.R.Denot). f.report) view);
-      passes = pushed_more (λ (f : FoundValue g.row.R.Denot). f.pass) now.passes.items c.push_reserved-in-loop-one.new.self.items now.yielded parts.pass one
+      passes = pushed_more (λ (f : FoundValue g.row.R.Denot). f.pass) now.passes.items c.push_reserved-in-loop-one.new.self.items
+          now.yielded parts.pass one
           pass.items now.invariant.passes (ap (λ (f : FoundValue g.row.R.Denot). f.pass) view);
-      readers = pushed_more (λ (f : FoundValue g.row.R.Denot). f.reader) now.readers.items c.push_reserved-in-loop-one-2.new.self.items now.yielded parts.reader one
+      readers = pushed_more (λ (f : FoundValue g.row.R.Denot). f.reader) now.readers.items c.push_reserved-in-loop-one-2.new.self.items
+          now.yielded parts.reader one
           reader.items now.invariant.readers (ap (λ (f : FoundValue g.row.R.Denot). f.reader) view);
-      dropped = pushed_more (λ (f : FoundValue g.row.R.Denot). f.dropped) now.dropped.items c.push_reserved-in-loop-one-3.new.self.items now.yielded parts.dropped one
+      dropped = pushed_more (λ (f : FoundValue g.row.R.Denot). f.dropped) now.dropped.items c.push_reserved-in-loop-one-3.new.self.items
+          now.yielded parts.dropped one
           gone.items now.invariant.dropped (ap (λ (f : FoundValue g.row.R.Denot). f.dropped) view);
       report_count = omega (arith, report.len, steps.1, now.invariant.report_count);
       pass_count = omega (arith, pass.len, steps.1, now.invariant.pass_count);
@@ -42,17 +46,20 @@ loop-one-preserved g c =
 pub returns-clause-reports : goal.returns-clause-reports
 returns-clause-reports g c =
     let now = c.loop-one in
-    now.invariant.reports ∙ ap (map (λ (f : FoundValue g.row.R.Denot). f.report)) (whole_end now.yielded c.args.found.items now.one-iterator c.next.new.self c.in-None.ensures.steps now.invariant.whole)
+    now.invariant.reports ∙ ap (map (λ (f : FoundValue g.row.R.Denot). f.report))
+    (whole_end now.yielded c.args.found.items now.one-iterator c.next.new.self c.in-None.ensures.steps now.invariant.whole)
 
 pub returns-clause-readers : goal.returns-clause-readers
 returns-clause-readers g c =
     let now = c.loop-one in
-    now.invariant.readers ∙ ap (map (λ (f : FoundValue g.row.R.Denot). f.reader)) (whole_end now.yielded c.args.found.items now.one-iterator c.next.new.self c.in-None.ensures.steps now.invariant.whole)
+    now.invariant.readers ∙ ap (map (λ (f : FoundValue g.row.R.Denot). f.reader))
+    (whole_end now.yielded c.args.found.items now.one-iterator c.next.new.self c.in-None.ensures.steps now.invariant.whole)
 
 pub returns-clause-dropped : goal.returns-clause-dropped
 returns-clause-dropped g c =
     let now = c.loop-one in
-    now.invariant.dropped ∙ ap (map (λ (f : FoundValue g.row.R.Denot). f.dropped)) (whole_end now.yielded c.args.found.items now.one-iterator c.next.new.self c.in-None.ensures.steps now.invariant.whole)
+    now.invariant.dropped ∙ ap (map (λ (f : FoundValue g.row.R.Denot). f.dropped))
+    (whole_end now.yielded c.args.found.items now.one-iterator c.next.new.self c.in-None.ensures.steps now.invariant.whole)
 
 pub returns-clause-met : goal.returns-clause-met
 returns-clause-met g c =
@@ -61,7 +68,8 @@ returns-clause-met g c =
     let found = map (λ (f : FoundValue g.row.R.Denot). f.pass) c.args.found.items in
     let back = written_back now.passes.len met (drop (length met) now.passes.items) (c.meet_all.auto.passes ∙ c.deref_mut.ensures.len) in
     let whole = whole_end now.yielded c.args.found.items now.one-iterator c.next.new.self c.in-None.ensures.steps now.invariant.whole in
-    let passes : c.deref_mut.result.now ≡ found = c.deref_mut.ensures.value ∙ now.invariant.passes ∙ ap (map (λ (f : FoundValue g.row.R.Denot). f.pass)) whole in
+    let passes : c.deref_mut.result.now ≡ found = c.deref_mut.ensures.value ∙ now.invariant.passes
+    ∙ ap (map (λ (f : FoundValue g.row.R.Denot). f.pass)) whole in
     subst (λ (ps : List PassValue). AreMet (views found) (views ps)) (sym back)
     (subst (λ (ps : List PassValue). AreMet (views ps) (views met)) passes c.meet_all.ensures.met)
 

@@ -12,7 +12,8 @@ use Rattle.stream_threads.specs.Faults.{IsFaultWithin, IsFirstFault, fault_strea
 use Rattle.stream_threads.specs.Jobs.{FoundValue}
 use Rattle.run_laws.specs.ReportLemmas.{reports_alone}
 use Rattle.portfolio.proofs.CubeLemmas.{sound_under_run}
-use Rattle.portfolio.proofs.HeadlineLemmas.{no_fault, not_layout, run_ready, all_can_begin, ready_count, finish_of, finish_count, one_history, judged_by, judged_so, ready_take, were_judged, sound_run}
+use Rattle.portfolio.proofs.HeadlineLemmas.{no_fault, not_layout, run_ready, all_can_begin, ready_count, finish_of, finish_count}
+use Rattle.portfolio.proofs.HeadlineLemmas.{one_history, judged_by, judged_so, ready_take, were_judged, sound_run}
 use Rattle.portfolio.proofs.threads.run.Goals as goal
 
 -- the layout is the one of the formula, the options and the readers
@@ -41,22 +42,26 @@ outcome_of-requires-clause-store g c =
 
 pub outcome_of-requires-clause-reports : goal.outcome_of-requires-clause-reports
 outcome_of-requires-clause-reports g c =
-    let count = finish_count (source_view g.R.Source.left g.R.Source.has_failed g.R.Source.reads) c.in_ok-jobs.jobs.items c.in-Ok.found.items c.in-Ok.ensures.found in
+    let count = finish_count (source_view g.R.Source.left g.R.Source.has_failed g.R.Source.reads) c.in_ok-jobs.jobs.items
+    c.in-Ok.found.items c.in-Ok.ensures.found in
     omega (arith, count, c.in-Ok.found.ok.0, c.in_ok-jobs.jobs.ok.0, c.len-2.ensures, c.in_ok-room.ensures.reports.1)
 
 pub outcome_of-requires-clause-passes : goal.outcome_of-requires-clause-passes
 outcome_of-requires-clause-passes g c =
-    let count = finish_count (source_view g.R.Source.left g.R.Source.has_failed g.R.Source.reads) c.in_ok-jobs.jobs.items c.in-Ok.found.items c.in-Ok.ensures.found in
+    let count = finish_count (source_view g.R.Source.left g.R.Source.has_failed g.R.Source.reads) c.in_ok-jobs.jobs.items
+    c.in-Ok.found.items c.in-Ok.ensures.found in
     omega (arith, count, c.in-Ok.found.ok.0, c.in_ok-jobs.jobs.ok.0, c.len-2.ensures, c.in_ok-room.ensures.met.1)
 
 pub outcome_of-requires-clause-readers : goal.outcome_of-requires-clause-readers
 outcome_of-requires-clause-readers g c =
-    let count = finish_count (source_view g.R.Source.left g.R.Source.has_failed g.R.Source.reads) c.in_ok-jobs.jobs.items c.in-Ok.found.items c.in-Ok.ensures.found in
+    let count = finish_count (source_view g.R.Source.left g.R.Source.has_failed g.R.Source.reads) c.in_ok-jobs.jobs.items
+    c.in-Ok.found.items c.in-Ok.ensures.found in
     omega (arith, count, c.in-Ok.found.ok.0, c.in_ok-jobs.jobs.ok.0, c.len-2.ensures, c.in_ok-room.ensures.readers.1)
 
 pub outcome_of-requires-clause-dropped : goal.outcome_of-requires-clause-dropped
 outcome_of-requires-clause-dropped g c =
-    let count = finish_count (source_view g.R.Source.left g.R.Source.has_failed g.R.Source.reads) c.in_ok-jobs.jobs.items c.in-Ok.found.items c.in-Ok.ensures.found in
+    let count = finish_count (source_view g.R.Source.left g.R.Source.has_failed g.R.Source.reads) c.in_ok-jobs.jobs.items
+    c.in-Ok.found.items c.in-Ok.ensures.found in
     omega (arith, count, c.in-Ok.found.ok.0, c.in_ok-jobs.jobs.ok.0, c.len-2.ensures, c.in_ok-room.ensures.dropped.1)
 
 pub returns-in-Ok-clause-layout : goal.returns-in-Ok-clause-layout
@@ -65,7 +70,8 @@ returns-in-Ok-clause-layout g c =
     c.in_ok-layout.ensures.layout.0 ∙ ap (λ (n : ℕ). layout_of c.args.options c.args.formula.now n) (c.len.ensures ∙ c.args.readers.ok.0) in
     λ fault. (
       (λ e. absurd (cc)),
-      λ bad. absurd (no_fault c.in_ok-layout.layout fault c.in_ok-layout.ensures.layout.1 (subst (λ (l : LayoutValue). IsFault l fault) (sym same) bad)),
+      λ bad. absurd (no_fault c.in_ok-layout.layout fault c.in_ok-layout.ensures.layout.1
+          (subst (λ (l : LayoutValue). IsFault l fault) (sym same) bad)),
     )
 
 pub returns-in-Err-Ring-clause-layout : goal.returns-in-Err-Ring-clause-layout
@@ -74,7 +80,8 @@ returns-in-Err-Ring-clause-layout g c =
     c.in_ok-layout.ensures.layout.0 ∙ ap (λ (n : ℕ). layout_of c.args.options c.args.formula.now n) (c.len.ensures ∙ c.args.readers.ok.0) in
     λ fault. (
       (λ e. absurd (cc)),
-      λ bad. absurd (no_fault c.in_ok-layout.layout fault c.in_ok-layout.ensures.layout.1 (subst (λ (l : LayoutValue). IsFault l fault) (sym same) bad)),
+      λ bad. absurd (no_fault c.in_ok-layout.layout fault c.in_ok-layout.ensures.layout.1
+          (subst (λ (l : LayoutValue). IsFault l fault) (sym same) bad)),
     )
 
 pub returns-in-Ok-clause-history : goal.returns-in-Ok-clause-history
@@ -94,7 +101,8 @@ returns-in-Ok-clause-history g c =
     ready_count view _ _ _ _ _ _ ready ∙ sym c.args.readers.ok.0 ∙ sym c.len.ensures ∙ sym streams in
     subst (λ (l : LayoutValue). HaveOneHistory f l (seen_by vs) vs) same
     (one_history view f _ _ _ _ _ vs
-    c.in_ok-layout.ensures.layout.1 opened.ensures.layout count ready c.in-Ok.ensures.found c.outcome_of.ensures.met c.outcome_of.ensures.one)
+    c.in_ok-layout.ensures.layout.1 opened.ensures.layout count ready c.in-Ok.ensures.found c.outcome_of.ensures.met
+    c.outcome_of.ensures.one)
 
 pub returns-in-Ok-clause-dropped : goal.returns-in-Ok-clause-dropped
 returns-in-Ok-clause-dropped g c =
@@ -124,11 +132,14 @@ returns-in-Ok-clause-reports g c =
     let vs = map (λ q. q.view) out.result.passes.items in
     let same : p ≡ layout_of c.args.options f (length c.args.readers.items) =
     c.in_ok-layout.ensures.layout.0 ∙ ap (λ (n : ℕ). layout_of c.args.options f n) (c.len.ensures ∙ c.args.readers.ok.0) in
-    let judged = judged_by view c.early_is_decided.ensures f terms _ opened.ensures.layout _ _ _ found vs ready c.in-Ok.ensures.found out.ensures.met in
+    let judged =
+    judged_by view c.early_is_decided.ensures f terms _ opened.ensures.layout _ _ _ found vs ready c.in-Ok.ensures.found out.ensures.met in
     let wanted = terms_of c.args.options c.args.cube.now f (length c.args.readers.items) in
-    let are : terms ≡ wanted = ap₂ (λ (l : LayoutValue) (n : ℕ). record { layout = l; cube = c.args.cube.now; tries = n }) same c.tries.ensures.tries in
+    let are : terms ≡ wanted =
+    ap₂ (λ (l : LayoutValue) (n : ℕ). record { layout = l; cube = c.args.cube.now; tries = n }) same c.tries.ensures.tries in
     let gone : map (λ (d : DroppedValue). d.ids) out.result.dropped.items ≡ map (λ (x : FoundValue g.row.R.Denot). x.dropped.ids) found =
-    ap (map (λ (d : DroppedValue). d.ids)) out.ensures.dropped ∙ map-map (λ (d : DroppedValue). d.ids) (λ (x : FoundValue g.row.R.Denot). x.dropped) found in
+    ap (map (λ (d : DroppedValue). d.ids)) out.ensures.dropped
+    ∙ map-map (λ (d : DroppedValue). d.ids) (λ (x : FoundValue g.row.R.Denot). x.dropped) found in
     judged_so view f terms wanted firsts out.result.readers.items out.result.reports.items _ found vs
     judged are (returns-in-Ok-clause-history g c) out.ensures.readers out.ensures.reports gone
 
@@ -166,7 +177,8 @@ returns-in-Ok-clause-sound g c =
     let vs = map (λ q. q.view) out.result.passes.items in
     let history = returns-in-Ok-clause-history g c in
     let reports = returns-in-Ok-clause-reports g c in
-    sound_run c.args.formula.now (terms_of c.args.options c.args.cube.now c.args.formula.now (length c.args.readers.items)) (seen_by vs) reports.streams out.result.reports.items out.result.verdict
+    sound_run c.args.formula.now (terms_of c.args.options c.args.cube.now c.args.formula.now (length c.args.readers.items))
+    (seen_by vs) reports.streams out.result.reports.items out.result.verdict
     history.legal reports.judged.1 out.ensures.verdict
 
 pub returns-in-Ok-clause-sound_under : goal.returns-in-Ok-clause-sound_under
@@ -175,7 +187,8 @@ returns-in-Ok-clause-sound_under g c =
     let vs = map (λ q. q.view) out.result.passes.items in
     let history = returns-in-Ok-clause-history g c in
     let reports = returns-in-Ok-clause-reports g c in
-    sound_under_run c.args.formula.now (terms_of c.args.options c.args.cube.now c.args.formula.now (length c.args.readers.items)) (seen_by vs) reports.streams out.result.reports.items
+    sound_under_run c.args.formula.now (terms_of c.args.options c.args.cube.now c.args.formula.now (length c.args.readers.items))
+    (seen_by vs) reports.streams out.result.reports.items
     out.result.verdict history.legal reports.judged.1 out.ensures.verdict
 
 pub returns-in_err-room-clause-layout : goal.returns-in_err-room-clause-layout
@@ -184,7 +197,8 @@ returns-in_err-room-clause-layout g c =
     c.in_ok-layout.ensures.layout.0 ∙ ap (λ (n : ℕ). layout_of c.args.options c.args.formula.now n) (c.len.ensures ∙ c.args.readers.ok.0) in
     λ fault. (
       (λ e. absurd (not_layout c.from_residual-in_err-room.result fault c.from_residual-in_err-room.ensures.1 e)),
-      λ bad. absurd (no_fault c.in_ok-layout.layout fault c.in_ok-layout.ensures.layout.1 (subst (λ (l : LayoutValue). IsFault l fault) (sym same) bad)),
+      λ bad. absurd (no_fault c.in_ok-layout.layout fault c.in_ok-layout.ensures.layout.1
+          (subst (λ (l : LayoutValue). IsFault l fault) (sym same) bad)),
     )
 
 pub returns-in-Err-Spawn-clause-layout : goal.returns-in-Err-Spawn-clause-layout
@@ -193,7 +207,8 @@ returns-in-Err-Spawn-clause-layout g c =
     c.in_ok-layout.ensures.layout.0 ∙ ap (λ (n : ℕ). layout_of c.args.options c.args.formula.now n) (c.len.ensures ∙ c.args.readers.ok.0) in
     λ fault. (
       (λ e. absurd (cc)),
-      λ bad. absurd (no_fault c.in_ok-layout.layout fault c.in_ok-layout.ensures.layout.1 (subst (λ (l : LayoutValue). IsFault l fault) (sym same) bad)),
+      λ bad. absurd (no_fault c.in_ok-layout.layout fault c.in_ok-layout.ensures.layout.1
+          (subst (λ (l : LayoutValue). IsFault l fault) (sym same) bad)),
     )
 
 pub returns-in-Err-Spawn-clause-spawn : goal.returns-in-Err-Spawn-clause-spawn
@@ -275,12 +290,14 @@ returns-in-Err-Ring-clause-first g c = λ stream e.
     let wanted = terms_of c.args.options c.args.cube.now f (length c.args.readers.items) in
     let same : p ≡ layout_of c.args.options f (length firsts) =
     c.in_ok-layout.ensures.layout.0 ∙ ap (λ (n : ℕ). layout_of c.args.options f n) (c.len.ensures ∙ c.args.readers.ok.0) in
-    let are : terms ≡ wanted = ap₂ (λ (l : LayoutValue) (n : ℕ). record { layout = l; cube = c.args.cube.now; tries = n }) same c.tries.ensures.tries in
+    let are : terms ≡ wanted =
+    ap₂ (λ (l : LayoutValue) (n : ℕ). record { layout = l; cube = c.args.cube.now; tries = n }) same c.tries.ensures.tries in
     let found = c.in-Err-Ring.found.items in
     let before = subst (IsFirstFault view jobs.items) c.in-Err-Ring.field-0-is c.in-Err-Ring.ensures.first in
     let out = c.outcome_of-before in
     let vs = map (λ q. q.view) out.result.passes.items in
-    let judged = were_judged view c.early_is_decided.ensures f terms _ opened.ensures.layout (take (length found) firsts) (take (length found) jobs.items) found vs
+    let judged = were_judged view c.early_is_decided.ensures f terms _ opened.ensures.layout (take (length found) firsts)
+    (take (length found) jobs.items) found vs
     (ready_take view _ _ _ _ (length found) _ _ ready) before out.ensures.met out.ensures.one in
     let count : length found ≡ stream - 1 = omega (arith, here, c.len-in-Err-Ring.ensures, c.in-Err-Ring.found.ok.0) in
     subst (λ (n : ℕ). WereJudged view f wanted (take n firsts)) count

@@ -16,7 +16,8 @@ pub returns-in-Nothing : goal.returns-in-Nothing
 returns-in-Nothing c =
     let not_true = rw c.complement.ensures at (iff_false c.has-2.ensures c.if-has-2.false) in
     λ d left other.
-    IsLeft-one c.args.falses.now.literals d c.args.lit (subst (IsLeft c.args.falses.now.literals d) c.in-Nothing.is left) (iff_false c.has.ensures c.if-has.false) not_true
+    IsLeft-one c.args.falses.now.literals d c.args.lit (subst (IsLeft c.args.falses.now.literals d) c.in-Nothing.is left)
+    (iff_false c.has.ensures c.if-has.false) not_true
 
 pub returns-in-One : goal.returns-in-One
 returns-in-One c = λ d left other.

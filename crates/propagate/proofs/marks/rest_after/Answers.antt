@@ -10,13 +10,15 @@ pub are_false-requires-clause-first : goal.are_false-requires-clause-first
 are_false-requires-clause-first g c =
     let place = g.M.ClauseMap.place c.args.map.now in
     let at = rw c.loop-i.invariant.stays at c.pair-first.ensures.first in
-    IsLiteral-known c.args.falses.now.vars place c.args.clip.now (2 * c.loop-i.i) c.pair-first.result.0 c.requires.follow c.requires.known c.requires.variables at
+    IsLiteral-known c.args.falses.now.vars place c.args.clip.now
+    (2 * c.loop-i.i) c.pair-first.result.0 c.requires.follow c.requires.known c.requires.variables at
 
 pub are_false-requires-clause-second : goal.are_false-requires-clause-second
 are_false-requires-clause-second g c = λ l same.
     let place = g.M.ClauseMap.place c.args.map.now in
     let at = rw c.loop-i.invariant.stays at c.pair-first.ensures.second in
-    IsLiteral-known c.args.falses.now.vars place c.args.clip.now (2 * c.loop-i.i + 1) l c.requires.follow c.requires.known c.requires.variables (at ∙ same)
+    IsLiteral-known c.args.falses.now.vars place c.args.clip.now
+    (2 * c.loop-i.i + 1) l c.requires.follow c.requires.known c.requires.variables (at ∙ same)
 
 pub returns-then-not-are_false-clause-left : goal.returns-then-not-are_false-clause-left
 returns-then-not-are_false-clause-left g c =
@@ -26,7 +28,8 @@ returns-then-not-are_false-clause-left g c =
     let at = rw c.loop-i.invariant.stays at c.pair-first.ensures.first in
     let at' = rw c.loop-i.invariant.stays at c.pair-first.ensures.second in
     let once = (known_follows place c.args.clip.now c.requires.follow c.requires.known).0.each_once in
-    IsLeft-open_pair n d c.loop-i.i c.pair-first.result.0 c.pair-first.result.1 c.args.lit once at at' c.loop-i.invariant.left (c.are_false.ensures.no c.if-not-are_false.true)
+    IsLeft-open_pair n d c.loop-i.i c.pair-first.result.0 c.pair-first.result.1 c.args.lit once at at' c.loop-i.invariant.left
+    (c.are_false.ensures.no c.if-not-are_false.true)
 
 pub returns-then-not-are_false-clause-event : goal.returns-then-not-are_false-clause-event
 returns-then-not-are_false-clause-event g c = g.met.M.ClauseMap.moves_append _ _ _ _ _ c.loop-i.invariant.event c.pair-first.ensures.event
@@ -39,7 +42,8 @@ loop-i-preserved g c =
     let at = rw c.loop-i.invariant.stays at c.pair-first.ensures.first in
     let at' = rw c.loop-i.invariant.stays at c.pair-first.ensures.second in
     record {
-      left = IsLeft-pair n d c.loop-i.i c.pair-first.result.0 c.pair-first.result.1 (One c.args.lit) at at' (c.are_false.ensures.yes c.if-not-are_false.false) c.loop-i.invariant.left;
+      left = IsLeft-pair n d c.loop-i.i c.pair-first.result.0 c.pair-first.result.1 (One c.args.lit) at at'
+          (c.are_false.ensures.yes c.if-not-are_false.false) c.loop-i.invariant.left;
       event = g.met.M.ClauseMap.moves_append _ _ _ _ _ c.loop-i.invariant.event c.pair-first.ensures.event;
       stays = rw c.pair-first.ensures.stays c.loop-i.invariant.stays;
     }

@@ -24,5 +24,6 @@ returns-clause-memory c = λ off. elim off.2 [
 pub returns-clause-read : goal.returns-clause-read
 returns-clause-read c = λ off. elim off.2 [
   | inl memory ↦ (let no : endings.ReadFailed 3 ≡ endings.Memory off.0 = memory in cc)
-  | inr read ↦ (let line : 3 ≡ off.0 = (let is : endings.ReadFailed 3 ≡ endings.ReadFailed off.0 = read in cc) in omega (arith, off.1, line))
+  | inr read ↦
+      (let line : 3 ≡ off.0 = (let is : endings.ReadFailed 3 ≡ endings.ReadFailed off.0 = read in cc) in omega (arith, off.1, line))
 ]

@@ -10,7 +10,8 @@ pub returns : goal.returns
 unfolding digits
 returns c cube tries told telling reports report run texts at entry says memory failure =
     elim (c.right_together.ensures four (terms_at two_streams cube tries) (λ s. true) shared told reports 2 telling report
-    four_is_cnf (record { vars = refl; clauses = refl; literals = refl }) shared_is_right (refl, (refl, (refl, (refl, tt)))) run texts refl at entry says memory failure) [
+    four_is_cnf (record { vars = refl; clauses = refl; literals = refl }) shared_is_right
+    (refl, (refl, (refl, (refl, tt)))) run texts refl at entry says memory failure) [
       | inl same ↦ inl (record {
         added = ap (λ (r : Report). r.added) same;
         deleted = ap (λ (r : Report). r.deleted) same;

@@ -7,12 +7,30 @@ pub returns : goal.returns
 returns c = record {
   streams = ((omega arith, omega arith), ((omega arith, omega arith), ((omega arith, omega arith), ((omega arith, omega arith), tt))));
   fits = (
-    ((omega arith, omega arith), record { count = omega arith; each = ((omega arith, omega arith), tt) }, record { count = omega arith; each = ((omega arith, omega arith), ((omega arith, omega arith), tt)) }),
     (
-      ((omega arith, omega arith), record { count = omega arith; each = ((omega arith, omega arith), tt) }, record { count = omega arith; each = ((omega arith, omega arith), ((omega arith, omega arith), tt)) }),
+      (omega arith, omega arith),
+      record { count = omega arith; each = ((omega arith, omega arith), tt) },
+      record { count = omega arith; each = ((omega arith, omega arith), ((omega arith, omega arith), tt)) },
+    ),
+    (
+      (
+        (omega arith, omega arith),
+        record { count = omega arith; each = ((omega arith, omega arith), tt) },
+        record { count = omega arith; each = ((omega arith, omega arith), ((omega arith, omega arith), tt)) },
+      ),
       (
         ((omega arith, omega arith), record { count = omega arith; each = ((omega arith, omega arith), ((omega arith, omega arith), tt)) }),
-        (((omega arith, omega arith), record { count = omega arith; each = tt }, record { count = omega arith; each = ((omega arith, omega arith), ((omega arith, omega arith), ((omega arith, omega arith), tt))) }), tt),
+        (
+          (
+            (omega arith, omega arith),
+            record { count = omega arith; each = tt },
+            record {
+              count = omega arith;
+              each = ((omega arith, omega arith), ((omega arith, omega arith), ((omega arith, omega arith), tt)));
+            },
+          ),
+          tt,
+        ),
       ),
     ),
   );

@@ -7,8 +7,10 @@ use Rattle.test_support.specs.Worked.{four}
 
 pub returns : goal.returns
 returns c cube tries told telling reports report more run at entry says =
-    elim (c.right_begins.ensures four (terms_at one_stream cube tries) 1 (codes "5 2 0 1 2 0\n6 0 5 3 4 0\n" ++ more) refutation told telling reports report
-    four_is_cnf (record { vars = refl; clauses = refl; literals = refl }) (omega arith, omega arith) (refutation_begins more) run at entry says) [
+    elim (c.right_begins.ensures four (terms_at one_stream cube tries) 1
+    (codes "5 2 0 1 2 0\n6 0 5 3 4 0\n" ++ more) refutation told telling reports report
+    four_is_cnf (record { vars = refl; clauses = refl; literals = refl }) (omega arith, omega arith)
+    (refutation_begins more) run at entry says) [
       | inl tells ↦ inl (tells.added, tells.empty refl)
       | inr cut ↦ inr cut
     ]

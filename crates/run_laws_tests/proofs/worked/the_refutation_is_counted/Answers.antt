@@ -8,8 +8,10 @@ use Rattle.test_support.specs.Worked.{four}
 
 pub returns : goal.returns
 returns c cube tries told telling reports report run at entry says memory failure =
-    let same = c.right_reported.ensures four (terms_at one_stream cube tries) 1 (codes "5 2 0 1 2 0\n6 0 5 3 4 0\n") refutation told telling reports report
-    four_is_cnf (record { vars = refl; clauses = refl; literals = refl }) (omega arith, omega arith) refutation_is_right run at entry says memory failure in
+    let same = c.right_reported.ensures four (terms_at one_stream cube tries) 1
+    (codes "5 2 0 1 2 0\n6 0 5 3 4 0\n") refutation told telling reports report
+    four_is_cnf (record { vars = refl; clauses = refl; literals = refl })
+    (omega arith, omega arith) refutation_is_right run at entry says memory failure in
     record {
       added = ap (λ (r : Report). r.added) same;
       deleted = ap (λ (r : Report). r.deleted) same;

@@ -14,10 +14,12 @@ returns-in_default-2-clause-within c = (
   λ none. absurd (cc),
   λ all.
       let z = get_or c.args.numbers.now c.loop-number.number-index (pos 0) in
-      let here : IsLiteral c.args.vars z = All-from_recursion (IsLiteral c.args.vars) c.args.numbers.now all c.loop-number.number-index (pos 0) c.loop-number-test.true in
+      let here : IsLiteral c.args.vars z =
+      All-from_recursion (IsLiteral c.args.vars) c.args.numbers.now all c.loop-number.number-index (pos 0) c.loop-number-test.true in
       let fits : SFits w64 z = search rules in
       let most : nat_abs z ≤ max_variable = omega (arith, here.1, c.requires.variables) in
-      let lit : IsLiteral max_variable (to_z w64 (of_z w64 z)) = subst (IsLiteral max_variable) (sym (to_z-of_z w64 z fits)) (here.0, most) in
+      let lit : IsLiteral max_variable (to_z w64 (of_z w64 z)) =
+      subst (IsLiteral max_variable) (sym (to_z-of_z w64 z fits)) (here.0, most) in
       c.in_default.ensures.literal.1 lit,
 )
 
@@ -32,7 +34,8 @@ loop-number-preserved c =
     let here : IsLiteral c.args.vars x = (c.var.ensures.literal.0, most) in
     record {
       items = c.push_reserved.ensures.items ∙ ap (λ ls. ls ++ x ∷ []) c.loop-number.invariant.items ∙ sym next;
-      within = subst (AllByRecursion (IsLiteral c.args.vars)) (sym next) (All-push (IsLiteral c.args.vars) (take k xs) x c.loop-number.invariant.within here);
+      within = subst (AllByRecursion (IsLiteral c.args.vars)) (sym next)
+          (All-push (IsLiteral c.args.vars) (take k xs) x c.loop-number.invariant.within here);
       count = search rules;
       capacity = search rules;
     }

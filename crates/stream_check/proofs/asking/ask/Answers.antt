@@ -21,7 +21,8 @@ returns-in-Vacant-clause-asked g c =
     let fetches = subst (λ (s : ℕ). FetchesUpTo c.tries_for.result s h (fetch s h vacant ∷ again.0) r) same again.2 in (
       fetch p.caller.stream h vacant ∷ again.0,
       g.met.M.ClauseMap.moves_append c.args.map.now c.fetch.new.self c.fetch_again.new.map first again.0 c.in-Vacant.ensures.event again.1,
-      asks_again c.args.setting.now h p.caller.stream c.tries_for.result (fetch p.caller.stream h vacant ∷ again.0) r (c.covers.ensures.0 c.if-not-covers.false) c.requires.at.stream c.tries_for.ensures fetches,
+      asks_again c.args.setting.now h p.caller.stream c.tries_for.result (fetch p.caller.stream h vacant ∷ again.0) r
+          (c.covers.ensures.0 c.if-not-covers.false) c.requires.at.stream c.tries_for.ensures fetches,
     )
 
 pub returns-then-not-covers-clause-asked : goal.returns-then-not-covers-clause-asked
@@ -36,8 +37,10 @@ returns-in_default-clause-asked g c =
     let n = g.M.ClauseMap.place c.fetch.new.self in
     let r = reply_of n c.fetch.result in
     let is = c.covers.ensures.0 c.if-not-covers.false in
-    let once = asks_once c.args.setting.now c.args.hint p.caller.stream r is c.requires.at.stream (not_vacant n c.fetch.result c.in_default.not-Vacant) in
+    let once = asks_once c.args.setting.now c.args.hint p.caller.stream r is c.requires.at.stream
+    (not_vacant n c.fetch.result c.in_default.not-Vacant) in
     (fetch p.caller.stream c.args.hint r ∷ [], c.fetch.ensures.event, once)
 
 pub returns-in_default-clause-gives : goal.returns-in_default-clause-gives
-returns-in_default-clause-gives g c = gives_of (g.M.ClauseMap.place c.fetch.new.self) c.args.hint c.fetch.result c.fetch.ensures.fetched c.fetch.ensures.follow c.fetch.ensures.variables
+returns-in_default-clause-gives g c = gives_of (g.M.ClauseMap.place c.fetch.new.self) c.args.hint c.fetch.result c.fetch.ensures.fetched
+    c.fetch.ensures.follow c.fetch.ensures.variables

@@ -20,18 +20,23 @@ returns-in_default-clause-asked g c =
     let last : g.M.ClauseMap.moves c.loop-before.map c.fetch.new.self (fetch p.caller.stream c.args.id r ∷ []) =
     subst (λ (s : ℕ). g.M.ClauseMap.moves c.loop-before.map c.fetch.new.self (fetch s c.args.id r ∷ [])) same c.fetch.ensures.event in (
       front ++ fetch p.caller.stream c.args.id r ∷ [],
-      g.met.M.ClauseMap.moves_append c.args.map.now c.loop-before.map c.fetch.new.self front (fetch p.caller.stream c.args.id r ∷ []) c.loop-before.invariant last,
+      g.met.M.ClauseMap.moves_append c.args.map.now c.loop-before.map c.fetch.new.self front
+          (fetch p.caller.stream c.args.id r ∷ []) c.loop-before.invariant last,
       again_found c.args.most k p.caller.stream c.args.id r c.loop-before-test.true (not_vacant n c.fetch.result c.in_default.not-Vacant),
     )
 
 pub returns-clause-asked : goal.returns-clause-asked
 returns-clause-asked g c =
     let s = (g.M.ClauseMap.place c.args.map.now).caller.stream in
-    let k = c.loop-before.before in
-    (replicate k (fetch s c.args.id vacant), c.loop-before.invariant, again_vacant c.args.most k s c.args.id c.loop-before.auto.before-end c.loop-before-test.false)
+    let k = c.loop-before.before in (
+      replicate k (fetch s c.args.id vacant),
+      c.loop-before.invariant,
+      again_vacant c.args.most k s c.args.id c.loop-before.auto.before-end c.loop-before-test.false,
+    )
 
 pub returns-in_default-clause-gives : goal.returns-in_default-clause-gives
-returns-in_default-clause-gives g c = gives_of (g.M.ClauseMap.place c.fetch.new.self) c.args.id c.fetch.result c.fetch.ensures.fetched c.fetch.ensures.follow c.fetch.ensures.variables
+returns-in_default-clause-gives g c = gives_of (g.M.ClauseMap.place c.fetch.new.self) c.args.id c.fetch.result c.fetch.ensures.fetched
+    c.fetch.ensures.follow c.fetch.ensures.variables
 
 pub loop-before-init : goal.loop-before-init
 loop-before-init g c = g.met.M.ClauseMap.moves_none c.args.map.now
@@ -42,6 +47,8 @@ loop-before-preserved g c =
     let front : History = replicate c.loop-before.before (fetch s c.args.id vacant) in
     let tells = g.met.M.ClauseMap.moves_tells c.args.map.now c.loop-before.map front c.loop-before.invariant in
     let last : g.M.ClauseMap.moves c.loop-before.map c.fetch.new.self (fetch s c.args.id vacant ∷ []) =
-    subst (λ (t : ℕ). g.M.ClauseMap.moves c.loop-before.map c.fetch.new.self (fetch t c.args.id vacant ∷ [])) (ap (λ (r : Caller). r.stream) tells.caller) c.in-Vacant.ensures.event in
+    subst (λ (t : ℕ). g.M.ClauseMap.moves c.loop-before.map c.fetch.new.self (fetch t c.args.id vacant ∷ []))
+    (ap (λ (r : Caller). r.stream) tells.caller) c.in-Vacant.ensures.event in
     subst (g.M.ClauseMap.moves c.args.map.now c.fetch.new.self) (replicate-more c.loop-before.before (fetch s c.args.id vacant))
-    (g.met.M.ClauseMap.moves_append c.args.map.now c.loop-before.map c.fetch.new.self front (fetch s c.args.id vacant ∷ []) c.loop-before.invariant last)
+    (g.met.M.ClauseMap.moves_append c.args.map.now c.loop-before.map c.fetch.new.self front
+    (fetch s c.args.id vacant ∷ []) c.loop-before.invariant last)

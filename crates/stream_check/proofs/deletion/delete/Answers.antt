@@ -20,7 +20,8 @@ returns-in_err-delete_one-clause-deleted g c =
     let deleted = c.loop-id.invariant.deleted in
     let one = c.in_err-delete_one.ensures.deletes in
     let deletes : DeletesOne s id c.loop-id.state.dropped.ids c.delete_one.new.state.dropped.ids one.0 (Err stop) =
-    subst (λ (x : Setting). DeletesOne x id c.loop-id.state.dropped.ids c.delete_one.new.state.dropped.ids one.0 (Err stop)) c.loop-id.invariant.kept.setting one.3 in
+    subst (λ (x : Setting). DeletesOne x id c.loop-id.state.dropped.ids c.delete_one.new.state.dropped.ids one.0 (Err stop))
+    c.loop-id.invariant.kept.setting one.3 in
     let count : length (take i ids) ≡ i = omega (arith, length-take i ids, c.loop-id-test.true) in
     let given = err_from_is_err_and c.from_residual.result c.from_residual.ensures.1 in
     rw (given.1, given.2) (
@@ -30,12 +31,20 @@ returns-in_err-delete_one-clause-deleted g c =
       (
         length (take i ids),
         omega (arith, c.in_err-delete_one.ensures.count, c.loop-id.invariant.count, count),
-        stopped_deletion s old.dropped.ids (take i ids) c.loop-id.state.dropped.ids c.delete_one.new.state.dropped.ids id (drop (i + 1) ids) ids deleted.0 one.0 stop (among_ids ids i c.loop-id-test.true) deleted.3 c.loop-id.invariant.dropped deletes,
+        stopped_deletion s old.dropped.ids (take i ids) c.loop-id.state.dropped.ids c.delete_one.new.state.dropped.ids id
+            (drop (i + 1) ids) ids deleted.0 one.0 stop (among_ids ids i c.loop-id-test.true) deleted.3 c.loop-id.invariant.dropped deletes,
       ),
     )
 
 keeps_on : (a b c : StreamState) → KeepsLines a b → KeepsLines b c → KeepsLines a c
-keeps_on a b c h k = record { setting = k.setting ∙ h.setting; last = k.last ∙ h.last; added = k.added ∙ h.added; empty = k.empty ∙ h.empty; within = k.within ∙ h.within; line = k.line ∙ h.line }
+keeps_on a b c h k = record {
+  setting = k.setting ∙ h.setting;
+  last = k.last ∙ h.last;
+  added = k.added ∙ h.added;
+  empty = k.empty ∙ h.empty;
+  within = k.within ∙ h.within;
+  line = k.line ∙ h.line;
+}
 
 pub loop-id-preserved : goal.loop-id-preserved
 loop-id-preserved g c =
@@ -47,19 +56,22 @@ loop-id-preserved g c =
     let deleted = c.loop-id.invariant.deleted in
     let one = c.in_ok-delete_one.ensures.deletes in
     let deletes : DeletesOne s id c.loop-id.state.dropped.ids c.delete_one.new.state.dropped.ids one.0 (Ok tt) =
-    subst (λ (x : Setting). DeletesOne x id c.loop-id.state.dropped.ids c.delete_one.new.state.dropped.ids one.0 (Ok tt)) c.loop-id.invariant.kept.setting one.3 in
+    subst (λ (x : Setting). DeletesOne x id c.loop-id.state.dropped.ids c.delete_one.new.state.dropped.ids one.0 (Ok tt))
+    c.loop-id.invariant.kept.setting one.3 in
     let more : take (i + 1) ids ≡ take i ids ++ id ∷ [] = take_more ids i 0 c.loop-id-test.true in
     record {
       kept = keeps_on old c.loop-id.state c.delete_one.new.state c.loop-id.invariant.kept c.delete_one.ensures.kept;
       count = omega (arith, c.in_ok-delete_one.ensures.count, c.loop-id.invariant.count);
       dropped = subst (λ (js : List ℕ). AreDropped s old.dropped.ids js c.delete_one.new.state.dropped.ids) (sym more)
-          (dropped_more s old.dropped.ids (take i ids) c.loop-id.state.dropped.ids c.delete_one.new.state.dropped.ids id one.0 c.loop-id.invariant.dropped deletes);
+          (dropped_more s old.dropped.ids
+          (take i ids) c.loop-id.state.dropped.ids c.delete_one.new.state.dropped.ids id one.0 c.loop-id.invariant.dropped deletes);
       deleted = (
         deleted.0 ++ one.0,
         g.met.M.ClauseMap.moves_append c.args.map.now c.loop-id.map c.delete_one.new.map deleted.0 one.0 deleted.1 one.1,
         All-append IsRetire deleted.0 one.0 deleted.2 one.2,
         subst (λ (js : List ℕ). GoesOn s old.dropped.ids js (deleted.0 ++ one.0)) (sym more)
-            (goes_on s old.dropped.ids (take i ids) c.loop-id.state.dropped.ids c.delete_one.new.state.dropped.ids id deleted.0 one.0 deleted.3 c.loop-id.invariant.dropped deletes),
+            (goes_on s old.dropped.ids (take i ids) c.loop-id.state.dropped.ids c.delete_one.new.state.dropped.ids id deleted.0 one.0
+            deleted.3 c.loop-id.invariant.dropped deletes),
       );
     }
 

@@ -6,11 +6,19 @@ use Rattle.stream_check.proofs.deletion.retire_own.Goals as goal
 
 pub returns-in-Done-clause-deletes : goal.returns-in-Done-clause-deletes
 returns-in-Done-clause-deletes g c =
-    let es : History = retire (g.M.ClauseMap.place c.args.map.now).caller.stream c.args.id retiring.Done ∷ [] in
-    (es, c.in-Done.ensures.event, (tt, tt), (ap (λ s. retire s c.args.id retiring.Done ∷ []) c.requires.at.stream, ap (λ (d : DroppedValue). d.ids) c.count_retired.ensures.dropped))
+    let es : History = retire (g.M.ClauseMap.place c.args.map.now).caller.stream c.args.id retiring.Done ∷ [] in (
+      es,
+      c.in-Done.ensures.event,
+      (tt, tt),
+      (
+        ap (λ s. retire s c.args.id retiring.Done ∷ []) c.requires.at.stream,
+        ap (λ (d : DroppedValue). d.ids) c.count_retired.ensures.dropped,
+      ),
+    )
 
 pub returns-in-Done-clause-count : goal.returns-in-Done-clause-count
-returns-in-Done-clause-count g c = omega (arith, c.count_retired.ensures.retired, ap (λ (d : DroppedValue). length d.ids) c.count_retired.ensures.dropped)
+returns-in-Done-clause-count g c =
+    omega (arith, c.count_retired.ensures.retired, ap (λ (d : DroppedValue). length d.ids) c.count_retired.ensures.dropped)
 
 pub returns-in-NotLive-clause-deletes : goal.returns-in-NotLive-clause-deletes
 returns-in-NotLive-clause-deletes g c =

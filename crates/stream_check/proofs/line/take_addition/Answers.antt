@@ -12,14 +12,19 @@ returns-in_err-add-clause-taken g c =
     let q = g.M.ClauseMap.place c.add.new.map in
     let judged = c.in_err-add.ensures.judged in
     let given = err_from_is_err_and c.from_residual.result c.from_residual.ensures.1 in
-    rw (given.1, given.2) (judged.0, judged.1, stops_addition c.args.state.now p.room q.room c.args.id c.args.lits.now c.args.hints.now judged.0 c.in_err-add.field-0.0 judged.3)
+    rw (given.1, given.2) (
+      judged.0,
+      judged.1,
+      stops_addition c.args.state.now p.room q.room c.args.id c.args.lits.now c.args.hints.now judged.0 c.in_err-add.field-0.0 judged.3,
+    )
 
 pub returns-in_err-add-clause-ready : goal.returns-in_err-add-clause-ready
 returns-in_err-add-clause-ready g c =
     let p = g.M.ClauseMap.place c.args.map.now in
     let q = g.M.ClauseMap.place c.add.new.map in
     let judged = c.in_err-add.ensures.judged in
-    ready_fetches c.args.state.now p q judged.0 (g.met.M.ClauseMap.moves_tells c.args.map.now c.add.new.map judged.0 judged.1) judged.2 c.requires.ready
+    ready_fetches c.args.state.now p q judged.0
+    (g.met.M.ClauseMap.moves_tells c.args.map.now c.add.new.map judged.0 judged.1) judged.2 c.requires.ready
 
 pub returns-clause-taken : goal.returns-clause-taken
 returns-clause-taken g c =
@@ -29,11 +34,24 @@ returns-clause-taken g c =
     let q = g.M.ClauseMap.place c.add.new.map in
     let judged = c.in_ok-add.ensures.judged in
     let added = c.take_addition.ensures in
-    let adds : Adds old new c.args.id c.is_empty.result c.refutes-within.result = record { last = added.last; added = added.added; empty = added.empty; within = added.within; line = added.line; dropped = added.dropped; retired = added.retired } in
-    let room = room_publish old p q judged.0 c.args.id c.args.lits.now c.requires.ready.at (g.met.M.ClauseMap.moves_tells c.args.map.now c.add.new.map judged.0 judged.1) judged.2 in
+    let adds : Adds old new c.args.id c.is_empty.result c.refutes-within.result = record {
+      last = added.last;
+      added = added.added;
+      empty = added.empty;
+      within = added.within;
+      line = added.line;
+      dropped = added.dropped;
+      retired = added.retired;
+    } in
+    let room = room_publish old p q judged.0 c.args.id c.args.lits.now c.requires.ready.at
+    (g.met.M.ClauseMap.moves_tells c.args.map.now c.add.new.map judged.0 judged.1) judged.2 in
     let within : c.refutes-within.result ≡ is_within old.setting.cube (distinct c.args.lits.now) =
-    c.refutes-within.ensures ∙ ap (is_within old.setting.cube) (c.clause.ensures ∙ c.in_ok-add.ensures.clause) in
-    (judged.0, judged.1, takes_addition old new p.room q.room c.args.id c.args.lits.now c.args.hints.now judged.0 c.is_empty.result c.refutes-within.result adds c.is_empty.ensures within room judged.3)
+    c.refutes-within.ensures ∙ ap (is_within old.setting.cube) (c.clause.ensures ∙ c.in_ok-add.ensures.clause) in (
+      judged.0,
+      judged.1,
+      takes_addition old new p.room q.room c.args.id c.args.lits.now c.args.hints.now judged.0 c.is_empty.result c.refutes-within.result
+          adds c.is_empty.ensures within room judged.3,
+    )
 
 pub returns-clause-ready : goal.returns-clause-ready
 returns-clause-ready g c =
@@ -42,5 +60,6 @@ returns-clause-ready g c =
     let q = g.M.ClauseMap.place c.add.new.map in
     let judged = c.in_ok-add.ensures.judged in
     let added = c.take_addition.ensures in
-    ready_publish old c.take_addition.new.self p q judged.0 c.args.id c.args.lits.now (g.met.M.ClauseMap.moves_tells c.args.map.now c.add.new.map judged.0 judged.1) judged.2 added.setting added.last
+    ready_publish old c.take_addition.new.self p q judged.0 c.args.id c.args.lits.now
+    (g.met.M.ClauseMap.moves_tells c.args.map.now c.add.new.map judged.0 judged.1) judged.2 added.setting added.last
     (above_last old.setting (standing_at old p.room) c.args.id c.args.lits.now c.args.hints.now judged.0 judged.3) c.requires.ready

@@ -9,14 +9,16 @@ returns-in_err-import-clause-taken g c =
     let q = g.M.ClauseMap.place c.import.new.map in
     let judged = c.in_err-import.ensures.judged in
     let given = err_from_is_err_and c.from_residual.result c.from_residual.ensures.1 in
-    rw (given.1, given.2) (judged.0, judged.1, stops_import c.args.state.now p.room q.room c.args.id c.args.lits.now judged.0 c.in_err-import.field-0.0 judged.3)
+    rw (given.1, given.2)
+    (judged.0, judged.1, stops_import c.args.state.now p.room q.room c.args.id c.args.lits.now judged.0 c.in_err-import.field-0.0 judged.3)
 
 pub returns-in_err-import-clause-ready : goal.returns-in_err-import-clause-ready
 returns-in_err-import-clause-ready g c =
     let p = g.M.ClauseMap.place c.args.map.now in
     let q = g.M.ClauseMap.place c.import.new.map in
     let judged = c.in_err-import.ensures.judged in
-    ready_fetches c.args.state.now p q judged.0 (g.met.M.ClauseMap.moves_tells c.args.map.now c.import.new.map judged.0 judged.1) judged.2 c.requires.ready
+    ready_fetches c.args.state.now p q judged.0
+    (g.met.M.ClauseMap.moves_tells c.args.map.now c.import.new.map judged.0 judged.1) judged.2 c.requires.ready
 
 pub returns-clause-taken : goal.returns-clause-taken
 returns-clause-taken g c =
@@ -26,7 +28,15 @@ returns-clause-taken g c =
     let q = g.M.ClauseMap.place c.import.new.map in
     let judged = c.in_ok-import.ensures.judged in
     let taken = c.count_line.ensures in
-    let counts : Counts old new = record { line = taken.line; last = taken.last; added = taken.added; empty = taken.empty; within = taken.within; dropped = taken.dropped; retired = taken.retired } in
+    let counts : Counts old new = record {
+      line = taken.line;
+      last = taken.last;
+      added = taken.added;
+      empty = taken.empty;
+      within = taken.within;
+      dropped = taken.dropped;
+      retired = taken.retired;
+    } in
     let room = room_stays p q judged.0 (g.met.M.ClauseMap.moves_tells c.args.map.now c.import.new.map judged.0 judged.1) judged.2 in
     (judged.0, judged.1, takes_import old new p.room q.room c.args.id c.args.lits.now judged.0 counts room judged.3)
 
@@ -36,5 +46,6 @@ returns-clause-ready g c =
     let p = g.M.ClauseMap.place c.args.map.now in
     let q = g.M.ClauseMap.place c.import.new.map in
     let judged = c.in_ok-import.ensures.judged in
-    let ready = ready_fetches old p q judged.0 (g.met.M.ClauseMap.moves_tells c.args.map.now c.import.new.map judged.0 judged.1) judged.2 c.requires.ready in
+    let ready = ready_fetches old p q judged.0
+    (g.met.M.ClauseMap.moves_tells c.args.map.now c.import.new.map judged.0 judged.1) judged.2 c.requires.ready in
     still_ready old c.count_line.new.self q c.count_line.ensures.setting c.count_line.ensures.last ready

@@ -11,7 +11,8 @@ rest-preserved g c =
       ready = fed.ready;
       moves = (
         before.moves.0 ++ joined blocks,
-        g.met.M.ClauseMap.moves_append c.args.map.now c.rest.map c.feed-progress.new.map before.moves.0 (joined blocks) before.moves.1 fed.left.1,
+        g.met.M.ClauseMap.moves_append c.args.map.now c.rest.map c.feed-progress.new.map before.moves.0
+            (joined blocks) before.moves.1 fed.left.1,
       );
       setting = fed.setting ∙ before.setting;
     }
@@ -25,7 +26,8 @@ returns-in-More g c =
       ready = fed.ready;
       moves = (
         before.moves.0 ++ joined blocks,
-        g.met.M.ClauseMap.moves_append c.args.map.now c.rest.map c.feed-progress.new.map before.moves.0 (joined blocks) before.moves.1 fed.left.1,
+        g.met.M.ClauseMap.moves_append c.args.map.now c.rest.map c.feed-progress.new.map before.moves.0
+            (joined blocks) before.moves.1 fed.left.1,
       );
       setting = fed.setting ∙ before.setting;
     }

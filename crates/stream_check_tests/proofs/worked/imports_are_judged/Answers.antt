@@ -8,7 +8,8 @@ use Rattle.test_support.specs.WorkedLemmas.{same_first}
 use Rattle.stream_check_tests.proofs.worked.imports_are_judged.Goals as goal
 
 pub returns-clause-good : goal.returns-clause-good
-returns-clause-good c = first_is_compared (pos 2 ∷ pos 1 ∷ pos 2 ∷ []) Good (omega arith, (omega arith, (omega arith, tt))) (inr (same_first, (refl, refl)))
+returns-clause-good c =
+    first_is_compared (pos 2 ∷ pos 1 ∷ pos 2 ∷ []) Good (omega arith, (omega arith, (omega arith, tt))) (inr (same_first, (refl, refl)))
 
 -- 1 isn't there
 pub returns-clause-differs : goal.returns-clause-differs

@@ -45,8 +45,10 @@ loop-preserved g c =
       setting = c.take_all.ensures.setting ∙ c.loop.invariant.setting;
       took = (
         old.0 ++ fed.0,
-        subst (g.M.ClauseMap.moves start end) (sym (joined-append old.0 fed.0)) (g.met.M.ClauseMap.moves_append start mid end _ _ old.1 fed.1),
-        leaves_more c.args.checker.now.setting c.loop.checker.setting _ _ (checker_state c.take_all.new.checker (g.M.ClauseMap.place end).room)
+        subst (g.M.ClauseMap.moves start end) (sym (joined-append old.0 fed.0))
+            (g.met.M.ClauseMap.moves_append start mid end _ _ old.1 fed.1),
+        leaves_more c.args.checker.now.setting c.loop.checker.setting _ _
+            (checker_state c.take_all.new.checker (g.M.ClauseMap.place end).room)
             (map byte_of (received c.loop.receiver.consumer)) _ (map byte_of (received c.receive.new.self.consumer)) old.0 fed.0
             c.loop.invariant.setting came.1 old.2 fed.2,
       );
@@ -70,9 +72,11 @@ returns-in-Mark-clause-took g c =
     let bytes = map byte_of (received c.loop.receiver.consumer) ++ take c.in-Mark.count c.receive.new.bytes in (
       bytes,
       old.0 ++ fed.0,
-      subst (g.M.ClauseMap.moves start end) (sym (joined-append old.0 fed.0)) (g.met.M.ClauseMap.moves_append start mid end _ _ old.1 fed.1),
+      subst (g.M.ClauseMap.moves start end) (sym (joined-append old.0 fed.0))
+          (g.met.M.ClauseMap.moves_append start mid end _ _ old.1 fed.1),
       came.1,
-      leaves_more c.args.checker.now.setting c.loop.checker.setting _ _ (checker_state c.take_all-in-Mark.new.checker (g.M.ClauseMap.place end).room)
+      leaves_more c.args.checker.now.setting c.loop.checker.setting _ _
+          (checker_state c.take_all-in-Mark.new.checker (g.M.ClauseMap.place end).room)
           (map byte_of (received c.loop.receiver.consumer)) (take c.in-Mark.count c.receive.new.bytes) bytes old.0 fed.0
           c.loop.invariant.setting refl old.2 fed.2,
     )

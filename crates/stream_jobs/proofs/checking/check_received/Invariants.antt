@@ -18,5 +18,6 @@ invariant-loop g l =
       ready : IsReadyAt l.checker q;
       setting : l.checker.setting ≡ l.fn.checker.setting;
       took : (blocks : List History) × g.M.ClauseMap.moves l.fn.map l.map (joined blocks)
-          × LeavesOn l.fn.checker.setting (checker_state l.fn.checker p.room) (map byte_of (received l.receiver.consumer)) blocks (checker_state l.checker q.room);
+          × LeavesOn l.fn.checker.setting (checker_state l.fn.checker p.room) (map byte_of (received l.receiver.consumer)) blocks
+          (checker_state l.checker q.room);
     }

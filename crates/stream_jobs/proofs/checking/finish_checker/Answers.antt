@@ -20,8 +20,10 @@ returns-clause-judges c =
 
 pub returns-clause-dropped : goal.returns-clause-dropped
 returns-clause-dropped c = elim c.match-end.branch [
-  | in-Ended w ↦ ap (λ (v : CheckerValue). v.dropped) w.checker-is ∙ ends_dropped stream_ends.Ended c.args.checker.now w.end.new.self w.end.ensures.ends
-  | in-Failed w ↦ ap (λ (v : CheckerValue). v.dropped) w.checker-is ∙ ends_dropped stream_ends.Failed c.args.checker.now w.read_failed.new.self w.read_failed.ensures.ends
+  | in-Ended w ↦ ap (λ (v : CheckerValue). v.dropped) w.checker-is
+      ∙ ends_dropped stream_ends.Ended c.args.checker.now w.end.new.self w.end.ensures.ends
+  | in-Failed w ↦ ap (λ (v : CheckerValue). v.dropped) w.checker-is
+      ∙ ends_dropped stream_ends.Failed c.args.checker.now w.read_failed.new.self w.read_failed.ensures.ends
 ]
 
 pub returns-clause-over : goal.returns-clause-over

@@ -18,7 +18,13 @@ returns-clause-judged g c =
         bytes = took.0;
         end = end;
         marked = took.3;
-        dropped = record { last = checker; free = free; left = took.4; are = c.finish_and_notify_gate.ensures.dropped; over = c.finish_and_notify_gate.ensures.over };
+        dropped = record {
+          last = checker;
+          free = free;
+          left = took.4;
+          are = c.finish_and_notify_gate.ensures.dropped;
+          over = c.finish_and_notify_gate.ensures.over;
+        };
         judged = λ fresh. subst (λ (d : Setting). JudgesBlocks d took.0 end took.1 c.finish_and_notify_gate.result) setting
             (c.finish_and_notify_gate.ensures.judges took.0 took.1 free
             (subst (λ (d : Setting). Leaves d took.0 took.1 (checker_state checker free)) (sym setting) (took.4 [] [] fresh)));

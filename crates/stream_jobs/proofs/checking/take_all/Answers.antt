@@ -38,8 +38,10 @@ returns-in-More g c =
     record {
       took = (
         old.1 ++ fed.0,
-        subst (g.M.ClauseMap.moves start end) (sym (joined-append old.1 fed.0)) (g.met.M.ClauseMap.moves_append start mid end _ _ old.3 fed.1),
-        leaves_more c.args.checker.now.setting c.loop.checker.setting _ _ (checker_state v free) old.0 rest c.args.piece.now old.1 fed.0 c.loop.invariant.setting old.2 old.4 whole,
+        subst (g.M.ClauseMap.moves start end) (sym (joined-append old.1 fed.0))
+            (g.met.M.ClauseMap.moves_append start mid end _ _ old.3 fed.1),
+        leaves_more c.args.checker.now.setting c.loop.checker.setting _ _
+            (checker_state v free) old.0 rest c.args.piece.now old.1 fed.0 c.loop.invariant.setting old.2 old.4 whole,
       );
       ready = c.feed-progress.ensures.ready;
       setting = c.feed-progress.ensures.setting ∙ c.loop.invariant.setting;
@@ -70,10 +72,13 @@ loop-preserved g c =
       took = (
         old.0 ++ take used rest,
         old.1 ++ fed.0,
-        old.2 ∙ ap (λ (t : List ℕ). old.0 ++ t) (sym (take-append-drop used rest)) ∙ sym (append_assoc old.0 (take used rest) (drop used rest))
+        old.2 ∙ ap (λ (t : List ℕ). old.0 ++ t) (sym (take-append-drop used rest))
+            ∙ sym (append_assoc old.0 (take used rest) (drop used rest))
             ∙ ap (λ (t : List ℕ). (old.0 ++ take used rest) ++ t) (sym c.split_at.ensures.back),
-        subst (g.M.ClauseMap.moves start end) (sym (joined-append old.1 fed.0)) (g.met.M.ClauseMap.moves_append start mid end _ _ old.3 fed.1),
-        leaves_more c.args.checker.now.setting c.loop.checker.setting _ _ (checker_state v free) old.0 (take used rest) (old.0 ++ take used rest) old.1 fed.0
+        subst (g.M.ClauseMap.moves start end) (sym (joined-append old.1 fed.0))
+            (g.met.M.ClauseMap.moves_append start mid end _ _ old.3 fed.1),
+        leaves_more c.args.checker.now.setting c.loop.checker.setting _ _ (checker_state v free) old.0 (take used rest)
+            (old.0 ++ take used rest) old.1 fed.0
             c.loop.invariant.setting refl old.4 fed.3,
       );
     }
@@ -84,7 +89,8 @@ returns-clause-took g c =
     let none : length c.loop.rest.now ≡ 0 = omega (arith, c.loop.invariant.within, c.loop-test.false) in (
       old.1,
       old.3,
-      subst (λ (t : List ℕ). LeavesOn c.args.checker.now.setting (checker_state c.args.checker.now (g.M.ClauseMap.place c.args.map.now).room) t old.1
+      subst (λ (t : List ℕ). LeavesOn c.args.checker.now.setting
+          (checker_state c.args.checker.now (g.M.ClauseMap.place c.args.map.now).room) t old.1
           (checker_state c.loop.checker (g.M.ClauseMap.place c.loop.map).room))
           (sym (old.2 ∙ ap (λ (t : List ℕ). old.0 ++ t) (nil_from_length c.loop.rest.now none) ∙ append-nil old.0)) old.4,
     )

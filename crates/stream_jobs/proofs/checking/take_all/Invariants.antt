@@ -12,6 +12,7 @@ invariant-loop g l =
       within : l.counter + length l.rest ≤ length l.fn.piece;
       ready : IsReadyAt l.checker q;
       setting : l.checker.setting ≡ l.fn.checker.setting;
-      took : (front : List ℕ) × (blocks : List History) × (l.fn.piece ≡ front ++ l.rest) × g.M.ClauseMap.moves l.fn.map l.map (joined blocks)
+      took : (front : List ℕ) × (blocks : List History) × (l.fn.piece ≡ front ++ l.rest)
+          × g.M.ClauseMap.moves l.fn.map l.map (joined blocks)
           × LeavesOn l.fn.checker.setting (checker_state l.fn.checker p.room) front blocks (checker_state l.checker q.room);
     }

@@ -16,15 +16,22 @@ loop-reader-preserved g c =
     let rest = into_iter_items (zip_first (zip_first c.next.new.self)) in
     let others = into_iter_items (zip_second c.next.new.self) in
     let steps = c.in-Some.ensures.steps in
-    let running : AllByRecursion (λ r. g.R.Source.has_failed r ≡ false) (reader ∷ rest) = subst (AllByRecursion (λ r. g.R.Source.has_failed r ≡ false)) steps.0.0.0 now.invariant.running in
+    let running : AllByRecursion (λ r. g.R.Source.has_failed r ≡ false) (reader ∷ rest) =
+    subst (AllByRecursion (λ r. g.R.Source.has_failed r ≡ false)) steps.0.0.0 now.invariant.running in
     let pushed = c.push_reserved.ensures in
     let new = c.in_ok-new.ensures in
     record {
       running = running.1;
-      jobs = jobs_pushed c.args.terms.now _ (λ x. x.0.0) (λ x. x.1) now.yielded item now.all.items c.push_reserved.new.self.items c.in_ok-new.field-0
-          pushed.items (omega (arith, now.all.ok.0, c.len-in-loop-reader.ensures)) now.invariant.jobs (record { reader_is = new.reader; checker = new.checker; pass = new.pass });
+      jobs = jobs_pushed c.args.terms.now _ (λ x. x.0.0)
+          (λ x. x.1) now.yielded item now.all.items c.push_reserved.new.self.items c.in_ok-new.field-0
+          pushed.items (omega (arith, now.all.ok.0, c.len-in-loop-reader.ensures)) now.invariant.jobs (record {
+            reader_is = new.reader;
+            checker = new.checker;
+            pass = new.pass;
+          });
       readers = taken_next (λ x. x.0.0) now.yielded item before rest reader _ steps.0.0.0 refl now.invariant.readers;
-      passes = taken_next (λ x. x.1) now.yielded item (into_iter_items (zip_second now.reader-iterator)) others pass _ steps.1.0 refl now.invariant.passes;
+      passes = taken_next (λ x. x.1) now.yielded item
+          (into_iter_items (zip_second now.reader-iterator)) others pass _ steps.1.0 refl now.invariant.passes;
       count = omega (arith, pushed.len, steps.0.0.1, now.invariant.count);
       gates = omega (arith, steps.0.0.1, steps.0.1.1, now.invariant.gates);
       others = omega (arith, steps.0.0.1, steps.1.1, now.invariant.others);

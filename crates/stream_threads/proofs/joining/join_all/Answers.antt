@@ -12,8 +12,10 @@ loop-started-preserved g c =
     let steps = c.in-Some.ensures.steps in
     record {
       next = (tt, tt);
-      whole = moved_more now.yielded (into_iter_items now.started-iterator) (into_iter_items c.next.new.self) c.args.all.items _ c.in-Some.started steps.0 refl now.invariant.whole;
-      ends = all_end-more (source_view g.R.Source.left g.R.Source.has_failed g.R.Source.reads) now.yielded now.ends.items c.push_reserved.new.self.items c.in-Some.started c.join.result now.invariant.ends c.join.ensures pushed.items;
+      whole = moved_more now.yielded (into_iter_items now.started-iterator)
+          (into_iter_items c.next.new.self) c.args.all.items _ c.in-Some.started steps.0 refl now.invariant.whole;
+      ends = all_end-more (source_view g.R.Source.left g.R.Source.has_failed g.R.Source.reads) now.yielded now.ends.items
+          c.push_reserved.new.self.items c.in-Some.started c.join.result now.invariant.ends c.join.ensures pushed.items;
       count = omega (arith, pushed.len, steps.1, now.invariant.count);
       room = omega (arith, pushed.capacity, now.invariant.room);
     }

@@ -22,6 +22,7 @@ returns-clause-judged g c jobs sent checked =
             met.1,
             subst (λ r. IsStreamOf (source_view g.R.Source.left g.R.Source.has_failed g.R.Source.reads) jobs.reader r met.0) same met.2,
             met.3,
-            subst (λ (ids : List ℕ). DropsBy jobs.checker (pass_place jobs.pass.view).room met.0.bytes e.blocks ids c.in_ok-report.report) dropped met.4,
+            subst (λ (ids : List ℕ). DropsBy jobs.checker (pass_place jobs.pass.view).room met.0.bytes e.blocks ids c.in_ok-report.report)
+                dropped met.4,
           );
     }

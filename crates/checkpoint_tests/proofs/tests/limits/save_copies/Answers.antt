@@ -12,12 +12,15 @@ save_clips-requires-clause-known g c =
     let place = g.M.ClauseMap.place c.fetch.new.self in
     let clip = c.in-Live.clip in
     let items : c.in_ok-copies.copies.items ≡ replicate c.args.count clip = c.in_ok-copies.ensures.items_if_clones_equal (λ y same. same) in
-    subst (AllByRecursion (IsKnown place)) (sym (c.deref.ensures.value ∙ items)) (All-replicate (IsKnown place) c.args.count clip c.in-Live.ensures.fetched.1)
+    subst (AllByRecursion (IsKnown place)) (sym (c.deref.ensures.value ∙ items))
+    (All-replicate (IsKnown place) c.args.count clip c.in-Live.ensures.fetched.1)
 
 pub save_clips-requires-clause-follow : goal.save_clips-requires-clause-follow
 save_clips-requires-clause-follow g c =
     let place = g.M.ClauseMap.place c.fetch.new.self in
     let clip = c.in-Live.clip in
     let items : c.in_ok-copies.copies.items ≡ replicate c.args.count clip = c.in_ok-copies.ensures.items_if_clones_equal (λ y same. same) in
-    subst (λ clips. AllByRecursion (IsDerived place.caller.formula) (clauses_of (entries_of place clips))) (sym (c.deref.ensures.value ∙ items))
-    (All-clauses place (IsDerived place.caller.formula) c.args.count clip (known_follows place clip c.in-Live.ensures.follow c.in-Live.ensures.fetched.1))
+    subst (λ clips. AllByRecursion (IsDerived place.caller.formula) (clauses_of (entries_of place clips)))
+    (sym (c.deref.ensures.value ∙ items))
+    (All-clauses place (IsDerived place.caller.formula) c.args.count clip
+    (known_follows place clip c.in-Live.ensures.follow c.in-Live.ensures.fetched.1))

@@ -14,4 +14,5 @@ lit-requires-clause-code c =
 pub returns-clause-value : goal.returns-clause-value
 returns-clause-value c =
     literal_read c.pass.inside.seat c.pass.inside.stream c.args.pass.now c.args.clip.now c.args.k c.place_of-place.result
-    c.pass.invariant c.pass.view_is c.requires.known c.place_of-place.ensures c.requires.within c.word.result c.lit.result c.word.ensures.text c.lit.ensures
+    c.pass.invariant c.pass.view_is c.requires.known c.place_of-place.ensures c.requires.within c.word.result c.lit.result
+    c.word.ensures.text c.lit.ensures

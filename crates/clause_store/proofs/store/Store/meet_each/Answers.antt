@@ -13,11 +13,13 @@ loop-other-preserved c =
       pass = c.meet.ensures.first;
       others = are_of-set c.args.self.now i others other c.meet.ensures.second c.loop-other.invariant.others;
       met = subst (λ (n : ℕ). HasMet n u c.meet.new.first.view c.args.others.now (set others i other)) (sym (add-one i))
-          (meets_next i u c.loop-other.pass.view c.meet.new.first.view c.args.others.now others c.other-item.result other within c.loop-other.invariant.met c.meet.ensures.meets);
+          (meets_next i u c.loop-other.pass.view c.meet.new.first.view c.args.others.now others c.other-item.result other within
+          c.loop-other.invariant.met c.meet.ensures.meets);
     }
 
 pub returns-clause-turns : goal.returns-clause-turns
 returns-clause-turns c =
     let all : c.loop-other.other-index ≡ length c.args.others.now = omega arith in
     met_all c.args.pass.now.view c.loop-other.pass.view c.args.others.now c.loop-other.others
-    (subst (λ (n : ℕ). HasMet n c.args.pass.now.view c.loop-other.pass.view c.args.others.now c.loop-other.others) all c.loop-other.invariant.met)
+    (subst (λ (n : ℕ). HasMet n c.args.pass.now.view c.loop-other.pass.view c.args.others.now c.loop-other.others) all
+    c.loop-other.invariant.met)

@@ -14,12 +14,14 @@ word-word-requires-clause-within c =
 pub lit-first-requires-clause-code : goal.lit-first-requires-clause-code
 lit-first-requires-clause-code c =
     pair_code c.pass.inside.seat c.pass.inside.stream c.args.pass.now c.args.clip.now c.args.i 0 c.place_of.result
-    c.pass.invariant c.pass.view_is c.requires.known c.place_of.ensures (omega arith) (omega (arith, c.requires.within)) c.word-word.result c.word-word.ensures.text
+    c.pass.invariant c.pass.view_is c.requires.known c.place_of.ensures (omega arith)
+    (omega (arith, c.requires.within)) c.word-word.result c.word-word.ensures.text
 
 pub lit-requires-clause-code : goal.lit-requires-clause-code
 lit-requires-clause-code c =
     pair_code c.pass.inside.seat c.pass.inside.stream c.args.pass.now c.args.clip.now c.args.i 1 c.place_of.result
-    c.pass.invariant c.pass.view_is c.requires.known c.place_of.ensures (omega arith) (omega (arith, c.if-i-len.true, c.len-len.ensures)) c.word-word.result c.word-word.ensures.text
+    c.pass.invariant c.pass.view_is c.requires.known c.place_of.ensures (omega arith)
+    (omega (arith, c.if-i-len.true, c.len-len.ensures)) c.word-word.result c.word-word.ensures.text
 
 pub returns-clause-first : goal.returns-clause-first
 returns-clause-first c =
@@ -29,7 +31,10 @@ returns-clause-first c =
     let text = clip_clause (pass_place c.args.pass.now.view) c.args.clip.now in
     let same : 2 * c.args.i + 0 ≡ 2 * c.args.i = omega arith in
     let first = subst (λ k. slice_get text k ≡ Some c.lit-first.result) same at in
-    elim c.if-i-len.branch [ then-i-len w ↦ first ∙ sym (ap (λ r. Some r.0) w.result-is) | else-i-len w ↦ first ∙ sym (ap (λ r. Some r.0) w.result-is) ]
+    elim c.if-i-len.branch [
+      | then-i-len w ↦ first ∙ sym (ap (λ r. Some r.0) w.result-is)
+      | else-i-len w ↦ first ∙ sym (ap (λ r. Some r.0) w.result-is)
+    ]
 
 pub returns-clause-second : goal.returns-clause-second
 returns-clause-second c =
@@ -37,7 +42,8 @@ returns-clause-second c =
     elim c.if-i-len.branch [
       | then-i-len w ↦
           pair_literal c.pass.inside.seat c.pass.inside.stream c.args.pass.now c.args.clip.now c.args.i 1 c.place_of.result
-          c.pass.invariant c.pass.view_is c.requires.known c.place_of.ensures (omega arith) (omega (arith, w.if-i-len.true, c.len-len.ensures))
+          c.pass.invariant c.pass.view_is c.requires.known c.place_of.ensures (omega arith)
+          (omega (arith, w.if-i-len.true, c.len-len.ensures))
           c.word-word.result w.lit.result c.word-word.ensures.text w.lit.ensures
           ∙ sym (ap (λ r. r.1) w.result-is)
       | else-i-len w ↦

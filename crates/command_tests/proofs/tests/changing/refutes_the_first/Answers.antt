@@ -22,7 +22,8 @@ module _ {S : Type 0} (left : S → List ℕ) (reads : ReadsOf S)
   gave_left first bytes all =
       let ends = account all.last all.room [] all.after all.end in
       let none : left all.last ≡ [] = ends.0 ∙ ends.1 refl all.some in
-      gave_front first all.given.pieces all.last all.given.calls ∙ ap (λ rest. concat all.given.pieces ++ rest) none ∙ append-nil (concat all.given.pieces) ∙ sym all.given.whole
+      gave_front first all.given.pieces all.last all.given.calls ∙ ap (λ rest. concat all.given.pieces ++ rest) none
+      ∙ append-nil (concat all.given.pieces) ∙ sym all.given.whole
 
 pub returns : goal.returns
 returns g c zero =

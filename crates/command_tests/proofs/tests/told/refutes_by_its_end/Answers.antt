@@ -7,9 +7,11 @@ use Rattle.command.specs.Commands.{WasRead}
 use Rattle.command_tests.proofs.tests.told.refutes_by_its_end.Goals as goal
 
 -- what the file at `f` tells is what was read of it
-read_is_told : {F R : Type 0} (opens : F → List ℕ → R → F → Type 0) (reads : ReadsOf R) (formula stream path bytes : List ℕ) (before after : F) → path ≡ codes "f"
+read_is_told : {F R : Type 0} (opens : F → List ℕ → R → F → Type 0) (reads : ReadsOf R) (formula stream path bytes : List ℕ)
+    (before after : F) → path ≡ codes "f"
     → WasRead opens reads (λ p. Some (cond (nat_eq (length p) 1) formula stream)) before path bytes after → formula ≡ bytes
-read_is_told opens reads formula stream path bytes before after is read = read.told formula (ap (λ (p : List ℕ). Some (cond (nat_eq (length p) 1) formula stream)) is)
+read_is_told opens reads formula stream path bytes before after is read =
+    read.told formula (ap (λ (p : List ℕ). Some (cond (nat_eq (length p) 1) formula stream)) is)
 
 text_is_told : (formula bytes : List ℕ) (f : Cnf) → formula ≡ bytes → IsFormulaText bytes f → IsFormulaText formula f
 text_is_told formula bytes f same text = subst (λ (x : List ℕ). IsFormulaText x f) (sym same) text

@@ -17,6 +17,8 @@ returns c =
     let n = c.skip.new.self.line in
     let rest = c.skip.new.self.rest.now in
     let none = eqb-false (length rest) 0 (sym c.if-is_empty.ensures) in
-    sym c.skip.ensures.same ∙ lines_at-line n rest c.memchr.result c.unwrap_or-end.result c.skip.ensures.place (omega (arith, none)) c.memchr.ensures c.unwrap_or-end.ensures
-    ∙ ap (λ (x : List ℕ). record { number = n; tokens = runs x } ∷ lines_at n (drop c.unwrap_or-end.result rest)) (sym c.split_at.ensures.front)
+    sym c.skip.ensures.same ∙ lines_at-line n rest c.memchr.result c.unwrap_or-end.result c.skip.ensures.place
+    (omega (arith, none)) c.memchr.ensures c.unwrap_or-end.ensures
+    ∙ ap (λ (x : List ℕ). record { number = n; tokens = runs x } ∷ lines_at n (drop c.unwrap_or-end.result rest))
+    (sym c.split_at.ensures.front)
     ∙ ap (λ (x : List ℕ). record { number = n; tokens = runs c.split_at.result.0.now } ∷ lines_at n x) (sym c.split_at.ensures.back)

@@ -8,5 +8,6 @@ returns c =
     let one = c.one_formula.ensures in
     record {
       lines = λ f. (λ h. one _ f _ h text_of_two_lines, λ e. subst (IsFormulaText (codes "p cnf 2 1\n1\n2 0\n")) (sym e) text_of_two_lines);
-      comment = λ f. (λ h. one _ f _ h text_of_comment, λ e. subst (IsFormulaText (codes "p cnf 2 1\n1\nc 1 0\n2 0\n")) (sym e) text_of_comment);
+      comment =
+          λ f. (λ h. one _ f _ h text_of_comment, λ e. subst (IsFormulaText (codes "p cnf 2 1\n1\nc 1 0\n2 0\n")) (sym e) text_of_comment);
     }

@@ -19,7 +19,8 @@ pub live_word-word-requires-clause-start : goal.live_word-word-requires-clause-s
 live_word-word-requires-clause-start c =
     let v : Part = first_part c.seat.inside.token.me.0 in
     let within : c.seat.inside.top + c.seat.inside.drafted ≤ row_words v.view.caller.layout =
-    top_within v.view.caller.layout (part_stream v) c.seat.inside.top c.seat.inside.drafted c.seat.inside.room v.view.mine c.seat.invariant.fair.caller.stream
+    top_within v.view.caller.layout
+    (part_stream v) c.seat.inside.top c.seat.inside.drafted c.seat.inside.room v.view.mine c.seat.invariant.fair.caller.stream
     (c.seat.invariant.top_kept ∙ c.seat.invariant.top_is) c.seat.invariant.room_kept c.seat.invariant.within in
     omega (arith, c.seat.invariant.fair.caller.layout.row)
 
@@ -32,10 +33,13 @@ compare_exchange-found-requires c =
     let one = step {S = ℕ} shared.table_id.slots c.args.id 0 word none in
     let here : first_part token.me.0 ≡ part_of seat = ap part_of c.seat.view_is in
     let is : word ≡ identity_word 1 (length seat.draft) seat.top = c.live_word-word.ensures
-    ∙ ap₂ (λ (len top : ℕ). identity_word 1 len top) (c.seat.invariant.draft_is ∙ ap (λ (v : Part). length v.draft) here) (c.seat.invariant.top_kept ∙ ap (λ (v : Part). v.top) here) in
+    ∙ ap₂ (λ (len top : ℕ). identity_word 1 len top) (c.seat.invariant.draft_is ∙ ap (λ (v : Part). length v.draft) here)
+    (c.seat.invariant.top_kept ∙ ap (λ (v : Part). v.top) here) in
     let fair : IsFair seat.view = subst (λ (v : Part). IsFair v.view) here c.seat.invariant.fair in
-    let who = owned seat.view.caller.layout seat.view.caller.stream c.args.id (omega (arith, fair.caller.layout.some_stream)) c.requires.owns in
-    asks shared.key.formula.value shared.key.layout shared.table_id.slots token.id c.args.id (λ n. either (eqb n 0) word n) (Claims c.args.id) (Changes Claims one)
+    let who =
+    owned seat.view.caller.layout seat.view.caller.stream c.args.id (omega (arith, fair.caller.layout.some_stream)) c.requires.owns in
+    asks shared.key.formula.value shared.key.layout shared.table_id.slots token.id c.args.id (λ n. either (eqb n 0) word n)
+    (Claims c.args.id) (Changes Claims one)
     token.table_id shared.table_id token.me seat c.seat.inside.top c.seat.inside.drafted c.seat.inside.room
     c.seat.invariant c.seat.view_is (c.requires.row ∙ sym c.self.view_is) (omega (arith, who.identity))
     (claims (part_of seat) token.id c.args.id word c.requires.owns c.requires.clause is) (changes Claims one)
@@ -46,7 +50,8 @@ invariant_of-seat-else-found-eq-VACANT c =
     let new = c.compare_exchange-found.new.seat in
     let shared = c.self.inside.table.shared in
     let one = step {S = ℕ} shared.table_id.slots c.args.id 0 c.live_word-word.result none in
-    (seated_claim token.table_id new.table_id token.me new.me c.seat.inside.top c.seat.inside.drafted c.seat.inside.room c.compare_exchange-found.result c.args.id one
+    (seated_claim token.table_id new.table_id token.me new.me c.seat.inside.top c.seat.inside.drafted c.seat.inside.room
+    c.compare_exchange-found.result c.args.id one
     c.seat.invariant c.compare_exchange-found.ensures.0 c.compare_exchange-found.ensures.2).1 c.if-found-eq-VACANT.false
 
 pub invariant_of-seat : goal.invariant_of-seat
@@ -55,7 +60,8 @@ invariant_of-seat c =
     let new = c.compare_exchange-found.new.seat in
     let shared = c.self.inside.table.shared in
     let one = step {S = ℕ} shared.table_id.slots c.args.id 0 c.live_word-word.result none in
-    (seated_claim token.table_id new.table_id token.me new.me c.seat.inside.top c.seat.inside.drafted c.seat.inside.room c.compare_exchange-found.result c.args.id one
+    (seated_claim token.table_id new.table_id token.me new.me c.seat.inside.top c.seat.inside.drafted c.seat.inside.room
+    c.compare_exchange-found.result c.args.id one
     c.seat.invariant c.compare_exchange-found.ensures.0 c.compare_exchange-found.ensures.2).0 c.if-found-eq-VACANT.true
 
 pub returns-then-found-eq-VACANT-clause-calls : goal.returns-then-found-eq-VACANT-clause-calls

@@ -24,7 +24,8 @@ invariant_of-seat c =
     let token = c.seat.inside.token in
     let new = c.load.new.seat in
     let told = c.load.ensures.2 (first_part token.me.0) (ap (λ (m : Me ℕ (List Part)). m.0) c.seat.invariant.one) in
-    seated_call token.table_id new.table_id token.me new.me c.seat.inside.top c.seat.inside.drafted c.seat.inside.room told.0 _ c.seat.invariant
+    seated_call token.table_id new.table_id token.me new.me c.seat.inside.top c.seat.inside.drafted c.seat.inside.room told.0 _
+    c.seat.invariant
     c.load.ensures.0 told.1 told.2 told.3.calls refl refl told.3.top told.3.draft
 
 pub returns-clause-shows : goal.returns-clause-shows

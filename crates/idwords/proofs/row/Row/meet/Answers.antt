@@ -12,9 +12,14 @@ pub split_seat-token-requires : goal.split_seat-token-requires
 split_seat-token-requires c =
     let shared = c.self.inside.table.shared in
     let token = c.second.inside.token in
-    let table : token.table_id ≡ shared.table_id = ap (λ (s : SeatValue). s.table) c.second.view_is ∙ c.requires.second ∙ sym c.self.view_is in (
+    let table : token.table_id ≡ shared.table_id = ap (λ (s : SeatValue). s.table) c.second.view_is ∙ c.requires.second
+    ∙ sym c.self.view_is in (
       table,
-      omega (arith, words_of token.table_id shared.table_id token.me c.second.inside.top c.second.inside.drafted c.second.inside.room c.second.invariant table),
+      omega (
+        arith,
+        words_of token.table_id shared.table_id token.me c.second.inside.top c.second.inside.drafted c.second.inside.room
+            c.second.invariant table,
+      ),
       splits_hand shared.key.formula.value shared.key.layout token.id token.me.0,
     )
 
@@ -24,12 +29,18 @@ join_seat-requires c =
     let token = c.first.inside.token in
     let other = c.split_seat-token.result in
     let given = c.split_seat-token.ensures in
-    let table : token.table_id ≡ shared.table_id = ap (λ (s : SeatValue). s.table) c.first.view_is ∙ c.requires.first ∙ sym c.self.view_is in
-    let table' : c.second.inside.token.table_id ≡ shared.table_id = ap (λ (s : SeatValue). s.table) c.second.view_is ∙ c.requires.second ∙ sym c.self.view_is in (
+    let table : token.table_id ≡ shared.table_id = ap (λ (s : SeatValue). s.table) c.first.view_is ∙ c.requires.first
+    ∙ sym c.self.view_is in
+    let table' : c.second.inside.token.table_id ≡ shared.table_id = ap (λ (s : SeatValue). s.table) c.second.view_is ∙ c.requires.second
+    ∙ sym c.self.view_is in (
       table,
       given.3 ∙ table',
       ap (λ (m : Me ℕ (List Part)). m.1) given.4,
-      omega (arith, words_of token.table_id shared.table_id token.me c.first.inside.top c.first.inside.drafted c.first.inside.room c.first.invariant table),
+      omega (
+        arith,
+        words_of token.table_id shared.table_id token.me c.first.inside.top c.first.inside.drafted c.first.inside.room
+            c.first.invariant table,
+      ),
       joins shared.key.formula.value shared.key.layout token.id token.me.0 other.id other.me.0,
     )
 
@@ -41,14 +52,22 @@ load-requires c =
     let v : Part = first_part token.me.0 in
     let v' : Part = first_part c.second.inside.token.me.0 in
     let one = step {S = ℕ} shared.table_id.slots 0 0 0 none in
-    let table : token.table_id ≡ shared.table_id = ap (λ (s : SeatValue). s.table) c.first.view_is ∙ c.requires.first ∙ sym c.self.view_is in
-    let other : c.split_seat-token.result.me.0 ≡ v' ∷ [] = ap (λ (m : Me ℕ (List Part)). m.0) c.split_seat-token.ensures.4 ∙ ap (λ (m : Me ℕ (List Part)). m.0) c.second.invariant.one in
+    let table : token.table_id ≡ shared.table_id = ap (λ (s : SeatValue). s.table) c.first.view_is ∙ c.requires.first
+    ∙ sym c.self.view_is in
+    let other : c.split_seat-token.result.me.0 ≡ v' ∷ [] = ap (λ (m : Me ℕ (List Part)). m.0) c.split_seat-token.ensures.4
+    ∙ ap (λ (m : Me ℕ (List Part)). m.0) c.second.invariant.one in
     let me : new.me ≡ (v ∷ v' ∷ [], []) = c.join_seat.ensures.2
     ∙ ap₂ (λ (m : Me ℕ (List Part)) (ws : List Part). (m.0 ++ ws, m.1)) c.first.invariant.one other in (
       c.join_seat.ensures.0 ∙ table,
-      omega (arith, words_of token.table_id shared.table_id token.me c.first.inside.top c.first.inside.drafted c.first.inside.room c.first.invariant table),
-      subst (λ (m : Me ℕ (List Part)). Allows {S = ℕ} (IsKept shared.key.formula.value shared.key.layout) shared.table_id.slots new.id m 0 (λ n. n) (Joined one m)) (sym me)
-          (meets shared.key.formula.value shared.key.layout shared.table_id.slots new.id v v' 0 (Joined one (v ∷ v' ∷ [], [])) (joined one v v')),
+      omega (
+        arith,
+        words_of token.table_id shared.table_id token.me c.first.inside.top c.first.inside.drafted c.first.inside.room
+            c.first.invariant table,
+      ),
+      subst (λ (m : Me ℕ (List Part)). Allows {S = ℕ} (IsKept shared.key.formula.value shared.key.layout) shared.table_id.slots new.id m 0
+          (λ n. n) (Joined one m)) (sym me)
+          (meets shared.key.formula.value shared.key.layout shared.table_id.slots new.id v v' 0 (Joined one (v ∷ v' ∷ [], []))
+          (joined one v v')),
     )
 
 pub split_seat-requires : goal.split_seat-requires
@@ -56,24 +75,32 @@ split_seat-requires c =
     let shared = c.self.inside.table.shared in
     let token = c.first.inside.token in
     let new = c.load.new.seat in
-    let table : token.table_id ≡ shared.table_id = ap (λ (s : SeatValue). s.table) c.first.view_is ∙ c.requires.first ∙ sym c.self.view_is in (
+    let table : token.table_id ≡ shared.table_id = ap (λ (s : SeatValue). s.table) c.first.view_is ∙ c.requires.first
+    ∙ sym c.self.view_is in (
       c.load.ensures.0 ∙ c.join_seat.ensures.0 ∙ table,
-      omega (arith, words_of token.table_id shared.table_id token.me c.first.inside.top c.first.inside.drafted c.first.inside.room c.first.invariant table),
+      omega (
+        arith,
+        words_of token.table_id shared.table_id token.me c.first.inside.top c.first.inside.drafted c.first.inside.room
+            c.first.invariant table,
+      ),
       splits_part shared.key.formula.value shared.key.layout new.id new.me.0,
     )
 
 -- what the load told, once each part has its seat again
 now : (c : goal.After-drop-second-inside)
-    → Met (first_part c.first.inside.token.me.0) (first_part c.second.inside.token.me.0) (first_part c.split_seat.new.seat.me.0) (first_part c.split_seat.result.me.0)
+    → Met (first_part c.first.inside.token.me.0) (first_part c.second.inside.token.me.0) (first_part c.split_seat.new.seat.me.0)
+    (first_part c.split_seat.result.me.0)
     × (c.split_seat.new.seat.me ≡ (first_part c.split_seat.new.seat.me.0 ∷ [], []))
     × (c.split_seat.result.me ≡ (first_part c.split_seat.result.me.0 ∷ [], []))
 now c =
     let v : Part = first_part c.first.inside.token.me.0 in
     let v' : Part = first_part c.second.inside.token.me.0 in
-    let other : c.split_seat-token.result.me.0 ≡ v' ∷ [] = ap (λ (m : Me ℕ (List Part)). m.0) c.split_seat-token.ensures.4 ∙ ap (λ (m : Me ℕ (List Part)). m.0) c.second.invariant.one in
+    let other : c.split_seat-token.result.me.0 ≡ v' ∷ [] = ap (λ (m : Me ℕ (List Part)). m.0) c.split_seat-token.ensures.4
+    ∙ ap (λ (m : Me ℕ (List Part)). m.0) c.second.invariant.one in
     let both : c.join_seat.new.seat.me ≡ (v ∷ v' ∷ [], []) = c.join_seat.ensures.2
     ∙ ap₂ (λ (m : Me ℕ (List Part)) (ws : List Part). (m.0 ++ ws, m.1)) c.first.invariant.one other in
-    parted (step {S = ℕ} c.self.inside.table.shared.table_id.slots 0 0 0 none) c.join_seat.new.seat.me c.load.new.seat.me c.split_seat.new.seat.me c.split_seat.result.me v v' c.load.result
+    parted (step {S = ℕ} c.self.inside.table.shared.table_id.slots 0 0 0 none) c.join_seat.new.seat.me c.load.new.seat.me
+    c.split_seat.new.seat.me c.split_seat.result.me v v' c.load.result
     both c.load.ensures.2 c.split_seat.ensures.2 c.split_seat.ensures.4
 
 pub invariant_of-first : goal.invariant_of-first
@@ -81,8 +108,10 @@ invariant_of-first c =
     let token = c.first.inside.token in
     let left = c.split_seat.new.seat in
     let told = now c in
-    seated_on token.table_id left.table_id token.me left.me c.first.inside.top c.first.inside.drafted c.first.inside.room (first_part left.me.0) [] c.first.invariant
-    (c.split_seat.ensures.0 ∙ c.load.ensures.0 ∙ c.join_seat.ensures.0) (ap (λ (m : Me ℕ (List Part)). m.0) told.1) (ap (λ (m : Me ℕ (List Part)). m.1) told.1)
+    seated_on token.table_id left.table_id token.me left.me c.first.inside.top c.first.inside.drafted c.first.inside.room
+    (first_part left.me.0) [] c.first.invariant
+    (c.split_seat.ensures.0 ∙ c.load.ensures.0 ∙ c.join_seat.ensures.0) (ap (λ (m : Me ℕ (List Part)). m.0) told.1)
+    (ap (λ (m : Me ℕ (List Part)). m.1) told.1)
     told.0.meets.first told.0.meets.fair refl told.0.top told.0.draft
 
 pub invariant_of-second : goal.invariant_of-second
@@ -90,10 +119,14 @@ invariant_of-second c =
     let token = c.second.inside.token in
     let right = c.split_seat.result in
     let told = now c in
-    let first : c.first.inside.token.table_id ≡ c.self.inside.table.shared.table_id = ap (λ (s : SeatValue). s.table) c.first.view_is ∙ c.requires.first ∙ sym c.self.view_is in
-    let second : token.table_id ≡ c.self.inside.table.shared.table_id = ap (λ (s : SeatValue). s.table) c.second.view_is ∙ c.requires.second ∙ sym c.self.view_is in
-    seated_on token.table_id right.table_id token.me right.me c.second.inside.top c.second.inside.drafted c.second.inside.room (first_part right.me.0) [] c.second.invariant
-    (c.split_seat.ensures.3 ∙ c.load.ensures.0 ∙ c.join_seat.ensures.0 ∙ first ∙ sym second) (ap (λ (m : Me ℕ (List Part)). m.0) told.2) (ap (λ (m : Me ℕ (List Part)). m.1) told.2)
+    let first : c.first.inside.token.table_id ≡ c.self.inside.table.shared.table_id = ap (λ (s : SeatValue). s.table) c.first.view_is
+    ∙ c.requires.first ∙ sym c.self.view_is in
+    let second : token.table_id ≡ c.self.inside.table.shared.table_id = ap (λ (s : SeatValue). s.table) c.second.view_is ∙ c.requires.second
+    ∙ sym c.self.view_is in
+    seated_on token.table_id right.table_id token.me right.me c.second.inside.top c.second.inside.drafted c.second.inside.room
+    (first_part right.me.0) [] c.second.invariant
+    (c.split_seat.ensures.3 ∙ c.load.ensures.0 ∙ c.join_seat.ensures.0 ∙ first ∙ sym second) (ap (λ (m : Me ℕ (List Part)). m.0) told.2)
+    (ap (λ (m : Me ℕ (List Part)). m.1) told.2)
     told.0.meets.second told.0.meets.fair' refl told.0.top' told.0.draft'
 
 pub returns-clause-within : goal.returns-clause-within

@@ -13,12 +13,14 @@ of_words-requires c =
     let kept = opens {S = ℕ} f p [] plan.formula plan.layout c.requires in (
       kept.0,
       subst (λ (g : Cnf). Keeps g p kept.0 c.as_slice.result.now (opening_parts g p 1 p.streams ∷ [])) (sym c.of.ensures)
-          (subst (λ (ws : List ℕ). Keeps f p kept.0 ws (opening_parts f p 1 p.streams ∷ [])) (sym (c.as_slice.ensures.value ∙ c.in_ok-words.ensures.words)) kept.1),
+          (subst (λ (ws : List ℕ). Keeps f p kept.0 ws (opening_parts f p 1 p.streams ∷ []))
+          (sym (c.as_slice.ensures.value ∙ c.in_ok-words.ensures.words)) kept.1),
     )
 
 pub deal-requires-clause-words : goal.deal-requires-clause-words
 deal-requires-clause-words c =
-    c.in_ok-table.ensures.0 ∙ ap length (c.as_slice.ensures.value ∙ c.in_ok-words.ensures.words) ∙ length-opening_words c.args.formula.now c.args.layout.now c.requires
+    c.in_ok-table.ensures.0 ∙ ap length (c.as_slice.ensures.value ∙ c.in_ok-words.ensures.words)
+    ∙ length-opening_words c.args.formula.now c.args.layout.now c.requires
 
 pub returns-clause-fair : goal.returns-clause-fair
 returns-clause-fair c = λ s stream. opening_fair c.args.formula.now c.args.layout.now s c.in_ok-words.ensures.plan stream

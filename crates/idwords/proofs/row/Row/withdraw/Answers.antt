@@ -22,7 +22,8 @@ load-found-requires c =
     let one = step {S = ℕ} shared.table_id.slots c.args.id 0 0 none in
     let here : first_part token.me.0 ≡ part_of seat = ap part_of c.seat.view_is in
     let fair : IsFair seat.view = subst (λ (v : Part). IsFair v.view) here c.seat.invariant.fair in
-    let who = owned seat.view.caller.layout seat.view.caller.stream c.args.id (omega (arith, fair.caller.layout.some_stream)) c.requires.owns in
+    let who =
+    owned seat.view.caller.layout seat.view.caller.stream c.args.id (omega (arith, fair.caller.layout.some_stream)) c.requires.owns in
     asks shared.key.formula.value shared.key.layout shared.table_id.slots token.id c.args.id (λ n. n) (Finds c.args.id) (Changes Finds one)
     token.table_id shared.table_id token.me seat c.seat.inside.top c.seat.inside.drafted c.seat.inside.room
     c.seat.invariant c.seat.view_is (c.requires.row ∙ sym c.self.view_is) (omega (arith, who.identity))
@@ -41,12 +42,16 @@ compare_exchange-requires c =
     let stays : told.0 ≡ v = told.3.live live in
     let me : new.me ≡ (v ∷ [], []) = ap₂ (λ (vs : List Part) (slots : List (ℕ × ℕ)). (vs, slots)) (told.1 ∙ ap (λ (u : Part). u ∷ []) stays)
     (told.2 ∙ ap (λ (m : Me ℕ (List Part)). m.1) c.seat.invariant.one) in
-    let owns : Owns v.view.caller.layout (part_stream v) c.args.id = subst (λ (s : SeatValue). Owns s.view.caller.layout s.view.caller.stream c.args.id) (sym c.seat.view_is) c.requires.owns in
+    let owns : Owns v.view.caller.layout (part_stream v) c.args.id =
+    subst (λ (s : SeatValue). Owns s.view.caller.layout s.view.caller.stream c.args.id) (sym c.seat.view_is) c.requires.owns in
     let table : token.table_id ≡ shared.table_id = ap (λ (s : SeatValue). s.table) c.seat.view_is ∙ c.requires.row ∙ sym c.self.view_is in
     let who = owned v.view.caller.layout (part_stream v) c.args.id (omega (arith, c.seat.invariant.fair.caller.layout.some_stream)) owns in
-    let words = words_of token.table_id shared.table_id token.me c.seat.inside.top c.seat.inside.drafted c.seat.inside.room c.seat.invariant table in
-    asks_part shared.key.formula.value shared.key.layout shared.table_id.slots new.id c.args.id (λ n. either (eqb n found) (found + 1) n) (λ u n w. Retires c.args.id u w)
-    (Changes (λ id u _ w. Retires id u w) one) new.table_id shared.table_id new.me v me (c.load-found.ensures.0 ∙ table) (omega (arith, who.identity))
+    let words =
+    words_of token.table_id shared.table_id token.me c.seat.inside.top c.seat.inside.drafted c.seat.inside.room c.seat.invariant table in
+    asks_part shared.key.formula.value shared.key.layout shared.table_id.slots new.id c.args.id (λ n. either (eqb n found) (found + 1) n)
+    (λ u n w. Retires c.args.id u w)
+    (Changes (λ id u _ w. Retires id u w) one) new.table_id shared.table_id new.me v me (c.load-found.ensures.0 ∙ table)
+    (omega (arith, who.identity))
     (retires v new.id c.args.id found owns told.3.own live) (changes (λ id u _ w. Retires id u w) one)
 
 pub invariant_of-seat : goal.invariant_of-seat
@@ -55,7 +60,8 @@ invariant_of-seat c =
     let new = c.load-found.new.seat in
     let told = c.load-found.ensures.2 (first_part token.me.0) (ap (λ (m : Me ℕ (List Part)). m.0) c.seat.invariant.one) in
     let none = told.3.none (λ live. c.if-state-ne-LIVE.true (c.state.ensures ∙ live)) in
-    seated_call token.table_id new.table_id token.me new.me c.seat.inside.top c.seat.inside.drafted c.seat.inside.room told.0 _ c.seat.invariant
+    seated_call token.table_id new.table_id token.me new.me c.seat.inside.top c.seat.inside.drafted c.seat.inside.room told.0 _
+    c.seat.invariant
     c.load-found.ensures.0 told.1 told.2 none.calls refl refl none.top none.draft
 
 pub invariant_of-seat-2 : goal.invariant_of-seat-2
@@ -66,7 +72,8 @@ invariant_of-seat-2 c =
     let told = c.load-found.ensures.2 v (ap (λ (m : Me ℕ (List Part)). m.0) c.seat.invariant.one) in
     let stays : told.0 ≡ v = told.3.live (sym c.state.ensures ∙ c.if-state-ne-LIVE.false) in
     let done = c.compare_exchange.ensures.2 v (told.1 ∙ ap (λ (u : Part). u ∷ []) stays) in
-    seated_call token.table_id new.table_id token.me new.me c.seat.inside.top c.seat.inside.drafted c.seat.inside.room done.0 _ c.seat.invariant
+    seated_call token.table_id new.table_id token.me new.me c.seat.inside.top c.seat.inside.drafted c.seat.inside.room done.0 _
+    c.seat.invariant
     (c.compare_exchange.ensures.0 ∙ c.load-found.ensures.0) done.1 (done.2 ∙ told.2) done.3.calls refl refl done.3.top done.3.draft
 
 pub returns-then-state-ne-LIVE-clause-calls : goal.returns-then-state-ne-LIVE-clause-calls

@@ -11,9 +11,11 @@ use Rattle.lrup_model.proofs.cube.Cube.has.Goals as goal
 pub returns : goal.returns
 returns c =
     let codes : List ℕ = c.self.inside.codes.items in
-    let code : IsCode max_variable (code_of c.args.literal) = subst (IsCode max_variable) c.code-code.ensures.code c.code-code.ensures.range in
+    let code : IsCode max_variable (code_of c.args.literal) =
+    subst (IsCode max_variable) c.code-code.ensures.code c.code-code.ensures.range in
     let searched : IsBinarySearchResult (λ y. nat_cmp y c.code-code.result) codes c.binary_search.result =
-    subst (λ (xs : List ℕ). IsBinarySearchResult (λ y. nat_cmp y c.code-code.result) xs c.binary_search.result) c.as_slice.ensures.value c.binary_search.ensures.position in
+    subst (λ (xs : List ℕ). IsBinarySearchResult (λ y. nat_cmp y c.code-code.result) xs c.binary_search.result) c.as_slice.ensures.value
+    c.binary_search.ensures.position in
     let there : IsTrue (is_ok c.binary_search.result) ↔ Has (map literal_of codes) c.args.literal =
     found codes c.args.literal c.binary_search.result c.self.invariant code
     (subst (λ n. IsBinarySearchResult (λ y. nat_cmp y n) codes c.binary_search.result) c.code-code.ensures.code searched) in

@@ -10,5 +10,8 @@ returns c =
     rw (← c.self.view_is)
     (let ls = c.self.inside.literals.items in
     let ends = c.self.inside.ends.items in
-    let count : length (pieces ls 0 ends) ≡ length c.as_slice.result.now = length-pieces ls 0 ends ∙ sym (ap length c.as_slice.ensures.value) in
-    (λ yes. nil_from_length (pieces ls 0 ends) (count ∙ eqb-true (length c.as_slice.result.now) 0 (sym c.is_empty.ensures ∙ yes)), λ none. c.is_empty.ensures ∙ eq-eqb (length c.as_slice.result.now) 0 (sym count ∙ ap length none)))
+    let count : length (pieces ls 0 ends) ≡ length c.as_slice.result.now = length-pieces ls 0 ends
+    ∙ sym (ap length c.as_slice.ensures.value) in (
+      λ yes. nil_from_length (pieces ls 0 ends) (count ∙ eqb-true (length c.as_slice.result.now) 0 (sym c.is_empty.ensures ∙ yes)),
+      λ none. c.is_empty.ensures ∙ eq-eqb (length c.as_slice.result.now) 0 (sym count ∙ ap length none),
+    ))

@@ -5,4 +5,5 @@ use Rattle.lrup_model.proofs.formula.Formula.len.Goals as goal
 
 pub returns-clause-len : goal.returns-clause-len
 returns-clause-len c =
-    ap length c.as_slice.ensures.value ∙ sym (length-pieces c.self.inside.literals.items 0 c.self.inside.ends.items) ∙ ap (λ (f : Cnf). length f.clauses) c.self.view_is
+    ap length c.as_slice.ensures.value ∙ sym (length-pieces c.self.inside.literals.items 0 c.self.inside.ends.items)
+    ∙ ap (λ (f : Cnf). length f.clauses) c.self.view_is

@@ -7,7 +7,9 @@ use Rattle.lrup_model.proofs.formula.Formula.literals.Goals as goal
 
 pub returns : goal.returns
 returns c =
-    let all : sum_by length (pieces c.self.inside.literals.items 0 c.self.inside.ends.items) + 0 ≡ length c.self.inside.literals.items = sum_by-pieces c.self.inside.literals.items 0 c.self.inside.ends.items c.self.invariant.1 in
+    let all : sum_by length (pieces c.self.inside.literals.items 0 c.self.inside.ends.items) + 0 ≡ length c.self.inside.literals.items =
+    sum_by-pieces c.self.inside.literals.items 0 c.self.inside.ends.items c.self.invariant.1 in
     let slice : length c.as_slice.result.now ≡ length c.self.inside.literals.items = ap length c.as_slice.ensures.value in
-    let same : length c.as_slice.result.now ≡ sum_by length (pieces c.self.inside.literals.items 0 c.self.inside.ends.items) = omega (arith, all, slice) in
+    let same : length c.as_slice.result.now ≡ sum_by length (pieces c.self.inside.literals.items 0 c.self.inside.ends.items) =
+    omega (arith, all, slice) in
     same ∙ ap formula_literals c.self.view_is

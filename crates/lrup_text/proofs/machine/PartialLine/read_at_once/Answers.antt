@@ -12,7 +12,8 @@ returns-then-read_whole-clause-whole c =
       inside,
       whole.reads,
       whole.empty,
-      subst (λ t. LineText (line_so_far c.read_whole.new.self) (t ++ take (c.in_ok-used.field-0 + 1) c.args.piece.now)) (sym (is_empty c.args.self.now c.in-Start.is)) (whole.line refl),
+      subst (λ t. LineText (line_so_far c.read_whole.new.self) (t ++ take (c.in_ok-used.field-0 + 1) c.args.piece.now))
+          (sym (is_empty c.args.self.now c.in-Start.is)) (whole.line refl),
     )
 
 pub returns-else-read_whole-clause-same : goal.returns-else-read_whole-clause-same

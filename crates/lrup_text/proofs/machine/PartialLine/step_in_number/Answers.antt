@@ -14,10 +14,13 @@ returns-in-48-to-57 c =
     (number_digit_goes_on c.args.self.now c.args.byte c.requires.reads c.requires.place (omega arith, omega arith) (omega arith))
 
 pub returns-in-48-to-57-2 : goal.returns-in-48-to-57-2
-returns-in-48-to-57-2 c = number_too_long c.args.self.now c.args.byte c.requires.reads c.requires.place (omega arith, omega arith) (omega arith)
+returns-in-48-to-57-2 c =
+    number_too_long c.args.self.now c.args.byte c.requires.reads c.requires.place (omega arith, omega arith) (omega arith)
 
 pub returns-in_default : goal.returns-in_default
-returns-in_default c = number_spelling c.args.self.now c.args.byte c.requires.reads c.requires.place (λ low high. omega arith) (λ e. omega (arith, e))
+returns-in_default c =
+    number_spelling c.args.self.now c.args.byte c.requires.reads c.requires.place (λ low high. omega arith) (λ e. omega (arith, e))
 
 pub returns-in_default-2 : goal.returns-in_default-2
-returns-in_default-2 c = number_spelling c.args.self.now c.args.byte c.requires.reads c.requires.place (λ low high. omega arith) (λ e. omega (arith, e))
+returns-in_default-2 c =
+    number_spelling c.args.self.now c.args.byte c.requires.reads c.requires.place (λ low high. omega arith) (λ e. omega (arith, e))

@@ -9,15 +9,18 @@ number_room : (n : ℕ) (old : List ℕ) → n < 2 ^ 64 → length (decimal n ++
 number_room n old fits = omega (arith, length-append (decimal n) old, length-decimal-le 20 n (omega arith) (omega arith) fits)
 
 -- what is left to put in front has a digit, so there is room for it
-digit_room : (n rest : ℕ) (held old : List ℕ) → n < 2 ^ 64 → rest < 2 ^ 64 → length old ≤ 4 → decimal rest ++ held ≡ decimal n ++ old → length held < 24
+digit_room : (n rest : ℕ) (held old : List ℕ) → n < 2 ^ 64 → rest < 2 ^ 64 → length old ≤ 4 → decimal rest ++ held ≡ decimal n ++ old
+    → length held < 24
 digit_room n rest held old fits small few same =
     omega (arith, length-append (decimal rest) held, ap length same, decimal_nonempty rest small, number_room n old fits)
 
 pub push_front-requires : goal.push_front-requires
-push_front-requires c = digit_room c.args.number c.loop-rest.rest c.loop-rest.self c.args.self.now (omega arith) (omega arith) c.requires c.loop-rest.invariant
+push_front-requires c =
+    digit_room c.args.number c.loop-rest.rest c.loop-rest.self c.args.self.now (omega arith) (omega arith) c.requires c.loop-rest.invariant
 
 pub push_front-requires-2 : goal.push_front-requires-2
-push_front-requires-2 c = digit_room c.args.number c.loop-rest.rest c.loop-rest.self c.args.self.now (omega arith) (omega arith) c.requires c.loop-rest.invariant
+push_front-requires-2 c =
+    digit_room c.args.number c.loop-rest.rest c.loop-rest.self c.args.self.now (omega arith) (omega arith) c.requires c.loop-rest.invariant
 
 pub loop-rest-preserved : goal.loop-rest-preserved
 loop-rest-preserved c =

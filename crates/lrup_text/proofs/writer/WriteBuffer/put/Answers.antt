@@ -15,5 +15,6 @@ returns-in_err-put_byte-clause-puts g c =
 pub loop-byte-preserved : goal.loop-byte-preserved
 loop-byte-preserved g c = record {
   running = c.in_ok-put_byte.ensures.failed;
-  puts = puts_next c.loop-byte.invariant.puts c.in_ok-put_byte.ensures.puts (take_more c.args.bytes.now c.loop-byte.byte-index 0 c.loop-byte-test.true);
+  puts = puts_next c.loop-byte.invariant.puts c.in_ok-put_byte.ensures.puts
+      (take_more c.args.bytes.now c.loop-byte.byte-index 0 c.loop-byte-test.true);
 }

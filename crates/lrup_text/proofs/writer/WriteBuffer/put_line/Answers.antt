@@ -36,13 +36,15 @@ returns-in_err-put-in-Add-clause-puts g c =
     let hints : List ℕ = list_text (map decimal c.in-Add.hints.now) in
     let is = ap (λ l. line_text (line_of l)) c.in-Add.is ∙ addition_text c.in-Add.id c.in-Add.lits.now c.in-Add.hints.now in
     at_err c.from_residual-in_err-put-in-Add.result _ _ c.from_residual-in_err-put-in-Add.ensures.0
-    (breaks_next (puts_then c.in_ok-put_lead-in-Add.ensures.puts c.in_ok-put_literals-in-Add.ensures.puts) c.in_err-put-in-Add.ensures.puts hints is)
+    (breaks_next (puts_then c.in_ok-put_lead-in-Add.ensures.puts c.in_ok-put_literals-in-Add.ensures.puts)
+    c.in_err-put-in-Add.ensures.puts hints is)
 
 pub returns-in_ok-put-in-Add-clause-puts : goal.returns-in_ok-put-in-Add-clause-puts
 returns-in_ok-put-in-Add-clause-puts g c =
     let is = ap (λ l. line_text (line_of l)) c.in-Add.is ∙ addition_text c.in-Add.id c.in-Add.lits.now c.in-Add.hints.now in
     puts_all_next c.put_list.result _ _ _
-    (puts_then (puts_then c.in_ok-put_lead-in-Add.ensures.puts c.in_ok-put_literals-in-Add.ensures.puts) c.in_ok-put-in-Add.ensures.puts) c.put_list.ensures.puts is
+    (puts_then (puts_then c.in_ok-put_lead-in-Add.ensures.puts c.in_ok-put_literals-in-Add.ensures.puts) c.in_ok-put-in-Add.ensures.puts)
+    c.put_list.ensures.puts is
 
 pub returns-in_err-put_lead-in-Delete-clause-puts : goal.returns-in_err-put_lead-in-Delete-clause-puts
 returns-in_err-put_lead-in-Delete-clause-puts g c =
@@ -63,7 +65,8 @@ returns-in_err-put-in-Delete-clause-puts g c =
 pub returns-in_ok-put-in-Delete-clause-puts : goal.returns-in_ok-put-in-Delete-clause-puts
 returns-in_ok-put-in-Delete-clause-puts g c =
     let is = ap (λ l. line_text (line_of l)) c.in-Delete.is ∙ deletion_text c.in-Delete.lead c.in-Delete.ids.now in
-    puts_all_next c.put_list-in-Delete.result _ _ _ (puts_then c.in_ok-put_lead-in-Delete.ensures.puts c.in_ok-put-in-Delete.ensures.puts) c.put_list-in-Delete.ensures.puts is
+    puts_all_next c.put_list-in-Delete.result _ _ _
+    (puts_then c.in_ok-put_lead-in-Delete.ensures.puts c.in_ok-put-in-Delete.ensures.puts) c.put_list-in-Delete.ensures.puts is
 
 pub returns-in_err-put_lead-in-Import-clause-puts : goal.returns-in_err-put_lead-in-Import-clause-puts
 returns-in_err-put_lead-in-Import-clause-puts g c =
@@ -92,10 +95,12 @@ returns-in_err-put_literals-in-Import-clause-puts g c =
     let end : List ℕ = zero_digit ∷ line_feed ∷ [] in
     let is = ap (λ l. line_text (line_of l)) c.in-Import.is ∙ import_text c.in-Import.id c.in-Import.lits.now in
     at_err c.from_residual-in_err-put_literals-in-Import.result _ _ c.from_residual-in_err-put_literals-in-Import.ensures.0
-    (breaks_next (puts_then c.in_ok-put_lead-in-Import.ensures.puts c.in_ok-put-in-Import.ensures.puts) c.in_err-put_literals-in-Import.ensures.puts end is)
+    (breaks_next (puts_then c.in_ok-put_lead-in-Import.ensures.puts c.in_ok-put-in-Import.ensures.puts)
+    c.in_err-put_literals-in-Import.ensures.puts end is)
 
 pub returns-in_ok-put_literals-in-Import-clause-puts : goal.returns-in_ok-put_literals-in-Import-clause-puts
 returns-in_ok-put_literals-in-Import-clause-puts g c =
     let is = ap (λ l. line_text (line_of l)) c.in-Import.is ∙ import_text c.in-Import.id c.in-Import.lits.now in
     puts_all_next c.put-in-Import-2.result _ _ _
-    (puts_then (puts_then c.in_ok-put_lead-in-Import.ensures.puts c.in_ok-put-in-Import.ensures.puts) c.in_ok-put_literals-in-Import.ensures.puts) c.put-in-Import-2.ensures.puts is
+    (puts_then (puts_then c.in_ok-put_lead-in-Import.ensures.puts c.in_ok-put-in-Import.ensures.puts)
+    c.in_ok-put_literals-in-Import.ensures.puts) c.put-in-Import-2.ensures.puts is

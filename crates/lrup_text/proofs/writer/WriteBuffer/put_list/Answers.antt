@@ -23,7 +23,8 @@ returns-in_err-put-clause-puts g c =
     let split = texts_split text ids k 0 c.loop-id-test.true in
     at_err c.from_residual.result _ _ c.from_residual.ensures.0
     (breaks_next c.loop-id.invariant.puts c.in_err-put.ensures.puts (flat_map text (drop (k + 1) ids) ++ end)
-    (sym (items_end ids) ∙ ap (λ t. t ++ end) split ∙ append_assoc (flat_map text (take k ids) ++ text (get_or ids k 0)) (flat_map text (drop (k + 1) ids)) end
+    (sym (items_end ids) ∙ ap (λ t. t ++ end) split
+    ∙ append_assoc (flat_map text (take k ids) ++ text (get_or ids k 0)) (flat_map text (drop (k + 1) ids)) end
     ∙ ap (λ t. (flat_map text (take k ids) ++ t) ++ (flat_map text (drop (k + 1) ids) ++ end)) (sym word)))
 
 pub loop-id-preserved : goal.loop-id-preserved
@@ -44,4 +45,5 @@ unfolding items_text
 returns-clause-puts g c =
     let ids : List ℕ = c.args.ids.now in
     puts_all_next c.put-2.result _ _ _ c.loop-id.invariant.puts c.put-2.ensures.puts
-    (sym (items_end ids) ∙ ap (λ t. items_text t ++ space ∷ zero_digit ∷ line_feed ∷ []) (sym (take_all c.loop-id.id-index ids (omega (arith, c.loop-id-test.false)))))
+    (sym (items_end ids) ∙ ap (λ t. items_text t ++ space ∷ zero_digit ∷ line_feed ∷ [])
+    (sym (take_all c.loop-id.id-index ids (omega (arith, c.loop-id-test.false)))))

@@ -23,7 +23,8 @@ returns-in_err-put_literal-clause-puts g c =
     let word = ap text (to_z-of_z w64 z fits) in
     at_err c.from_residual.result _ _ c.from_residual.ensures.0
     (breaks_next c.loop-literal.invariant.puts c.in_err-put_literal.ensures.puts (flat_map text (drop (k + 1) lits))
-    (texts_split text lits k (pos 0) c.loop-literal-test.true ∙ ap (λ t. (flat_map text (take k lits) ++ t) ++ flat_map text (drop (k + 1) lits)) (sym word)))
+    (texts_split text lits k (pos 0) c.loop-literal-test.true
+    ∙ ap (λ t. (flat_map text (take k lits) ++ t) ++ flat_map text (drop (k + 1) lits)) (sym word)))
 
 pub loop-literal-preserved : goal.loop-literal-preserved
 unfolding literals_text

@@ -5,7 +5,8 @@ use Rattle.stream_check.specs.DroppedValue.{DroppedValue}
 use Rattle.stream_check.specs.Standing.{is_among}
 use Rattle.portfolio.proofs.saving.NotAllDroppedWanted.wants.Goals as goal
 
-found_so : {X : Type 0} (p : X → Bool) (xs : List X) (found : Bool) → (found ≡ true → Any (λ x. p x ≡ true) xs) → (found ≡ false → All (λ x. p x ≡ false) xs) → found ≡ list_any p xs
+found_so : {X : Type 0} (p : X → Bool) (xs : List X) (found : Bool) → (found ≡ true → Any (λ x. p x ≡ true) xs)
+    → (found ≡ false → All (λ x. p x ≡ false) xs) → found ≡ list_any p xs
 found_so p xs true some none = sym (list_any-from_Any _ _ (some refl))
 found_so p xs false some none = sym (list_any_none _ _ (none refl))
 

@@ -15,5 +15,11 @@ returns-clause-works g c =
     let rest = take (w.to - (w.from + used)) (drop (w.from + used) w.buffer.items) in
     let split = unread_split w.buffer.items c.deref.result.now w.from w.to used c.deref.ensures.value c.feed-progress.ensures.used in
     let view = source_view g.R.Source.left g.R.Source.has_failed g.R.Source.reads in
-    let fed = works_fed view w.reader _ _ rest w.checker c.feed-progress.new.self p.room q.room left.0 (c.self.invariant.running going) split going c.feed-progress.ensures.setting left.3 in
-    (left.0, left.1, left.2, subst (λ (v : WorkerValue g.row.R.Denot). WorksOn view v p.room left.0 (worker_of w.reader rest c.feed-progress.new.self) q.room) c.self.view_is fed)
+    let fed = works_fed view w.reader _ _ rest w.checker c.feed-progress.new.self p.room q.room left.0
+    (c.self.invariant.running going) split going c.feed-progress.ensures.setting left.3 in (
+      left.0,
+      left.1,
+      left.2,
+      subst (λ (v : WorkerValue g.row.R.Denot). WorksOn view v p.room left.0 (worker_of w.reader rest c.feed-progress.new.self) q.room)
+          c.self.view_is fed,
+    )

@@ -25,8 +25,10 @@ returns-in-Ok-eq0-clause-works g c room =
     let going : w.checker.ending ≡ None = ap (λ (v : WorkerValue g.row.R.Denot). v.checker.ending) c.self.view_is ∙ c.requires in
     let taken : take (w.to - w.from) (drop w.from w.buffer.items) ≡ [] = none_between w.buffer.items w.from w.to c.if-self.false in
     let none : Consumes old new [] = subst (Consumes old new) (ap (λ k. take k c.read.new.buffer) c.in-Ok-eq0.field-0-test) read.0 in
-    let some : 0 < length c.read.new.buffer = omega (arith, c.read.auto.buffer, ap length c.deref_mut.ensures.value, c.self.invariant.some) in
-    let last = subst (λ (k : ℕ). view.reads w.reader (length c.read.new.buffer) (Some (take k c.read.new.buffer)) reader) c.in-Ok-eq0.field-0-test c.in-Ok-eq0.ensures.reads in
+    let some : 0 < length c.read.new.buffer =
+    omega (arith, c.read.auto.buffer, ap length c.deref_mut.ensures.value, c.self.invariant.some) in
+    let last = subst (λ (k : ℕ). view.reads w.reader (length c.read.new.buffer) (Some (take k c.read.new.buffer)) reader)
+    c.in-Ok-eq0.field-0-test c.in-Ok-eq0.ensures.reads in
     let stops : EndsSo stream_ends.Ended new has = (read.1 c.in-Ok-eq0.field-0-test some, c.in-Ok-eq0.ensures.failed) in
     let over = works_over view stream_ends.Ended w.reader reader _ rest w.checker c.close.new.checker room stops
     (length c.read.new.buffer, some, last) none taken going c.close.ensures.ends c.close.ensures.reports in
@@ -68,4 +70,5 @@ returns-in-Err-clause-works g c room =
     let none = Consumes-kept old old new [] (Consumes-nil old) c.in-Err.ensures.bytes in
     let over = works_over view stream_ends.Failed w.reader reader _ rest w.checker c.close-in-Err.new.checker room c.in-Err.ensures.failed
     (length c.read.new.buffer, c.in-Err.ensures.reads) none taken going c.close-in-Err.ensures.ends c.close-in-Err.ensures.reports in
-    subst (λ (v : WorkerValue g.row.R.Denot). WorksOn view v room [] (worker_of reader rest c.close-in-Err.new.checker) room) c.self.view_is over
+    subst (λ (v : WorkerValue g.row.R.Denot). WorksOn view v room [] (worker_of reader rest c.close-in-Err.new.checker) room)
+    c.self.view_is over

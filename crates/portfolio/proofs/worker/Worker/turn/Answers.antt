@@ -15,7 +15,11 @@ loop-init g c = record {
   going = c.requires.going;
   ready = c.requires.ready;
   setting = refl;
-  works = (g.met.M.ClauseMap.moves_none c.args.map.now, works_none (source_view g.R.Source.left g.R.Source.has_failed g.R.Source.reads) c.args.self.now (g.M.ClauseMap.place c.args.map.now).room);
+  works = (
+    g.met.M.ClauseMap.moves_none c.args.map.now,
+    works_none (source_view g.R.Source.left g.R.Source.has_failed g.R.Source.reads) c.args.self.now
+        (g.M.ClauseMap.place c.args.map.now).room,
+  );
 }
 
 pub returns-then-ne-clause-works : goal.returns-then-ne-clause-works
@@ -30,7 +34,9 @@ returns-then-ne-clause-works g c =
       fed.0,
       g.met.M.ClauseMap.moves_append start mid end [] (joined fed.0) old.0 fed.1,
       turn_blocks c.feed.result c.feed.new.self.checker.ending fed.0 differs c.feed.ensures.over fed.2,
-      works_turn (source_view g.R.Source.left g.R.Source.has_failed g.R.Source.reads) c.args.self.now c.loop.self c.read.new.self c.feed.new.self (g.M.ClauseMap.place start).room room (g.M.ClauseMap.place end).room [] fed.0 old.1 (c.read.ensures.works room) fed.3,
+      works_turn (source_view g.R.Source.left g.R.Source.has_failed g.R.Source.reads) c.args.self.now c.loop.self
+          c.read.new.self c.feed.new.self (g.M.ClauseMap.place start).room room (g.M.ClauseMap.place end).room [] fed.0 old.1
+          (c.read.ensures.works room) fed.3,
     )
 
 pub returns-then-not-read-clause-works : goal.returns-then-not-read-clause-works
@@ -42,9 +48,12 @@ returns-then-not-read-clause-works g c =
     let over : IsSome c.read.new.self.checker.ending = search rules in (
       [],
       old.0,
-      subst (λ (v : WorkerValue g.row.R.Denot). AreBlocksOfTurn v.checker.ending []) (sym c.self.view_is) (over_without c.read.new.self.checker.ending over),
-      subst (λ (v : WorkerValue g.row.R.Denot). WorksOn view c.args.self.now (g.M.ClauseMap.place start).room [] v room) (sym c.self.view_is)
-          (works_append view c.args.self.now c.loop.self c.read.new.self (g.M.ClauseMap.place start).room room room [] [] old.1 (c.read.ensures.works room)),
+      subst (λ (v : WorkerValue g.row.R.Denot). AreBlocksOfTurn v.checker.ending []) (sym c.self.view_is)
+          (over_without c.read.new.self.checker.ending over),
+      subst (λ (v : WorkerValue g.row.R.Denot). WorksOn view c.args.self.now (g.M.ClauseMap.place start).room [] v room)
+          (sym c.self.view_is)
+          (works_append view c.args.self.now c.loop.self c.read.new.self (g.M.ClauseMap.place start).room room room [] [] old.1
+          (c.read.ensures.works room)),
     )
 
 pub loop-preserved : goal.loop-preserved
@@ -63,9 +72,12 @@ loop-preserved g c =
       ready = c.feed.ensures.ready;
       setting = c.feed.ensures.setting ∙ c.read.ensures.setting ∙ c.loop.invariant.setting;
       works = (
-        subst (λ (bs : List History). g.M.ClauseMap.moves start end (joined bs)) none (g.met.M.ClauseMap.moves_append start mid end [] (joined fed.0) old.0 fed.1),
-        subst (λ (bs : List History). WorksOn view c.args.self.now (g.M.ClauseMap.place start).room bs c.feed.new.self (g.M.ClauseMap.place end).room) none
-            (works_turn view c.args.self.now c.loop.self c.read.new.self c.feed.new.self (g.M.ClauseMap.place start).room room (g.M.ClauseMap.place end).room [] fed.0 old.1 (c.read.ensures.works room) fed.3),
+        subst (λ (bs : List History). g.M.ClauseMap.moves start end (joined bs)) none
+            (g.met.M.ClauseMap.moves_append start mid end [] (joined fed.0) old.0 fed.1),
+        subst (λ (bs : List History). WorksOn view c.args.self.now (g.M.ClauseMap.place start).room bs c.feed.new.self
+            (g.M.ClauseMap.place end).room) none
+            (works_turn view c.args.self.now c.loop.self c.read.new.self c.feed.new.self (g.M.ClauseMap.place start).room room
+            (g.M.ClauseMap.place end).room [] fed.0 old.1 (c.read.ensures.works room) fed.3),
       );
     }
 

@@ -12,5 +12,6 @@ invariant-loop g l =
       going : l.self.checker.ending ≡ None;
       ready : IsReadyAt l.self.checker q;
       setting : l.self.checker.setting ≡ l.fn.self.checker.setting;
-      works : g.M.ClauseMap.moves l.fn.map l.map [] × WorksOn (source_view g.R.Source.left g.R.Source.has_failed g.R.Source.reads) l.fn.self p.room [] l.self q.room;
+      works : g.M.ClauseMap.moves l.fn.map l.map []
+          × WorksOn (source_view g.R.Source.left g.R.Source.has_failed g.R.Source.reads) l.fn.self p.room [] l.self q.room;
     }

@@ -13,7 +13,8 @@ returns g c =
     let stands = ran.reports in
     if_both c.first_report.result c.first_report.ensures.report c.first_report.ensures.failed
     (λ report says fine.
-    report_alone c.readers_closed.ensures c.told_is_reading.ensures view c.in_ok-readers.readers.items c.in_ok-outcome.outcome.readers.items c.args.first.now _ _ report stands.streams
+    report_alone c.readers_closed.ensures c.told_is_reading.ensures view c.in_ok-readers.readers.items c.in_ok-outcome.outcome.readers.items
+    c.args.first.now _ _ report stands.streams
     (two_isolated _ _ _ _ _ _ _ c.usual_options.ensures c.empty.ensures c.in_ok-formula.ensures c.in_ok-readers.ensures.two ran.isolated)
     (two_alone _ _ _ _ _ _ _ c.usual_options.ensures c.empty.ensures c.in_ok-formula.ensures c.in_ok-readers.ensures.two ran.alone)
     stands.are_told stands.judged.2 stands.judged.1 c.requires c.in_ok-readers.ensures.first

@@ -12,7 +12,8 @@ pub add-requires-clause-literal : goal.add-requires-clause-literal
 add-requires-clause-literal g c =
     let place = g.M.ClauseMap.place c.args.map.now in
     let variables = rw (← c.self.view_is) at c.requires.variables in
-    let literal = IsLiteral-read place.caller.formula.vars c.self.inside.trail.vars (clip_clause place c.args.clip.now) c.in-One.lit (known_follows place c.args.clip.now c.requires.follow c.requires.known).0 variables c.in-One.ensures.left.here in
+    let literal = IsLiteral-read place.caller.formula.vars c.self.inside.trail.vars (clip_clause place c.args.clip.now) c.in-One.lit
+    (known_follows place c.args.clip.now c.requires.follow c.requires.known).0 variables c.in-One.ensures.left.here in
     rw c.complement.ensures (IsLiteral-neg c.self.inside.trail.vars c.in-One.lit literal)
 
 pub returns-in-Nothing-clause-conflict : goal.returns-in-Nothing-clause-conflict
@@ -28,8 +29,10 @@ returns-in-Nothing-clause-unit g c =
 
 pub returns-in-Nothing-clause-step : goal.returns-in-Nothing-clause-step
 returns-in-Nothing-clause-step g c =
-    let d = clip_clause (g.M.ClauseMap.place c.args.map.now) c.args.clip.now in
-    (subst (λ m. IsConflict m.falses d) c.self.view_is c.in-Nothing.ensures.left, ap {A = Propagation} (λ m. record m { ready = false }) c.self.view_is)
+    let d = clip_clause (g.M.ClauseMap.place c.args.map.now) c.args.clip.now in (
+      subst (λ m. IsConflict m.falses d) c.self.view_is c.in-Nothing.ensures.left,
+      ap {A = Propagation} (λ m. record m { ready = false }) c.self.view_is,
+    )
 
 pub returns-in-One-clause-conflict : goal.returns-in-One-clause-conflict
 returns-in-One-clause-conflict g c =

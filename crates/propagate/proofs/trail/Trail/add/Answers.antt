@@ -15,4 +15,5 @@ invariant_of-self c =
     let literal = rw (← c.self.view_is) at c.requires.literal in
     let not_false = rw (← c.self.view_is) at c.requires.not_false in
     let not_true = rw (← c.self.view_is) at c.requires.not_true in
-    rw (c.push_reserved.ensures.items, c.push_reserved.ensures.capacity, c.code.ensures.code) (AreMarks-add _ _ _ _ _ c.self.invariant literal not_false not_true)
+    rw (c.push_reserved.ensures.items, c.push_reserved.ensures.capacity, c.code.ensures.code)
+    (AreMarks-add _ _ _ _ _ c.self.invariant literal not_false not_true)

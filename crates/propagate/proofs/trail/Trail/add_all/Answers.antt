@@ -14,22 +14,28 @@ loop-lit-init c = record { taken = rw c.requires.empty IsTaken-nil; vars = searc
 pub has-requires : goal.has-requires
 has-requires c =
     let vars = c.loop-lit.invariant.vars in
-    let literal = All-read (IsLiteral c.args.self.now.vars) c.args.clause.now c.loop-lit.lit-index c.lit-item.result c.requires.literals c.loop-lit-test.true c.lit-item.is in
+    let literal = All-read (IsLiteral c.args.self.now.vars) c.args.clause.now c.loop-lit.lit-index c.lit-item.result c.requires.literals
+    c.loop-lit-test.true c.lit-item.is in
     rw (c.complement.ensures, vars) (IsLiteral-neg c.args.self.now.vars c.lit-item.result literal)
 
 pub returns-then-has-clause-tautology : goal.returns-then-has-clause-tautology
 returns-then-has-clause-tautology c =
-    let complement = rw c.complement.ensures at (c.has.ensures.0 c.if-has.true) in
-    ((λ h. IsTautology-next c.args.clause.now c.loop-lit.self.literals c.loop-lit.lit-index c.lit-item.result c.loop-lit.invariant.taken c.loop-lit-test.true c.lit-item.is complement), (λ t. search rules))
+    let complement = rw c.complement.ensures at (c.has.ensures.0 c.if-has.true) in (
+      (λ h. IsTautology-next c.args.clause.now c.loop-lit.self.literals c.loop-lit.lit-index c.lit-item.result c.loop-lit.invariant.taken
+          c.loop-lit-test.true c.lit-item.is complement),
+      (λ t. search rules),
+    )
 
 pub has-requires-in-loop-lit : goal.has-requires-in-loop-lit
 has-requires-in-loop-lit c =
-    let literal = All-read (IsLiteral c.args.self.now.vars) c.args.clause.now c.loop-lit.lit-index c.lit-item.result c.requires.literals c.loop-lit-test.true c.lit-item.is in
+    let literal = All-read (IsLiteral c.args.self.now.vars) c.args.clause.now c.loop-lit.lit-index c.lit-item.result c.requires.literals
+    c.loop-lit-test.true c.lit-item.is in
     rw c.loop-lit.invariant.vars literal
 
 pub add-requires-clause-literal : goal.add-requires-clause-literal
 add-requires-clause-literal c =
-    let literal = All-read (IsLiteral c.args.self.now.vars) c.args.clause.now c.loop-lit.lit-index c.lit-item.result c.requires.literals c.loop-lit-test.true c.lit-item.is in
+    let literal = All-read (IsLiteral c.args.self.now.vars) c.args.clause.now c.loop-lit.lit-index c.lit-item.result c.requires.literals
+    c.loop-lit-test.true c.lit-item.is in
     rw c.loop-lit.invariant.vars literal
 
 pub loop-lit-preserved : goal.loop-lit-preserved
@@ -44,11 +50,13 @@ loop-lit-preserved c =
     let next = take-read ls k x c.loop-lit-test.true c.lit-item.is in
     elim c.if-not-has.branch [
       | then-not-has w ↦ rw (next, w.self-is, w.add.ensures) (record {
-        taken = IsTaken-push (take k ls) n x c.loop-lit.invariant.taken not_true (iff_false c.has-in-loop-lit.ensures w.if-not-has.true) not_zero;
+        taken = IsTaken-push (take k ls) n x c.loop-lit.invariant.taken not_true
+            (iff_false c.has-in-loop-lit.ensures w.if-not-has.true) not_zero;
         vars = c.loop-lit.invariant.vars;
       })
       | else-not-has w ↦ rw (next, w.self-is) (record {
-        taken = IsTaken-push_same (take k ls) n x c.loop-lit.invariant.taken not_true (c.has-in-loop-lit.ensures.0 w.if-not-has.false) not_zero;
+        taken =
+            IsTaken-push_same (take k ls) n x c.loop-lit.invariant.taken not_true (c.has-in-loop-lit.ensures.0 w.if-not-has.false) not_zero;
         vars = c.loop-lit.invariant.vars;
       })
     ]

@@ -12,7 +12,8 @@ is_same-requires-clause-clause g c =
     let d = clip_clause place c.args.clip.now in
     let clause = (known_follows place c.args.clip.now c.requires.follow c.requires.known).0 in
     let le = rw (← c.self.view_is) at c.requires.variables in
-    let literals = All-from_Has (IsLiteral c.self.inside.vars) d (λ l h. IsLiteral-read place.caller.formula.vars c.self.inside.vars d l clause le h) in
+    let literals =
+    All-from_Has (IsLiteral c.self.inside.vars) d (λ l h. IsLiteral-read place.caller.formula.vars c.self.inside.vars d l clause le h) in
     rw c.deref_mut.ensures.value (HaveMarks-literals c.self.inside.vars _ d c.self.invariant.count literals)
 
 pub is_same-requires-clause-literals : goal.is_same-requires-clause-literals

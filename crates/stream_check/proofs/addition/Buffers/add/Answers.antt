@@ -29,7 +29,8 @@ returns-in_err-try_hints-clause-judged g c =
     let fault = c.in_err-try_hints.field-0.0 in
     let e : Event = published_by s c.args.id c.args.lits.now in
     let bad : JudgesHints s st.gone e (distinct c.args.lits.now) c.args.hints.now shown.0 (Bad 0 fault) =
-    subst (λ n. JudgesHints s st.gone e n c.args.hints.now shown.0 (Bad 0 fault)) (ap (λ (m : Propagation). m.falses) admitted.0.marks_are) (shown.3 e) in
+    subst (λ n. JudgesHints s st.gone e n c.args.hints.now shown.0 (Bad 0 fault))
+    (ap (λ (m : Propagation). m.falses) admitted.0.marks_are) (shown.3 e) in
     let given = err_from_is_err_and c.from_residual-in_err-try_hints.result c.from_residual-in_err-try_hints.ensures.1 in
     rw (given.1, given.2) (shown.0, shown.1, shown.2, admitted.1 c.args.hints.now shown.0 (Bad 0 fault) bad)
 
@@ -62,10 +63,13 @@ publish-requires-clause-clause g c =
     let admits = c.in_ok-admit.ensures.admitted.0 in
     let shown = c.in_ok-try_hints.ensures.shown in
     let tells = g.met.M.ClauseMap.moves_tells c.args.map.now c.try_hints.new.map shown.0 shown.1 in
-    let is = clause_is s st c.args.id c.args.lits.now c.admit.new.self.marks c.try_hints.new.marks c.clause.result.now admits c.try_hints.ensures.kept c.clause.ensures in
-    let good = shown_is s st st.gone p.caller.formula c.args.id c.args.lits.now c.args.hints.now c.admit.new.self.marks shown.0 admits shown.3 in
+    let is = clause_is s st c.args.id c.args.lits.now c.admit.new.self.marks c.try_hints.new.marks c.clause.result.now admits
+    c.try_hints.ensures.kept c.clause.ensures in
+    let good =
+    shown_is s st st.gone p.caller.formula c.args.id c.args.lits.now c.args.hints.now c.admit.new.self.marks shown.0 admits shown.3 in
     subst (IsPublishable q.caller.formula) (sym is)
-    (publishable s p q st st.gone shown.0 c.args.id c.args.lits.now c.args.hints.now c.admit.new.self.marks accepted_follows tells admits c.requires.count good)
+    (publishable s p q st st.gone shown.0 c.args.id c.args.lits.now c.args.hints.now c.admit.new.self.marks accepted_follows tells admits
+    c.requires.count good)
 
 pub publish-requires-clause-room : goal.publish-requires-clause-room
 publish-requires-clause-room g c =
@@ -76,7 +80,8 @@ publish-requires-clause-room g c =
     let admits = c.in_ok-admit.ensures.admitted.0 in
     let shown = c.in_ok-try_hints.ensures.shown in
     let tells = g.met.M.ClauseMap.moves_tells c.args.map.now c.try_hints.new.map shown.0 shown.1 in
-    let is = clause_is s st c.args.id c.args.lits.now c.admit.new.self.marks c.try_hints.new.marks c.clause.result.now admits c.try_hints.ensures.kept c.clause.ensures in
+    let is = clause_is s st c.args.id c.args.lits.now c.admit.new.self.marks c.try_hints.new.marks c.clause.result.now admits
+    c.try_hints.ensures.kept c.clause.ensures in
     omega (arith, ap length is, room_stays p q shown.0 tells shown.2, admits.fits)
 
 pub unreachable-requires : goal.unreachable-requires
@@ -87,7 +92,8 @@ unreachable-requires g c =
     let shown = c.in_ok-try_hints.ensures.shown in
     let tells = g.met.M.ClauseMap.moves_tells c.args.map.now c.try_hints.new.map shown.0 shown.1 in
     let done : c.publish.result ≡ publishing.Done =
-    c.publish.ensures.done.1 (still_vacant c.args.state.now.setting p q shown.0 c.args.state.now.last c.args.id c.requires.at tells shown.2 c.requires.vacant admits.owns admits.above) in
+    c.publish.ensures.done.1 (still_vacant c.args.state.now.setting p q shown.0 c.args.state.now.last c.args.id c.requires.at tells shown.2
+    c.requires.vacant admits.owns admits.above) in
     let taken = c.in-Taken.is in
     cc
 
@@ -100,11 +106,15 @@ returns-clause-judged g c =
     let admitted = c.in_ok-admit.ensures.admitted in
     let shown = c.in_ok-try_hints.ensures.shown in
     let tells = g.met.M.ClauseMap.moves_tells c.args.map.now c.try_hints.new.map shown.0 shown.1 in
-    let is = clause_is s st c.args.id c.args.lits.now c.admit.new.self.marks c.try_hints.new.marks c.clause.result.now admitted.0 c.try_hints.ensures.kept c.clause.ensures in
-    let good = shown_is s st st.gone p.caller.formula c.args.id c.args.lits.now c.args.hints.now c.admit.new.self.marks shown.0 admitted.0 shown.3 in
+    let is = clause_is s st c.args.id c.args.lits.now c.admit.new.self.marks c.try_hints.new.marks c.clause.result.now admitted.0
+    c.try_hints.ensures.kept c.clause.ensures in
+    let good =
+    shown_is s st st.gone p.caller.formula c.args.id c.args.lits.now c.args.hints.now c.admit.new.self.marks shown.0 admitted.0 shown.3 in
     let e : Event = published_by s c.args.id c.args.lits.now in
     let last : g.M.ClauseMap.moves c.try_hints.new.map c.publish.new.self (e ∷ []) =
-    subst (g.M.ClauseMap.moves c.try_hints.new.map c.publish.new.self) (published_is s p q shown.0 c.args.id c.clause.result.now c.args.lits.now c.publish.result c.requires.at tells is c.in-Done.is) c.publish.ensures.event in (
+    subst (g.M.ClauseMap.moves c.try_hints.new.map c.publish.new.self)
+    (published_is s p q shown.0 c.args.id c.clause.result.now c.args.lits.now c.publish.result c.requires.at tells is c.in-Done.is)
+    c.publish.ensures.event in (
       shown.0 ++ e ∷ [],
       g.met.M.ClauseMap.moves_append c.args.map.now c.try_hints.new.map c.publish.new.self shown.0 (e ∷ []) shown.1 last,
       (shown.0, shown.2, refl),

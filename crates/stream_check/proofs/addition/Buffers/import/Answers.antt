@@ -27,9 +27,15 @@ pub returns-then-not-make_literals-clause-judged : goal.returns-then-not-make_li
 returns-then-not-make_literals-clause-judged g c =
     let s = c.args.state.now.setting in
     let st = standing_at c.args.state.now (g.M.ClauseMap.place c.args.map.now).room in
-    let no : AllByRecursion (λ l. nat_abs l ≤ s.layout.vars) c.args.lits.now → ⊥ = λ all. true≢false (sym (c.if-not-make_literals.ensures.within.1
-    (subst (λ (n : ℕ). AllByRecursion (IsLiteral n) c.args.lits.now) c.requires.variables (literals_within s.layout.vars c.args.lits.now c.requires.nonzero all)))) in
-    ([], g.met.M.ClauseMap.moves_none c.args.map.now, tt, bad_literal s st c.args.id c.args.lits.now (shared_at s c.args.id c.side.result c.side.ensures c.in-Formula.is) no)
+    let no : AllByRecursion (λ l. nat_abs l ≤ s.layout.vars) c.args.lits.now
+    → ⊥ = λ all. true≢false (sym (c.if-not-make_literals.ensures.within.1
+    (subst (λ (n : ℕ). AllByRecursion (IsLiteral n) c.args.lits.now) c.requires.variables
+    (literals_within s.layout.vars c.args.lits.now c.requires.nonzero all)))) in (
+      [],
+      g.met.M.ClauseMap.moves_none c.args.map.now,
+      tt,
+      bad_literal s st c.args.id c.args.lits.now (shared_at s c.args.id c.side.result c.side.ensures c.in-Formula.is) no,
+    )
 
 -- the lookup has a fault
 pub returns-in_err-clip-clause-judged : goal.returns-in_err-clip-clause-judged
@@ -45,7 +51,8 @@ returns-in_err-clip-clause-judged g c =
       looked.0,
       looked.1,
       looked.2,
-      rw (given.1, given.2) (import_unfound s st c.args.id lits (shared_at s c.args.id c.side.result c.side.ensures c.in-Formula.is) (variables_within s.layout.vars lits within) q looked.0 c.in_err-clip.field-0.0 looked.3),
+      rw (given.1, given.2) (import_unfound s st c.args.id lits (shared_at s c.args.id c.side.result c.side.ensures c.in-Formula.is)
+          (variables_within s.layout.vars lits within) q looked.0 c.in_err-clip.field-0.0 looked.3),
     )
 
 pub returns-clause-judged : goal.returns-clause-judged
@@ -58,13 +65,16 @@ returns-clause-judged g c =
     let within : AllByRecursion (IsLiteral s.layout.vars) lits =
     subst (λ (n : ℕ). AllByRecursion (IsLiteral n) lits) (sym c.requires.variables) (c.if-not-make_literals.ensures.within.0 refl) in
     let read : c.deref.result.now ≡ lits = c.deref.ensures.value ∙ c.if-not-make_literals.ensures.literals in
-    let same : HasSame (clip_clause q c.in_ok-clip.clip) lits = subst (HasSame (clip_clause q c.in_ok-clip.clip)) read (c.same.ensures.same.0 c.if-not-same.false) in
+    let same : HasSame (clip_clause q c.in_ok-clip.clip) lits =
+    subst (HasSame (clip_clause q c.in_ok-clip.clip)) read (c.same.ensures.same.0 c.if-not-same.false) in
     let looked = c.in_ok-clip.ensures.looked in
-    let moved = g.met.M.ClauseMap.moves_append c.args.map.now c.look_up.new.map c.same.new.map looked.0 [] looked.1 c.same.ensures.event in (
+    let moved =
+    g.met.M.ClauseMap.moves_append c.args.map.now c.look_up.new.map c.same.new.map looked.0 [] looked.1 c.same.ensures.event in (
       looked.0,
       subst (g.M.ClauseMap.moves c.args.map.now c.same.new.map) (append-nil looked.0) moved,
       looked.2,
-      import_found s st c.args.id lits (shared_at s c.args.id c.side.result c.side.ensures c.in-Formula.is) (variables_within s.layout.vars lits within) (clip_clause q c.in_ok-clip.clip) looked.0 _ looked.3.0 looked.3.1
+      import_found s st c.args.id lits (shared_at s c.args.id c.side.result c.side.ensures c.in-Formula.is)
+          (variables_within s.layout.vars lits within) (clip_clause q c.in_ok-clip.clip) looked.0 _ looked.3.0 looked.3.1
           (inr (same, (refl, refl))),
     )
 
@@ -78,12 +88,15 @@ returns-then-not-same-clause-judged g c =
     let within : AllByRecursion (IsLiteral s.layout.vars) lits =
     subst (λ (n : ℕ). AllByRecursion (IsLiteral n) lits) (sym c.requires.variables) (c.if-not-make_literals.ensures.within.0 refl) in
     let read : c.deref.result.now ≡ lits = c.deref.ensures.value ∙ c.if-not-make_literals.ensures.literals in
-    let other : HasSame (clip_clause q c.in_ok-clip.clip) lits → ⊥ = λ same. true≢false (sym (c.same.ensures.same.1 (subst (HasSame (clip_clause q c.in_ok-clip.clip)) (sym read) same)) ∙ c.if-not-same.true) in
+    let other : HasSame (clip_clause q c.in_ok-clip.clip) lits → ⊥ = λ same.
+    true≢false (sym (c.same.ensures.same.1 (subst (HasSame (clip_clause q c.in_ok-clip.clip)) (sym read) same)) ∙ c.if-not-same.true) in
     let looked = c.in_ok-clip.ensures.looked in
-    let moved = g.met.M.ClauseMap.moves_append c.args.map.now c.look_up.new.map c.same.new.map looked.0 [] looked.1 c.same.ensures.event in (
+    let moved =
+    g.met.M.ClauseMap.moves_append c.args.map.now c.look_up.new.map c.same.new.map looked.0 [] looked.1 c.same.ensures.event in (
       looked.0,
       subst (g.M.ClauseMap.moves c.args.map.now c.same.new.map) (append-nil looked.0) moved,
       looked.2,
-      import_found s st c.args.id lits (shared_at s c.args.id c.side.result c.side.ensures c.in-Formula.is) (variables_within s.layout.vars lits within) (clip_clause q c.in_ok-clip.clip) looked.0 _ looked.3.0 looked.3.1
+      import_found s st c.args.id lits (shared_at s c.args.id c.side.result c.side.ensures c.in-Formula.is)
+          (variables_within s.layout.vars lits within) (clip_clause q c.in_ok-clip.clip) looked.0 _ looked.3.0 looked.3.1
           (inl (other, (refl, refl))),
     )

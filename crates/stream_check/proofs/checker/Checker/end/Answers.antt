@@ -28,12 +28,16 @@ returns-clause-ends c =
     let r = c.self.inside.reader in
     let none = none_of c.self.inside.ending (sym c.is_some.ensures ∙ c.if-is_some.false) in
     let says : c.match-end.self ≡ ending_at stream_ends.Ended (read_of r) h.line = elim c.match-end.branch [
-      | in-Clean w ↦ w.self-is ∙ sym (ended_clean r h.line (subst (λ (e : End). feeding.ReaderEnds r e c.end.new.self) w.in-Clean.is c.end.ensures).0)
-      | in-Fault w ↦ w.self-is ∙ ap (λ (n : ℕ). endings.Bad n (faults.Text w.in-Fault.fault)) w.line.ensures ∙ sym (ended_fault r c.end.new.self h.line w.in-Fault.fault (c.self.invariant.reads none) (subst (λ (e : End). feeding.ReaderEnds r e c.end.new.self) w.in-Fault.is c.end.ensures))
+      | in-Clean w ↦ w.self-is
+          ∙ sym (ended_clean r h.line (subst (λ (e : End). feeding.ReaderEnds r e c.end.new.self) w.in-Clean.is c.end.ensures).0)
+      | in-Fault w ↦ w.self-is ∙ ap (λ (n : ℕ). endings.Bad n (faults.Text w.in-Fault.fault)) w.line.ensures
+          ∙ sym (ended_fault r c.end.new.self h.line w.in-Fault.fault (c.self.invariant.reads none)
+          (subst (λ (e : End). feeding.ReaderEnds r e c.end.new.self) w.in-Fault.is c.end.ensures))
     ] in
     let old = value_of h (read_of r) c.self.inside.ending in
     let new = value_of h (read_of c.end.new.self) (Some c.match-end.self) in
-    subst (λ (v : CheckerValue). Ends stream_ends.Ended v new) c.self.view_is (ends_now stream_ends.Ended old new none refl refl (ap (λ (e : Ending). Some e) says) refl refl)
+    subst (λ (v : CheckerValue). Ends stream_ends.Ended v new) c.self.view_is
+    (ends_now stream_ends.Ended old new none refl refl (ap (λ (e : Ending). Some e) says) refl refl)
 
 pub returns-clause-reports : goal.returns-clause-reports
 returns-clause-reports c =
@@ -41,9 +45,13 @@ returns-clause-reports c =
     let r = c.self.inside.reader in
     let none = none_of c.self.inside.ending (sym c.is_some.ensures ∙ c.if-is_some.false) in
     let says : c.match-end.self ≡ ending_at stream_ends.Ended (read_of r) h.line = elim c.match-end.branch [
-      | in-Clean w ↦ w.self-is ∙ sym (ended_clean r h.line (subst (λ (e : End). feeding.ReaderEnds r e c.end.new.self) w.in-Clean.is c.end.ensures).0)
-      | in-Fault w ↦ w.self-is ∙ ap (λ (n : ℕ). endings.Bad n (faults.Text w.in-Fault.fault)) w.line.ensures ∙ sym (ended_fault r c.end.new.self h.line w.in-Fault.fault (c.self.invariant.reads none) (subst (λ (e : End). feeding.ReaderEnds r e c.end.new.self) w.in-Fault.is c.end.ensures))
+      | in-Clean w ↦ w.self-is
+          ∙ sym (ended_clean r h.line (subst (λ (e : End). feeding.ReaderEnds r e c.end.new.self) w.in-Clean.is c.end.ensures).0)
+      | in-Fault w ↦ w.self-is ∙ ap (λ (n : ℕ). endings.Bad n (faults.Text w.in-Fault.fault)) w.line.ensures
+          ∙ sym (ended_fault r c.end.new.self h.line w.in-Fault.fault (c.self.invariant.reads none)
+          (subst (λ (e : End). feeding.ReaderEnds r e c.end.new.self) w.in-Fault.is c.end.ensures))
     ] in
     let old = value_of h (read_of r) c.self.inside.ending in
     let new = value_of h (read_of c.end.new.self) (Some c.match-end.self) in
-    subst (λ (v : CheckerValue). ReportsEnd stream_ends.Ended v new) c.self.view_is (reports_now stream_ends.Ended old new none refl (ap (λ (e : Ending). Some e) says))
+    subst (λ (v : CheckerValue). ReportsEnd stream_ends.Ended v new) c.self.view_is
+    (reports_now stream_ends.Ended old new none refl (ap (λ (e : Ending). Some e) says))

@@ -18,8 +18,12 @@ use Rattle.stream_check.proofs.FeedLemmas.{some_of, none_of, feeds_line, feeds_m
 use Rattle.stream_check.proofs.checker.Checker.feed.Goals as goal
 
 pub returns-then-is_some-clause-left : goal.returns-then-is_some-clause-left
-returns-then-is_some-clause-left g c =
-    ([], g.met.M.ClauseMap.moves_none c.args.map.now, omega arith, leaves_still c.args.self.now.setting (checker_state c.args.self.now (g.M.ClauseMap.place c.args.map.now).room))
+returns-then-is_some-clause-left g c = (
+  [],
+  g.met.M.ClauseMap.moves_none c.args.map.now,
+  omega arith,
+  leaves_still c.args.self.now.setting (checker_state c.args.self.now (g.M.ClauseMap.place c.args.map.now).room),
+)
 
 pub returns-then-is_some-clause-turn : goal.returns-then-is_some-clause-turn
 returns-then-is_some-clause-turn g c =
@@ -38,10 +42,17 @@ returns-in-NeedMore-clause-left g c =
     let used = c.feed-fed.result.used in
     let none = none_of c.self.inside.ending (sym c.is_some.ensures ∙ c.if-is_some.false) in
     let reads : r ≡ Ok read = c.self.invariant.reads none in
-    let gives : Feeds (Ok read) piece used turns.NeedMore = subst (λ (s : ReaderState). Feeds s piece used turns.NeedMore) reads (subst (λ (t : ReaderTurn). Feeds r piece used t) c.in-NeedMore.is c.feed-fed.ensures.gives) in
-    let leaves : ReaderLeaves (Ok read) piece turns.NeedMore new = subst (λ (s : ReaderState). ReaderLeaves s piece turns.NeedMore new) reads (subst (λ (t : ReaderTurn). ReaderLeaves r piece t new) c.in-NeedMore.is c.feed-fed.follows.holds-at-none) in
-    let left = feeds_more h read new piece used p.room c.self.inside.ending none leaves.0 gives leaves.1 in
-    ([], g.met.M.ClauseMap.moves_none c.args.map.now, refl, subst (λ (v : CheckerValue). LeavesOn v.setting (checker_state v p.room) (take used piece) [] (checker_state (value_of h (read_of new) c.self.inside.ending) p.room)) c.self.view_is left)
+    let gives : Feeds (Ok read) piece used turns.NeedMore = subst (λ (s : ReaderState). Feeds s piece used turns.NeedMore) reads
+    (subst (λ (t : ReaderTurn). Feeds r piece used t) c.in-NeedMore.is c.feed-fed.ensures.gives) in
+    let leaves : ReaderLeaves (Ok read) piece turns.NeedMore new = subst (λ (s : ReaderState). ReaderLeaves s piece turns.NeedMore new)
+    reads (subst (λ (t : ReaderTurn). ReaderLeaves r piece t new) c.in-NeedMore.is c.feed-fed.follows.holds-at-none) in
+    let left = feeds_more h read new piece used p.room c.self.inside.ending none leaves.0 gives leaves.1 in (
+      [],
+      g.met.M.ClauseMap.moves_none c.args.map.now,
+      refl,
+      subst (λ (v : CheckerValue). LeavesOn v.setting (checker_state v p.room) (take used piece) []
+          (checker_state (value_of h (read_of new) c.self.inside.ending) p.room)) c.self.view_is left,
+    )
 
 pub returns-in-NeedMore-clause-turn : goal.returns-in-NeedMore-clause-turn
 returns-in-NeedMore-clause-turn g c =
@@ -52,8 +63,10 @@ returns-in-NeedMore-clause-turn g c =
     let used = c.feed-fed.result.used in
     let none = none_of c.self.inside.ending (sym c.is_some.ensures ∙ c.if-is_some.false) in
     let reads : r ≡ Ok read = c.self.invariant.reads none in
-    let gives : Feeds (Ok read) piece used turns.NeedMore = subst (λ (s : ReaderState). Feeds s piece used turns.NeedMore) reads (subst (λ (t : ReaderTurn). Feeds r piece used t) c.in-NeedMore.is c.feed-fed.ensures.gives) in
-    let leaves : ReaderLeaves (Ok read) piece turns.NeedMore new = subst (λ (s : ReaderState). ReaderLeaves s piece turns.NeedMore new) reads (subst (λ (t : ReaderTurn). ReaderLeaves r piece t new) c.in-NeedMore.is c.feed-fed.follows.holds-at-none) in
+    let gives : Feeds (Ok read) piece used turns.NeedMore = subst (λ (s : ReaderState). Feeds s piece used turns.NeedMore) reads
+    (subst (λ (t : ReaderTurn). Feeds r piece used t) c.in-NeedMore.is c.feed-fed.ensures.gives) in
+    let leaves : ReaderLeaves (Ok read) piece turns.NeedMore new = subst (λ (s : ReaderState). ReaderLeaves s piece turns.NeedMore new)
+    reads (subst (λ (t : ReaderTurn). ReaderLeaves r piece t new) c.in-NeedMore.is c.feed-fed.follows.holds-at-none) in
     let all : take used piece ≡ piece = take_all used piece (omega (arith, gives)) in
     let here : read ≡ c.args.self.now.pending = ap (λ (v : CheckerValue). v.pending) c.self.view_is in
     let after : read_of new ≡ c.args.self.now.pending ++ piece = ap read_of leaves.0 ∙ ap (λ (b : List ℕ). b ++ piece) here in
@@ -78,14 +91,18 @@ returns-in-Ok-clause-left g c =
     let used = c.feed-fed.result.used in
     let line = c.in-Line.line in
     let none = none_of c.self.inside.ending (sym c.is_some.ensures ∙ c.if-is_some.false) in
-    let gives : Feeds (Ok read) piece used (turns.Line line) = subst (λ (s : ReaderState). Feeds s piece used (turns.Line line)) (c.self.invariant.reads none) (subst (λ (t : ReaderTurn). Feeds r piece used t) c.in-Line.is c.feed-fed.ensures.gives) in
-    let leaves : ReaderLeaves r piece (turns.Line line) new = subst (λ (t : ReaderTurn). ReaderLeaves r piece t new) c.in-Line.is c.feed-fed.follows.holds-at-none in
+    let gives : Feeds (Ok read) piece used (turns.Line line) = subst (λ (s : ReaderState). Feeds s piece used (turns.Line line))
+    (c.self.invariant.reads none) (subst (λ (t : ReaderTurn). Feeds r piece used t) c.in-Line.is c.feed-fed.ensures.gives) in
+    let leaves : ReaderLeaves r piece (turns.Line line) new =
+    subst (λ (t : ReaderTurn). ReaderLeaves r piece t new) c.in-Line.is c.feed-fed.follows.holds-at-none in
     let taken = c.in-Ok.ensures.taken in
-    let left = feeds_line h n read new (take used piece) (taken.0 ∷ []) p.room q.room c.self.inside.ending none leaves.0 (leaves_good c.good_line_taken.ensures h n p.room q.room read (take used piece) (line_of line) taken.0 gives.2 taken.2) in (
+    let left = feeds_line h n read new (take used piece) (taken.0 ∷ []) p.room q.room c.self.inside.ending none leaves.0
+    (leaves_good c.good_line_taken.ensures h n p.room q.room read (take used piece) (line_of line) taken.0 gives.2 taken.2) in (
       taken.0 ∷ [],
       subst (g.M.ClauseMap.moves c.args.map.now c.take_line.new.map) (sym (append-nil taken.0)) taken.1,
       refl,
-      subst (λ (v : CheckerValue). LeavesOn v.setting (checker_state v p.room) (take used piece) (taken.0 ∷ []) (checker_state (value_of n (read_of new) c.self.inside.ending) q.room)) c.self.view_is left,
+      subst (λ (v : CheckerValue). LeavesOn v.setting (checker_state v p.room) (take used piece) (taken.0 ∷ [])
+          (checker_state (value_of n (read_of new) c.self.inside.ending) q.room)) c.self.view_is left,
     )
 
 pub returns-in-Ok-clause-turn : goal.returns-in-Ok-clause-turn
@@ -96,10 +113,17 @@ returns-in-Ok-clause-turn g c =
     let used = c.feed-fed.result.used in
     let line = c.in-Line.line in
     let none = none_of c.self.inside.ending (sym c.is_some.ensures ∙ c.if-is_some.false) in
-    let gives : Feeds (Ok (read_of r)) piece used (turns.Line line) = subst (λ (s : ReaderState). Feeds s piece used (turns.Line line)) (c.self.invariant.reads none) (subst (λ (t : ReaderTurn). Feeds r piece used t) c.in-Line.is c.feed-fed.ensures.gives) in
-    let leaves : ReaderLeaves r piece (turns.Line line) new = subst (λ (t : ReaderTurn). ReaderLeaves r piece t new) c.in-Line.is c.feed-fed.follows.holds-at-none in
-    let text : LineText (line_of line) (c.args.self.now.pending ++ take used piece) = subst (λ (b : List ℕ). LineText (line_of line) (b ++ take used piece)) (ap (λ (v : CheckerValue). v.pending) c.self.view_is) gives.2 in
-    (none, ap read_of leaves.0, λ bytes lines cut. (line_of line, line_cut bytes c.args.self.now.pending (take used piece) lines (line_of line) text cut))
+    let gives : Feeds (Ok (read_of r)) piece used (turns.Line line) = subst (λ (s : ReaderState). Feeds s piece used (turns.Line line))
+    (c.self.invariant.reads none) (subst (λ (t : ReaderTurn). Feeds r piece used t) c.in-Line.is c.feed-fed.ensures.gives) in
+    let leaves : ReaderLeaves r piece (turns.Line line) new =
+    subst (λ (t : ReaderTurn). ReaderLeaves r piece t new) c.in-Line.is c.feed-fed.follows.holds-at-none in
+    let text : LineText (line_of line) (c.args.self.now.pending ++ take used piece) =
+    subst (λ (b : List ℕ). LineText (line_of line) (b ++ take used piece))
+    (ap (λ (v : CheckerValue). v.pending) c.self.view_is) gives.2 in (
+      none,
+      ap read_of leaves.0,
+      λ bytes lines cut. (line_of line, line_cut bytes c.args.self.now.pending (take used piece) lines (line_of line) text cut),
+    )
 
 pub returns-in-Err-clause-left : goal.returns-in-Err-clause-left
 returns-in-Err-clause-left g c =
@@ -113,17 +137,22 @@ returns-in-Err-clause-left g c =
     let used = c.feed-fed.result.used in
     let line = c.in-Line.line in
     let none = none_of c.self.inside.ending (sym c.is_some.ensures ∙ c.if-is_some.false) in
-    let gives : Feeds (Ok read) piece used (turns.Line line) = subst (λ (s : ReaderState). Feeds s piece used (turns.Line line)) (c.self.invariant.reads none) (subst (λ (t : ReaderTurn). Feeds r piece used t) c.in-Line.is c.feed-fed.ensures.gives) in
+    let gives : Feeds (Ok read) piece used (turns.Line line) = subst (λ (s : ReaderState). Feeds s piece used (turns.Line line))
+    (c.self.invariant.reads none) (subst (λ (t : ReaderTurn). Feeds r piece used t) c.in-Line.is c.feed-fed.ensures.gives) in
     let taken = c.in-Err.ensures.taken in
-    let stopped : LeavesOn h.setting (Going (hold h read p.room)) (take used piece) (taken.0 ∷ []) (Over (report_of_tally (tally_at n) c.ending.result)) =
-    subst (λ (e : Ending). LeavesOn h.setting (Going (hold h read p.room)) (take used piece) (taken.0 ∷ []) (Over (report_of_tally (tally_at n) e))) (sym (c.ending.ensures ∙ ap (λ (k : ℕ). ending_of k c.in-Err.stop) c.line.ensures))
+    let stopped : LeavesOn h.setting (Going (hold h read p.room)) (take used piece) (taken.0 ∷ [])
+    (Over (report_of_tally (tally_at n) c.ending.result)) =
+    subst (λ (e : Ending). LeavesOn h.setting (Going (hold h read p.room)) (take used piece) (taken.0 ∷ [])
+    (Over (report_of_tally (tally_at n) e))) (sym (c.ending.ensures ∙ ap (λ (k : ℕ). ending_of k c.in-Err.stop) c.line.ensures))
     (leaves_stopped h n p.room q.room read (take used piece) (line_of line) taken.0 c.in-Err.stop gives.2 taken.2) in
-    let left = feeds_over h read (take used piece) (taken.0 ∷ []) p.room c.self.inside.ending (report_of_tally (tally_at n) c.ending.result) none stopped in
+    let left = feeds_over h read (take used piece) (taken.0 ∷ []) p.room c.self.inside.ending
+    (report_of_tally (tally_at n) c.ending.result) none stopped in
     rw c.tell.ensures (
       taken.0 ∷ [],
       subst (g.M.ClauseMap.moves c.args.map.now c.take_line.new.map) (sym (append-nil taken.0)) taken.1,
       omega arith,
-      subst (λ (v : CheckerValue). LeavesOn v.setting (checker_state v p.room) (take used piece) (taken.0 ∷ []) (Over (report_of_tally (tally_at n) c.ending.result))) c.self.view_is left,
+      subst (λ (v : CheckerValue). LeavesOn v.setting (checker_state v p.room) (take used piece) (taken.0 ∷ [])
+          (Over (report_of_tally (tally_at n) c.ending.result))) c.self.view_is left,
     )
 
 pub returns-in-Err-clause-turn : goal.returns-in-Err-clause-turn
@@ -133,8 +162,10 @@ returns-in-Err-clause-turn g c =
     let used = c.feed-fed.result.used in
     let line = c.in-Line.line in
     let none = none_of c.self.inside.ending (sym c.is_some.ensures ∙ c.if-is_some.false) in
-    let gives : Feeds (Ok (read_of r)) piece used (turns.Line line) = subst (λ (s : ReaderState). Feeds s piece used (turns.Line line)) (c.self.invariant.reads none) (subst (λ (t : ReaderTurn). Feeds r piece used t) c.in-Line.is c.feed-fed.ensures.gives) in
-    let text : LineText (line_of line) (c.args.self.now.pending ++ take used piece) = subst (λ (b : List ℕ). LineText (line_of line) (b ++ take used piece)) (ap (λ (v : CheckerValue). v.pending) c.self.view_is) gives.2 in
+    let gives : Feeds (Ok (read_of r)) piece used (turns.Line line) = subst (λ (s : ReaderState). Feeds s piece used (turns.Line line))
+    (c.self.invariant.reads none) (subst (λ (t : ReaderTurn). Feeds r piece used t) c.in-Line.is c.feed-fed.ensures.gives) in
+    let text : LineText (line_of line) (c.args.self.now.pending ++ take used piece) =
+    subst (λ (b : List ℕ). LineText (line_of line) (b ++ take used piece)) (ap (λ (v : CheckerValue). v.pending) c.self.view_is) gives.2 in
     rw c.tell.ensures (c.ending.result, refl, λ going. inl (line_of line, text))
 
 pub returns-in-Fault-clause-left : goal.returns-in-Fault-clause-left
@@ -148,9 +179,11 @@ returns-in-Fault-clause-left g c =
     let fault = c.in-Fault.fault in
     let report = report_of_tally (tally_at h) (endings.Bad c.line-in-Fault.result (faults.Text fault)) in
     let none = none_of c.self.inside.ending (sym c.is_some.ensures ∙ c.if-is_some.false) in
-    let gives : Feeds (Ok read) piece used (turns.Fault fault) = subst (λ (s : ReaderState). Feeds s piece used (turns.Fault fault)) (c.self.invariant.reads none) (subst (λ (t : ReaderTurn). Feeds r piece used t) c.in-Fault.is c.feed-fed.ensures.gives) in
+    let gives : Feeds (Ok read) piece used (turns.Fault fault) = subst (λ (s : ReaderState). Feeds s piece used (turns.Fault fault))
+    (c.self.invariant.reads none) (subst (λ (t : ReaderTurn). Feeds r piece used t) c.in-Fault.is c.feed-fed.ensures.gives) in
     let left = feeds_over h read (take used piece) [] p.room c.self.inside.ending report none
-    (subst (λ (n : ℕ). LeavesOn h.setting (Going (hold h read p.room)) (take used piece) [] (Over (report_of_tally (tally_at h) (endings.Bad n (faults.Text fault))))) (sym c.line-in-Fault.ensures)
+    (subst (λ (n : ℕ). LeavesOn h.setting (Going (hold h read p.room)) (take used piece) []
+    (Over (report_of_tally (tally_at h) (endings.Bad n (faults.Text fault))))) (sym c.line-in-Fault.ensures)
     (leaves_refused h p.room read (take used piece) fault gives.2)) in
     rw c.tell-in-Fault.ensures (
       [],
@@ -167,6 +200,9 @@ returns-in-Fault-clause-turn g c =
     let used = c.feed-fed.result.used in
     let fault = c.in-Fault.fault in
     let none = none_of c.self.inside.ending (sym c.is_some.ensures ∙ c.if-is_some.false) in
-    let gives : Feeds (Ok (read_of r)) piece used (turns.Fault fault) = subst (λ (s : ReaderState). Feeds s piece used (turns.Fault fault)) (c.self.invariant.reads none) (subst (λ (t : ReaderTurn). Feeds r piece used t) c.in-Fault.is c.feed-fed.ensures.gives) in
-    let text : IsRefused (c.args.self.now.pending ++ take used piece) fault = subst (λ (b : List ℕ). IsRefused (b ++ take used piece) fault) (ap (λ (v : CheckerValue). v.pending) c.self.view_is) gives.2 in
-    rw c.tell-in-Fault.ensures (endings.Bad c.line-in-Fault.result (faults.Text fault), refl, λ going. inr (c.line-in-Fault.result, fault, refl, text))
+    let gives : Feeds (Ok (read_of r)) piece used (turns.Fault fault) = subst (λ (s : ReaderState). Feeds s piece used (turns.Fault fault))
+    (c.self.invariant.reads none) (subst (λ (t : ReaderTurn). Feeds r piece used t) c.in-Fault.is c.feed-fed.ensures.gives) in
+    let text : IsRefused (c.args.self.now.pending ++ take used piece) fault =
+    subst (λ (b : List ℕ). IsRefused (b ++ take used piece) fault) (ap (λ (v : CheckerValue). v.pending) c.self.view_is) gives.2 in
+    rw c.tell-in-Fault.ensures
+    (endings.Bad c.line-in-Fault.result (faults.Text fault), refl, λ going. inr (c.line-in-Fault.result, fault, refl, text))

@@ -23,7 +23,8 @@ returns-clause-ends c =
     let none = none_of c.self.inside.ending (sym c.is_some.ensures ∙ c.if-is_some.false) in
     let old = value_of h (read_of r) c.self.inside.ending in
     let new = value_of h (read_of r) (Some (endings.ReadFailed c.line.result)) in
-    subst (λ (v : CheckerValue). Ends stream_ends.Failed v new) c.self.view_is (ends_now stream_ends.Failed old new none refl refl (ap (λ (n : ℕ). Some (endings.ReadFailed n)) c.line.ensures) refl refl)
+    subst (λ (v : CheckerValue). Ends stream_ends.Failed v new) c.self.view_is
+    (ends_now stream_ends.Failed old new none refl refl (ap (λ (n : ℕ). Some (endings.ReadFailed n)) c.line.ensures) refl refl)
 
 pub returns-clause-reports : goal.returns-clause-reports
 returns-clause-reports c =
@@ -32,4 +33,5 @@ returns-clause-reports c =
     let none = none_of c.self.inside.ending (sym c.is_some.ensures ∙ c.if-is_some.false) in
     let old = value_of h (read_of r) c.self.inside.ending in
     let new = value_of h (read_of r) (Some (endings.ReadFailed c.line.result)) in
-    subst (λ (v : CheckerValue). ReportsEnd stream_ends.Failed v new) c.self.view_is (reports_now stream_ends.Failed old new none refl (ap (λ (n : ℕ). Some (endings.ReadFailed n)) c.line.ensures))
+    subst (λ (v : CheckerValue). ReportsEnd stream_ends.Failed v new) c.self.view_is
+    (reports_now stream_ends.Failed old new none refl (ap (λ (n : ℕ). Some (endings.ReadFailed n)) c.line.ensures))

@@ -8,6 +8,7 @@ invariant_of-self c =
     let fed = c.take_at.ensures in
     record {
       streams = omega (arith, c.args.self.now.streams, ap (λ (p : LayoutValue). p.streams) fed.moves.1.layout);
-      first_ready = ready_for c.ready_beside.ensures c.args.self.now.first c.args.self.now.map c.take_at.new.map 1 2 fed.moves.0 c.args.self.now.first_ready fed.moves.1 (λ same. omega (arith, same));
+      first_ready = ready_for c.ready_beside.ensures c.args.self.now.first c.args.self.now.map c.take_at.new.map 1 2 fed.moves.0
+          c.args.self.now.first_ready fed.moves.1 (λ same. omega (arith, same));
       second_ready = fed.ready;
     }

@@ -9,5 +9,6 @@ invariant_of-self c =
     record {
       streams = omega (arith, c.args.self.now.streams, ap (λ (p : LayoutValue). p.streams) fed.moves.1.layout);
       first_ready = fed.ready;
-      second_ready = ready_for c.ready_beside.ensures c.args.self.now.second c.args.self.now.map c.feed_at.new.map 2 1 fed.moves.0 c.args.self.now.second_ready fed.moves.1 (λ same. omega (arith, same));
+      second_ready = ready_for c.ready_beside.ensures c.args.self.now.second c.args.self.now.map c.feed_at.new.map 2 1 fed.moves.0
+          c.args.self.now.second_ready fed.moves.1 (λ same. omega (arith, same));
     }
