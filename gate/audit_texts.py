@@ -43,13 +43,14 @@ where memory is from."""
 
 STATUS_0_PHRASES: Rows = [
     ("with status 0", "[[fn command.sound: result ≡ 0 →]], where `result` is the status."),
-    ("the bytes that were read", """they are the `bytes` of [[NameUnsatisfiable: Read first formula bytes after]], and `Read` is
+    ("the bytes that were read", """they are the `bytes` of [[NameUnsatisfiable: Read first formula_path bytes after]], and `Read` is
      [[fn command.sound: WasRead F.opens F.Input.Source.reads (F.tells files.old)]]: the first opening, of `files.old`, opened
      the file, and its reads gave these bytes, up to one that gave none ([[WasRead]], [[GaveAll]])."""),
-    ("from the formula's file", """[[NameUnsatisfiable: AskFor words formula assume]]: the words have no fault, and their FORMULA
-     is the path `formula` that was read ([[AskFor]])."""),
-    ("are DIMACS CNF of a formula", "[[NameUnsatisfiable: IsFormulaText bytes f]]: a text of f ([[IsFormulaText]]), and of f only ([[law one_formula]])."),
-    ("that no assignment satisfies", "[[NameUnsatisfiable: IsUnsatisfiable f]], of the same `f` ([[IsUnsatisfiable]])."),
+    ("from the formula's file", """[[NameUnsatisfiable: AskFor words formula_path assume]]: the words have no fault, and their FORMULA
+     is the path `formula_path` that was read ([[AskFor]])."""),
+    ("are DIMACS CNF of a formula", """[[NameUnsatisfiable: IsFormulaText bytes formula]]: a text of `formula`
+     ([[IsFormulaText]]), and of that only ([[law one_formula]])."""),
+    ("that no assignment satisfies", "[[NameUnsatisfiable: IsUnsatisfiable formula]], of the same `formula` ([[IsUnsatisfiable]])."),
 ]
 
 ACCOUNT = """**Which reads?** Whoever hands in the files chooses what `opens` and `reads` are; [[Files]] and [[Source]] promise
@@ -93,8 +94,8 @@ By the [[fn command.sound_under]]:"""
 
 STATUS_8_PHRASES: Rows = [
     ("with status 8", "[[fn command.sound_under: result ≡ 8 →]]; formula and file as above."),
-    ("none satisfies it and makes the assumed literals true", """[[NameUnsatisfiableUnder: IsUnsatisfiableUnder f cube]]. These
-     literals are the set `cube`: [[NameUnsatisfiableUnder: AreAssumed Read f.vars next assume cube last]], what was read of
+    ("none satisfies it and makes the assumed literals true", """[[NameUnsatisfiableUnder: IsUnsatisfiableUnder formula cube]]. These
+     literals are the set `cube`: [[NameUnsatisfiableUnder: AreAssumed Read formula.vars next assume cube last]], what was read of
      `--assume`'s file, by the next opening, is its text ([[IsCubeText]]); without `--assume` there are none."""),
 ]
 
@@ -110,16 +111,16 @@ CHECKPOINT_PHRASES: Rows = [
      in it ([[Files, creation]]); these bytes went to it, [[WasSaved: wrote : Appends (written first) (written last) bytes]]
      ([[Sink]]); and it was kept, which led to the files that the caller has afterwards ([[WasSaved]])."""),
     ("are a text of a formula over the same variables, each clause of which follows from the run's formula", """[[SavesFrom:
-     IsCheckpoint f saved]]: [[IsCheckpoint: text : IsFormulaText bytes formula]], with [[Entails: vars : g.vars ≡ f.vars]] and
-     [[Entails: each : AllByRecursion (Follows f) g.clauses]]. The run's formula is `f`, by [[SavesFrom: Read first formula
-     bytes next × IsFormulaText bytes f]], as above."""),
+     IsCheckpoint formula saved]]: [[IsCheckpoint: text : IsFormulaText bytes formula]], with [[Entails: vars : g.vars ≡ f.vars]] and
+     [[Entails: each : AllByRecursion (Follows f) g.clauses]]. The run's formula is `formula`, by [[SavesFrom: Read first formula_path
+     bytes next × IsFormulaText bytes formula]], as above."""),
     ("where each run of a chain read as its formula what the one before had saved", """a premise, of the bytes that were read and
-     saved: then by the [[fn command.saved]] of each run they are [[AreCheckpoints: ((f : Cnf) × IsFormulaText bytes f ×
-     IsCheckpoint f next) × AreCheckpoints next more]]. No clause says what a file gives that was kept, and is opened later."""),
+     saved: then by the [[fn command.saved]] of each run they are [[AreCheckpoints: ((formula : Cnf) × IsFormulaText bytes formula ×
+     IsCheckpoint formula next) × AreCheckpoints next more]]. No clause says what a file gives that was kept, and is opened later."""),
     ("the last ends with status 0, no assignment satisfies the first formula", """the law [[law files_refute]]: the last run's
-     bytes are `last_file bytes more`, of which the [[fn command.sound]] says [[IsUnsatisfiableText: (f : Cnf) × IsFormulaText
-     bytes f × IsUnsatisfiable f]]; so that holds of the first run's `bytes`. [[law outcomes_refute]] says it at once, of runs as
-     the clause `ends` of `command` has them."""),
+     bytes are `last_file bytes more`, of which the [[fn command.sound]] says [[IsUnsatisfiableText: (formula : Cnf) × IsFormulaText
+     bytes formula × IsUnsatisfiable formula]]; so that holds of the first run's `bytes`. [[law outcomes_refute]] says it at once, of
+     runs as the clause `ends` of `command` has them."""),
     ("where it ends with status 8, none satisfies it and makes the literals true that the last run assumed", """the law
      [[law files_refute_under]], with the [[fn command.sound_under]] of the last run; and [[law outcomes_refute_under]]."""),
 ]
@@ -250,38 +251,39 @@ repeated but for `Source`, which has more members here: formulas, assignments, c
 HEADLINE_PHRASES: Rows = [
     ("A run with threads that gave reports", "[[fn run.history: IfOk result]], and so below: of a fault nothing of this is said."),
     ("one legal history of the one-thread clause map", """[[fn run.history]]: the streams' passes have one history
-     ([[HaveOneHistory]]), and [[HaveOneHistory: legal : IsLegal f p h]]. From the formula's clauses on,
-     [[IsLegal: LegalFrom f p (opening f) h]], each event answers as the map after the events before it ([[LegalFrom: Answers m
-     e]]), and may be asked for ([[LegalFrom: IsAllowed f p e]])."""),
-    ("each stream's calls stand once, in its order", """[[HaveOneHistory: v.mine ≡ own h s]]: the calls made through the pass of
+     ([[HaveOneHistory]]), and [[HaveOneHistory: legal : IsLegal formula layout history]]. From the formula's clauses on,
+     [[IsLegal: LegalFrom formula layout (opening formula) history]], each event answers as the map after the events
+     before it ([[LegalFrom: Answers slots event]]), and may be asked for ([[LegalFrom: IsAllowed formula layout event]])."""),
+    ("each stream's calls stand once, in its order", """[[HaveOneHistory: pass.mine ≡ own history s]]: the calls made through the pass of
      stream s are the history's events of s, in order. That `mine` are the calls made is said at the store: a pass begins with
-     none, [[IsOpened: mine : p.view.mine ≡ []]]; each call adds itself, [[PassMoves: mine : new.mine ≡ old.mine ++ es]] with
-     [[Calls: moves : PassMoves old new (e ∷ [])]]; where two passes meet they add none, [[Meets: first : PassMoves old new
+     none, [[IsOpened: mine : pass.view.mine ≡ []]]; each call adds itself, [[PassMoves: mine : new.mine ≡ old.mine ++ history]] with
+     [[Calls: moves : PassMoves old new (event ∷ [])]]; where two passes meet they add none, [[Meets: first : PassMoves old new
      []]]."""),
     ("after all that it had seen", """[[fn Store::fetch.calls]], and so of [[fn Store::publish]] and [[fn Store::retire]]. What
      the pass had seen begins what it has seen then, [[PassMoves: seen : (more : History) × (new.seen ≡ old.seen ++ more)]], and
-     the call is the last of that, [[Calls: last : EndsWith new.seen e]]; `more` isn't empty, since `mine` grew, and
+     the call is the last of that, [[Calls: last : EndsWith new.seen event]]; `more` isn't empty, since `mine` grew, and
      `mine` is what `seen` has of this stream ([[IsFair]]). In the end each pass has seen the one history:
-     [[HaveOneHistory: v.seen ≡ h]]."""),
+     [[HaveOneHistory: pass.seen ≡ history]]."""),
     ("with the replies that it got", """the same clauses: the event has what the call answered.
      [[fn Store::fetch.calls: events.fetch pass.old.view.caller.stream id reply]], where
      [[fn Store::fetch.calls: reply = reply_of (pass_place pass.new.view) result]];
      [[fn Store::publish.calls: events.publish stream id clause.now result]];
      [[fn Store::retire.calls: events.retire stream id result]]."""),
-    ("Each published clause has an identity that its stream owns", """[[IsAllowed: IsAllowed f p (publish s id c r) = Owns p s id ×
-     IsPublishable f c]], of each event of a legal history."""),
+    ("Each published clause has an identity that its stream owns", """[[IsAllowed: IsAllowed formula layout
+     (publish s id clause reply) = Owns layout s id × IsPublishable formula clause]], of each event of a legal history."""),
     ("never changes", """in a legal history an entry goes from absent to live to retired, with one clause: the law
      [[law entries_advance]], [[Advances: Advances (live c) (retired d) = d ≡ c]]. What the store gives to read is that clause: a
      live fetch gives a clip that is known, [[fn Store::fetch.fetched: IsFetched (pass_place pass.new.view) id result]]; of it
      each literal comes from the clause that is kept, [[fn Store::literal.value: slice_get (clip_clause (pass_place
      pass.old.view) clip.now) k ≡ Some result]] (two at once: [[fn Store::pair]]); each pass is fair, as [[IsOpened]], [[Calls]] and [[Meets]] say, so what is kept is the history's, [[IsFair: spelt
-     : IsSpelt v.caller.formula v.seen v.spelt]], [[Spells: Spells (live c) (Some kept) = kept.literals ≡ c]]; and it stays,
+     : IsSpelt view.caller.formula view.seen view.spelt]], [[Spells: Spells (live clause) (Some kept) = kept.literals ≡ clause]];
+     and it stays,
      whatever calls follow: the law [[law known_stays]], [[KnownStays: clip_clause b clip ≡ clip_clause a clip]], where calls
      lead from place a to place b ([[Tells]]), as those of a pass do by the law [[law pass_tells]]."""),
-    ("follows from the formula", "[[IsPublishable: follows : Follows f c]], which [[IsAllowed]] asks of each publish."),
+    ("follows from the formula", "[[IsPublishable: follows : Follows formula candidate]], which [[IsAllowed]] asks of each publish."),
     ("Each report is the judgement of these replies", """[[fn run.reports]]: there are streams ([[StandsOnStreams]]), and
      [[fn run.reports: AreJudgedIn terms (λ s. true) (seen_by (views outcome.passes.items)) 1 streams outcome.reports.items]], by
-     the same history. Each stream is judged, as its report says, by blocks of events ([[AreJudged]]) that are together the stream's events in it, [[AreJudgedIn: own h t ≡ joined blocks]]: its good
+     the same history. Each stream is judged, as its report says, by blocks of events ([[AreJudged]]) that are together the stream's events in it, [[AreJudgedIn: own history t ≡ joined blocks]]: its good
      lines first, each with a block, and then what ended it ([[JudgesBlocks]]). Where memory ran out these don't decide: any
      deletion of what isn't the stream's own may have stopped for it ([[StopsDeletion]])."""),
     ("of the bytes that reads of the stream gave", """[[fn run.reports: AreRead _ R.reads readers.items outcome.readers.items
@@ -303,8 +305,8 @@ HEADLINE_PHRASES: Rows = [
      PassMoves jobs.pass.view found.pass.view (joined blocks)]]. That a pass can't be made or copied otherwise is by its fields,
      which are private."""),
     ("the rest is one of the run", "[[fn run.history+reports+sound+sound_under]]."),
-    ("sequentially consistent", """Lamport's condition, which two phrases above have: [[HaveOneHistory: legal : IsLegal f p h]],
-     and for each stream [[HaveOneHistory: v.mine ≡ own h s]]."""),
+    ("sequentially consistent", """Lamport's condition, which two phrases above have: [[HaveOneHistory: legal : IsLegal
+     formula layout history]], and for each stream [[HaveOneHistory: pass.mine ≡ own history s]]."""),
     ("no contract speaks of real time", """an [[Event]] has a stream, an identity, the clause of a publish and a reply, but no
      moment. The calls of two streams are ordered by legality, and by what a pass had seen."""),
 ]
@@ -316,12 +318,12 @@ By the [[fn run.isolated+alone]], and those of [[fn run_serial]]."""
 ISOLATION_PHRASES: Rows = [
     ("Streams that cite and import only clauses of each other and of the formula", """they are a closed set:
      [[AreIsolated: (set : ℕ → Bool) → IsClosed terms.layout set streams]]. No line of a stream of it cites what a stream outside
-     it owns, [[CiteWithin: AllByRecursion (IsOwnedWithin p set) (cited_by line)]], hints and imports ([[cited_by]]); nobody owns
+     it owns, [[CiteWithin: AllByRecursion (IsOwnedWithin layout set) (cited_by line)]], hints and imports ([[cited_by]]); nobody owns
      the formula's identities."""),
-    ("have such reports as they may have", """[[AreIsolated: IsGroup f terms set streams reports]]: some legal history judges the
+    ("have such reports as they may have", """[[AreIsolated: IsGroup formula terms set streams reports]]: some legal history judges the
      set's streams so, [[IsGroup: judged : AreJudgedIn terms set history 1 streams reports]]."""),
     ("where all others are empty", """that history has events of the set's streams alone,
-     [[IsGroup: members : AllByRecursion (λ e. IsTrue (set (stream_of e))) history]]. By the law [[law others_empty]] a
+     [[IsGroup: members : AllByRecursion (λ event. IsTrue (set (stream_of event))) history]]. By the law [[law others_empty]] a
      legal history judges the set's streams so where the others have no bytes, [[OthersEmpty: with_others set empty_stream 1 streams]]."""),
     ("whatever these hold and however the threads ran", """the clause is one of every run, and [[IsGroup]] says nothing of
      streams outside the set. The streams are any that the readers told and by which the run's reports are judged: in its history,
@@ -331,10 +333,10 @@ ISOLATION_PHRASES: Rows = [
     ("unless memory ran out", "[[AreIsolated: NoneOutOfMemory set reports]]."),
     ("A stream that cites and imports only its own and the formula's", """[[fn run.alone]], [[HaveReportsAlone: IsClosed
      terms.layout (one s) streams]]."""),
-    ("with the same formula, options, assumptions and number of streams", """the `f` and the `terms` of [[HaveReportsAlone:
-     IsReportAlone f terms s whole end other]], which are [[fn run.alone: terms_of options cube.now formula.now (length
+    ("with the same formula, options, assumptions and number of streams", """the `formula` and the `terms` of [[HaveReportsAlone:
+     IsReportAlone formula terms s whole end other]], which are [[fn run.alone: terms_of options cube.now formula.now (length
      readers.items)]]; of the assumptions the list counts."""),
-    ("one report", """[[HaveReportsAlone: (other : Report) → IsReportAlone f terms s whole end other → other ≡ report]]: each
+    ("one report", """[[HaveReportsAlone: (other : Report) → IsReportAlone formula terms s whole end other → other ≡ report]]: each
      report that the stream may have alone with these bytes and this end. Another run's report of it is such a one, by that run's
      `isolated`."""),
     ("unless memory ran out or a read failed", """[[HaveReportsAlone: ¬ IsOfMemory report]]; and bytes and end are to be the same,
@@ -350,13 +352,13 @@ By the [[fn run.serializable]]; the [[fn run_serial.ordered]] says it of all str
 SERIALIZABLE_PHRASES: Rows = [
     ("The lines of such a group", """of each closed set: [[IsSerializable: (set : ℕ → Bool) → IsClosed terms.layout set
      streams]]."""),
-    ("if no stream retires (deletes for all) a clause that another one found", """[[IsSerializable: FoundStays f terms.layout set
-     h]]: what a stream of the set found live, and isn't its own, the run's history doesn't leave retired,
-     [[FindsKept: FindsKept p final (events.fetch s id (events.live c)) = ¬ Owns p s id → ¬ IsRetired (final id)]]."""),
-    ("have an order", """[[IsSerializable: IsOrdered f terms set streams reports]]: a list of blocks ([[Block]]), whose events
-     are one after the other a legal history, [[IsOrdered: legal : IsLegal f terms.layout (events_in blocks)]]."""),
-    ("one thread that takes whole lines", """a block is one stream's, [[IsBlockWithin: AllByRecursion (λ e. stream_of e ≡
-     block.stream) block.events]], and has all events of one line, [[AreGood: JudgesLine c (standing_of c before) line block
+    ("if no stream retires (deletes for all) a clause that another one found", """[[IsSerializable: FoundStays formula terms.layout set
+     history]]: what a stream of the set found live, and isn't its own, the run's history doesn't leave retired,
+     [[FindsKept: FindsKept layout final (events.fetch s id (events.live clause)) = ¬ Owns layout s id → ¬ IsRetired (final id)]]."""),
+    ("have an order", """[[IsSerializable: IsOrdered formula terms set streams reports]]: a list of blocks ([[Block]]), whose events
+     are one after the other a legal history, [[IsOrdered: legal : IsLegal formula terms.layout (events_in blocks)]]."""),
+    ("one thread that takes whole lines", """a block is one stream's, [[IsBlockWithin: AllByRecursion (λ event. stream_of event ≡
+     block.stream) block.events]], and has all events of one line, [[AreGood: JudgesLine setting (standing_of setting before) line block
      Good]], or of the bad one that ends the stream, [[EndsAfter: (one_block : blocks ≡ block ∷ [])]]. That is what [[fn run_serial]]
      promises, where the lines come by turns: [[fn run_serial.ordered: IsOrderedByTurns formula.now terms streams
      outcome.reports.items]]."""),
@@ -377,11 +379,12 @@ other."""
 
 RIGHT_PHRASES: Rows = [
     ("[USING](USING.md#streams) says which lines are right", """[[IsRightLine]], by the [[Database]] that the lines before it left,
-     from the formula's clauses on: [[AreRight: IsRightLine p s base line × AreRight p s (after_line base line) lines]],
-     [[first_database]]. An addition: [[IsRightAddition: owns : Owns p s id]], [[IsRightAddition: above : base.last < id]],
-     [[IsRightAddition: literals : AllByRecursion (λ l. nat_abs l ≤ p.vars) lits]], [[IsRightAddition: room : length (distinct lits)
-     ≤ base.free]], where what is deleted gives no room back; its hints have clauses there, [[IsRightAddition: named : AllZip (λ h d.
-     base.clauses h ≡ Some d) hints hinted]], which show it, [[IsRightAddition: shown : Accepts (distinct lits) hinted]], and it is no
+     from the formula's clauses on: [[AreRight: IsRightLine layout s base line × AreRight layout s (after_line base line) lines]],
+     [[first_database]]. An addition: [[IsRightAddition: owns : Owns layout s id]], [[IsRightAddition: above : base.last < id]],
+     [[IsRightAddition: literals : AllByRecursion (λ l. nat_abs l ≤ layout.vars) lits]], [[IsRightAddition: room : length (distinct lits)
+     ≤ base.free]], where what is deleted gives no room back; its hints have clauses there, [[IsRightAddition: named : AllZip
+     (λ hint clause. base.clauses hint ≡ Some clause) hints hinted]], which show it, [[IsRightAddition: shown : Accepts (distinct
+     lits) hinted]], and it is no
      tautology ([[Accepts]]). A deletion: [[IsRightDeletion: there : AllByRecursion (λ id. IsSome (base.clauses id)) ids]], each once.
      An import: [[IsRightImport: there : base.clauses id ≡ Some clause]], not the stream's own, with the same literals. The limits are
      [[IsWithinLimits]]. Whether this is LRAT's replay without RAT is for a reader to judge. It is stricter than usual checkers: a
@@ -401,8 +404,8 @@ RIGHT_PHRASES: Rows = [
      a deletion of what another stream never had, which is no right line."""),
     ("no other is", """the law [[law ended_is_right]], [[EndedIsRight: (lines : List StreamLine) × IsRightStream f terms.layout s
      bytes lines]], of a report that the stream may have alone, as that of a run is by its `isolated`."""),
-    ("Streams whose lines have an order in which each is right", """[[IsRightOrder: right : AreRightTogether p (λ t.
-     first_database f p) steps]]: each stream has a database of its own, and another's addition puts its clause there too
+    ("Streams whose lines have an order in which each is right", """[[IsRightOrder: right : AreRightTogether layout (λ t.
+     first_database formula layout) steps]]: each stream has a database of its own, and another's addition puts its clause there too
      ([[beside_line]]). Not all streams that ended have such an order."""),
     ("are reported so too, or stop at a clause of another stream that isn't there yet, or was retired", """the law [[law
      right_together]], [[RightTogether: (report ≡ right_report terms s (lines_by s steps)) ⊎ LacksOfAnother (setting_of terms s)
@@ -417,8 +420,8 @@ RIGHT_PHRASES: Rows = [
      [[law bytes_decide]]."""),
     ("where words, formula and assumptions are accepted", """[[AskWell]]: the words have no fault and a layout, and the files tell a
      formula and assumptions without fault."""),
-    ("a stream begins with right lines, one of which adds the empty clause", """[[IsRightRefutation: right : IsRightBeginning f p s
-     bytes lines]], and [[IsRightRefutation: empty : Any AddsEmpty lines]]. What comes behind them may be anything: the report says
+    ("a stream begins with right lines, one of which adds the empty clause", """[[IsRightRefutation: right : IsRightBeginning
+     formula layout s bytes lines]], and [[IsRightRefutation: empty : Any AddsEmpty lines]]. What comes behind them may be anything: the report says
      at least what they do, by the law [[law right_begins]], [[RightBegins: TellsAtLeast report (right_report terms s lines)]]. Or
      streams have lines with a right order, and one of them adds it ([[AskForRightOrder]])."""),
     ("the status is 0", """the laws [[law right_refutation_says]], [[RightRefutationSays: (status ≡ 0)]], and

@@ -14,16 +14,16 @@ use Rattle.checkpoint.specs.declared.saving.SaveFault.{SaveFault}
 use Rattle.checkpoint.specs.declared.saving.SaveFault.TheVariants as faults
 
 -- the bytes are a text of a formula over the same variables, each clause of which follows from this one
-pub record IsCheckpoint (f : Cnf) (bytes : List ℕ) : Type 0 where
+pub record IsCheckpoint (original : Cnf) (bytes : List ℕ) : Type 0 where
   pub formula : Cnf
   pub text : IsFormulaText bytes formula
-  pub entails : Entails f formula
+  pub entails : Entails original formula
 
 -- a formula may have so many clauses, and of these lengths
 abbrev pub AreWithinLimits : List Clause → Type 0
 AreWithinLimits clauses =
     (length clauses ≤ max_clauses)
-    × AllByRecursion (λ c. length c ≤ max_clause_literals) clauses
+    × AllByRecursion (λ clause. length clause ≤ max_clause_literals) clauses
 
 -- What became of the saving of clauses: their text was written; or nothing, where they are too many
 -- or too long; or, where a write failed, a beginning of the text.
@@ -42,7 +42,8 @@ Saves (Err faults.Unwritten) vars entries before after =
 abbrev pub AreCheckpoints : List ℕ → List (List ℕ) → Type 0
 AreCheckpoints bytes [] = Unit {0}
 AreCheckpoints bytes (next ∷ more) =
-    ((f : Cnf) × IsFormulaText bytes f × IsCheckpoint f next) × AreCheckpoints next more
+    ((formula : Cnf) × IsFormulaText bytes formula × IsCheckpoint formula next)
+    × AreCheckpoints next more
 
 -- the last file of a chain
 abbrev pub last_file : List ℕ → List (List ℕ) → List ℕ
@@ -51,12 +52,12 @@ last_file bytes (next ∷ more) = last_file next more
 
 -- the file is a text of a formula that no assignment satisfies
 abbrev pub IsUnsatisfiableText : List ℕ → Type 0
-IsUnsatisfiableText bytes = (f : Cnf) × IsFormulaText bytes f × IsUnsatisfiable f
+IsUnsatisfiableText bytes = (formula : Cnf) × IsFormulaText bytes formula × IsUnsatisfiable formula
 
 -- the same, where each literal of the cube is true
 abbrev pub IsUnsatisfiableTextUnder : CubeValue → List ℕ → Type 0
 IsUnsatisfiableTextUnder cube bytes =
-    (f : Cnf) × IsFormulaText bytes f × IsUnsatisfiableUnder f cube
+    (formula : Cnf) × IsFormulaText bytes formula × IsUnsatisfiableUnder formula cube
 
 -- Laws
 

@@ -12,14 +12,14 @@ pub record Entry : Type 0 where
 -- a stream's fetches of the identities from id on, one for each reply
 abbrev pub fetches : ℕ → ℕ → List Reply → History
 fetches s id [] = []
-fetches s id (r ∷ replies) = fetch s id r ∷ fetches s (id + 1) replies
+fetches s id (reply ∷ replies) = fetch s id reply ∷ fetches s (id + 1) replies
 
 -- of the replies for the identities from id on, the live ones that are wanted, in order
 abbrev pub wanted_of : (ℕ → Bool) → ℕ → List Reply → List Entry
 wanted_of wants id [] = []
 wanted_of wants id (vacant ∷ replies) = wanted_of wants (id + 1) replies
-wanted_of wants id (live c ∷ replies) =
-    if wants id then record { id = id; clause = c } ∷ wanted_of wants (id + 1) replies
+wanted_of wants id (live clause ∷ replies) =
+    if wants id then record { id = id; clause = clause } ∷ wanted_of wants (id + 1) replies
     else wanted_of wants (id + 1) replies
 wanted_of wants id (retired ∷ replies) = wanted_of wants (id + 1) replies
 
@@ -29,12 +29,12 @@ wanted_clauses wants clauses = wanted_of wants 1 (map live clauses)
 
 -- the clause of a clip, with its identity
 abbrev pub entry_of : Place → ClipValue → Entry
-entry_of p clip = record { id = clip.id; clause = clip_clause p clip }
+entry_of place clip = record { id = clip.id; clause = clip_clause place clip }
 
 -- those of clips, in order
 abbrev pub entries_of : Place → List ClipValue → List Entry
-entries_of p clips = map (entry_of p) clips
+entries_of place clips = map (entry_of place) clips
 
 -- the clauses alone
 abbrev pub clauses_of : List Entry → List Clause
-clauses_of entries = map (λ e. e.clause) entries
+clauses_of entries = map (λ entry. entry.clause) entries

@@ -17,16 +17,16 @@ note id place = if id == place then [] else codes "c id " ++ decimal id ++ codes
 
 -- the literals, each with a space after it, then 0
 unfoldable pub clause_line : Clause → List ℕ
-clause_line c = flat_map (λ l. signed_decimal l ++ codes " ") c ++ codes "0\n"
+clause_line clause = flat_map (λ l. signed_decimal l ++ codes " ") clause ++ codes "0\n"
 
 -- the note of a clause at a place, and its line
 abbrev pub entry_text : ℕ → Entry → List ℕ
-entry_text place e = note e.id place ++ clause_line e.clause
+entry_text place entry = note entry.id place ++ clause_line entry.clause
 
 -- those of clauses at the places from this one on
 abbrev pub entries_text : ℕ → List Entry → List ℕ
 entries_text place [] = []
-entries_text place (e ∷ entries) = entry_text place e ++ entries_text (place + 1) entries
+entries_text place (entry ∷ entries) = entry_text place entry ++ entries_text (place + 1) entries
 
 -- the header, and the text of each clause; the places count from 1
 unfoldable pub formula_text : ℕ → List Entry → List ℕ
@@ -47,4 +47,4 @@ PrintedIsRead = (vars : ℕ) (entries : List Entry) → IsCnf (printed vars entr
 abbrev pub ABeginningIsNoText : Type 0
 ABeginningIsNoText = (vars : ℕ) (entries : List Entry) → IsCnf (printed vars entries)
     → (went rest : List ℕ) → formula_text vars entries ≡ went ++ rest → 1 < length rest
-    → (f : Cnf) → ¬ IsFormulaText went f
+    → (formula : Cnf) → ¬ IsFormulaText went formula

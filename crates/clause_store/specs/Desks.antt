@@ -9,12 +9,12 @@ use Rattle.clause_store.specs.Passes.{store_of}
 use Rattle.clause_store.specs.declared.desk.Desk.{Desk}
 
 abbrev pub desk_place : Desk → Place
-desk_place d = pass_place d.pass.view
+desk_place desk = pass_place desk.pass.view
 
 -- the desk stays at the same store, and its pass moved by these events
-pub record DeskMoves (old new : Desk) (es : History) : Type 0 where
+pub record DeskMoves (old new : Desk) (history : History) : Type 0 where
   pub store : store_of new.pass ≡ store_of old.pass
-  pub moves : PassMoves old.pass.view new.pass.view es
+  pub moves : PassMoves old.pass.view new.pass.view history
 
 -- The laws of a place, for a desk.
 pub desk_none : (d : Desk) → DeskMoves d d []

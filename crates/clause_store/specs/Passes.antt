@@ -21,34 +21,34 @@ pub record PassValue : Type 0 where
 
 -- the store that the pass is of
 abbrev pub store_of : PassValue → StoreValue
-store_of p = record { row = p.row; layout = p.view.caller.layout }
+store_of pass = record { row = pass.row; layout = pass.view.caller.layout }
 
 -- the pass of a stream of this store and formula before anything was seen, and before its first call
-pub record IsOpened (opened : StoreValue) (f : Cnf) (s : ℕ) (p : PassValue) : Type 0 where
-  pub store : store_of p ≡ opened
-  pub caller : p.view.caller ≡ record { formula = f; layout = opened.layout; stream = s }
-  pub seen : p.view.seen ≡ []
-  pub mine : p.view.mine ≡ []
-  pub fair : IsFair p.view
+pub record IsOpened (opened : StoreValue) (formula : Cnf) (s : ℕ) (pass : PassValue) : Type 0 where
+  pub store : store_of pass ≡ opened
+  pub caller : pass.view.caller ≡ record { formula = formula; layout = opened.layout; stream = s }
+  pub seen : pass.view.seen ≡ []
+  pub mine : pass.view.mine ≡ []
+  pub fair : IsFair pass.view
 
 -- what the passes know, in their order
 abbrev pub views : List PassValue → List View
-views ps = map (λ p. p.view) ps
+views passes = map (λ pass. pass.view) passes
 
 -- all are passes of this store
 abbrev pub AreOf : StoreValue → List PassValue → Type 0
-AreOf store ps = AllByRecursion (λ p. store_of p ≡ store) ps
+AreOf store passes = AllByRecursion (λ pass. store_of pass ≡ store) passes
 
 -- all are fair
 abbrev pub AreFair : List View → Type 0
-AreFair vs = AllByRecursion IsFair vs
+AreFair passes = AllByRecursion IsFair passes
 
 -- all have seen one history
 abbrev pub HaveMet : List View → Type 0
-HaveMet vs = (h : History) × AllByRecursion (λ v. v.seen ≡ h) vs
+HaveMet passes = (history : History) × AllByRecursion (λ view. view.seen ≡ history) passes
 
 abbrev pub pass_value : SeatValue → PassValue
-pass_value s = record { row = s.table; view = s.view }
+pass_value seat = record { row = seat.table; view = seat.view }
 
 -- the seat of a pass: between two calls it has no draft, and it is this stream's
 pub record IsAtRest (seat : SeatValue) (stream : ℕ) : Type 0 where

@@ -60,9 +60,9 @@ pub record WasRead {F R : Type 0} (opens : F → Text → R → F → Type 0) (r
 abbrev pub NameUnsatisfiable : (F : Type 0) → (F → Text → List ℕ → F → Type 0) → F → List Text
     → Type 0
 NameUnsatisfiable F Read first words =
-    (formula : Text) × (assume : Option Text) × (bytes : List ℕ) × (f : Cnf) × (after : F)
-    × AskFor words formula assume × Read first formula bytes after × IsFormulaText bytes f
-    × IsUnsatisfiable f
+    (formula_path : Text) × (assume : Option Text) × (bytes : List ℕ) × (formula : Cnf)
+    × (after : F) × AskFor words formula_path assume × Read first formula_path bytes after
+    × IsFormulaText bytes formula × IsUnsatisfiable formula
 
 -- A file was created at the path and kept. Where its device tells its bytes, it was empty first, and
 -- these are all that went to it.
@@ -91,9 +91,9 @@ WasLeftEmpty {F = F} {W = W} creates written path last =
 abbrev pub SavesFrom : {F : Type 0} → (F → Text → List ℕ → F → Type 0)
     → (F → Text → List ℕ → F → Type 0) → F → List Text → Text → List ℕ → List ℕ → F → Type 0
 SavesFrom {F = F} Read Save first words path bytes saved last =
-    (formula : Text) × (assume : Option Text) × (f : Cnf) × (next before : F)
-    × AskFor words formula assume × Read first formula bytes next × IsFormulaText bytes f
-    × Save before path saved last × IsCheckpoint f saved
+    (formula_path : Text) × (assume : Option Text) × (formula : Cnf) × (next before : F)
+    × AskFor words formula_path assume × Read first formula_path bytes next
+    × IsFormulaText bytes formula × Save before path saved last × IsCheckpoint formula saved
 
 -- a run of these words saved a checkpoint at this path
 abbrev pub NameCheckpoint : {F : Type 0} → (F → Text → List ℕ → F → Type 0)
@@ -115,10 +115,11 @@ AreAssumed Read vars before (Some path) cube after =
 abbrev pub NameUnsatisfiableUnder : (F : Type 0) → (F → Text → List ℕ → F → Type 0) → F
     → List Text → Type 0
 NameUnsatisfiableUnder F Read first words =
-    (formula : Text) × (assume : Option Text) × (bytes : List ℕ) × (f : Cnf) × (cube : CubeValue)
-    × (next last : F) × AskFor words formula assume × Read first formula bytes next
-    × IsFormulaText bytes f × AreAssumed Read f.vars next assume cube last
-    × IsUnsatisfiableUnder f cube
+    (formula_path : Text) × (assume : Option Text) × (bytes : List ℕ) × (formula : Cnf)
+    × (cube : CubeValue) × (next last : F) × AskFor words formula_path assume
+    × Read first formula_path bytes next
+    × IsFormulaText bytes formula × AreAssumed Read formula.vars next assume cube last
+    × IsUnsatisfiableUnder formula cube
 
 -- the options of a command line
 abbrev pub options_of : CommandLine → OptionsValue
@@ -126,38 +127,38 @@ options_of given = record { tries = given.tries; lines = given.lines; room = giv
 
 -- the layout of a command line and a formula
 abbrev pub layout_at : CommandLine → Cnf → LayoutValue
-layout_at given f = layout_of (options_of given) f (length given.streams)
+layout_at given formula = layout_of (options_of given) formula (length given.streams)
 
 -- what a run of a command line and a formula is checked by, under a cube
 abbrev pub terms_given : CommandLine → CubeValue → Cnf → TermsValue
-terms_given given cube f = terms_of (options_of given) cube f (length given.streams)
+terms_given given cube formula = terms_of (options_of given) cube formula (length given.streams)
 
 -- the same, of a setup and so many streams
 abbrev pub terms_on : Setup → ℕ → TermsValue
-terms_on p streams = terms_of p.options p.cube.now p.formula.now streams
+terms_on setup streams = terms_of setup.options setup.cube.now setup.formula.now streams
 
 -- what the reports say of the streams: on one thread they have an order of lines, by turns; with two threads for each, each was read to its
 -- end or to a read that failed, and they are judged by their events of one legal history
 abbrev pub AreReported : Bool → Cnf → TermsValue → List Report → List Stream → Type 0
-AreReported true f terms reports streams = IsOrderedByTurns f terms streams reports
-AreReported false f terms reports streams =
+AreReported true formula terms reports streams = IsOrderedByTurns formula terms streams reports
+AreReported false formula terms reports streams =
     AllByRecursion (λ stream. IsSome stream.end) streams
-    × ((h : History) × IsLegal f terms.layout h
-    × AreJudgedIn terms (λ s. true) h 1 streams reports)
+    × ((history : History) × IsLegal formula terms.layout history
+    × AreJudgedIn terms (λ s. true) history 1 streams reports)
 
 -- The reports and the verdict of a formula's streams. `firsts` are the readers of the streams as they were opened, and `lasts` those
 -- in the end, after reads that gave the streams.
-pub record AreChecked {R : Type 0} (reading : SourceView R) (serial : Bool) (f : Cnf)
+pub record AreChecked {R : Type 0} (reading : SourceView R) (serial : Bool) (formula : Cnf)
     (terms : TermsValue) (firsts : List R) (reports : List Report)
     (verdict : Verdict) : Type 0 where
   pub layout : (fault : LayoutFault) → IsFault terms.layout fault → ⊥
   pub lasts : List R
   pub reported : StandsOnStreams (tellings reading firsts lasts)
-      (AreReported serial f terms reports)
+      (AreReported serial formula terms reports)
   pub read : AreRead R reading.reads firsts lasts reported.streams
   pub is_verdict : verdict ≡ verdict_of reports
-  pub sound : verdict ≡ Unsatisfiable → IsUnsatisfiable f
-  pub sound_under : verdict ≡ UnsatisfiableUnder → IsUnsatisfiableUnder f terms.cube
+  pub sound : verdict ≡ Unsatisfiable → IsUnsatisfiable formula
+  pub sound_under : verdict ≡ UnsatisfiableUnder → IsUnsatisfiableUnder formula terms.cube
 
 -- what is known of readers, as their type says it
 abbrev pub readers_view : {R : Type 0} → Source.Ghosts R → SourceView R
@@ -214,12 +215,12 @@ WasSavedIn files = WasSaved files.creates files.written files.keeps
 
 -- the formula whose text was read of the file at a path, the first to be opened, and the files after that
 abbrev pub IsFormulaAt : (files : FilesView) → Text → Cnf → files.State → Type 0
-IsFormulaAt files path f after =
-    (bytes : List ℕ) × WasReadIn files files.first path bytes after × IsFormulaText bytes f
+IsFormulaAt files path formula after =
+    (bytes : List ℕ) × WasReadIn files files.first path bytes after × IsFormulaText bytes formula
 
 -- the path that is lent, if any
 abbrev pub path_of : Option (Bor Text) → Option Text
-path_of path = option_map (λ p. p.now) path
+path_of path = option_map (λ lent. lent.now) path
 
 -- the path of the assumed literals that the words have, if any
 abbrev pub assumed_at : CommandLine → Option Text
@@ -263,15 +264,15 @@ pub record IsOutcome (files : FilesView) (words : List Text) (reports : List Rep
 -- the files.
 abbrev pub LeavesCheckpoint : (files : FilesView) → Option Text → Cnf → Verdict
     → Option SaveFault → files.State → files.State → Type 0
-LeavesCheckpoint files None f verdict unsaved before after =
+LeavesCheckpoint files None formula verdict unsaved before after =
     (unsaved ≡ None) × (after ≡ before)
-LeavesCheckpoint files (Some path) f Unsatisfiable unsaved before after =
+LeavesCheckpoint files (Some path) formula Unsatisfiable unsaved before after =
     (unsaved ≡ None)
     × ((output : files.Output) × files.creates before path output after
     × ForSome (files.written output) (λ all. all ≡ []))
-LeavesCheckpoint files (Some path) f verdict None before after =
-    (bytes : List ℕ) × WasSavedIn files before path bytes after × IsCheckpoint f bytes
-LeavesCheckpoint files (Some path) f verdict (Some fault) before after =
+LeavesCheckpoint files (Some path) formula verdict None before after =
+    (bytes : List ℕ) × WasSavedIn files before path bytes after × IsCheckpoint formula bytes
+LeavesCheckpoint files (Some path) formula verdict (Some fault) before after =
     (output : files.Output) × (next : files.State) × files.creates before path output next
     × ((fault ≡ saves.Unwritten) ⊎ (after ≡ next))
 
@@ -354,13 +355,13 @@ IsCreateCause may_refuse_new asked fault = ⊥
 
 -- why streams weren't checked: there is no layout; or there is one, and a thread wasn't started, or what it sent had no end
 abbrev pub IsRunCause : Bool → LayoutValue → CommandFault → Type 0
-IsRunCause serial p (faults.Layout fault) = IsFault p fault
-IsRunCause serial p (faults.Spawn stream) =
-    (serial ≡ false) × IsStream p stream × ((fault : LayoutFault) → IsFault p fault → ⊥)
-IsRunCause serial p (faults.Ring stream) =
-    (serial ≡ false) × IsStream p stream × ((fault : LayoutFault) → IsFault p fault → ⊥)
-IsRunCause serial p faults.Memory = Unit {0}
-IsRunCause serial p fault = ⊥
+IsRunCause serial layout (faults.Layout fault) = IsFault layout fault
+IsRunCause serial layout (faults.Spawn stream) =
+    (serial ≡ false) × IsStream layout stream × ((fault : LayoutFault) → IsFault layout fault → ⊥)
+IsRunCause serial layout (faults.Ring stream) =
+    (serial ≡ false) × IsStream layout stream × ((fault : LayoutFault) → IsFault layout fault → ⊥)
+IsRunCause serial layout faults.Memory = Unit {0}
+IsRunCause serial layout fault = ⊥
 
 -- the cause of a fault of the formula; or, of a formula that was read, of a fault of the assumed literals; or, of both that were read,
 -- of a fault of the opening of the streams or of the run; or, of streams that were opened and have a layout, of a fault of the
@@ -368,15 +369,15 @@ IsRunCause serial p fault = ⊥
 abbrev pub IsCauseAt : FilesView → CommandLine → CommandFault → Type 0
 IsCauseAt files given fault =
     IsReadCause files given.formula.now fault
-    ⊎ ((f : Cnf) × (next : files.State) × IsFormulaAt files given.formula.now f next
-    × (IsAssumeCause files f.vars next (assumed_at given) fault
+    ⊎ ((formula : Cnf) × (next : files.State) × IsFormulaAt files given.formula.now formula next
+    × (IsAssumeCause files formula.vars next (assumed_at given) fault
     ⊎ ((cube : CubeValue) × (later : files.State)
-    × AreAssumed (WasReadIn files) f.vars next (assumed_at given) cube later
+    × AreAssumed (WasReadIn files) formula.vars next (assumed_at given) cube later
     × (IsOpenCause files.opens files.may_refuse later given.streams fault
-    ⊎ (IsRunCause given.serial (layout_at given f) fault
+    ⊎ (IsRunCause given.serial (layout_at given formula) fault
     ⊎ ((readers : List files.Reader) × (last : files.State)
     × AreOpened files.opens later given.streams readers last
-    × ((other : LayoutFault) → IsFault (layout_at given f) other → ⊥)
+    × ((other : LayoutFault) → IsFault (layout_at given formula) other → ⊥)
     × IsCreateCause files.may_refuse_new (checkpoint_at given) fault))))))
 
 -- Why there is no outcome, by the words and the files.

@@ -27,12 +27,12 @@ to_write verdict output = output
 -- kept, to which a checkpoint was written, or a fault.
 abbrev pub WritesCheckpoint : {W : Type 0} → (W → Option (List ℕ)) → Cnf → Verdict → Option W
     → Result (Option W) SaveFault → Type 0
-WritesCheckpoint written f verdict None saved = saved ≡ Ok None
-WritesCheckpoint written f Unsatisfiable (Some first) saved = saved ≡ Ok None
-WritesCheckpoint written f verdict (Some first) (Ok None) = ⊥
-WritesCheckpoint written f verdict (Some first) (Ok (Some last)) =
-    (bytes : List ℕ) × Appends (written first) (written last) bytes × IsCheckpoint f bytes
-WritesCheckpoint written f verdict (Some first) (Err fault) = Unit {0}
+WritesCheckpoint written formula verdict None saved = saved ≡ Ok None
+WritesCheckpoint written formula Unsatisfiable (Some first) saved = saved ≡ Ok None
+WritesCheckpoint written formula verdict (Some first) (Ok None) = ⊥
+WritesCheckpoint written formula verdict (Some first) (Ok (Some last)) =
+    (bytes : List ℕ) × Appends (written first) (written last) bytes × IsCheckpoint formula bytes
+WritesCheckpoint written formula verdict (Some first) (Err fault) = Unit {0}
 
 -- what was to be kept was kept, or that failed; else the files stay as they are
 abbrev pub KeepsCheckpoint : {F W : Type 0} → (F → W → F → Type 0) → F → Result (Option W) SaveFault

@@ -128,7 +128,7 @@ pub fn check_asked<T: Threads + Wait + Sync, C: Clock + Sync, F: Files>(
     let output = create_checkpoint(files, line.checkpoint)?;
     let watched = line.watch.then_some(&*files);
     let checked = check_streams(threads, clock, alloc, &setup, watched, readers, output)?;
-    let Checked {
+    let CheckedRun {
         reports,
         verdict,
         saved,
@@ -345,7 +345,7 @@ struct Setup<'a> {
 /// What the checking of the streams found, and what it made of the checkpoint's file: one to be kept, where a checkpoint was written
 /// to it.
 #[derive(Drop)]
-struct Checked<W: Drop> {
+struct CheckedRun<W: Drop> {
     reports: Vec<Report>,
     verdict: Verdict,
     saved: Result<Option<W>, SaveFault>,
@@ -361,7 +361,7 @@ fn check_streams<T: Threads + Wait + Sync, C: Clock + Sync, F: Files>(
     watched: Option<&F>,
     readers: Vec<F::Input>,
     output: Option<F::Output>,
-) -> Result<Checked<F::Output>, CommandFault>
+) -> Result<CheckedRun<F::Output>, CommandFault>
     requires running { AllByRecursion (λ r. F.Input.Source.has_failed r ≡ false) readers.items }
     requires created { ForSome output (λ sink. F.Output.Sink.has_failed sink ≡ false) }
     ensures checked { let terms = terms_on setup.now (length readers.items) in
@@ -388,7 +388,7 @@ fn check_serially<W: Wait, C: Clock + Sync, F: Files>(
     watched: Option<&F>,
     readers: Vec<F::Input>,
     output: Option<F::Output>,
-) -> Result<Checked<F::Output>, CommandFault>
+) -> Result<CheckedRun<F::Output>, CommandFault>
     requires running { AllByRecursion (λ r. F.Input.Source.has_failed r ≡ false) readers.items }
     requires created { ForSome output (λ sink. F.Output.Sink.has_failed sink ≡ false) }
     ensures checked { let terms = terms_on setup.now (length readers.items) in
@@ -423,7 +423,7 @@ fn check_serially<W: Wait, C: Clock + Sync, F: Files>(
             Err(fault) => Err(fault),
         },
     };
-    Ok(Checked {
+    Ok(CheckedRun {
         reports,
         verdict,
         saved,
@@ -439,7 +439,7 @@ fn check_in_threads<T: Threads + Wait + Sync, C: Clock + Sync, F: Files>(
     watched: Option<&F>,
     readers: Vec<F::Input>,
     output: Option<F::Output>,
-) -> Result<Checked<F::Output>, CommandFault>
+) -> Result<CheckedRun<F::Output>, CommandFault>
     requires running { AllByRecursion (λ r. F.Input.Source.has_failed r ≡ false) readers.items }
     requires created { ForSome output (λ sink. F.Output.Sink.has_failed sink ≡ false) }
     ensures checked { let terms = terms_on setup.now (length readers.items) in
@@ -478,7 +478,7 @@ fn check_in_threads<T: Threads + Wait + Sync, C: Clock + Sync, F: Files>(
             }
         }
     };
-    Ok(Checked {
+    Ok(CheckedRun {
         reports,
         verdict,
         saved,

@@ -10,15 +10,16 @@ use Rattle.dimacs.specs.Lines.{token_lines}
 -- The bytes are a text of the formula. The first line of tokens is the header, and the tokens of the
 -- others are the literals of the clauses as they are written, each clause with a 0 after it. The
 -- formula has each literal of a clause once.
-pub record IsFormulaText (bytes : List ℕ) (f : Cnf) : Type 0 where
+pub record IsFormulaText (bytes : List ℕ) (formula : Cnf) : Type 0 where
   pub lines : List (List (List ℕ))
   pub header : token_lines bytes
-      ≡ (codes "p" ∷ codes "cnf" ∷ decimal f.vars ∷ decimal (length f.clauses) ∷ []) ∷ lines
+      ≡ (codes "p" ∷ codes "cnf" ∷ decimal formula.vars ∷ decimal (length formula.clauses) ∷ [])
+      ∷ lines
   pub written : List (List ℤ)
   pub tokens : flat_map (λ line. line) lines
       ≡ map signed_decimal (flat_map (λ clause. clause ++ pos 0 ∷ []) written)
-  pub literals : AllByRecursion (AllByRecursion (IsLiteral f.vars)) written
+  pub literals : AllByRecursion (AllByRecursion (IsLiteral formula.vars)) written
   pub sizes : AllByRecursion (λ clause. length clause ≤ max_clause_literals) written
-  pub few_variables : f.vars ≤ max_variable
-  pub few_clauses : length f.clauses ≤ max_clauses
-  pub clauses : f.clauses ≡ map distinct written
+  pub few_variables : formula.vars ≤ max_variable
+  pub few_clauses : length formula.clauses ≤ max_clauses
+  pub clauses : formula.clauses ≡ map distinct written

@@ -11,7 +11,7 @@ use Rattle.dimacs.specs.Numerals.{is_count, value, number_of}
 
 -- the token spells this count
 abbrev pub IsCount : List ℕ → ℕ → Type 0
-IsCount text n = IsTrue (is_count text) × (value text ≡ n)
+IsCount text count = IsTrue (is_count text) × (value text ≡ count)
 
 -- the header's tokens: `p`, `cnf`, the number of variables, the number of clauses
 abbrev pub IsHeader : List (List ℕ) → ℕ → ℕ → Type 0
@@ -52,8 +52,8 @@ ended literals = literals ++ pos 0 ∷ []
 -- clause has not ended.
 pub record TokensSpell (vars count : ℕ) (tokens : List Token) (closed : List (List ℤ))
     (begun : List ℤ) : Type 0 where
-  pub numbers : map (λ (t : Token). number_of t.text) tokens
-      ≡ map (λ (z : ℤ). Some z) (flat_map ended closed ++ begun)
+  pub numbers : map (λ (token : Token). number_of token.text) tokens
+      ≡ map (λ (number : ℤ). Some number) (flat_map ended closed ++ begun)
   pub closed_within : AllByRecursion (IsWritten vars) closed
   pub begun_within : IsWritten vars begun
   pub closed_count : length closed ≤ count
@@ -74,9 +74,9 @@ AreSetsOf [] (clause ∷ clauses) = ⊥
 AreSetsOf (literals ∷ rest) [] = ⊥
 
 -- the tokens after the header are the formula's clauses
-pub record AreClauses (f : Cnf) (vars count : ℕ) (tokens : List Token) : Type 0 where
+pub record AreClauses (formula : Cnf) (vars count : ℕ) (tokens : List Token) : Type 0 where
   pub written : List (List ℤ)
-  pub vars_are : f.vars ≡ vars
-  pub count_is : length f.clauses ≡ count
+  pub vars_are : formula.vars ≡ vars
+  pub count_is : length formula.clauses ≡ count
   pub read : TokensSpell vars count tokens written []
-  pub sets : AreSetsOf written f.clauses
+  pub sets : AreSetsOf written formula.clauses

@@ -4,11 +4,11 @@ use Rattle.std.specs.List.{slice_split}
 
 -- LF
 abbrev pub ends_line : ℕ → Bool
-ends_line b = b == 10
+ends_line byte = byte == 10
 
 -- space, tab, CR or LF
 abbrev pub is_separator : ℕ → Bool
-is_separator b = b == 32 || b == 9 || b == 13 || b == 10
+is_separator byte = byte == 32 || byte == 9 || byte == 13 || byte == 10
 
 -- a list without an element
 abbrev pub is_empty : {X : Type 0} → List X → Bool
@@ -22,25 +22,25 @@ runs line = filter (λ run. not (is_empty run)) (slice_split is_separator line)
 -- the first byte is `c`
 abbrev pub is_comment : List ℕ → Bool
 is_comment [] = false
-is_comment (b ∷ bs) = b == 99
+is_comment (byte ∷ bytes) = byte == 99
 
 -- The tokens of each line that is no comment and has some; a line ends at LF.
 abbrev pub token_lines : List ℕ → List (List (List ℕ))
 token_lines bytes =
     filter (λ tokens. not (is_empty tokens))
-    (map runs (filter (λ line. not (is_comment line)) (slice_split (λ b. b == 10) bytes)))
+    (map runs (filter (λ line. not (is_comment line)) (slice_split (λ byte. byte == 10) bytes)))
 
 -- a line with its number and its tokens
 pub record Line : Type 0 where
   pub number : ℕ
   pub tokens : List (List ℕ)
 
--- the lines that are no comments and hold a token, where the first line has number n
+-- the lines that are no comments and hold a token, where the first line has this number
 abbrev pub lines_from : ℕ → List (List ℕ) → List Line
-lines_from n [] = []
-lines_from n (line ∷ lines) =
-    if is_comment line || is_empty (runs line) then lines_from (n + 1) lines
-    else record { number = n; tokens = runs line } ∷ lines_from (n + 1) lines
+lines_from number [] = []
+lines_from number (line ∷ lines) =
+    if is_comment line || is_empty (runs line) then lines_from (number + 1) lines
+    else record { number = number; tokens = runs line } ∷ lines_from (number + 1) lines
 
 -- those of a whole file
 abbrev pub lines_of : List ℕ → List Line
@@ -53,7 +53,7 @@ pub record Token : Type 0 where
 
 -- the tokens of a line, each with the line's number
 abbrev pub tokens_of : Line → List Token
-tokens_of l = map (λ text. record { line = l.number; text = text }) l.tokens
+tokens_of line = map (λ text. record { line = line.number; text = text }) line.tokens
 
 -- the tokens of lines, in order
 abbrev pub all_tokens : List Line → List Token

@@ -3,17 +3,17 @@ use Rattle.std.specs.Prelude.{ℕ, ◌+◌, ◌-◌, ◌*◌, Bool, true, false,
 
 -- a byte `0` to `9`
 abbrev pub is_digit : ℕ → Bool
-is_digit b = nat_le 48 b && nat_le b 57
+is_digit byte = nat_le 48 byte && nat_le byte 57
 
 -- digits alone, or nothing
 abbrev pub all_digits : List ℕ → Bool
 all_digits [] = true
-all_digits (b ∷ bs) = is_digit b && all_digits bs
+all_digits (byte ∷ bytes) = is_digit byte && all_digits bytes
 
--- the number that digits spell after digits that spell n
+-- the number that digits spell after digits that spell another
 abbrev pub value_after : ℕ → List ℕ → ℕ
-value_after n [] = n
-value_after n (b ∷ bs) = value_after (10 * n + (b - 48)) bs
+value_after number [] = number
+value_after number (byte ∷ bytes) = value_after (10 * number + (byte - 48)) bytes
 
 -- the number that digits spell, in decimal
 abbrev pub value : List ℕ → ℕ
@@ -22,13 +22,13 @@ value text = value_after 0 text
 -- digits of which the first is 1 to 9
 abbrev pub is_numeral : List ℕ → Bool
 is_numeral [] = false
-is_numeral (b ∷ bs) = nat_le 49 b && nat_le b 57 && all_digits bs
+is_numeral (byte ∷ bytes) = nat_le 49 byte && nat_le byte 57 && all_digits bytes
 
 -- the one digit 0
 abbrev pub is_zero : List ℕ → Bool
 is_zero [] = false
-is_zero (b ∷ []) = b == 48
-is_zero (b ∷ c ∷ bs) = false
+is_zero (byte ∷ []) = byte == 48
+is_zero (byte ∷ next ∷ bytes) = false
 
 -- what the header's two counts look like
 abbrev pub is_count : List ℕ → Bool
@@ -37,8 +37,8 @@ is_count text = is_zero text || is_numeral text
 -- the number that a minus sign and a numeral spell. None: it isn't spelled so, as `-0` isn't
 abbrev pub negative_of : List ℕ → Option ℤ
 negative_of [] = None
-negative_of (b ∷ digits) =
-    if b == 45 && is_numeral digits then Some (neg_ℤ (pos (value digits))) else None
+negative_of (byte ∷ digits) =
+    if byte == 45 && is_numeral digits then Some (neg_ℤ (pos (value digits))) else None
 
 -- the number that a token of a clause spells. None: no clause may have this token
 unfoldable pub number_of : List ℕ → Option ℤ

@@ -12,52 +12,52 @@ use Rattle.dimacs.specs.declared.fault.DimacsFault.{DimacsFault}
 use Rattle.lrup_model.specs.Clause.{Has, EachOnce}
 use Rattle.lrup_model.specs.Formula.{Cnf, max_clauses}
 
--- the lines of what is left at the start of line n
+-- the lines of what is left at the start of a line, which has this number
 unfoldable pub lines_at_start : ℕ → List ℕ → List Line
-lines_at_start n bytes = lines_from n (slice_split ends_line bytes)
+lines_at_start number bytes = lines_from number (slice_split ends_line bytes)
 
--- the lines of what is left inside line n, which is no comment, and where no token has begun
+-- the lines of what is left inside the line of this number, which is no comment, and where no token has begun
 abbrev pub lines_inside : ℕ → List (List ℕ) → List Line
-lines_inside n [] = []
-lines_inside n (line ∷ lines) =
-    if is_empty (runs line) then lines_from (n + 1) lines
-    else record { number = n; tokens = runs line } ∷ lines_from (n + 1) lines
+lines_inside number [] = []
+lines_inside number (line ∷ lines) =
+    if is_empty (runs line) then lines_from (number + 1) lines
+    else record { number = number; tokens = runs line } ∷ lines_from (number + 1) lines
 
 unfoldable pub lines_at : ℕ → List ℕ → List Line
-lines_at n bytes = lines_inside n (slice_split ends_line bytes)
+lines_at number bytes = lines_inside number (slice_split ends_line bytes)
 
 unfoldable pub tokens_at : ℕ → List ℕ → List Token
-tokens_at n bytes = all_tokens (lines_at n bytes)
+tokens_at number bytes = all_tokens (lines_at number bytes)
 
 -- the bytes up to the next separator, and those from it on
 unfoldable pub first_run : List ℕ → List ℕ
 first_run [] = []
-first_run (b ∷ bs) = if is_separator b then [] else b ∷ first_run bs
+first_run (byte ∷ bytes) = if is_separator byte then [] else byte ∷ first_run bytes
 
 unfoldable pub after_run : List ℕ → List ℕ
 after_run [] = []
-after_run (b ∷ bs) = if is_separator b then b ∷ bs else after_run bs
+after_run (byte ∷ bytes) = if is_separator byte then byte ∷ bytes else after_run bytes
 
--- n is what a reader keeps of the number m: the same, or with it above every variable
+-- what a reader keeps of a number: the same, or with it above every variable
 abbrev pub IsCapped : ℕ → ℕ → Type 0
-IsCapped n m = (n ≡ m) ⊎ ((max_variable < n) × (max_variable < m))
+IsCapped kept number = (kept ≡ number) ⊎ ((max_variable < kept) × (max_variable < number))
 
 -- the text begins with a numeral, up to the next separator: what is kept of its number, and what is left after it
-pub record ReadsNumeral (text : List ℕ) (n : ℕ) (rest : List ℕ) : Type 0 where
+pub record ReadsNumeral (text : List ℕ) (kept : ℕ) (rest : List ℕ) : Type 0 where
   pub numeral : is_numeral (first_run text) ≡ true
-  pub number : IsCapped n (value (first_run text))
-  pub positive : 0 < n
+  pub number : IsCapped kept (value (first_run text))
+  pub positive : 0 < kept
   pub rest_is : rest ≡ after_run text
 
 -- the run and those after it, none where it is empty
 abbrev pub with_run : List ℕ → List (List ℕ) → List (List ℕ)
 with_run [] later = []
-with_run (b ∷ bs) later = (b ∷ bs) ∷ later
+with_run (byte ∷ bytes) later = (byte ∷ bytes) ∷ later
 
 -- what is kept of a count, where the token spells one
-pub record ReadsCount (text : List ℕ) (n : ℕ) : Type 0 where
+pub record ReadsCount (text : List ℕ) (kept : ℕ) : Type 0 where
   pub count : is_count text ≡ true
-  pub number : IsCapped n (value text)
+  pub number : IsCapped kept (value text)
 
 -- a header within the limits
 pub record IsSmallHeader (tokens : List (List ℕ)) (vars count : ℕ) : Type 0 where
@@ -67,28 +67,28 @@ pub record IsSmallHeader (tokens : List (List ℕ)) (vars count : ℕ) : Type 0 
 
 -- the fault of a line that begins with its first token, whatever comes after it
 abbrev pub IsLineFault : List (List ℕ) → DimacsFault → Type 0
-IsLineFault tokens fault = (n : ℕ) (lines : List Line)
-    → IsHeaderFault fault (record { number = n; tokens = tokens } ∷ lines)
+IsLineFault tokens fault = (number : ℕ) (lines : List Line)
+    → IsHeaderFault fault (record { number = number; tokens = tokens } ∷ lines)
 
 -- What was made of these tokens, which have no fault: the formula's clauses, and the set and the count of the literals of
 -- the clause begun.
-pub record IsBuilt (vars count : ℕ) (tokens : List Token) (f : Cnf) (clause : List ℤ)
+pub record IsBuilt (vars count : ℕ) (tokens : List Token) (formula : Cnf) (clause : List ℤ)
     (written : ℕ) : Type 0 where
   pub closed : List (List ℤ)
   pub begun : List ℤ
   pub read : TokensSpell vars count tokens closed begun
-  pub vars_are : f.vars ≡ vars
-  pub sets : AreSetsOf closed f.clauses
+  pub vars_are : formula.vars ≡ vars
+  pub sets : AreSetsOf closed formula.clauses
   pub set : IsSetOf begun clause
   pub written_is : length begun ≡ written
   pub size : length clause ≤ written
 
 -- The clause with one literal more: at its end, if it is new.
-pub record AddsLiteral (old new : List ℤ) (l : ℤ) : Type 0 where
-  pub members : (m : ℤ) → Has new m ↔ (Has old m ⊎ (l ≡ m))
+pub record AddsLiteral (old new : List ℤ) (literal : ℤ) : Type 0 where
+  pub members : (other : ℤ) → Has new other ↔ (Has old other ⊎ (literal ≡ other))
   pub each_once : EachOnce new
   pub size : length new ≤ length old + 1
-  pub order : (Has old l × (new ≡ old)) ⊎ ((¬ Has old l) × (new ≡ old ++ l ∷ []))
+  pub order : (Has old literal × (new ≡ old)) ⊎ ((¬ Has old literal) × (new ≡ old ++ literal ∷ []))
 
 -- The formula with one clause more.
 abbrev pub AddsClause : Cnf → Cnf → List ℤ → Type 0
@@ -97,7 +97,7 @@ AddsClause old new clause = (new.vars ≡ old.vars) × (new.clauses ≡ old.clau
 -- a token begins here, or the end is reached
 abbrev pub IsAtToken : List ℕ → Type 0
 IsAtToken [] = Unit {0}
-IsAtToken (b ∷ bs) = is_separator b ≡ false
+IsAtToken (byte ∷ bytes) = is_separator byte ≡ false
 
 -- the token is the first of the old ones
 abbrev pub IsFirstToken : List ℕ → ℕ → List Token → List Token → Type 0
@@ -109,7 +109,8 @@ FindsNext vars line old new End = old ≡ []
 FindsNext vars line old new Bad = (text : List ℕ) × (later : List Token)
     × IsFirstToken text line old later × (number_of text ≡ None)
 FindsNext vars line old new Range = (text : List ℕ) × (later : List Token)
-    × IsFirstToken text line old later × (z : ℤ) × (number_of text ≡ Some z) × (vars < nat_abs z)
+    × IsFirstToken text line old later × (number : ℤ) × (number_of text ≡ Some number)
+    × (vars < nat_abs number)
 FindsNext vars line old new Zero =
     (text : List ℕ) × IsFirstToken text line old new × (number_of text ≡ Some (pos 0))
 FindsNext vars line old new (Literal l) =

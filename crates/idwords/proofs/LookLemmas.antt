@@ -10,7 +10,7 @@ use Rattle.lrup_model.specs.Formula.{Cnf}
 use Rattle.lrup_model.specs.Layout.{LayoutValue, IsIdentity}
 use Rattle.lrup_model.specs.Event as events
 use Rattle.lrup_model.specs.Event.{Event, Reply, History, stream_of}
-use Rattle.lrup_model.specs.Running.{size_of}
+use Rattle.lrup_model.specs.RunningLemmas.{size_of}
 use Rattle.lrup_model.specs.State.{State, Slot, absent, live, retired, after, state, Answers}
 use Rattle.lrup_model.specs.History.{IsAllowed}
 use Rattle.lrup_model.specs.Place.{Kept, literals_in}

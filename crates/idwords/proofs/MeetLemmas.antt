@@ -14,7 +14,7 @@ use Rattle.lrup_model.specs.History.{IsLegal}
 use Rattle.lrup_model.specs.Place.{KeepsSpelt}
 use Rattle.lrup_model.specs.Pass.{Spelling, kept_in, IsFair, PassMoves}
 use Rattle.lrup_model.specs.Laws.{learned}
-use Rattle.lrup_model.specs.Running.{own-append}
+use Rattle.lrup_model.specs.RunningLemmas.{own-append}
 use Rattle.lrup_model.specs.HistoryLemmas.{IsLegal-front}
 use Rattle.lrup_model.specs.PassLemmas.{moves_learn}
 use Rattle.lrup_model.specs.ListLemmas.{All-front}

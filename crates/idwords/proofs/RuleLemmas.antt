@@ -14,7 +14,7 @@ use Rattle.lrup_model.specs.History.{IsAllowed, IsLegal}
 use Rattle.lrup_model.specs.Place.{Kept, KeepsSpelt}
 use Rattle.lrup_model.specs.Pass.{Spelling, kept_in, IsSpelt, IsFair}
 use Rattle.lrup_model.specs.Laws.{stepped}
-use Rattle.lrup_model.specs.Running.{size_of, run-append, legal-append, own-append, spent-append}
+use Rattle.lrup_model.specs.RunningLemmas.{size_of, run-append, legal-append, own-append, spent-append}
 use Rattle.lrup_model.specs.HistoryLemmas.{IsLegal-front, own-mine, own-other, spent-own, spent_one}
 use Rattle.lrup_model.specs.PassLemmas.{moves_step}
 use Rattle.idwords.specs.Words.{word_of, LiesAt}

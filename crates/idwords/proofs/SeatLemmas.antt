@@ -10,7 +10,7 @@ use Rattle.lrup_model.specs.Event as events
 use Rattle.lrup_model.specs.Event.{Event, History, stream_of, spent}
 use Rattle.lrup_model.specs.Place.{Caller}
 use Rattle.lrup_model.specs.Pass.{IsFair, PassMoves}
-use Rattle.lrup_model.specs.Running.{size_of, spent-append}
+use Rattle.lrup_model.specs.RunningLemmas.{size_of, spent-append}
 use Rattle.lrup_model.specs.HistoryLemmas.{spent_one}
 use Rattle.lrup_model.specs.declared.clause_map.Published.{Published}
 use Rattle.lrup_model.specs.declared.clause_map.Published.TheVariants as publishing

@@ -15,7 +15,7 @@ use Rattle.lrup_model.specs.State.{State, Slot, absent, live, retired, retire_sl
 use Rattle.lrup_model.specs.History.{LegalFrom, IsLegal}
 use Rattle.lrup_model.specs.Place.{Kept, KeepsSpelt}
 use Rattle.lrup_model.specs.Pass.{Spelling, kept_in, IsOncePerIdentity, Spells, IsSpelt}
-use Rattle.lrup_model.specs.Running.{size_of, spent-sizes, own-append}
+use Rattle.lrup_model.specs.RunningLemmas.{size_of, spent-sizes, own-append}
 use Rattle.lrup_model.specs.HistoryLemmas.{put, put-same, put-other, own-mine, own-own, legal-front, opening-formula, opening-above}
 use Rattle.lrup_model.specs.HistoryLemmas.{opening-none}
 use Rattle.lrup_model.specs.OwnerLemmas.{owned}

@@ -21,73 +21,75 @@ pub record Part : Type 0 where
   pub draft : Clause
 
 abbrev pub part_stream : Part → ℕ
-part_stream v = v.view.caller.stream
+part_stream part = part.view.caller.stream
 
 -- the part's plan is the row's, the log begins with what it has seen, its calls are its stream's in both, its clauses are spelt where the log has them,
 -- and its draft lies from its top on, inside its stream's room
-pub record Stands (f : Cnf) (p : LayoutValue) (log : History) (words : List ℕ)
-    (v : Part) : Type 0 where
-  pub formula : v.view.caller.formula ≡ f
-  pub layout : v.view.caller.layout ≡ p
-  pub stream : IsStream p (part_stream v)
-  pub begins : (more : History) × (log ≡ v.view.seen ++ more)
-  pub seen : own v.view.seen (part_stream v) ≡ v.view.mine
-  pub mine : own log (part_stream v) ≡ v.view.mine
-  pub spelt : v.view.spelt ≡ spelling_of f p v.view.seen
-  pub top : v.top ≡ top_after p (part_stream v) v.view.mine
-  pub room : spent (part_stream v) v.view.mine + length v.draft ≤ p.room
-  pub draft : LiesAt words v.top v.draft
+pub record Stands (run_formula : Cnf) (run_layout : LayoutValue) (log : History) (words : List ℕ)
+    (part : Part) : Type 0 where
+  pub formula : part.view.caller.formula ≡ run_formula
+  pub layout : part.view.caller.layout ≡ run_layout
+  pub stream : IsStream run_layout (part_stream part)
+  pub begins : (more : History) × (log ≡ part.view.seen ++ more)
+  pub seen : own part.view.seen (part_stream part) ≡ part.view.mine
+  pub mine : own log (part_stream part) ≡ part.view.mine
+  pub spelt : part.view.spelt ≡ spelling_of run_formula run_layout part.view.seen
+  pub top : part.top ≡ top_after run_layout (part_stream part) part.view.mine
+  pub room : spent (part_stream part) part.view.mine + length part.draft ≤ run_layout.room
+  pub draft : LiesAt words part.top part.draft
 
 abbrev pub AllParts : (Part → Type 0) → List (List Part) → Type 0
-AllParts P views = AllByRecursion (λ vs. AllByRecursion P vs) views
+AllParts P views = AllByRecursion (λ parts. AllByRecursion P parts) views
 
 -- how many of the parts are this stream's
 abbrev pub count_in : ℕ → List Part → ℕ
 count_in s [] = 0
-count_in s (v ∷ vs) = (if part_stream v == s then 1 else 0) + count_in s vs
+count_in s (part ∷ parts) = (if part_stream part == s then 1 else 0) + count_in s parts
 
 abbrev pub times : ℕ → List (List Part) → ℕ
 times s [] = 0
-times s (vs ∷ views) = count_in s vs + times s views
+times s (parts ∷ views) = count_in s parts + times s views
 
 -- the formula and the layout are of one run
-pub record IsPlan (f : Cnf) (p : LayoutValue) : Type 0 where
-  pub formula : IsCnf f
-  pub layout : IsLayout p
-  pub fits : Fits p f
+pub record IsPlan (run_formula : Cnf) (run_layout : LayoutValue) : Type 0 where
+  pub formula : IsCnf run_formula
+  pub layout : IsLayout run_layout
+  pub fits : Fits run_layout run_formula
 
 -- with this history, in which each part stands: the words spell its map, and the literals of each clause
-pub record Keeps (f : Cnf) (p : LayoutValue) (log : History) (words : List ℕ)
+pub record Keeps (formula : Cnf) (layout : LayoutValue) (log : History) (words : List ℕ)
     (views : List (List Part)) : Type 0 where
-  pub plan : IsPlan f p
-  pub legal : IsLegal f p log
-  pub count : length words ≡ row_words p
+  pub plan : IsPlan formula layout
+  pub legal : IsLegal formula layout log
+  pub count : length words ≡ row_words layout
   pub first : slice_index words 0 ≡ 0
-  pub slots : (id : ℕ) → IsIdentity p id
-      → slice_index words id ≡ word_of (state f log id) (kept_in (spelling_of f p log) id)
-  pub texts : (id : ℕ) (kept : Kept) → kept_in (spelling_of f p log) id ≡ Some kept
+  pub slots : (id : ℕ) → IsIdentity layout id
+      → slice_index words id
+      ≡ word_of (state formula log id) (kept_in (spelling_of formula layout log) id)
+  pub texts : (id : ℕ) (kept : Kept) → kept_in (spelling_of formula layout log) id ≡ Some kept
       → LiesAt words kept.start kept.literals
-  pub parts : AllParts (Stands f p log words) views
+  pub parts : AllParts (Stands formula layout log words) views
   pub once : (s : ℕ) → times s views ≤ 1
 
 -- there is such a history
 abbrev pub IsKept : {S : Type 0} → Cnf → LayoutValue → State S (List Part) → Type 0
-IsKept f p s = (log : History) × Keeps f p log s.words s.views
+IsKept formula layout row = (log : History) × Keeps formula layout log row.words row.views
 
 -- a stream's part at the opening
 abbrev pub opening_part : Cnf → LayoutValue → ℕ → Part
-opening_part f p s = record {
+opening_part formula layout s = record {
   view = record {
-    caller = record { formula = f; layout = p; stream = s };
+    caller = record { formula = formula; layout = layout; stream = s };
     seen = [];
     mine = [];
-    spelt = spelling_of f p [];
+    spelt = spelling_of formula layout [];
   };
-  top = first_place p s;
+  top = first_place layout s;
   draft = [];
 }
 
 -- the parts of this many streams, from one on
 abbrev pub opening_parts : Cnf → LayoutValue → ℕ → ℕ → List Part
-opening_parts f p s zero = []
-opening_parts f p s (suc count) = opening_part f p s ∷ opening_parts f p (s + 1) count
+opening_parts formula layout s zero = []
+opening_parts formula layout s (suc count) =
+    opening_part formula layout s ∷ opening_parts formula layout (s + 1) count

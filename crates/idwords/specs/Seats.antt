@@ -37,26 +37,27 @@ no_part = record {
 -- the part that comes first
 abbrev pub first_part : List Part → Part
 first_part [] = no_part
-first_part (v ∷ vs) = v
+first_part (part ∷ parts) = part
 
 abbrev pub first_only : List Part → List Part
 first_only [] = []
-first_only (v ∷ vs) = v ∷ []
+first_only (part ∷ parts) = part ∷ []
 
 abbrev pub others : List Part → List Part
 others [] = []
-others (v ∷ vs) = vs
+others (part ∷ parts) = parts
 
 abbrev pub seat_value : TableId → Part → SeatValue
-seat_value table v = record { table = table; view = v.view; top = v.top; draft = v.draft }
+seat_value table part =
+    record { table = table; view = part.view; top = part.top; draft = part.draft }
 
 -- what the seat's stream knows
 abbrev pub part_of : SeatValue → Part
-part_of s = record { view = s.view; top = s.top; draft = s.draft }
+part_of seat = record { view = seat.view; top = seat.top; draft = seat.draft }
 
 -- a stream's seat at the opening
 abbrev pub opening_seat : TableId → Cnf → LayoutValue → ℕ → SeatValue
-opening_seat table f p s = seat_value table (opening_part f p s)
+opening_seat table formula layout s = seat_value table (opening_part formula layout s)
 
 -- the seat has one part, fair and with a draft inside its room, and keeps the numbers of its top, its draft and the end of its room
 pub record IsSeated {S : Type 0} (table : TableId) (me : Me S (List Part))

@@ -7,7 +7,7 @@ use Rattle.lrup_model.specs.Formula.{Cnf}
 use Rattle.lrup_model.specs.Layout.{LayoutValue, last_identity}
 use Rattle.lrup_model.specs.Event as events
 use Rattle.lrup_model.specs.Event.{Event, History, own}
-use Rattle.lrup_model.specs.Running.{size_of}
+use Rattle.lrup_model.specs.RunningLemmas.{size_of}
 use Rattle.lrup_model.specs.Place.{Kept}
 use Rattle.lrup_model.specs.Pass.{Spelling, kept_in}
 use Rattle.lrup_model.specs.declared.clause_map.Published.TheVariants as publishing
@@ -15,49 +15,51 @@ use Rattle.idwords.specs.Words.{words_for}
 
 -- the clause of this identity lies at this place
 abbrev pub spelling : ℕ → ℕ → Clause → Spelling
-spelling id start c = record { id = id; kept = record { start = start; literals = c } }
+spelling id start clause = record { id = id; kept = record { start = start; literals = clause } }
 
 -- clauses under the identities from this one on, and from this place on
 abbrev pub clauses_spelling : ℕ → ℕ → List Clause → List Spelling
 clauses_spelling id start [] = []
-clauses_spelling id start (c ∷ cs) =
-    spelling id start c ∷ clauses_spelling (id + 1) (start + words_for (length c)) cs
+clauses_spelling id start (clause ∷ clauses) =
+    spelling id start clause ∷ clauses_spelling (id + 1) (start + words_for (length clause)) clauses
 
 -- the first place of a stream's literals
 abbrev pub first_place : LayoutValue → ℕ → ℕ
-first_place p s = 1 + last_identity p + p.literals + (s - 1) * p.room
+first_place layout s = 1 + last_identity layout + layout.literals + (s - 1) * layout.room
 
 -- the words that an event takes of its stream's room
 abbrev pub words_taken : Event → ℕ
-words_taken e = words_for (size_of e)
+words_taken event = words_for (size_of event)
 
 -- the words of the clauses that a stream published with Done, added up
 abbrev pub words_spent : ℕ → History → ℕ
-words_spent s h = sum_by words_taken (own h s)
+words_spent s history = sum_by words_taken (own history s)
 
 -- the first place of a stream that belongs to no published clause
 abbrev pub top_after : LayoutValue → ℕ → History → ℕ
-top_after p s h = first_place p s + words_spent s h
+top_after layout s history = first_place layout s + words_spent s history
 
 -- the clause that the event publishes, if any, lies at its stream's top
 abbrev pub event_spelling : LayoutValue → History → Event → List Spelling
-event_spelling p before (events.fetch s id r) = []
-event_spelling p before (events.publish s id c publishing.Done) =
-    spelling id (top_after p s before) c ∷ []
-event_spelling p before (events.publish s id c publishing.Taken) = []
-event_spelling p before (events.retire s id r) = []
+event_spelling layout before (events.fetch s id reply) = []
+event_spelling layout before (events.publish s id clause publishing.Done) =
+    spelling id (top_after layout s before) clause ∷ []
+event_spelling layout before (events.publish s id clause publishing.Taken) = []
+event_spelling layout before (events.retire s id reply) = []
 
 -- what the events after some others add
 abbrev pub added_spelling : LayoutValue → History → History → List Spelling
-added_spelling p before [] = []
-added_spelling p before (e ∷ es) =
-    event_spelling p before e ++ added_spelling p (before ++ e ∷ []) es
+added_spelling layout before [] = []
+added_spelling layout before (event ∷ history) =
+    event_spelling layout before event ++ added_spelling layout (before ++ event ∷ []) history
 
 -- all clauses of the formula and of the history
 abbrev pub spelling_of : Cnf → LayoutValue → History → List Spelling
-spelling_of f p h = clauses_spelling 1 (1 + last_identity p) f.clauses ++ added_spelling p [] h
+spelling_of formula layout history =
+    clauses_spelling 1 (1 + last_identity layout) formula.clauses
+    ++ added_spelling layout [] history
 
 -- every clause that is kept lies inside a row of so many words
 abbrev pub LieWithin : ℕ → List Spelling → Type 0
-LieWithin words xs = (id : ℕ) (kept : Kept) → kept_in xs id ≡ Some kept
+LieWithin words spellings = (id : ℕ) (kept : Kept) → kept_in spellings id ≡ Some kept
     → kept.start + words_for (length kept.literals) ≤ words

@@ -18,42 +18,42 @@ use Rattle.idwords.specs.Rule.{Part, part_stream}
 
 -- the history ends with the event
 abbrev pub EndsWith : History → Event → Type 0
-EndsWith h e = (before : History) × (h ≡ before ++ e ∷ [])
+EndsWith history event = (before : History) × (history ≡ before ++ event ∷ [])
 
 -- a fair pass that moved by one call, which is the last that it has seen; its clauses lie inside the row
-pub record Calls (old new : View) (e : Event) : Type 0 where
-  pub moves : PassMoves old new (e ∷ [])
-  pub last : EndsWith new.seen e
+pub record Calls (old new : View) (event : Event) : Type 0 where
+  pub moves : PassMoves old new (event ∷ [])
+  pub last : EndsWith new.seen event
   pub fair : IsFair new
   pub within : LieWithin (row_words new.caller.layout) new.spelt
 
 -- a fetch: the word found shows the clause that is kept, and spells the reply
-pub record Looks (id : ℕ) (v : Part) (word : ℕ) (w : Part) : Type 0 where
-  pub shows : ShowsKept (kept_in w.view.spelt id) word
-  pub calls : Calls v.view w.view
-      (events.fetch (part_stream v) id (reply_in (kept_in w.view.spelt id) word))
-  pub top : w.top ≡ v.top
-  pub draft : w.draft ≡ v.draft
+pub record Looks (id : ℕ) (old : Part) (word : ℕ) (new : Part) : Type 0 where
+  pub shows : ShowsKept (kept_in new.view.spelt id) word
+  pub calls : Calls old.view new.view
+      (events.fetch (part_stream old) id (reply_in (kept_in new.view.spelt id) word))
+  pub top : new.top ≡ old.top
+  pub draft : new.draft ≡ old.draft
 
 -- where the place is that of a literal of a clause that is kept, the word has the literal's code in its half: 0 for an even place among the clause's
 -- literals, 1 for an odd one
 abbrev pub IsText : List Spelling → ℕ → ℕ → Type 0
-IsText xs place word =
-    (id k : ℕ) (kept : Kept) (l : ℤ) → kept_in xs id ≡ Some kept
+IsText spellings place word =
+    (id k : ℕ) (kept : Kept) (l : ℤ) → kept_in spellings id ≡ Some kept
     → slice_get kept.literals k ≡ Some l → place ≡ kept.start + k / 2
     → half_of (k % 2) word ≡ code_of l
 
 -- a load without an event
-pub record Reads (place : ℕ) (v : Part) (word : ℕ) (w : Part) : Type 0 where
-  pub same : w ≡ v
-  pub text : IsText v.view.spelt place word
+pub record Reads (place : ℕ) (old : Part) (word : ℕ) (new : Part) : Type 0 where
+  pub same : new ≡ old
+  pub text : IsText old.view.spelt place word
 
 -- the literal or two whose word this is are added to the draft
 abbrev pub Writes : ℕ → Part → Part → Type 0
-Writes new v w =
-    (l : ℤ) (m : Option ℤ) → IsCode max_variable (code_of l)
-    → IfSome m (λ k. IsCode max_variable (code_of k)) → new ≡ literal_word l m
-    → w ≡ record v { draft = v.draft ++ pair_of l m }
+Writes word old new =
+    (l : ℤ) (other : Option ℤ) → IsCode max_variable (code_of l)
+    → IfSome other (λ k. IsCode max_variable (code_of k)) → word ≡ literal_word l other
+    → new ≡ record old { draft = old.draft ++ pair_of l other }
 
 -- the reply of a publish that found this word
 abbrev pub published_at : ℕ → Published
@@ -65,57 +65,61 @@ top_after_reply publishing.Done top draft = top + words_for (length draft)
 top_after_reply publishing.Taken top draft = top
 
 -- a publish of the draft, which is empty then
-pub record Claims (id : ℕ) (v : Part) (word : ℕ) (w : Part) : Type 0 where
-  pub calls : Calls v.view w.view (events.publish (part_stream v) id v.draft (published_at word))
-  pub absent : (word ≡ 0) ↔ (state v.view.caller.formula v.view.mine id ≡ absent)
-  pub top : w.top ≡ (if word == 0 then v.top + words_for (length v.draft) else v.top)
-  pub draft : w.draft ≡ []
+pub record Claims (id : ℕ) (old : Part) (word : ℕ) (new : Part) : Type 0 where
+  pub calls : Calls old.view new.view
+      (events.publish (part_stream old) id old.draft (published_at word))
+  pub absent : (word ≡ 0) ↔ (state old.view.caller.formula old.view.mine id ≡ absent)
+  pub top : new.top ≡ (if word == 0 then old.top + words_for (length old.draft) else old.top)
+  pub draft : new.draft ≡ []
 
 -- a retire that finds nothing live
-pub record FindsNone (id : ℕ) (v w : Part) : Type 0 where
-  pub calls : Calls v.view w.view (events.retire (part_stream v) id retiring.NotLive)
-  pub none : ¬ IsLive (state v.view.caller.formula v.view.mine id)
-  pub top : w.top ≡ v.top
-  pub draft : w.draft ≡ v.draft
+pub record FindsNone (id : ℕ) (old new : Part) : Type 0 where
+  pub calls : Calls old.view new.view (events.retire (part_stream old) id retiring.NotLive)
+  pub none : ¬ IsLive (state old.view.caller.formula old.view.mine id)
+  pub top : new.top ≡ old.top
+  pub draft : new.draft ≡ old.draft
 
 -- the look of a retire: a word that isn't live ends it, and at a live one nothing has happened yet
-pub record Finds (id : ℕ) (v : Part) (word : ℕ) (w : Part) : Type 0 where
-  pub own : word ≡ word_of (state v.view.caller.formula v.view.mine id) (kept_in v.view.spelt id)
-  pub live : word_state word ≡ 1 → w ≡ v
-  pub none : word_state word ≢ 1 → FindsNone id v w
+pub record Finds (id : ℕ) (old : Part) (word : ℕ) (new : Part) : Type 0 where
+  pub own :
+      word ≡ word_of (state old.view.caller.formula old.view.mine id) (kept_in old.view.spelt id)
+  pub live : word_state word ≡ 1 → new ≡ old
+  pub none : word_state word ≢ 1 → FindsNone id old new
 
 -- a retire of a live clause
-pub record Retires (id : ℕ) (v w : Part) : Type 0 where
-  pub calls : Calls v.view w.view (events.retire (part_stream v) id retiring.Done)
-  pub live : IsLive (state v.view.caller.formula v.view.mine id)
-  pub top : w.top ≡ v.top
-  pub draft : w.draft ≡ v.draft
+pub record Retires (id : ℕ) (old new : Part) : Type 0 where
+  pub calls : Calls old.view new.view (events.retire (part_stream old) id retiring.Done)
+  pub live : IsLive (state old.view.caller.formula old.view.mine id)
+  pub top : new.top ≡ old.top
+  pub draft : new.draft ≡ old.draft
 
 -- two parts have met
-pub record Met (v v' w w' : Part) : Type 0 where
-  pub meets : Meets v.view v'.view w.view w'.view
-  pub within : LieWithin (row_words w.view.caller.layout) w.view.spelt
-  pub within' : LieWithin (row_words w'.view.caller.layout) w'.view.spelt
-  pub top : w.top ≡ v.top
-  pub draft : w.draft ≡ v.draft
-  pub top' : w'.top ≡ v'.top
-  pub draft' : w'.draft ≡ v'.draft
+pub record Met (old old' new new' : Part) : Type 0 where
+  pub meets : Meets old.view old'.view new.view new'.view
+  pub within : LieWithin (row_words new.view.caller.layout) new.view.spelt
+  pub within' : LieWithin (row_words new'.view.caller.layout) new'.view.spelt
+  pub top : new.top ≡ old.top
+  pub draft : new.draft ≡ old.draft
+  pub top' : new'.top ≡ old'.top
+  pub draft' : new'.draft ≡ old'.draft
 
 -- a seat of one part has one part afterwards
 module _ {S : Type 0} where
   abbrev pub Changes : (ℕ → Part → ℕ → Part → Type 0) → Step S → Me S (List Part) → ℕ
       → Me S (List Part) → Type 0
   Changes R step before word after =
-      (v : Part) → before.0 ≡ v ∷ [] → (w : Part) × (after.0 ≡ w ∷ []) × (after.1 ≡ before.1)
-      × R step.word v word w
+      (old : Part) → before.0 ≡ old ∷ []
+      → (new : Part) × (after.0 ≡ new ∷ []) × (after.1 ≡ before.1) × R step.word old word new
 
   -- one that stores
   abbrev pub Stores : Step S → Me S (List Part) → ℕ → Me S (List Part) → Type 0
-  Stores step before word after = (v : Part) → before.0 ≡ v ∷ [] → (w : Part) × (after.0 ≡ w ∷ [])
-      × (after.1 ≡ before.1) × Writes step.first v w
+  Stores step before word after =
+      (old : Part) → before.0 ≡ old ∷ []
+      → (new : Part) × (after.0 ≡ new ∷ []) × (after.1 ≡ before.1) × Writes step.first old new
 
   -- a seat of two parts
   abbrev pub Joined : Step S → Me S (List Part) → ℕ → Me S (List Part) → Type 0
   Joined step before word after =
-      (v v' : Part) → before.0 ≡ v ∷ v' ∷ [] → (w w' : Part) × (after.0 ≡ w ∷ w' ∷ [])
-      × (after.1 ≡ before.1) × Met v v' w w'
+      (old old' : Part) → before.0 ≡ old ∷ old' ∷ []
+      → (new new' : Part) × (after.0 ≡ new ∷ new' ∷ []) × (after.1 ≡ before.1)
+      × Met old old' new new'

@@ -28,18 +28,18 @@ kept_word state (Some kept) = identity_word state (length kept.literals) kept.st
 -- the word of what the map has under an identity, whose clause is kept so
 abbrev pub word_of : Slot → Option Kept → ℕ
 word_of states.absent kept = 0
-word_of (states.live c) kept = kept_word 1 kept
-word_of (states.retired c) kept = kept_word 2 kept
+word_of (states.live clause) kept = kept_word 1 kept
+word_of (states.retired clause) kept = kept_word 2 kept
 
 -- one literal, and the other, if there is one
 abbrev pub pair_of : ℤ → Option ℤ → Clause
 pair_of l None = l ∷ []
-pair_of l (Some m) = l ∷ m ∷ []
+pair_of l (Some other) = l ∷ other ∷ []
 
 -- their word: the code of the first in its lower half, and of the other in its upper
 abbrev pub literal_word : ℤ → Option ℤ → ℕ
 literal_word l None = code_of l
-literal_word l (Some m) = code_of l + 4294967296 * code_of m
+literal_word l (Some other) = code_of l + 4294967296 * code_of other
 
 -- half 0 of a word is its lower 32 bits, half 1 its upper
 abbrev pub half_of : ℕ → ℕ → ℕ
@@ -49,7 +49,7 @@ half_of half word = (if half == 0 then word % 4294967296 else word / 4294967296)
 abbrev pub packed : Clause → List ℕ
 packed [] = []
 packed (l ∷ []) = literal_word l None ∷ []
-packed (l ∷ m ∷ c) = literal_word l (Some m) ∷ packed c
+packed (l ∷ other ∷ clause) = literal_word l (Some other) ∷ packed clause
 
 -- the words that so many literals take
 abbrev pub words_for : ℕ → ℕ
@@ -58,11 +58,12 @@ words_for literals = (literals + 1) / 2
 -- the words from this place on are these
 abbrev pub StandAt : List ℕ → ℕ → List ℕ → Type 0
 StandAt words place [] = Unit {0}
-StandAt words place (w ∷ ws) = (slice_index words place ≡ w) × StandAt words (place + 1) ws
+StandAt words place (word ∷ more) =
+    (slice_index words place ≡ word) × StandAt words (place + 1) more
 
 -- the literals lie in the row from this place on, in their order
 abbrev pub LiesAt : List ℕ → ℕ → Clause → Type 0
-LiesAt words place c = StandAt words place (packed c)
+LiesAt words place clause = StandAt words place (packed clause)
 
 -- the word shows the clause that is kept for the identity: its length and its start
 abbrev pub ShowsKept : Option Kept → ℕ → Type 0

@@ -13,7 +13,7 @@ use Rattle.lrup_model.specs.Clause.{Clause}
 use Rattle.lrup_model.specs.Layout.{Owns}
 use Rattle.lrup_model.specs.Event as events
 use Rattle.lrup_model.specs.Event.{Event, History, Reply, stream_of, own, spent}
-use Rattle.lrup_model.specs.Running.{size_of}
+use Rattle.lrup_model.specs.RunningLemmas.{size_of}
 use Rattle.lrup_model.specs.State as slots
 use Rattle.lrup_model.specs.State.{State, Slot, IsLive, IsRetired, Answers, after, retire_slot, run}
 use Rattle.lrup_model.specs.History.{IsAllowed, IsPublishable}

@@ -10,18 +10,18 @@ Clause = List ℤ
 -- the literal is one of the clause's
 abbrev pub Has : Clause → ℤ → Type 0
 Has [] l = ⊥
-Has (x ∷ c) l = (x ≡ l) ⊎ Has c l
+Has (literal ∷ clause) l = (literal ≡ l) ⊎ Has clause l
 
 -- no literal stands twice
 abbrev pub EachOnce : Clause → Type 0
 EachOnce [] = Unit {0}
-EachOnce (x ∷ c) = (¬ Has c x) × EachOnce c
+EachOnce (literal ∷ clause) = (¬ Has clause literal) × EachOnce clause
 
 -- a clause over the variables 1 to vars: the length of the list is the clause's size
-pub record IsClause (vars : ℕ) (c : Clause) : Type 0 where
-  pub literals : AllByRecursion (IsLiteral vars) c
-  pub each_once : EachOnce c
+pub record IsClause (vars : ℕ) (clause : Clause) : Type 0 where
+  pub literals : AllByRecursion (IsLiteral vars) clause
+  pub each_once : EachOnce clause
 
 -- a literal stands beside its complement (textbook)
 abbrev pub IsTautology : Clause → Type 0
-IsTautology c = (l : ℤ) × Has c l × Has c (neg_ℤ l)
+IsTautology clause = (l : ℤ) × Has clause l × Has clause (neg_ℤ l)

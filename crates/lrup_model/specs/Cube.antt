@@ -21,15 +21,16 @@ IsCubeOver vars cube = AllByRecursion (IsLiteral vars) cube
 
 -- the complement of each literal of the clause is in the cube
 abbrev pub Within : Clause → CubeValue → Type 0
-Within c cube = AllByRecursion (λ l. Has cube (neg_ℤ l)) c
+Within clause cube = AllByRecursion (λ l. Has cube (neg_ℤ l)) clause
 
 -- the assignment makes every literal of the cube true
 abbrev pub MakesAllTrue : Assignment → CubeValue → Type 0
-MakesAllTrue a cube = AllByRecursion (MakesTrue a) cube
+MakesAllTrue assignment cube = AllByRecursion (MakesTrue assignment) cube
 
 -- no assignment makes every clause of the formula and every literal of the cube true
 abbrev pub IsUnsatisfiableUnder : Cnf → CubeValue → Type 0
-IsUnsatisfiableUnder f cube = (a : Assignment) → SatisfiesAll a f → MakesAllTrue a cube → ⊥
+IsUnsatisfiableUnder formula cube =
+    (assignment : Assignment) → SatisfiesAll assignment formula → MakesAllTrue assignment cube → ⊥
 
 -- How a cube is kept: the codes of its literals, in order.
 pub record AreCubeCodes (codes : List ℕ) : Type 0 where
@@ -40,21 +41,23 @@ pub record AreCubeCodes (codes : List ℕ) : Type 0 where
 
 -- what follows from the formula, within the cube, leaves no assignment that makes the formula and the cube true
 abbrev pub WithinRefutes : Type 0
-WithinRefutes = (f : Cnf) (c : Clause) (cube : CubeValue) → IsDerived f c → Within c cube
-    → IsUnsatisfiableUnder f cube
+WithinRefutes = (formula : Cnf) (clause : Clause) (cube : CubeValue)
+    → IsDerived formula clause → Within clause cube → IsUnsatisfiableUnder formula cube
 
 -- under the empty cube a formula is unsatisfiable exactly if it is so by itself
 abbrev pub EmptyCubeRefutes : Type 0
-EmptyCubeRefutes = (f : Cnf) → IsUnsatisfiableUnder f [] ↔ IsUnsatisfiable f
+EmptyCubeRefutes = (formula : Cnf) → IsUnsatisfiableUnder formula [] ↔ IsUnsatisfiable formula
 
 -- what is unsatisfiable is so under every cube
 abbrev pub UnderEveryCube : Type 0
-UnderEveryCube = (f : Cnf) (cube : CubeValue) → IsUnsatisfiable f → IsUnsatisfiableUnder f cube
+UnderEveryCube =
+    (formula : Cnf) (cube : CubeValue) → IsUnsatisfiable formula → IsUnsatisfiableUnder formula cube
 
 -- of a cube's literals only the set counts
 pub record SameCube (literals : List ℤ) (cube : CubeValue) : Type 0 where
-  pub within : (c : Clause) → Within c cube ↔ Within c literals
-  pub refutes : (f : Cnf) → IsUnsatisfiableUnder f cube ↔ IsUnsatisfiableUnder f literals
+  pub within : (clause : Clause) → Within clause cube ↔ Within clause literals
+  pub refutes : (formula : Cnf)
+      → IsUnsatisfiableUnder formula cube ↔ IsUnsatisfiableUnder formula literals
   pub over : (vars : ℕ) → IsCubeOver vars cube ↔ IsCubeOver vars literals
 
 abbrev pub CubesAreSets : Type 0

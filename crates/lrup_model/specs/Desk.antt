@@ -10,26 +10,26 @@ use Rattle.lrup_model.specs.PlainLaws.{plain_moves_none, plain_moves_append, pla
 
 -- the desk's stream, from 1 on
 abbrev pub stream_at : PlainDesk → ℕ
-stream_at d = d.index + 1
+stream_at desk = desk.index + 1
 
 -- the map that the desk is at
 abbrev pub map_of : PlainDesk → Plain
-map_of d = d.map.now
+map_of desk = desk.map.now
 
 -- the desk is a stream's at this map, and holds it
-pub record IsDesk (map : MutBor Plain) (s : ℕ) (d : PlainDesk) : Type 0 where
-  pub map_now : map_of d ≡ map.now
-  pub same : d.map.ghost_name ≡ map.ghost_name
-  pub stream : stream_at d ≡ s
+pub record IsDesk (map : MutBor Plain) (s : ℕ) (desk : PlainDesk) : Type 0 where
+  pub map_now : map_of desk ≡ map.now
+  pub same : desk.map.ghost_name ≡ map.ghost_name
+  pub stream : stream_at desk ≡ s
 
 abbrev pub plain_desk_place : PlainDesk → Place
-plain_desk_place d = plain_place (map_of d) (stream_at d)
+plain_desk_place desk = plain_place (map_of desk) (stream_at desk)
 
 -- the desk stays at the same map, which moved by these events of its stream
-pub record PlainDeskMoves (old new : PlainDesk) (es : History) : Type 0 where
+pub record PlainDeskMoves (old new : PlainDesk) (history : History) : Type 0 where
   pub same : new.map.ghost_name ≡ old.map.ghost_name
   pub index : new.index ≡ old.index
-  pub moves : PlainMoves (map_of old) (map_of new) (stream_at old) es
+  pub moves : PlainMoves (map_of old) (map_of new) (stream_at old) history
 
 -- The laws of a place, for a desk.
 pub plain_desk_none : (d : PlainDesk) → PlainDeskMoves d d []

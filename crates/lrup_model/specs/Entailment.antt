@@ -10,25 +10,26 @@ Assignment = ℕ → Bool
 
 -- the assignment makes the literal true
 abbrev pub MakesTrue : Assignment → ℤ → Type 0
-MakesTrue a (pos v) = a v ≡ true
-MakesTrue a (negsuc v) = a (suc v) ≡ false
+MakesTrue assignment (pos v) = assignment v ≡ true
+MakesTrue assignment (negsuc v) = assignment (suc v) ≡ false
 
 -- it makes some literal of the clause true
 abbrev pub Satisfies : Assignment → Clause → Type 0
-Satisfies a c = (l : ℤ) × Has c l × MakesTrue a l
+Satisfies assignment clause = (l : ℤ) × Has clause l × MakesTrue assignment l
 
 -- it satisfies every clause of the formula
 abbrev pub SatisfiesAll : Assignment → Cnf → Type 0
-SatisfiesAll a f = AllByRecursion (Satisfies a) f.clauses
+SatisfiesAll assignment formula = AllByRecursion (Satisfies assignment) formula.clauses
 
 -- every assignment that satisfies all clauses of the formula satisfies the clause
-pub record Follows (f : Cnf) (c : Clause) : Type 0 where
-  pub holds : (a : Assignment) → SatisfiesAll a f → Satisfies a c
+pub record Follows (formula : Cnf) (clause : Clause) : Type 0 where
+  pub holds : (assignment : Assignment) → SatisfiesAll assignment formula
+      → Satisfies assignment clause
 
 -- a clause over the formula's variables that follows from it
 abbrev pub IsDerived : Cnf → Clause → Type 0
-IsDerived f c = IsClause f.vars c × Follows f c
+IsDerived formula clause = IsClause formula.vars clause × Follows formula clause
 
 -- no assignment makes every clause true
 abbrev pub IsUnsatisfiable : Cnf → Type 0
-IsUnsatisfiable f = (a : Assignment) → SatisfiesAll a f → ⊥
+IsUnsatisfiable formula = (assignment : Assignment) → SatisfiesAll assignment formula → ⊥

@@ -25,22 +25,22 @@ History = List Event
 
 -- the stream that calls
 abbrev pub stream_of : Event → ℕ
-stream_of (fetch s id r) = s
-stream_of (publish s id c r) = s
-stream_of (retire s id r) = s
+stream_of (fetch s id reply) = s
+stream_of (publish s id clause reply) = s
+stream_of (retire s id reply) = s
 
 -- the events of one stream, in order
 abbrev pub own : History → ℕ → History
-own h s = filter (λ e. stream_of e == s) h
+own history s = filter (λ event. stream_of event == s) history
 
 -- the identity and the clause of each event that published one, in order
 abbrev pub published : History → List (ℕ × Clause)
 published [] = []
-published (fetch s id r ∷ es) = published es
-published (publish s id c publishing.Done ∷ es) = (id, c) ∷ published es
-published (publish s id c publishing.Taken ∷ es) = published es
-published (retire s id r ∷ es) = published es
+published (fetch s id reply ∷ history) = published history
+published (publish s id clause publishing.Done ∷ history) = (id, clause) ∷ published history
+published (publish s id clause publishing.Taken ∷ history) = published history
+published (retire s id reply ∷ history) = published history
 
 -- the sizes of the clauses that a stream published with Done, added up
 abbrev pub spent : ℕ → History → ℕ
-spent s h = sum_by (λ entry. length entry.1) (published (own h s))
+spent s history = sum_by (λ entry. length entry.1) (published (own history s))

@@ -19,18 +19,18 @@ max_clause_literals = 1048575
 
 -- a clause that a formula over these variables may have
 abbrev pub IsFormulaClause : ℕ → Clause → Type 0
-IsFormulaClause vars c = IsClause vars c × (length c ≤ max_clause_literals)
+IsFormulaClause vars clause = IsClause vars clause × (length clause ≤ max_clause_literals)
 
 -- a formula within the limits
-pub record IsCnf (f : Cnf) : Type 0 where
-  pub vars : f.vars ≤ max_variable
-  pub count : length f.clauses ≤ max_clauses
-  pub clauses : AllByRecursion (IsFormulaClause f.vars) f.clauses
+pub record IsCnf (formula : Cnf) : Type 0 where
+  pub vars : formula.vars ≤ max_variable
+  pub count : length formula.clauses ≤ max_clauses
+  pub clauses : AllByRecursion (IsFormulaClause formula.vars) formula.clauses
 
 -- clause i of the formula, for i from 1 on
 abbrev pub clause_at : Cnf → ℕ → Clause
-clause_at f i = slice_index_or f.clauses (i - 1) []
+clause_at formula i = slice_index_or formula.clauses (i - 1) []
 
 -- the literals of all clauses, repeats inside a clause not counted
 abbrev pub formula_literals : Cnf → ℕ
-formula_literals f = sum_by length f.clauses
+formula_literals formula = sum_by length formula.clauses

@@ -12,25 +12,28 @@ abbrev pub max_line_literals : ℕ
 max_line_literals = 65535
 
 -- a clause that may be published: over the formula's variables, of at most 65,535 literals, and it follows from the formula
-pub record IsPublishable (f : Cnf) (c : Clause) : Type 0 where
-  pub clause : IsClause f.vars c
-  pub length : length c ≤ max_line_literals
-  pub follows : Follows f c
+pub record IsPublishable (formula : Cnf) (candidate : Clause) : Type 0 where
+  pub clause : IsClause formula.vars candidate
+  pub length : length candidate ≤ max_line_literals
+  pub follows : Follows formula candidate
 
 -- The event may be asked for: a fetch of an identity by any stream, the others by its owner alone.
 -- An owned identity is one of 1 to the last.
 abbrev pub IsAllowed : Cnf → LayoutValue → Event → Type 0
-IsAllowed f p (fetch s id r) = IsIdentity p id
-IsAllowed f p (publish s id c r) = Owns p s id × IsPublishable f c
-IsAllowed f p (retire s id r) = Owns p s id
+IsAllowed formula layout (fetch s id reply) = IsIdentity layout id
+IsAllowed formula layout (publish s id clause reply) =
+    Owns layout s id × IsPublishable formula clause
+IsAllowed formula layout (retire s id reply) = Owns layout s id
 
 -- from this state on, each event may be asked for, and answers as the state after the events before it
 abbrev pub LegalFrom : Cnf → LayoutValue → State → History → Type 0
-LegalFrom f p m [] = Unit {0}
-LegalFrom f p m (e ∷ es) = Answers m e × IsAllowed f p e × LegalFrom f p (after m e) es
+LegalFrom formula layout slots [] = Unit {0}
+LegalFrom formula layout slots (event ∷ history) =
+    Answers slots event × IsAllowed formula layout event
+    × LegalFrom formula layout (after slots event) history
 
 -- A legal history: from the formula's clauses on each event may be asked for, and answers as the map of one thread does; and each
 -- stream's clauses are within its room.
-pub record IsLegal (f : Cnf) (p : LayoutValue) (h : History) : Type 0 where
-  pub events : LegalFrom f p (opening f) h
-  pub room : (s : ℕ) → spent s h ≤ p.room
+pub record IsLegal (formula : Cnf) (layout : LayoutValue) (history : History) : Type 0 where
+  pub events : LegalFrom formula layout (opening formula) history
+  pub room : (s : ℕ) → spent s history ≤ layout.room

@@ -11,7 +11,7 @@ use Rattle.lrup_model.specs.Event as events
 use Rattle.lrup_model.specs.Event.{Event, History, stream_of, own, spent, published}
 use Rattle.lrup_model.specs.State.{State, Slot, absent, live, retire_slot, after, opening, run, state, AreVacantAbove}
 use Rattle.lrup_model.specs.History.{IsAllowed, LegalFrom, IsLegal, IsPublishable}
-use Rattle.lrup_model.specs.Running.{size_of, spent-sizes, spent-append}
+use Rattle.lrup_model.specs.RunningLemmas.{size_of, spent-sizes, spent-append}
 use Rattle.lrup_model.specs.declared.clause_map.Published.TheVariants as publishing
 use Rattle.lrup_model.specs.declared.clause_map.Retired.TheVariants as retiring
 use Rattle.lrup_model.specs.declared.layout.Owner.{Owner}

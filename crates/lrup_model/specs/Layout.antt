@@ -38,54 +38,56 @@ max_row_words = 268435456
 
 -- the last identity: the formula's clauses come first, then the streams' by turns
 abbrev pub last_identity : LayoutValue → ℕ
-last_identity p = p.clauses + p.streams * p.lines
+last_identity layout = layout.clauses + layout.streams * layout.lines
 
 -- the words of the shared row: one that stays 0, one an identity, one a literal
 abbrev pub row_words : LayoutValue → ℕ
-row_words p = 1 + last_identity p + p.literals + p.streams * p.room
+row_words layout = 1 + last_identity layout + layout.literals + layout.streams * layout.room
 
 -- the numbers are within the limits
-pub record IsLayout (p : LayoutValue) : Type 0 where
-  pub vars : p.vars ≤ max_variable
-  pub clauses : p.clauses ≤ max_clauses
-  pub some_stream : 0 < p.streams
-  pub streams : p.streams ≤ max_streams
-  pub row : row_words p ≤ max_row_words
+pub record IsLayout (layout : LayoutValue) : Type 0 where
+  pub vars : layout.vars ≤ max_variable
+  pub clauses : layout.clauses ≤ max_clauses
+  pub some_stream : 0 < layout.streams
+  pub streams : layout.streams ≤ max_streams
+  pub row : row_words layout ≤ max_row_words
 
 -- the layout is one for this formula
-pub record Fits (p : LayoutValue) (f : Cnf) : Type 0 where
-  pub vars : p.vars ≡ f.vars
-  pub clauses : p.clauses ≡ length f.clauses
-  pub literals : p.literals ≡ formula_literals f
+pub record Fits (layout : LayoutValue) (formula : Cnf) : Type 0 where
+  pub vars : layout.vars ≡ formula.vars
+  pub clauses : layout.clauses ≡ length formula.clauses
+  pub literals : layout.literals ≡ formula_literals formula
 
 -- one of 1 to the last
 abbrev pub IsIdentity : LayoutValue → ℕ → Type 0
-IsIdentity p id = (0 < id) × (id ≤ last_identity p)
+IsIdentity layout id = (0 < id) × (id ≤ last_identity layout)
 
 -- the streams, from 1 on, take the identities behind the formula's by turns
 abbrev pub owner : LayoutValue → ℕ → Owner
-owner p id =
+owner layout id =
     if nat_eq id 0 then owners.Outside
-    else if nat_le id p.clauses then owners.Formula
-    else if nat_le id (last_identity p) then owners.Stream ((id - p.clauses - 1) % p.streams + 1)
+    else if nat_le id layout.clauses then owners.Formula
+    else if nat_le id (last_identity layout)
+    then owners.Stream ((id - layout.clauses - 1) % layout.streams + 1)
     else owners.Outside
 
 -- the identity is the stream's own
 abbrev pub Owns : LayoutValue → ℕ → ℕ → Type 0
-Owns p s id = owner p id ≡ owners.Stream s
+Owns layout s id = owner layout id ≡ owners.Stream s
 
 -- the stream is one of the layout's
 abbrev pub IsStream : LayoutValue → ℕ → Type 0
-IsStream p s = (0 < s) × (s ≤ p.streams)
+IsStream layout s = (0 < s) × (s ≤ layout.streams)
 
 -- the fault is that of the first limit that is broken, in the order of the faults
 abbrev pub IsFault : LayoutValue → LayoutFault → Type 0
-IsFault p faults.TooManyVariables = max_variable < p.vars
-IsFault p faults.TooManyClauses = (p.vars ≤ max_variable) × (max_clauses < p.clauses)
-IsFault p faults.BadStreamCount = (p.vars ≤ max_variable) × (p.clauses ≤ max_clauses)
-    × ((p.streams ≡ 0) ⊎ (max_streams < p.streams))
-IsFault p faults.RowTooLong = (p.vars ≤ max_variable) × (p.clauses ≤ max_clauses) × (0 < p.streams)
-    × (p.streams ≤ max_streams) × (max_row_words < row_words p)
+IsFault layout faults.TooManyVariables = max_variable < layout.vars
+IsFault layout faults.TooManyClauses = (layout.vars ≤ max_variable) × (max_clauses < layout.clauses)
+IsFault layout faults.BadStreamCount = (layout.vars ≤ max_variable) × (layout.clauses ≤ max_clauses)
+    × ((layout.streams ≡ 0) ⊎ (max_streams < layout.streams))
+IsFault layout faults.RowTooLong =
+    (layout.vars ≤ max_variable) × (layout.clauses ≤ max_clauses) × (0 < layout.streams)
+    × (layout.streams ≤ max_streams) × (max_row_words < row_words layout)
 
 -- the text of a fault
 abbrev pub layout_fault_text : LayoutFault → List ℕ

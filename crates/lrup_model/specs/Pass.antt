@@ -15,26 +15,27 @@ pub record Spelling : Type 0 where
 -- what the list keeps for an identity
 abbrev pub kept_in : List Spelling → ℕ → Option Kept
 kept_in [] id = None
-kept_in (x ∷ xs) id = if x.id == id then Some x.kept else kept_in xs id
+kept_in (entry ∷ spellings) id = if entry.id == id then Some entry.kept else kept_in spellings id
 
 -- no identity stands twice
 abbrev pub IsOncePerIdentity : List Spelling → Type 0
 IsOncePerIdentity [] = Unit {0}
-IsOncePerIdentity (x ∷ xs) = (kept_in xs x.id ≡ None) × IsOncePerIdentity xs
+IsOncePerIdentity (entry ∷ spellings) =
+    (kept_in spellings entry.id ≡ None) × IsOncePerIdentity spellings
 
 -- what is kept is the slot's clause, and nothing for an absent one
 abbrev pub Spells : Slot → Option Kept → Type 0
 Spells absent None = Unit {0}
 Spells absent (Some kept) = ⊥
-Spells (live c) None = ⊥
-Spells (live c) (Some kept) = kept.literals ≡ c
-Spells (retired c) None = ⊥
-Spells (retired c) (Some kept) = kept.literals ≡ c
+Spells (live clause) None = ⊥
+Spells (live clause) (Some kept) = kept.literals ≡ clause
+Spells (retired clause) None = ⊥
+Spells (retired clause) (Some kept) = kept.literals ≡ clause
 
 -- exactly the identities live or retired after the history are kept, each once, with its clause
-pub record IsSpelt (f : Cnf) (h : History) (xs : List Spelling) : Type 0 where
-  pub once : IsOncePerIdentity xs
-  pub slots : (id : ℕ) → Spells (state f h id) (kept_in xs id)
+pub record IsSpelt (formula : Cnf) (history : History) (spellings : List Spelling) : Type 0 where
+  pub once : IsOncePerIdentity spellings
+  pub slots : (id : ℕ) → Spells (state formula history id) (kept_in spellings id)
 
 -- Seen is a history, mine are the calls made through the pass, in order. Where a clause lies is the store's choice: spelt is what it chose.
 pub record View : Type 0 where
@@ -44,31 +45,31 @@ pub record View : Type 0 where
   pub spelt : List Spelling
 
 -- what was seen is legal, has this stream's calls just as they were made, and is spelt
-pub record IsFair (v : View) : Type 0 where
-  pub caller : IsCaller v.caller
-  pub legal : IsLegal v.caller.formula v.caller.layout v.seen
-  pub mine : own v.seen v.caller.stream ≡ v.mine
-  pub spelt : IsSpelt v.caller.formula v.seen v.spelt
+pub record IsFair (view : View) : Type 0 where
+  pub caller : IsCaller view.caller
+  pub legal : IsLegal view.caller.formula view.caller.layout view.seen
+  pub mine : own view.seen view.caller.stream ≡ view.mine
+  pub spelt : IsSpelt view.caller.formula view.seen view.spelt
 
 -- what a caller knows at a pass
 abbrev pub pass_place : View → Place
-pass_place v = record {
-  caller = v.caller;
-  own = state v.caller.formula v.mine;
-  room = v.caller.layout.room - spent v.caller.stream v.mine;
-  spelt = kept_in v.spelt;
+pass_place view = record {
+  caller = view.caller;
+  own = state view.caller.formula view.mine;
+  room = view.caller.layout.room - spent view.caller.stream view.mine;
+  spelt = kept_in view.spelt;
 }
 
 -- The pass went on by these calls of its own, and by whatever it saw of others. A call leaves it fair, and with none it is as fair as before.
-pub record PassMoves (old new : View) (es : History) : Type 0 where
+pub record PassMoves (old new : View) (history : History) : Type 0 where
   pub caller : new.caller ≡ old.caller
-  pub callers : AllByRecursion (λ e. stream_of e ≡ old.caller.stream) es
-  pub mine : new.mine ≡ old.mine ++ es
+  pub callers : AllByRecursion (λ event. stream_of event ≡ old.caller.stream) history
+  pub mine : new.mine ≡ old.mine ++ history
   pub seen : (more : History) × (new.seen ≡ old.seen ++ more)
-  pub room : (pass_place new).room + spent old.caller.stream es ≡ (pass_place old).room
+  pub room : (pass_place new).room + spent old.caller.stream history ≡ (pass_place old).room
   pub spelt : KeepsSpelt (kept_in old.spelt) (kept_in new.spelt)
   pub fair : IsFair old → IsFair new
-  pub fair_after : es ≢ [] → IsFair new
+  pub fair_after : history ≢ [] → IsFair new
   pub follow : AllFollow (pass_place old) → AllFollow (pass_place new)
 
 -- Two passes of one store have met: both have seen one history, which begins with what each had seen, and no more where one had seen all that
@@ -84,22 +85,23 @@ pub record Meets (old old' new new' : View) : Type 0 where
 
 -- the pass meets each of the others in turn
 abbrev pub MeetsInTurn : View → List View → View → List View → Type 0
-MeetsInTurn v [] w [] = w ≡ v
-MeetsInTurn v (x ∷ xs) w (y ∷ ys) = (u : View) × Meets v x u y × MeetsInTurn u xs w ys
-MeetsInTurn v [] w (y ∷ ys) = ⊥
-MeetsInTurn v (x ∷ xs) w [] = ⊥
+MeetsInTurn old [] new [] = new ≡ old
+MeetsInTurn old (other ∷ others) new (other' ∷ others') =
+    (next : View) × Meets old other next other' × MeetsInTurn next others new others'
+MeetsInTurn old [] new (other' ∷ others') = ⊥
+MeetsInTurn old (other ∷ others) new [] = ⊥
 
 -- each pass of the one list went on by no call to the one at its place in the other, which is fair
 abbrev pub AreMet : List View → List View → Type 0
 AreMet [] [] = Unit {0}
-AreMet (x ∷ xs) (y ∷ ys) = PassMoves x y [] × IsFair y × AreMet xs ys
-AreMet [] (y ∷ ys) = ⊥
-AreMet (x ∷ xs) [] = ⊥
+AreMet (old ∷ before) (new ∷ after) = PassMoves old new [] × IsFair new × AreMet before after
+AreMet [] (new ∷ after) = ⊥
+AreMet (old ∷ before) [] = ⊥
 
 -- a pass that has seen nothing and made no call
 abbrev pub opened : Caller → List Spelling → View
-opened c xs = record { caller = c; seen = []; mine = []; spelt = xs }
+opened caller spellings = record { caller = caller; seen = []; mine = []; spelt = spellings }
 
 -- all have seen this history
 abbrev pub AllSaw : History → List View → Type 0
-AllSaw h vs = AllByRecursion (λ v. v.seen ≡ h) vs
+AllSaw history passes = AllByRecursion (λ view. view.seen ≡ history) passes

@@ -10,7 +10,7 @@ use Rattle.lrup_model.specs.Event as events
 use Rattle.lrup_model.specs.Event.{Event, Reply, History, stream_of, own, spent}
 use Rattle.lrup_model.specs.State.{State, Slot, absent, live, retired, IsRetired, Answers, opening, run, state}
 use Rattle.lrup_model.specs.History.{IsLegal}
-use Rattle.lrup_model.specs.Running.{run-append, own-append, spent-append, callers-append}
+use Rattle.lrup_model.specs.RunningLemmas.{run-append, own-append, spent-append, callers-append}
 use Rattle.lrup_model.specs.Place.{Caller, IsCaller, Kept, Place, ClipValue, literals_in, clip_clause, IsKnown, Tells, AllFollow, KeepsSpelt}
 use Rattle.lrup_model.specs.Replies.{AnswersOwn, AnswersFormula}
 use Rattle.lrup_model.specs.Pass.{View, Spelling, kept_in, Spells, IsSpelt, IsFair, PassMoves, pass_place, Meets, MeetsInTurn, AreMet, AllSaw, opened}

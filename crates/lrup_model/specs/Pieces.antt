@@ -4,8 +4,8 @@ use Rattle.lrup_model.specs.Clause.{Clause}
 
 -- the clauses that end at these places, the first of which begins at from
 abbrev pub pieces : Clause → ℕ → List ℕ → List Clause
-pieces ls from [] = []
-pieces ls from (end ∷ ends) = slice_range ls from end ∷ pieces ls end ends
+pieces literals from [] = []
+pieces literals from (end ∷ ends) = slice_range literals from end ∷ pieces literals end ends
 
 -- the ends don't decrease, and the last is the list's own
 abbrev pub AreEnds : ℕ → List ℕ → ℕ → Type 0

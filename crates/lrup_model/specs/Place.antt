@@ -15,11 +15,11 @@ pub record Caller : Type 0 where
   pub stream : ℕ
 
 -- the layout is one for the formula, and has the stream
-pub record IsCaller (c : Caller) : Type 0 where
-  pub formula : IsCnf c.formula
-  pub layout : IsLayout c.layout
-  pub fits : Fits c.layout c.formula
-  pub stream : IsStream c.layout c.stream
+pub record IsCaller (caller : Caller) : Type 0 where
+  pub formula : IsCnf caller.formula
+  pub layout : IsLayout caller.layout
+  pub fits : Fits caller.layout caller.formula
+  pub stream : IsStream caller.layout caller.stream
 
 -- where a clause of the formula or a published one lies, and its literals in the order in which they lie there, each once
 pub record Kept : Type 0 where
@@ -46,31 +46,33 @@ literals_in (Some kept) = kept.literals
 
 -- the literals of the clause that is kept for the clip's identity
 abbrev pub clip_clause : Place → ClipValue → Clause
-clip_clause p clip = literals_in (p.spelt clip.id)
+clip_clause place clip = literals_in (place.spelt clip.id)
 
 -- the start and the length kept for the identity are the clip's own
-pub record IsKnown (p : Place) (clip : ClipValue) : Type 0 where
-  pub kept : p.spelt clip.id ≡ Some (record { start = clip.start; literals = clip_clause p clip })
-  pub len : clip.len ≡ length (clip_clause p clip)
+pub record IsKnown (place : Place) (clip : ClipValue) : Type 0 where
+  pub kept : place.spelt clip.id
+      ≡ Some (record { start = clip.start; literals = clip_clause place clip })
+  pub len : clip.len ≡ length (clip_clause place clip)
 
 -- every clause that is kept follows from the formula
-pub record AllFollow (p : Place) : Type 0 where
-  pub each : (id : ℕ) (kept : Kept) → p.spelt id ≡ Some kept
-      → IsDerived p.caller.formula kept.literals
+pub record AllFollow (place : Place) : Type 0 where
+  pub each : (id : ℕ) (kept : Kept) → place.spelt id ≡ Some kept
+      → IsDerived place.caller.formula kept.literals
 
 -- the caller's own identities above the last that it published have nothing
 abbrev pub IsVacantAbove : Place → ℕ → Type 0
-IsVacantAbove p last = AreVacantAbove p.caller.layout p.caller.stream p.own last
+IsVacantAbove place last = AreVacantAbove place.caller.layout place.caller.stream place.own last
 
 -- what is kept for a clause stays
 abbrev pub KeepsSpelt : (ℕ → Option Kept) → (ℕ → Option Kept) → Type 0
 KeepsSpelt old new = (id : ℕ) (kept : Kept) → old id ≡ Some kept → new id ≡ Some kept
 
 -- what the events between two moments of a place say of it
-pub record Tells (old new : Place) (es : History) : Type 0 where
+pub record Tells (old new : Place) (history : History) : Type 0 where
   pub caller : new.caller ≡ old.caller
-  pub callers : AllByRecursion (λ e. stream_of e ≡ old.caller.stream) es
-  pub room : new.room + spent old.caller.stream es ≡ old.room
-  pub own : (id : ℕ) → Owns old.caller.layout old.caller.stream id → new.own id ≡ run old.own es id
+  pub callers : AllByRecursion (λ event. stream_of event ≡ old.caller.stream) history
+  pub room : new.room + spent old.caller.stream history ≡ old.room
+  pub own : (id : ℕ) → Owns old.caller.layout old.caller.stream id
+      → new.own id ≡ run old.own history id
   pub spelt : KeepsSpelt old.spelt new.spelt
   pub follow : AllFollow old → AllFollow new

@@ -45,44 +45,44 @@ clause_of (live kept) = kept.literals
 clause_of (retired kept) = kept.literals
 
 abbrev pub stored_at : Plain → ℕ → Stored
-stored_at m id = slice_index_or m.stored id vacant
+stored_at plain id = slice_index_or plain.stored id vacant
 
 -- the formula stands under the first identities
 abbrev pub formula_of : Plain → Cnf
-formula_of m = record {
-  vars = m.layout.vars;
-  clauses = map clause_of (take m.layout.clauses (drop 1 m.stored));
+formula_of plain = record {
+  vars = plain.layout.vars;
+  clauses = map clause_of (take plain.layout.clauses (drop 1 plain.stored));
 }
 
 abbrev pub plain_state : Plain → State
-plain_state m = λ id. slot_of (stored_at m id)
+plain_state plain = λ id. slot_of (stored_at plain id)
 
 -- what is left of a stream's room, for streams from 1 on
 abbrev pub free_at : Plain → ℕ → ℕ
-free_at m s = slice_index m.free (s - 1)
+free_at plain s = slice_index plain.free (s - 1)
 
 -- the formula's clauses are live, for good
 abbrev pub IsFormulaLive : Plain → Type 0
-IsFormulaLive m =
-    (id : ℕ) → 0 < id → id ≤ m.layout.clauses → (kept : Kept) × (stored_at m id ≡ live kept)
+IsFormulaLive plain =
+    (id : ℕ) → 0 < id → id ≤ plain.layout.clauses → (kept : Kept) × (stored_at plain id ≡ live kept)
 
 -- what a stream's caller knows at the map
 abbrev pub plain_place : Plain → ℕ → Place
-plain_place m s = record {
-  caller = record { formula = formula_of m; layout = m.layout; stream = s };
-  own = plain_state m;
-  room = free_at m s;
-  spelt = λ id. kept_of (stored_at m id);
+plain_place plain s = record {
+  caller = record { formula = formula_of plain; layout = plain.layout; stream = s };
+  own = plain_state plain;
+  room = free_at plain s;
+  spelt = λ id. kept_of (stored_at plain id);
 }
 
 -- Between the two moments the map went through these events of the stream: each answered as the map after the events before it.
-pub record PlainMoves (old new : Plain) (s : ℕ) (es : History) : Type 0 where
+pub record PlainMoves (old new : Plain) (s : ℕ) (history : History) : Type 0 where
   pub layout : new.layout ≡ old.layout
   pub formula : formula_of new ≡ formula_of old
-  pub callers : AllByRecursion (λ e. stream_of e ≡ s) es
-  pub answers : LegalFrom (formula_of old) old.layout (plain_state old) es
-  pub state : plain_state new ≡ run (plain_state old) es
-  pub room : free_at new s + spent s es ≡ free_at old s
+  pub callers : AllByRecursion (λ event. stream_of event ≡ s) history
+  pub answers : LegalFrom (formula_of old) old.layout (plain_state old) history
+  pub state : plain_state new ≡ run (plain_state old) history
+  pub room : free_at new s + spent s history ≡ free_at old s
   pub others : (t : ℕ) → 0 < t → t ≢ s → free_at new t ≡ free_at old t
   pub spelt : KeepsSpelt (λ id. kept_of (stored_at old id)) (λ id. kept_of (stored_at new id))
   pub follow : AllFollow (plain_place old s) → AllFollow (plain_place new s)
@@ -96,21 +96,21 @@ fetched_of id (retired kept) = fetched.Retired
 
 -- the clause of what is stored follows from the formula
 abbrev pub StoresClause : Cnf → Stored → Type 0
-StoresClause f vacant = Unit {0}
-StoresClause f (live kept) = IsDerived f kept.literals
-StoresClause f (retired kept) = IsDerived f kept.literals
+StoresClause formula vacant = Unit {0}
+StoresClause formula (live kept) = IsDerived formula kept.literals
+StoresClause formula (retired kept) = IsDerived formula kept.literals
 
--- the map after a publish, and after a retire, by its answer; i is the stream's place in the list of rooms, from 0 on
+-- the map after a publish, and after a retire, by its answer; index is the stream's place in the list of rooms, from 0 on
 abbrev pub AfterPublish : Plain → Plain → ℕ → ℕ → Clause → Published → Type 0
-AfterPublish old new i id c publishing.Done =
-    (i < length old.free) × (id < length old.stored) × (stored_at old id ≡ vacant)
+AfterPublish old new index id clause publishing.Done =
+    (index < length old.free) × (id < length old.stored) × (stored_at old id ≡ vacant)
     × (start : ℕ) × (new
     ≡ record {
       layout = old.layout;
-      stored = slice_set old.stored id (live (record { start = start; literals = c }));
-      free = slice_set old.free i (slice_index old.free i - length c);
+      stored = slice_set old.stored id (live (record { start = start; literals = clause }));
+      free = slice_set old.free index (slice_index old.free index - length clause);
     })
-AfterPublish old new i id c publishing.Taken = (stored_at old id ≢ vacant) × (new ≡ old)
+AfterPublish old new index id clause publishing.Taken = (stored_at old id ≢ vacant) × (new ≡ old)
 
 abbrev pub AfterRetire : Plain → Plain → ℕ → Retired → Type 0
 AfterRetire old new id retiring.Done =

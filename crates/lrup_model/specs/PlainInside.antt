@@ -10,40 +10,43 @@ use Rattle.lrup_model.specs.declared.plain_map.Entry.TheVariants as entries
 
 -- what an entry stands for
 abbrev pub stored_in : List ℤ → Entry → Stored
-stored_in ls entries.Vacant = plain.vacant
-stored_in ls (entries.Live start len) =
-    plain.live (record { start = start; literals = slice_range ls start (start + len) })
-stored_in ls (entries.Retired start len) =
-    plain.retired (record { start = start; literals = slice_range ls start (start + len) })
+stored_in literals entries.Vacant = plain.vacant
+stored_in literals (entries.Live start len) =
+    plain.live (record { start = start; literals = slice_range literals start (start + len) })
+stored_in literals (entries.Retired start len) =
+    plain.retired (record { start = start; literals = slice_range literals start (start + len) })
 
 abbrev pub plain_of : LayoutValue → List Entry → List ℤ → List ℕ → Plain
-plain_of p es ls free = record { layout = p; stored = map (stored_in ls) es; free = free }
+plain_of layout entry_list literals free =
+    record { layout = layout; stored = map (stored_in literals) entry_list; free = free }
 
 -- the entry's literals lie in the list
 abbrev pub LiesWithin : ℕ → Entry → Type 0
-LiesWithin n entries.Vacant = Unit {0}
-LiesWithin n (entries.Live start len) = start + len ≤ n
-LiesWithin n (entries.Retired start len) = start + len ≤ n
+LiesWithin count entries.Vacant = Unit {0}
+LiesWithin count (entries.Live start len) = start + len ≤ count
+LiesWithin count (entries.Retired start len) = start + len ≤ count
 
 -- capacity is what the list of literals has memory for: no publish takes more
-pub record IsPlainSound (p : LayoutValue) (es : List Entry) (ls : List ℤ) (free : List ℕ)
-    (capacity : ℕ) : Type 0 where
-  pub limits : IsLayout p
-  pub count : length es ≡ last_identity p + 1
-  pub streams : length free ≡ p.streams
-  pub within : AllByRecursion (LiesWithin (length ls)) es
-  pub reserved : length ls + sum free ≤ capacity
-  pub small : length ls + sum free ≤ max_row_words
-  pub formula : IsFormulaLive (plain_of p es ls free)
-  pub clauses : AllByRecursion (StoresClause (formula_of (plain_of p es ls free)))
-      (map (stored_in ls) es)
+pub record IsPlainSound (layout : LayoutValue) (entry_list : List Entry) (literals : List ℤ)
+    (free : List ℕ) (capacity : ℕ) : Type 0 where
+  pub limits : IsLayout layout
+  pub count : length entry_list ≡ last_identity layout + 1
+  pub streams : length free ≡ layout.streams
+  pub within : AllByRecursion (LiesWithin (length literals)) entry_list
+  pub reserved : length literals + sum free ≤ capacity
+  pub small : length literals + sum free ≤ max_row_words
+  pub formula : IsFormulaLive (plain_of layout entry_list literals free)
+  pub clauses : AllByRecursion
+      (StoresClause (formula_of (plain_of layout entry_list literals free)))
+      (map (stored_in literals) entry_list)
 
 -- the literals of all clauses, one clause after the other
 abbrev pub flat : List Clause → List ℤ
 flat [] = []
-flat (c ∷ cs) = c ++ flat cs
+flat (clause ∷ clauses) = clause ++ flat clauses
 
 -- live entries for these clauses, the first of which starts at from
 abbrev pub entries_from : ℕ → List Clause → List Entry
 entries_from from [] = []
-entries_from from (c ∷ cs) = entries.Live from (length c) ∷ entries_from (from + length c) cs
+entries_from from (clause ∷ clauses) =
+    entries.Live from (length clause) ∷ entries_from (from + length clause) clauses

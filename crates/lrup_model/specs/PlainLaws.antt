@@ -8,7 +8,7 @@ use Rattle.lrup_model.specs.State.{State, run}
 use Rattle.lrup_model.specs.History.{LegalFrom}
 use Rattle.lrup_model.specs.Place.{Tells}
 use Rattle.lrup_model.specs.Plain.{Plain, formula_of, plain_state, plain_place, PlainMoves}
-use Rattle.lrup_model.specs.Running.{run-append, legal-append, spent-append, callers-append}
+use Rattle.lrup_model.specs.RunningLemmas.{run-append, legal-append, spent-append, callers-append}
 
 pub plain_moves_none : (m : Plain) (s : ℕ) → PlainMoves m m s []
 plain_moves_none m s = record {

@@ -8,7 +8,7 @@ use Rattle.lrup_model.specs.Formula.{Cnf}
 use Rattle.lrup_model.specs.Layout.{LayoutValue, Fits, Owns, owner}
 use Rattle.lrup_model.specs.Event as events
 use Rattle.lrup_model.specs.Event.{Event, History, stream_of, own, published, spent}
-use Rattle.lrup_model.specs.Running.{size_of, spent-sizes}
+use Rattle.lrup_model.specs.RunningLemmas.{size_of, spent-sizes}
 use Rattle.lrup_model.specs.State.{State, Slot, absent, IsLive, IsRetired, after, opening, Answers}
 use Rattle.lrup_model.specs.History.{IsAllowed, LegalFrom, IsLegal}
 use Rattle.lrup_model.specs.Laws.{among, FindsWithin}

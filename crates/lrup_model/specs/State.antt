@@ -21,54 +21,56 @@ State = ℕ → Slot
 -- a clause stands there, and can be used
 abbrev pub IsLive : Slot → Type 0
 IsLive absent = ⊥
-IsLive (live c) = Unit {0}
-IsLive (retired c) = ⊥
+IsLive (live clause) = Unit {0}
+IsLive (retired clause) = ⊥
 
 -- a clause stood there, and can't be used any more
 abbrev pub IsRetired : Slot → Type 0
 IsRetired absent = ⊥
-IsRetired (live c) = ⊥
-IsRetired (retired c) = Unit {0}
+IsRetired (live clause) = ⊥
+IsRetired (retired clause) = Unit {0}
 
 -- a live clause is retired, and nothing else changes
 abbrev pub retire_slot : Slot → Slot
 retire_slot absent = absent
-retire_slot (live c) = retired c
-retire_slot (retired c) = retired c
+retire_slot (live clause) = retired clause
+retire_slot (retired clause) = retired clause
 
 -- identities from 1 on are the formula's clauses, live; all others are absent
 abbrev pub opening : Cnf → State
-opening f =
-    λ id. if nat_lt 0 id && nat_le id (length f.clauses) then live (clause_at f id) else absent
+opening formula =
+    λ id. if nat_lt 0 id && nat_le id (length formula.clauses) then live (clause_at formula id)
+    else absent
 
 -- the state after an event
 abbrev pub after : State → Event → State
-after m (events.fetch s id r) = m
-after m (events.publish s id c publishing.Done) = λ j. if j == id then live c else m j
-after m (events.publish s id c publishing.Taken) = m
-after m (events.retire s id retiring.Done) =
-    λ j. if j == id then retire_slot (m id) else m j
-after m (events.retire s id retiring.NotLive) = m
+after slots (events.fetch s id reply) = slots
+after slots (events.publish s id clause publishing.Done) =
+    λ j. if j == id then live clause else slots j
+after slots (events.publish s id clause publishing.Taken) = slots
+after slots (events.retire s id retiring.Done) =
+    λ j. if j == id then retire_slot (slots id) else slots j
+after slots (events.retire s id retiring.NotLive) = slots
 
 -- the state after the events, one after the other
 abbrev pub run : State → History → State
-run m [] = m
-run m (e ∷ es) = run (after m e) es
+run slots [] = slots
+run slots (event ∷ history) = run (after slots event) history
 
 -- the state that a history leaves
 abbrev pub state : Cnf → History → State
-state f h = run (opening f) h
+state formula history = run (opening formula) history
 
 -- the event has the reply that the map of one thread gives
 abbrev pub Answers : State → Event → Type 0
-Answers m (events.fetch s id events.vacant) = m id ≡ absent
-Answers m (events.fetch s id (events.live c)) = m id ≡ live c
-Answers m (events.fetch s id events.retired) = IsRetired (m id)
-Answers m (events.publish s id c publishing.Done) = m id ≡ absent
-Answers m (events.publish s id c publishing.Taken) = m id ≢ absent
-Answers m (events.retire s id retiring.Done) = IsLive (m id)
-Answers m (events.retire s id retiring.NotLive) = ¬ IsLive (m id)
+Answers slots (events.fetch s id events.vacant) = slots id ≡ absent
+Answers slots (events.fetch s id (events.live clause)) = slots id ≡ live clause
+Answers slots (events.fetch s id events.retired) = IsRetired (slots id)
+Answers slots (events.publish s id clause publishing.Done) = slots id ≡ absent
+Answers slots (events.publish s id clause publishing.Taken) = slots id ≢ absent
+Answers slots (events.retire s id retiring.Done) = IsLive (slots id)
+Answers slots (events.retire s id retiring.NotLive) = ¬ IsLive (slots id)
 
 -- the stream's own identities above one have nothing
 abbrev pub AreVacantAbove : LayoutValue → ℕ → State → ℕ → Type 0
-AreVacantAbove p s m last = (id : ℕ) → Owns p s id → last < id → m id ≡ absent
+AreVacantAbove layout s slots last = (id : ℕ) → Owns layout s id → last < id → slots id ≡ absent

@@ -30,17 +30,19 @@ pub record AreLifted (signed : Bool) (limits : Limits) : Type 0 where
 
 -- a digit 0 to 9
 abbrev pub IsDigit : ℕ → Type 0
-IsDigit c = (48 ≤ c) × (c ≤ 57)
+IsDigit byte = (48 ≤ byte) × (byte ≤ 57)
 
 -- num, of at most so many digits
 abbrev pub SpellsNumber : ℕ → List ℕ → Type 0
 SpellsNumber most [] = ⊥
-SpellsNumber most (c ∷ cs) = (49 ≤ c) × (c ≤ 57) × AllByRecursion IsDigit cs × (length cs < most)
+SpellsNumber most (byte ∷ bytes) =
+    (49 ≤ byte) × (byte ≤ 57) × AllByRecursion IsDigit bytes × (length bytes < most)
 
 -- lit, where 45 is the byte `-`
 abbrev pub SpellsLiteral : ℕ → List ℕ → Type 0
 SpellsLiteral most [] = ⊥
-SpellsLiteral most (c ∷ cs) = SpellsNumber most (c ∷ cs) ⊎ ((c ≡ 45) × SpellsNumber most cs)
+SpellsLiteral most (byte ∷ bytes) =
+    SpellsNumber most (byte ∷ bytes) ⊎ ((byte ≡ 45) × SpellsNumber most bytes)
 
 -- a hint: num, or lit where hints are signed
 abbrev pub SpellsHint : Limits → List ℕ → Type 0
@@ -71,12 +73,12 @@ AreWordsWithin limits (Imports id lits) =
 -- *( SP num ) SP "0" LF, and *( SP lit ) SP "0" LF
 abbrev pub list_text : List (List ℕ) → List ℕ
 list_text [] = codes " 0\n"
-list_text (w ∷ ws) = codes " " ++ (w ++ list_text ws)
+list_text (word ∷ words) = codes " " ++ (word ++ list_text words)
 
 -- *( lit SP ) "0", and what follows
 abbrev pub clause_text : List (List ℕ) → List ℕ → List ℕ
 clause_text [] rest = codes "0" ++ rest
-clause_text (w ∷ ws) rest = w ++ (codes " " ++ clause_text ws rest)
+clause_text (word ∷ words) rest = word ++ (codes " " ++ clause_text words rest)
 
 -- a line's text, with its LF
 abbrev pub text : Words → List ℕ

@@ -26,11 +26,11 @@ words_of (Import id lits) = Imports (decimal id) (map signed_decimal lits)
 
 -- a number of 1 to 18 digits that isn't 0
 abbrev pub IsStreamNumber : ℕ → Type 0
-IsStreamNumber n = (0 < n) × (n < 10 ^ 18)
+IsStreamNumber number = (0 < number) × (number < 10 ^ 18)
 
 -- a literal whose variable is such a number
 abbrev pub IsStreamLiteral : ℤ → Type 0
-IsStreamLiteral z = IsStreamNumber (unsigned_abs z)
+IsStreamLiteral literal = IsStreamNumber (unsigned_abs literal)
 
 -- it has a text within the limits of a stream
 abbrev pub IsWithinLimits : StreamLine → Type 0

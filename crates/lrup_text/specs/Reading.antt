@@ -14,10 +14,10 @@ use Rattle.lrup_text.specs.Rests.{Spot, AtStart, InLead, AfterImport, BeforeLite
 
 -- the literals, and the hints or identities, read so far
 abbrev pub literals_read : PartialLine → List ℤ
-literals_read m = take m.literal_count m.literals.items
+literals_read partial = take partial.literal_count partial.literals.items
 
 abbrev pub identities_read : PartialLine → List ℕ
-identities_read m = take m.identity_count m.identities.items
+identities_read partial = take partial.identity_count partial.identities.items
 
 -- a line by its parts
 abbrev pub line_of_parts : (imports deletes : Bool) → ℕ → List ℤ → List ℕ → StreamLine
@@ -27,7 +27,9 @@ line_of_parts false false lead lits ids = Addition lead lits ids
 
 -- the line that was read
 abbrev pub line_so_far : PartialLine → StreamLine
-line_so_far m = line_of_parts m.imports m.deletes m.lead (literals_read m) (identities_read m)
+line_so_far partial =
+    line_of_parts partial.imports partial.deletes partial.lead (literals_read partial)
+    (identities_read partial)
 
 -- literals and the space after each; items and the space before each
 unfoldable pub literals_text : List ℤ → List ℕ
@@ -46,7 +48,9 @@ list_front true lead lits = decimal lead ++ space ∷ letter_d ∷ []
 list_front false lead lits = clause_front false lead lits ++ zero_digit ∷ []
 
 abbrev pub item_front : PartialLine → List ℕ
-item_front m = list_front m.deletes m.lead (literals_read m) ++ items_text (identities_read m)
+item_front partial =
+    list_front partial.deletes partial.lead (literals_read partial)
+    ++ items_text (identities_read partial)
 
 -- the text up to the end of the line
 abbrev pub end_front : (imports deletes : Bool) → ℕ → List ℤ → List ℕ → List ℕ
@@ -56,50 +60,54 @@ end_front false deletes lead lits ids =
 
 -- a literal as far as it was read
 abbrev pub literal_front : Bool → ℕ → List ℕ
-literal_front true n = minus ∷ decimal n
-literal_front false n = decimal n
+literal_front true number = minus ∷ decimal number
+literal_front false number = decimal number
 
 -- the bytes of the line that were read
 unfoldable pub pending_at : Place → PartialLine → List ℕ
-pending_at places.Start m = []
-pending_at places.Lead m = decimal m.number
-pending_at places.Import m = decimal m.lead ++ space ∷ letter_i ∷ []
-pending_at places.Body m = clause_front m.imports m.lead (literals_read m)
-pending_at places.Minus m = clause_front m.imports m.lead (literals_read m) ++ minus ∷ []
-pending_at places.Literal m =
-    clause_front m.imports m.lead (literals_read m) ++ literal_front m.negative m.number
-pending_at places.List m = list_front m.deletes m.lead (literals_read m)
-pending_at places.Item m = item_front m ++ space ∷ []
-pending_at places.Number m = item_front m ++ space ∷ decimal m.number
-pending_at places.LineEnd m =
-    end_front m.imports m.deletes m.lead (literals_read m) (identities_read m)
+pending_at places.Start partial = []
+pending_at places.Lead partial = decimal partial.number
+pending_at places.Import partial = decimal partial.lead ++ space ∷ letter_i ∷ []
+pending_at places.Body partial = clause_front partial.imports partial.lead (literals_read partial)
+pending_at places.Minus partial =
+    clause_front partial.imports partial.lead (literals_read partial) ++ minus ∷ []
+pending_at places.Literal partial =
+    clause_front partial.imports partial.lead (literals_read partial)
+    ++ literal_front partial.negative partial.number
+pending_at places.List partial = list_front partial.deletes partial.lead (literals_read partial)
+pending_at places.Item partial = item_front partial ++ space ∷ []
+pending_at places.Number partial = item_front partial ++ space ∷ decimal partial.number
+pending_at places.LineEnd partial =
+    end_front partial.imports partial.deletes partial.lead (literals_read partial)
+    (identities_read partial)
 
 abbrev pub pending : PartialLine → List ℕ
-pending m = pending_at m.place m
+pending partial = pending_at partial.place partial
 
 -- where in a line that is
 unfoldable pub spot_at : Place → PartialLine → Spot
-spot_at places.Start m = AtStart
-spot_at places.Lead m = InLead m.digits
-spot_at places.Import m = AfterImport
-spot_at places.Body m = BeforeLiteral m.imports m.literal_count
-spot_at places.Minus m = AfterMinus m.imports m.literal_count
-spot_at places.Literal m = InLiteral m.imports m.digits m.literal_count
-spot_at places.List m = BeforeList m.deletes
-spot_at places.Item m = BeforeItem m.deletes m.identity_count
-spot_at places.Number m = InItem m.deletes m.digits m.identity_count
-spot_at places.LineEnd m = AtEnd
+spot_at places.Start partial = AtStart
+spot_at places.Lead partial = InLead partial.digits
+spot_at places.Import partial = AfterImport
+spot_at places.Body partial = BeforeLiteral partial.imports partial.literal_count
+spot_at places.Minus partial = AfterMinus partial.imports partial.literal_count
+spot_at places.Literal partial = InLiteral partial.imports partial.digits partial.literal_count
+spot_at places.List partial = BeforeList partial.deletes
+spot_at places.Item partial = BeforeItem partial.deletes partial.identity_count
+spot_at places.Number partial = InItem partial.deletes partial.digits partial.identity_count
+spot_at places.LineEnd partial = AtEnd
 
 -- what a place asks of the counts, and of the line's kind
 unfoldable pub IsRoomy : Place → PartialLine → Type 0
-IsRoomy places.Import m = (m.identity_count ≡ 0) × (m.literal_count ≡ 0) × (m.imports ≡ true)
-IsRoomy places.Body m = m.identity_count ≡ 0
-IsRoomy places.Minus m = (m.identity_count ≡ 0) × (m.literal_count < 65535)
-IsRoomy places.Literal m = (m.identity_count ≡ 0) × (m.literal_count < 65535)
-IsRoomy places.List m = (m.identity_count ≡ 0) × (m.imports ≡ false)
-IsRoomy places.Item m = m.imports ≡ false
-IsRoomy places.Number m = (m.identity_count < 65536) × (m.imports ≡ false)
-IsRoomy _ m = Unit {0}
+IsRoomy places.Import partial =
+    (partial.identity_count ≡ 0) × (partial.literal_count ≡ 0) × (partial.imports ≡ true)
+IsRoomy places.Body partial = partial.identity_count ≡ 0
+IsRoomy places.Minus partial = (partial.identity_count ≡ 0) × (partial.literal_count < 65535)
+IsRoomy places.Literal partial = (partial.identity_count ≡ 0) × (partial.literal_count < 65535)
+IsRoomy places.List partial = (partial.identity_count ≡ 0) × (partial.imports ≡ false)
+IsRoomy places.Item partial = partial.imports ≡ false
+IsRoomy places.Number partial = (partial.identity_count < 65536) × (partial.imports ≡ false)
+IsRoomy _ partial = Unit {0}
 
 -- the buffers have room for all that a line may hold
 pub record HasRoom (lits : List ℤ) (ids : List ℕ) : Type 0 where
@@ -122,13 +130,13 @@ pub record FitsDigits (number digits : ℕ) : Type 0 where
   pub few : digits ≤ 18
 
 -- what is kept between two bytes
-pub record IsPartialLine (m : PartialLine) : Type 0 where
-  pub room : HasRoom m.literals.items m.identities.items
-  pub kept : CanStandInLine m.lead m.literals.items m.literal_count
-      m.identities.items m.identity_count
-  pub number : FitsDigits m.number m.digits
-  pub roomy : IsRoomy m.place m
-  pub tracks : Tracks (pending m) (spot_at m.place m)
+pub record IsPartialLine (partial : PartialLine) : Type 0 where
+  pub room : HasRoom partial.literals.items partial.identities.items
+  pub kept : CanStandInLine partial.lead partial.literals.items partial.literal_count
+      partial.identities.items partial.identity_count
+  pub number : FitsDigits partial.number partial.digits
+  pub roomy : IsRoomy partial.place partial
+  pub tracks : Tracks (pending partial) (spot_at partial.place partial)
 
 -- What a byte does. The line goes on; or it is whole, and reading stands before the next; or no line begins so.
 abbrev pub ReadsByte : PartialLine → ℕ → ByteStep → PartialLine → Type 0

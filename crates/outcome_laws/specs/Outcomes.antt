@@ -12,7 +12,8 @@ use Rattle.command.specs.Commands.{FilesView, Text}
 
 -- a setting, with the empty cube
 abbrev pub bare_setting : Setting → Setting
-bare_setting c = record { layout = c.layout; cube = []; stream = c.stream; tries = c.tries }
+bare_setting setting =
+    record { layout = setting.layout; cube = []; stream = setting.stream; tries = setting.tries }
 
 -- the terms of a run, with the empty cube
 abbrev pub bare_terms : TermsValue → TermsValue
@@ -20,12 +21,12 @@ bare_terms terms = record { layout = terms.layout; cube = []; tries = terms.trie
 
 -- the report, as it is under the empty cube: within that is the empty clause alone
 abbrev pub bare_report : Report → Report
-bare_report r = record {
-  added = r.added;
-  deleted = r.deleted;
-  empty = r.empty;
-  within = r.empty;
-  ending = r.ending;
+bare_report report = record {
+  added = report.added;
+  deleted = report.deleted;
+  empty = report.empty;
+  within = report.empty;
+  ending = report.ending;
 }
 
 -- the reports say the same, but of clauses within a cube

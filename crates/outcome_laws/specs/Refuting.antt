@@ -18,21 +18,21 @@ pub record IsRunOn (files : FilesView) (bytes : List ℕ) (status : ℕ) : Type 
   pub read : ends.outcome.is_formula.0 ≡ bytes
 
 -- the bytes that were saved as a checkpoint, if there is one
-abbrev pub saved_bytes : (files : FilesView) (path : Option Text) (f : Cnf) (verdict : Verdict)
-    (unsaved : Option SaveFault) (before after : files.State)
-    → LeavesCheckpoint files path f verdict unsaved before after → Option (List ℕ)
-saved_bytes files None f verdict unsaved before after leaves = None
-saved_bytes files (Some path) f Unsatisfiable unsaved before after leaves = None
-saved_bytes files (Some path) f verdict None before after leaves = Some leaves.0
-saved_bytes files (Some path) f verdict (Some fault) before after leaves = None
+abbrev pub saved_bytes : (files : FilesView) (path : Option Text) (formula : Cnf)
+    (verdict : Verdict) (unsaved : Option SaveFault) (before after : files.State)
+    → LeavesCheckpoint files path formula verdict unsaved before after → Option (List ℕ)
+saved_bytes files None formula verdict unsaved before after leaves = None
+saved_bytes files (Some path) formula Unsatisfiable unsaved before after leaves = None
+saved_bytes files (Some path) formula verdict None before after leaves = Some leaves.0
+saved_bytes files (Some path) formula verdict (Some fault) before after leaves = None
 
 -- the same, of a run
 abbrev pub saved_by : (files : FilesView) (bytes : List ℕ) (status : ℕ)
     → IsRunOn files bytes status → Option (List ℕ)
 saved_by files bytes status run =
-    let o = run.ends.outcome in
-    saved_bytes files (checkpoint_at o.given) o.formula run.ends.verdict run.ends.unsaved o.last
-    run.after run.ends.checkpoint
+    let outcome = run.ends.outcome in
+    saved_bytes files (checkpoint_at outcome.given) outcome.formula run.ends.verdict
+    run.ends.unsaved outcome.last run.after run.ends.checkpoint
 
 -- Runs over files as they were before each: the first read these bytes, each further one what the one before it saved, and the last
 -- one is as wanted.

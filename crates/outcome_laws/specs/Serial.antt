@@ -36,9 +36,10 @@ abbrev pub SerialOutcomesAgree : FilesView → FilesView → Type 0
 SerialOutcomesAgree files others =
     (words other_words : List Text) (reports other_reports : List Report)
     (verdict other_verdict : Verdict)
-    (a : IsOutcome files words reports verdict)
-    (b : IsOutcome others other_words other_reports other_verdict)
-    → AskForSameTurns files others a.given b.given → b.cube ≡ a.cube
+    (outcome : IsOutcome files words reports verdict)
+    (other_outcome : IsOutcome others other_words other_reports other_verdict)
+    → AskForSameTurns files others outcome.given other_outcome.given
+    → other_outcome.cube ≡ outcome.cube
     → NoneCutShort reports → NoneCutShort other_reports
     → (reports ≡ other_reports) × (verdict ≡ other_verdict)
 

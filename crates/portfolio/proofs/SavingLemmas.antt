@@ -14,7 +14,7 @@ use Rattle.lrup_model.specs.Layout.{LayoutValue, Owns}
 use Rattle.lrup_model.specs.OwnerLemmas.{owned}
 use Rattle.lrup_model.specs.Pass.{View, IsFair, PassMoves, AreMet, AllSaw}
 use Rattle.lrup_model.specs.Place.{Caller}
-use Rattle.lrup_model.specs.Running.{own-append}
+use Rattle.lrup_model.specs.RunningLemmas.{own-append}
 use Rattle.lrup_model.specs.State.{State, Answers, opening, state}
 use Rattle.stream_check.specs.Checking.{IsFetch}
 use Rattle.checkpoint.specs.Live.{fetches}

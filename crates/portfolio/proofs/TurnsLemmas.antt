@@ -15,7 +15,7 @@ use Rattle.lrup_model.specs.Event.{History, stream_of, own, published, spent}
 use Rattle.lrup_model.specs.State.{State, opening, run}
 use Rattle.lrup_model.specs.History.{LegalFrom, IsLegal}
 use Rattle.lrup_model.specs.HistoryLemmas.{opening-owned}
-use Rattle.lrup_model.specs.Running.{run-append, legal-append, spent-append}
+use Rattle.lrup_model.specs.RunningLemmas.{run-append, legal-append, spent-append}
 use Rattle.lrup_model.specs.Plain.{Plain, formula_of, plain_state, free_at, plain_place, PlainMoves}
 use Rattle.lrup_model.specs.ListLemmas.{All-append}
 use Rattle.stream_check.specs.declared.report.Ending.{Ending}

@@ -10,17 +10,17 @@ use Rattle.runs.specs.Streams.{Stream, TermsValue, setting_of}
 
 -- These are the identities that the lines of the bytes drop: of those that a deletion among them names, the formula's and other
 -- streams'.
-pub record AreDroppedBy (c : Setting) (bytes ids : List ℕ) : Type 0 where
+pub record AreDroppedBy (setting : Setting) (bytes ids : List ℕ) : Type 0 where
   pub lines : List StreamLine
   pub rest : List ℕ
   pub cut : Cut bytes lines rest
-  pub are : (id : ℕ) → is_among ids id ≡ (standing_of c lines).gone id
+  pub are : (id : ℕ) → is_among ids id ≡ (standing_of setting lines).gone id
 
 -- Where the report says that the stream ended, or that a read failed, so that all its lines were good, these are the identities that
 -- they drop. Of a stream with a bad line, or that memory ran out for, nothing is said.
 abbrev pub HasDropped : Setting → List ℕ → Report → List ℕ → Type 0
-HasDropped c bytes report ids =
-    (report.ending ≡ endings.Ended) ⊎ IsOfFailure report → AreDroppedBy c bytes ids
+HasDropped setting bytes report ids =
+    (report.ending ≡ endings.Ended) ⊎ IsOfFailure report → AreDroppedBy setting bytes ids
 
 -- so it is with each stream, counted on from s
 abbrev pub HaveDropped : TermsValue → ℕ → List Stream → List Report → List (List ℕ) → Type 0

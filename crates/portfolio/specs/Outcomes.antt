@@ -17,11 +17,11 @@ pub record OptionsValue : Type 0 where
 
 -- the layout of a formula and so many streams
 abbrev pub layout_of : OptionsValue → Cnf → ℕ → LayoutValue
-layout_of options f streams =
+layout_of options formula streams =
     record {
-      vars = f.vars;
-      clauses = length f.clauses;
-      literals = formula_literals f;
+      vars = formula.vars;
+      clauses = length formula.clauses;
+      literals = formula_literals formula;
       streams = streams;
       lines = options.lines;
       room = options.room;
@@ -29,8 +29,8 @@ layout_of options f streams =
 
 -- what a run of a formula and so many streams is checked by, under a cube
 abbrev pub terms_of : OptionsValue → CubeValue → Cnf → ℕ → TermsValue
-terms_of options cube f streams =
-    record { layout = layout_of options f streams; cube = cube; tries = options.tries }
+terms_of options cube formula streams =
+    record { layout = layout_of options formula streams; cube = cube; tries = options.tries }
 
 -- The verdict: 'unsatisfiable' exactly if some stream added the empty clause; else 'unsatisfiable under assumptions' exactly if
 -- some stream added a clause within the cube.

@@ -17,19 +17,19 @@ ending_text (endings.Memory line) = codes "out of memory at line " ++ decimal li
 
 -- what is said of a stream, from 1 on, after these words, ended by LF
 abbrev pub line_after : List ℕ → ℕ → Report → List ℕ
-line_after words s r =
-    words ++ decimal s ++ codes ": " ++ decimal r.added ++ codes " added, "
-    ++ decimal r.deleted ++ codes " deleted, "
-    ++ ending_text r.ending ++ codes "\n"
+line_after words s report =
+    words ++ decimal s ++ codes ": " ++ decimal report.added ++ codes " added, "
+    ++ decimal report.deleted ++ codes " deleted, "
+    ++ ending_text report.ending ++ codes "\n"
 
 -- the line of a stream in a report
 abbrev pub stream_line : ℕ → Report → List ℕ
-stream_line s r = line_after (codes "c stream ") s r
+stream_line s report = line_after (codes "c stream ") s report
 
 -- the lines of the streams, counted on from s
 abbrev pub stream_lines : ℕ → List Report → List ℕ
 stream_lines s [] = []
-stream_lines s (r ∷ reports) = stream_line s r ++ stream_lines (s + 1) reports
+stream_lines s (report ∷ reports) = stream_line s report ++ stream_lines (s + 1) reports
 
 abbrev pub verdict_line : Verdict → List ℕ
 verdict_line verdicts.Unsatisfiable = codes "s UNSATISFIABLE\n"
@@ -44,7 +44,7 @@ report_text reports verdict = stream_lines 1 reports ++ verdict_line verdict
 
 -- what is said when a stream is over
 abbrev pub over_line : ℕ → Report → List ℕ
-over_line s r = line_after (codes "lrupd: stream ") s r
+over_line s report = line_after (codes "lrupd: stream ") s report
 
 -- what is said when a stream has waited for the clause of an identity
 abbrev pub wait_line : ℕ → ℕ → List ℕ

@@ -18,27 +18,30 @@ use Rattle.lrup_text.specs.ReadOut.{SourceView}
 use Rattle.portfolio.specs.Working.{WorkerValue, Works, IsStarted}
 
 -- the map is the one that the blocks' events leave, and they are legal
-pub record HasRun (f : Cnf) (p : LayoutValue) (blocks : List Block) (map : Plain) : Type 0 where
-  pub layout : map.layout ≡ p
-  pub formula : formula_of map ≡ f
-  pub within : AllByRecursion (IsBlockWithin p (λ s. true)) blocks
-  pub legal : LegalFrom f p (opening f) (events_in blocks)
-  pub state : plain_state map ≡ run (opening f) (events_in blocks)
-  pub room : (s : ℕ) → IsStream p s → free_at map s + spent s (events_in blocks) ≡ p.room
+pub record HasRun (run_formula : Cnf) (run_layout : LayoutValue) (blocks : List Block)
+    (map : Plain) : Type 0 where
+  pub layout : map.layout ≡ run_layout
+  pub formula : formula_of map ≡ run_formula
+  pub within : AllByRecursion (IsBlockWithin run_layout (λ s. true)) blocks
+  pub legal : LegalFrom run_formula run_layout (opening run_formula) (events_in blocks)
+  pub state : plain_state map ≡ run (opening run_formula) (events_in blocks)
+  pub room : (s : ℕ) → IsStream run_layout s
+      → free_at map s + spent s (events_in blocks) ≡ run_layout.room
 
 -- the worker is stream s's, has come to this by the stream's blocks, and can go on at the map
 pub record IsWorking {S : Type 0} (view : SourceView S) (terms : TermsValue) (blocks : List Block)
-    (map : Plain) (s : ℕ) (first : S) (w : WorkerValue S) : Type 0 where
-  pub setting : w.checker.setting ≡ setting_of terms s
-  pub works : Works view first w (free_at map s) (blocks_of s blocks)
-  pub ready : IsReadyAt w.checker (plain_place map s)
+    (map : Plain) (s : ℕ) (first : S) (worker : WorkerValue S) : Type 0 where
+  pub setting : worker.checker.setting ≡ setting_of terms s
+  pub works : Works view first worker (free_at map s) (blocks_of s blocks)
+  pub ready : IsReadyAt worker.checker (plain_place map s)
 
 -- so it is with each worker, counted on from s
 abbrev pub AreWorking : {S : Type 0} → SourceView S → TermsValue → List Block → Plain → ℕ → List S
     → List (WorkerValue S) → Type 0
 AreWorking view terms blocks map s [] [] = Unit {0}
-AreWorking view terms blocks map s (first ∷ firsts) (w ∷ ws) =
-    IsWorking view terms blocks map s first w × AreWorking view terms blocks map (s + 1) firsts ws
+AreWorking view terms blocks map s (first ∷ firsts) (worker ∷ workers) =
+    IsWorking view terms blocks map s first worker
+    × AreWorking view terms blocks map (s + 1) firsts workers
 AreWorking view terms blocks map s _ _ = ⊥
 
 -- An order of lines after so many whole rounds and the turns of so many streams more. No stream has more lines than it has had turns,
@@ -47,19 +50,19 @@ pub record IsInRound {S : Type 0} (rounds taken : ℕ) (order : List ℕ)
     (workers : List (WorkerValue S)) : Type 0 where
   pub before : (s : ℕ) → s ≤ taken → line_count s order ≤ rounds + 1
   pub behind : (s : ℕ) → taken < s → line_count s order ≤ rounds
-  pub going_before : (s : ℕ) (w : WorkerValue S) → IsOfStream workers s w
-      → w.checker.ending ≡ None → s ≤ taken → line_count s order ≡ rounds + 1
-  pub going_behind : (s : ℕ) (w : WorkerValue S) → IsOfStream workers s w
-      → w.checker.ending ≡ None → taken < s → line_count s order ≡ rounds
+  pub going_before : (s : ℕ) (worker : WorkerValue S) → IsOfStream workers s worker
+      → worker.checker.ending ≡ None → s ≤ taken → line_count s order ≡ rounds + 1
+  pub going_behind : (s : ℕ) (worker : WorkerValue S) → IsOfStream workers s worker
+      → worker.checker.ending ≡ None → taken < s → line_count s order ≡ rounds
   pub turns : IsByTurns order
 
 -- A run between two turns, where so many streams have had theirs in this round: its map is that of the blocks so far, and each
 -- worker has come to what its own blocks say.
-pub record Runs {S : Type 0} (view : SourceView S) (f : Cnf) (terms : TermsValue) (firsts : List S)
-    (taken : ℕ) (map : Plain) (workers : List (WorkerValue S)) : Type 0 where
+pub record Runs {S : Type 0} (view : SourceView S) (formula : Cnf) (terms : TermsValue)
+    (firsts : List S) (taken : ℕ) (map : Plain) (workers : List (WorkerValue S)) : Type 0 where
   pub count : length workers ≡ terms.layout.streams
   pub blocks : List Block
-  pub map_is : HasRun f terms.layout blocks map
+  pub map_is : HasRun formula terms.layout blocks map
   pub workers_are : AreWorking view terms blocks map 1 firsts workers
   pub rounds : ℕ
   pub in_round : IsInRound rounds taken (streams_of blocks) workers
@@ -67,38 +70,39 @@ pub record Runs {S : Type 0} (view : SourceView S) (f : Cnf) (terms : TermsValue
 -- the run of some formula, layout and readers stands here
 abbrev pub IsRunning : {S : Type 0} → SourceView S → ℕ → Plain → List (WorkerValue S) → Type 0
 IsRunning {S} view taken map workers =
-    (f : Cnf) × (terms : TermsValue) × (firsts : List S)
-    × Runs view f terms firsts taken map workers
+    (formula : Cnf) × (terms : TermsValue) × (firsts : List S)
+    × Runs view formula terms firsts taken map workers
 
 -- whatever run stood at the one moment stands at the other
 abbrev pub GoesOn : {S : Type 0} → SourceView S → ℕ → Plain → List (WorkerValue S) → ℕ → Plain
     → List (WorkerValue S) → Type 0
 GoesOn {S} view taken map workers next later after =
-    (f : Cnf) (terms : TermsValue) (firsts : List S)
-    → Runs view f terms firsts taken map workers → Runs view f terms firsts next later after
+    (formula : Cnf) (terms : TermsValue) (firsts : List S)
+    → Runs view formula terms firsts taken map workers
+    → Runs view formula terms firsts next later after
 
 abbrev pub IsOver : {S : Type 0} → WorkerValue S → Type 0
-IsOver w = IsSome w.checker.ending
+IsOver worker = IsSome worker.checker.ending
 
 abbrev pub AreOver : {S : Type 0} → List (WorkerValue S) → Type 0
-AreOver ws = AllByRecursion IsOver ws
+AreOver workers = AllByRecursion IsOver workers
 
 -- the worker at this place in the list is over
 abbrev pub IsOverAt : {S : Type 0} → List (WorkerValue S) → ℕ → Type 0
-IsOverAt ws i = IfSome (slice_get ws i) IsOver
+IsOverAt workers place = IfSome (slice_get workers place) IsOver
 
 -- the workers of the streams counted on from s, before their first bytes
 abbrev pub AreStarted : {S : Type 0} → SourceView S → TermsValue → ℕ → List S → List (WorkerValue S)
     → Type 0
 AreStarted view terms s [] [] = Unit {0}
-AreStarted view terms s (first ∷ firsts) (w ∷ ws) =
-    IsStarted view terms s first w × AreStarted view terms (s + 1) firsts ws
+AreStarted view terms s (first ∷ firsts) (worker ∷ workers) =
+    IsStarted view terms s first worker × AreStarted view terms (s + 1) firsts workers
 AreStarted view terms s _ _ = ⊥
 
 -- the reports of workers that are over
 abbrev pub HaveReports : {S : Type 0} → List (WorkerValue S) → List Report → Type 0
 HaveReports [] [] = Unit {0}
-HaveReports (w ∷ ws) (report ∷ reports) =
-    ((ending : Ending) × (w.checker.ending ≡ Some ending)
-    × (report ≡ report_of_tally w.checker.tally ending)) × HaveReports ws reports
+HaveReports (worker ∷ workers) (report ∷ reports) =
+    ((ending : Ending) × (worker.checker.ending ≡ Some ending)
+    × (report ≡ report_of_tally worker.checker.tally ending)) × HaveReports workers reports
 HaveReports _ _ = ⊥

@@ -20,20 +20,21 @@ pub record WorkerValue (S : Type 0) : Type 0 where
 
 abbrev pub WorksBy : {S : Type 0} → SourceView S → Option Ending → S → WorkerValue S → ℕ
     → List History → Type 0
-WorksBy {S} view None first w free blocks =
-    (bytes : List ℕ) × Consumes (view.left first) (view.left w.reader) (bytes ++ w.unread)
-    × Gave S view.reads first (bytes ++ w.unread) w.reader
-    × Leaves w.checker.setting bytes blocks (checker_state w.checker free)
-WorksBy {S} view (Some ending) first w free blocks =
-    (stream : Stream) × IsStreamOf view first w.reader stream
-    × JudgesStream w.checker.setting stream blocks (report_of_tally w.checker.tally ending)
-    × (IsSome stream.end → AreDroppedBy w.checker.setting stream.bytes w.checker.dropped)
+WorksBy {S} view None first worker free blocks =
+    (bytes : List ℕ) × Consumes (view.left first) (view.left worker.reader) (bytes ++ worker.unread)
+    × Gave S view.reads first (bytes ++ worker.unread) worker.reader
+    × Leaves worker.checker.setting bytes blocks (checker_state worker.checker free)
+WorksBy {S} view (Some ending) first worker free blocks =
+    (stream : Stream) × IsStreamOf view first worker.reader stream
+    × JudgesStream worker.checker.setting stream blocks
+    (report_of_tally worker.checker.tally ending)
+    × (IsSome stream.end → AreDroppedBy worker.checker.setting stream.bytes worker.checker.dropped)
 
 -- What the worker's stream has come to by these blocks of events, where its reader was the first before any read and so much room
 -- is left now: the bytes checked so far leave the checker as it is; or the stream is judged as the checker's report says, and where it
 -- was read to its end, its lines drop what the checker dropped.
 abbrev pub Works : {S : Type 0} → SourceView S → S → WorkerValue S → ℕ → List History → Type 0
-Works view first w free blocks = WorksBy view w.checker.ending first w free blocks
+Works view first worker free blocks = WorksBy view worker.checker.ending first worker free blocks
 
 -- whatever came before, these blocks more bring the one worker to the other
 abbrev pub WorksOn : {S : Type 0} → SourceView S → WorkerValue S → ℕ → List History
@@ -56,8 +57,8 @@ pub record IsWorker (has_failed : Bool) (size from to : ℕ) (ending : Option En
 
 -- a worker of this stream before its first byte, whose reader is this
 pub record IsStarted {S : Type 0} (view : SourceView S) (terms : TermsValue) (s : ℕ) (first : S)
-    (w : WorkerValue S) : Type 0 where
-  pub setting : w.checker.setting ≡ setting_of terms s
-  pub last : w.checker.last ≡ terms.layout.clauses
-  pub ending : w.checker.ending ≡ None
-  pub works : Works view first w terms.layout.room []
+    (worker : WorkerValue S) : Type 0 where
+  pub setting : worker.checker.setting ≡ setting_of terms s
+  pub last : worker.checker.last ≡ terms.layout.clauses
+  pub ending : worker.checker.ending ≡ None
+  pub works : Works view first worker terms.layout.room []

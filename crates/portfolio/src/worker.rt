@@ -34,14 +34,14 @@ impl<R: Source + Drop, G: Gate + Drop> Model for Worker<R, G> {
 
     ghost Value = { WorkerValue R };
 
-    ghost view = { λ w. record {
-      reader = w.reader;
-      unread = take (w.to - w.from) (drop w.from w.buffer.items);
-      checker = w.checker;
+    ghost view = { λ worker. record {
+      reader = worker.reader;
+      unread = take (worker.to - worker.from) (drop worker.from worker.buffer.items);
+      checker = worker.checker;
     } };
 
-    ghost invariant = { λ w. IsWorker (R.has_failed w.reader) (length w.buffer.items)
-        w.from w.to w.checker.ending };
+    ghost invariant = { λ worker. IsWorker (R.has_failed worker.reader) (length worker.buffer.items)
+        worker.from worker.to worker.checker.ending };
 }
 
 impl<R: Source + Drop, G: Gate + Drop> Worker<R, G> {

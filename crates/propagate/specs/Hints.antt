@@ -3,7 +3,8 @@ use Rattle.std.specs.Prelude.{◌≡◌, ◌++◌, ℤ, neg_ℤ, List, [], ◌�
 use Rattle.lrup_model.specs.Clause.{Clause}
 use Rattle.lrup_model.specs.Propagation.{IsUnit}
 
--- each clause is unit, one after the other, and m are the false literals then, where n were before
+-- each clause is unit, one after the other, from these false literals before to those after
 abbrev pub Leads : List ℤ → List Clause → List ℤ → Type 0
-Leads n [] m = n ≡ m
-Leads n (d ∷ ds) m = (l : ℤ) × IsUnit n d l × Leads (n ++ neg_ℤ l ∷ []) ds m
+Leads before [] after = before ≡ after
+Leads before (clause ∷ hinted) after =
+    (literal : ℤ) × IsUnit before clause literal × Leads (before ++ neg_ℤ literal ∷ []) hinted after

@@ -7,6 +7,7 @@ use Rattle.propagate.specs.declared.marks.Left.TheVariants.{Nothing, One, More}
 
 -- nothing, one literal that is neither true nor false, or more than that
 abbrev pub IsLeft : List ℤ → Clause → Left → Type 0
-IsLeft n d Nothing = IsConflict n d
-IsLeft n d (One l) = IsUnit n d l
-IsLeft n d More = (¬ IsConflict n d) × ((l : ℤ) → ¬ IsUnit n d l)
+IsLeft falses clause Nothing = IsConflict falses clause
+IsLeft falses clause (One literal) = IsUnit falses clause literal
+IsLeft falses clause More =
+    (¬ IsConflict falses clause) × ((literal : ℤ) → ¬ IsUnit falses clause literal)

@@ -15,8 +15,11 @@ pub record Propagation : Type 0 where
 
 -- what a hinted clause does
 abbrev pub Steps : Propagation → Clause → Step → Propagation → Type 0
-Steps old d steps.Unit new =
-    (l : ℤ) × IsUnit old.falses d l × (new ≡ record old { falses = old.falses ++ neg_ℤ l ∷ [] })
-Steps old d steps.Conflict new = IsConflict old.falses d × (new ≡ record old { ready = false })
-Steps old d steps.NotUnit new = (¬ IsConflict old.falses d) × ((l : ℤ) → ¬ IsUnit old.falses d l)
+Steps old clause steps.Unit new =
+    (literal : ℤ) × IsUnit old.falses clause literal
+    × (new ≡ record old { falses = old.falses ++ neg_ℤ literal ∷ [] })
+Steps old clause steps.Conflict new =
+    IsConflict old.falses clause × (new ≡ record old { ready = false })
+Steps old clause steps.NotUnit new =
+    (¬ IsConflict old.falses clause) × ((literal : ℤ) → ¬ IsUnit old.falses clause literal)
     × (new ≡ record old { ready = false })

@@ -12,26 +12,27 @@ pub record FalseLiterals : Type 0 where
 -- no variable stands twice
 abbrev pub AreApart : List ℤ → Type 0
 AreApart [] = Unit {0}
-AreApart (x ∷ ls) = (¬ Has ls x) × (¬ Has ls (neg_ℤ x)) × AreApart ls
+AreApart (literal ∷ literals) =
+    (¬ Has literals literal) × (¬ Has literals (neg_ℤ literal)) × AreApart literals
 
 -- each literal has a mark, whose place is its code
 abbrev pub HaveMarks : List Bool → List ℤ → Type 0
-HaveMarks marks ls = AllByRecursion (λ l. code_of l < length marks) ls
+HaveMarks marks literals = AllByRecursion (λ l. code_of l < length marks) literals
 
 -- the literal's mark is set
 abbrev pub IsMarked : List Bool → ℤ → Type 0
 IsMarked marks l = slice_index_or marks (code_of l) false ≡ true
 
 -- each of these literals was marked before, and after that all are marked that were, but for these
-pub record AreTaken (before after : List Bool) (ls : List ℤ) : Type 0 where
-  pub marked : (l : ℤ) → Has ls l → IsMarked before l
-  pub left : (l : ℤ) → IsMarked after l ↔ (IsMarked before l × (¬ Has ls l))
+pub record AreTaken (before after : List Bool) (literals : List ℤ) : Type 0 where
+  pub marked : (l : ℤ) → Has literals l → IsMarked before l
+  pub left : (l : ℤ) → IsMarked after l ↔ (IsMarked before l × (¬ Has literals l))
 
 -- a literal over the variables is marked exactly if it is in the list, and the list has room for one of each variable
-pub record AreMarks (vars : ℕ) (marks : List Bool) (ls : List ℤ) (capacity : ℕ) : Type 0 where
+pub record AreMarks (vars : ℕ) (marks : List Bool) (literals : List ℤ) (capacity : ℕ) : Type 0 where
   pub count : length marks ≡ 2 * vars + 2
   pub room : vars < capacity
-  pub within : AllByRecursion (IsLiteral vars) ls
-  pub apart : AreApart ls
+  pub within : AllByRecursion (IsLiteral vars) literals
+  pub apart : AreApart literals
   pub marked : (l : ℤ) → IsLiteral vars l → (slice_index_or marks (code_of l) false ≡ true)
-      ↔ Has ls l
+      ↔ Has literals l

@@ -13,7 +13,7 @@ use Rattle.lrup_model.specs.HistoryLemmas.{published-append}
 use Rattle.lrup_model.specs.Laws.{HasClause}
 use Rattle.lrup_model.specs.ListLemmas.{All-append}
 use Rattle.lrup_model.specs.Propagation.{Refutes}
-use Rattle.lrup_model.specs.Running.{run-append}
+use Rattle.lrup_model.specs.RunningLemmas.{run-append}
 use Rattle.lrup_model.specs.State.{State, Slot, absent, live, retired, IsRetired, after, run, Answers}
 use Rattle.lrup_model.specs.declared.clause_map.Retired.TheVariants as retiring
 use Rattle.lrup_text.specs.Lines.{StreamLine, Addition, Deletion, Import}

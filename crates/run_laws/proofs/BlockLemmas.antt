@@ -8,7 +8,7 @@ use Rattle.lrup_model.specs.Event as events
 use Rattle.lrup_model.specs.Event.{Event, History, stream_of}
 use Rattle.lrup_model.specs.State.{State, run}
 use Rattle.lrup_model.specs.History.{LegalFrom}
-use Rattle.lrup_model.specs.Running.{legal-append}
+use Rattle.lrup_model.specs.RunningLemmas.{legal-append}
 use Rattle.lrup_model.specs.HistoryLemmas.{legal-front, legal-back}
 use Rattle.stream_check.specs.Reducing.{is_vacant}
 use Rattle.runs.specs.Streams.{Block, blocks_of, events_in}

@@ -11,7 +11,7 @@ use Rattle.lrup_model.specs.Event as events
 use Rattle.lrup_model.specs.Event.{Event, History, stream_of, own, spent}
 use Rattle.lrup_model.specs.State.{State, IsRetired, retire_slot, opening, after, run, state}
 use Rattle.lrup_model.specs.History.{LegalFrom, IsLegal}
-use Rattle.lrup_model.specs.Running.{size_of, spent-sizes, own-append}
+use Rattle.lrup_model.specs.RunningLemmas.{size_of, spent-sizes, own-append}
 use Rattle.lrup_model.specs.HistoryLemmas.{put-same, own-mine, own-other, own-all}
 use Rattle.lrup_model.specs.EntryLemmas.{run-advances, retired_now}
 use Rattle.lrup_model.specs.OwnerLemmas.{IsOwned, owned}

@@ -9,7 +9,7 @@ use Rattle.lrup_model.specs.Event.{History, stream_of, own}
 use Rattle.lrup_model.specs.History.{IsLegal}
 use Rattle.lrup_model.specs.HistoryLemmas.{own-none, own-all}
 use Rattle.lrup_model.specs.CallerLemmas.{calls_differ}
-use Rattle.lrup_model.specs.Running.{own-append}
+use Rattle.lrup_model.specs.RunningLemmas.{own-append}
 use Rattle.lrup_model.specs.Laws.{among}
 use Rattle.lrup_model.specs.RestrictionLemmas.{restriction_legal}
 use Rattle.stream_check.specs.declared.report.Report.{Report}

@@ -14,7 +14,7 @@ use Rattle.lrup_model.specs.History.{LegalFrom}
 use Rattle.lrup_model.specs.HistoryLemmas.{formula_owned, opening-formula, opening-owned, own-all, own-none}
 use Rattle.lrup_model.specs.Laws.{PropagationSound}
 use Rattle.lrup_model.specs.Layout.{LayoutValue, Fits, IsStream, last_identity}
-use Rattle.lrup_model.specs.Running.{legal-append, callers-append, size_of, spent-sizes}
+use Rattle.lrup_model.specs.RunningLemmas.{legal-append, callers-append, size_of, spent-sizes}
 use Rattle.lrup_model.specs.State.{State, live, opening, run}
 use Rattle.lrup_text.specs.Lines.{StreamLine, IsWithinLimits, line_text, Cut}
 use Rattle.lrup_text.specs.Laws.{EmptyCut, OneCut}

@@ -20,7 +20,7 @@ use Rattle.lrup_model.specs.EntryLemmas.{run-advances}
 use Rattle.lrup_model.specs.Laws.{PropagationSound, Advances}
 use Rattle.lrup_model.specs.Layout.{LayoutValue, Fits, IsIdentity, Owns, owner, last_identity}
 use Rattle.lrup_model.specs.OwnerLemmas.{owned}
-use Rattle.lrup_model.specs.Running.{run-append, legal-append, callers-append, size_of}
+use Rattle.lrup_model.specs.RunningLemmas.{run-append, legal-append, callers-append, size_of}
 use Rattle.lrup_model.specs.State.{State, Slot, absent, live, retired, IsLive, retire_slot, run, AreVacantAbove}
 use Rattle.lrup_model.specs.declared.clause_map.Retired.TheVariants as retiring
 use Rattle.lrup_model.specs.declared.layout.Owner.{Owner}

@@ -13,7 +13,7 @@ use Rattle.lrup_model.specs.History.{LegalFrom, IsLegal}
 use Rattle.lrup_model.specs.HistoryLemmas.{formula_owned, one_owner, own-all, own-none}
 use Rattle.lrup_model.specs.Laws.{PropagationSound}
 use Rattle.lrup_model.specs.Layout.{LayoutValue, Fits, IsStream, Owns}
-use Rattle.lrup_model.specs.Running.{legal-append, own-append, size_of, spent-append, spent-sizes}
+use Rattle.lrup_model.specs.RunningLemmas.{legal-append, own-append, size_of, spent-append, spent-sizes}
 use Rattle.lrup_model.specs.State.{State, opening, run}
 use Rattle.lrup_model.specs.declared.layout.Owner.TheVariants as owners
 use Rattle.lrup_text.specs.Laws.{EmptyCut, OneCut, OneFirstLine, RefusedStays}

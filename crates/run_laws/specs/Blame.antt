@@ -24,28 +24,29 @@ HaveBytesOf set streams told =
 -- the report tells of one of the first lines, so many, that cites or imports a clause of another stream, which wasn't there, or wasn't
 -- any more
 abbrev pub LacksOfAnotherIn : Setting → ℕ → Report → Type 0
-LacksOfAnotherIn c count report = (line id : ℕ) × (line ≤ count) × (side_of c id ≡ sides.Foreign)
+LacksOfAnotherIn setting count report =
+    (line id : ℕ) × (line ≤ count) × (side_of setting id ≡ sides.Foreign)
     × ((report.ending ≡ endings.Bad line (faults.Missing id))
     ⊎ (report.ending ≡ endings.Bad line (faults.Retired id)))
 
 -- the report tells of some line that cites or imports a clause of another stream, which wasn't there, or wasn't any more
 abbrev pub LacksOfAnother : Setting → Report → Type 0
-LacksOfAnother c report = (count : ℕ) × LacksOfAnotherIn c count report
+LacksOfAnother setting report = (count : ℕ) × LacksOfAnotherIn setting count report
 
 -- No false blame: where some legal history judges a closed set of streams, and one of them ended there, it has the same report in
 -- every run in which its reader has the same bytes, and the set's other readers have at least theirs; or memory ran out, or a read
 -- failed; or a line of it cites a clause of another stream that wasn't there, or wasn't any more.
 abbrev pub NoFalseBlame : Type 0
-NoFalseBlame = (f : Cnf) (terms : TermsValue) (set : ℕ → Bool) (history : History)
+NoFalseBlame = (formula : Cnf) (terms : TermsValue) (set : ℕ → Bool) (history : History)
     (streams : List Stream) (reports : List Report) (told : List Telling)
     (other_reports : List Report) (s : ℕ) (stream : Stream) (telling : Telling)
     (report other : Report)
-    → Fits terms.layout f → length streams ≡ terms.layout.streams
-    → IsLegal f terms.layout history → AreJudgedIn terms set history 1 streams reports
+    → Fits terms.layout formula → length streams ≡ terms.layout.streams
+    → IsLegal formula terms.layout history → AreJudgedIn terms set history 1 streams reports
     → IsClosed terms.layout set streams
     → IsTrue (set s) → IsOfStream streams s stream → IsOfStream reports s report
     → report.ending ≡ endings.Ended
-    → IsRun f terms told other_reports → HaveBytesOf set streams told
+    → IsRun formula terms told other_reports → HaveBytesOf set streams told
     → IsOfStream told s telling → telling.entry ≡ Some stream.bytes
     → IsOfStream other_reports s other → ¬ IsOfMemory other → ¬ IsOfFailure other
     → (other ≡ report) ⊎ LacksOfAnother (setting_of terms s) other

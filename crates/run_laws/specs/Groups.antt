@@ -22,9 +22,9 @@ one s = λ t. t == s
 
 -- each reader of the set's streams has known bytes left at first, and all of them cite within the set
 abbrev pub AreClosedReaders : LayoutValue → (ℕ → Bool) → List Telling → Type 0
-AreClosedReaders p set told =
+AreClosedReaders layout set told =
     (s : ℕ) (telling : Telling) → IsTrue (set s) → IsOfStream told s telling
-    → (bytes : List ℕ) × (telling.entry ≡ Some bytes) × CiteWithin p set bytes
+    → (bytes : List ℕ) × (telling.entry ≡ Some bytes) × CiteWithin layout set bytes
 
 -- Readings
 
@@ -43,11 +43,11 @@ NoneOutOfMemory set reports =
 
 -- The reports of a set of streams are those of the set alone: a legal history, with events of its streams and of no others,
 -- judges each of them so, and none tells that memory ran out.
-pub record IsGroup (f : Cnf) (terms : TermsValue) (set : ℕ → Bool) (streams : List Stream)
+pub record IsGroup (formula : Cnf) (terms : TermsValue) (set : ℕ → Bool) (streams : List Stream)
     (reports : List Report) : Type 0 where
   pub history : History
-  pub members : AllByRecursion (λ e. IsTrue (set (stream_of e))) history
-  pub legal : IsLegal f terms.layout history
+  pub members : AllByRecursion (λ event. IsTrue (set (stream_of event))) history
+  pub legal : IsLegal formula terms.layout history
   pub judged : AreJudgedIn terms set history 1 streams reports
   pub memory : NoneOutOfMemory set reports
 
@@ -55,18 +55,18 @@ pub record IsGroup (f : Cnf) (terms : TermsValue) (set : ℕ → Bool) (streams 
 -- closed set of these streams none of whose reports tells that memory ran out, the set's reports are such as it may have alone.
 abbrev pub AreIsolated : Cnf → TermsValue → List Telling → (List Stream → Type 0) → List Report
     → Type 0
-AreIsolated f terms told Judged reports =
+AreIsolated formula terms told Judged reports =
     (streams : List Stream) → AllZip IsTold told streams → Judged streams
     → (set : ℕ → Bool) → IsClosed terms.layout set streams → NoneOutOfMemory set reports
-    → IsGroup f terms set streams reports
+    → IsGroup formula terms set streams reports
 
 -- a report that stream s may have alone, as a group of this one stream, where these are its bytes and its end
-pub record IsReportAlone (f : Cnf) (terms : TermsValue) (s : ℕ) (whole : List ℕ) (end : StreamEnd)
-    (report : Report) : Type 0 where
+pub record IsReportAlone (formula : Cnf) (terms : TermsValue) (s : ℕ) (whole : List ℕ)
+    (end : StreamEnd) (report : Report) : Type 0 where
   pub streams : List Stream
   pub reports : List Report
   pub stream : Stream
-  pub alone : IsGroup f terms (one s) streams reports
+  pub alone : IsGroup formula terms (one s) streams reports
   pub at : IsOfStream streams s stream
   pub reads : IsReadingOf whole end stream
   pub says : IsOfStream reports s report
@@ -76,13 +76,13 @@ pub record IsReportAlone (f : Cnf) (terms : TermsValue) (s : ℕ) (whole : List 
 -- which the stream is a reading, every report that it may have alone with these bytes and this end is its report.
 abbrev pub HaveReportsAlone : Cnf → TermsValue → List Telling → (List Stream → Type 0) → List Report
     → Type 0
-HaveReportsAlone f terms told Judged reports =
+HaveReportsAlone formula terms told Judged reports =
     (streams : List Stream) → AllZip IsTold told streams → Judged streams
     → (s : ℕ) (stream : Stream) (report : Report)
     → IsOfStream streams s stream → IsOfStream reports s report
     → IsClosed terms.layout (one s) streams → ¬ IsOfMemory report
     → (whole : List ℕ) (end : StreamEnd) → IsReadingOf whole end stream
-    → (other : Report) → IsReportAlone f terms s whole end other → other ≡ report
+    → (other : Report) → IsReportAlone formula terms s whole end other → other ≡ report
 
 -- A run in which the other streams are empty
 
@@ -109,11 +109,11 @@ with_others set x s (y ∷ ys) = (if set s then y else x) ∷ with_others set x 
 
 -- What a run promises of its reports, by its clauses `history` and `reports`, or on one thread by `ordered` and the law `SerialRun`: the
 -- readers told streams, as many as the layout has, and one legal history judges each by its own events, as its report says.
-pub record IsRun (f : Cnf) (terms : TermsValue) (told : List Telling)
+pub record IsRun (formula : Cnf) (terms : TermsValue) (told : List Telling)
     (reports : List Report) : Type 0 where
   pub streams : List Stream
   pub are_told : AllZip IsTold told streams
   pub count : length streams ≡ terms.layout.streams
   pub history : History
-  pub legal : IsLegal f terms.layout history
+  pub legal : IsLegal formula terms.layout history
   pub judged : AreJudgedIn terms (λ s. true) history 1 streams reports

@@ -11,30 +11,32 @@ use Rattle.runs.specs.Streams.{Block, blocks_of, events_in, IsBlockWithin}
 
 -- where these events follow in its line, the event is one that may stand before another
 abbrev pub IsEarlyBefore : History → Event → Type 0
-IsEarlyBefore [] e = Unit {0}
-IsEarlyBefore (d ∷ es) e = IsEarly e
+IsEarlyBefore [] event = Unit {0}
+IsEarlyBefore (next ∷ later) event = IsEarly event
 
 -- each event but the last is one that may stand before another
 abbrev pub AreEarly : History → Type 0
 AreEarly [] = Unit {0}
-AreEarly (e ∷ es) = IsEarlyBefore es e × AreEarly es
+AreEarly (event ∷ history) = IsEarlyBefore history event × AreEarly history
 
 -- after a retire there are only retires
 abbrev pub RetiresLast : History → Type 0
 RetiresLast [] = Unit {0}
-RetiresLast (e ∷ es) = (IsRetire e → AllByRecursion IsRetire es) × RetiresLast es
+RetiresLast (event ∷ history) =
+    (IsRetire event → AllByRecursion IsRetire history) × RetiresLast history
 
 -- The events are like those of a line: before the last there are only fetches, and retires with Done; what a fetch doesn't find
 -- is fetched again, or the line ends; and a line that retires does nothing else from there on.
-pub record IsLineBlock (es : History) : Type 0 where
-  pub early : AreEarly es
-  pub again : TriesAgain es
-  pub apart : RetiresLast es
+pub record IsLineBlock (history : History) : Type 0 where
+  pub early : AreEarly history
+  pub again : TriesAgain history
+  pub apart : RetiresLast history
 
 -- An order of the lines of a set of streams, where these are each stream's blocks of events: a legal history of whole lines, each
 -- stream's in its order, and each without the vain fetches of what it found.
-pub record IsOrder (f : Cnf) (p : LayoutValue) (set : ℕ → Bool) (blocks : ℕ → List History)
-    (order : List Block) : Type 0 where
-  pub within : AllByRecursion (IsBlockWithin p set) order
-  pub legal : IsLegal f p (events_in order)
-  pub lines : (s : ℕ) → IsStream p s → IsTrue (set s) → blocks_of s order ≡ map reduced (blocks s)
+pub record IsOrder (formula : Cnf) (layout : LayoutValue) (set : ℕ → Bool)
+    (blocks : ℕ → List History) (order : List Block) : Type 0 where
+  pub within : AllByRecursion (IsBlockWithin layout set) order
+  pub legal : IsLegal formula layout (events_in order)
+  pub lines : (s : ℕ) → IsStream layout s → IsTrue (set s)
+      → blocks_of s order ≡ map reduced (blocks s)

@@ -18,43 +18,48 @@ use Rattle.runs.specs.Closed.{IsOfStream}
 
 -- where a stream found an identity live that isn't its own, this state has it not retired
 abbrev pub FindsKept : LayoutValue → State → Event → Type 0
-FindsKept p final (events.fetch s id (events.live c)) = ¬ Owns p s id → ¬ IsRetired (final id)
-FindsKept p final _ = Unit {0}
+FindsKept layout final (events.fetch s id (events.live clause)) =
+    ¬ Owns layout s id → ¬ IsRetired (final id)
+FindsKept layout final _ = Unit {0}
 
 -- The history doesn't leave retired what a stream of the set found live and doesn't own.
 abbrev pub FoundStays : Cnf → LayoutValue → (ℕ → Bool) → History → Type 0
-FoundStays f p set h =
-    (s : ℕ) → IsStream p s → IsTrue (set s) → AllByRecursion (FindsKept p (state f h)) (own h s)
+FoundStays formula layout set history =
+    (s : ℕ) → IsStream layout s → IsTrue (set s)
+    → AllByRecursion (FindsKept layout (state formula history)) (own history s)
 
 -- By events
 
 -- the event retires the identity
 abbrev pub IsRetireOf : ℕ → Event → Type 0
-IsRetireOf id (events.fetch s j r) = ⊥
-IsRetireOf id (events.publish s j c r) = ⊥
+IsRetireOf id (events.fetch s j reply) = ⊥
+IsRetireOf id (events.publish s j clause reply) = ⊥
 IsRetireOf id (events.retire s j retiring.Done) = j ≡ id
 IsRetireOf id (events.retire s j retiring.NotLive) = ⊥
 
 -- the history retires the identity
 abbrev pub HistoryRetires : History → ℕ → Type 0
 HistoryRetires [] id = ⊥
-HistoryRetires (e ∷ h) id = IsRetireOf id e ⊎ HistoryRetires h id
+HistoryRetires (event ∷ history) id = IsRetireOf id event ⊎ HistoryRetires history id
 
 -- where a stream found an identity live that isn't its own, the history doesn't retire it
 abbrev pub FindsUnretired : LayoutValue → History → Event → Type 0
-FindsUnretired p h (events.fetch s id (events.live c)) = ¬ Owns p s id → ¬ HistoryRetires h id
-FindsUnretired p h _ = Unit {0}
+FindsUnretired layout history (events.fetch s id (events.live clause)) =
+    ¬ Owns layout s id → ¬ HistoryRetires history id
+FindsUnretired layout history _ = Unit {0}
 
 -- where a stream found an identity that isn't its own, live or retired, the history doesn't retire it
 abbrev pub MeetsUnretired : LayoutValue → History → Event → Type 0
-MeetsUnretired p h (events.fetch s id r) = IsFound r → ¬ Owns p s id → ¬ HistoryRetires h id
-MeetsUnretired p h (events.publish s id c r) = Unit {0}
-MeetsUnretired p h (events.retire s id r) = Unit {0}
+MeetsUnretired layout history (events.fetch s id reply) =
+    IsFound reply → ¬ Owns layout s id → ¬ HistoryRetires history id
+MeetsUnretired layout history (events.publish s id clause reply) = Unit {0}
+MeetsUnretired layout history (events.retire s id reply) = Unit {0}
 
 -- No stream of the set but its owner found an identity, live or retired, that the history retires.
 abbrev pub OwnersAloneMeetRetired : LayoutValue → (ℕ → Bool) → History → Type 0
-OwnersAloneMeetRetired p set h =
-    (s : ℕ) → IsStream p s → IsTrue (set s) → AllByRecursion (MeetsUnretired p h) (own h s)
+OwnersAloneMeetRetired layout set history =
+    (s : ℕ) → IsStream layout s → IsTrue (set s)
+    → AllByRecursion (MeetsUnretired layout history) (own history s)
 
 -- By texts
 
@@ -78,16 +83,16 @@ SomeLineDeletes bytes id =
 
 -- No stream of the set deletes an identity of its own that a line of another stream of the set cites.
 abbrev pub KeepShared : LayoutValue → (ℕ → Bool) → List Stream → Type 0
-KeepShared p set streams =
+KeepShared layout set streams =
     (s t id : ℕ) (citing deleting : Stream) → s ≢ t → IsTrue (set s) → IsTrue (set t)
-    → IsOfStream streams s citing → IsOfStream streams t deleting → Owns p t id
+    → IsOfStream streams s citing → IsOfStream streams t deleting → Owns layout t id
     → Cites citing.bytes id → ¬ SomeLineDeletes deleting.bytes id
 
 -- So it is in all bytes that the readers of the set's streams have left at first, which are known.
 abbrev pub ReadersKeepShared : LayoutValue → (ℕ → Bool) → List Telling → Type 0
-ReadersKeepShared p set told =
+ReadersKeepShared layout set told =
     (s t id : ℕ) (citing deleting : Telling) → s ≢ t → IsTrue (set s) → IsTrue (set t)
-    → IsOfStream told s citing → IsOfStream told t deleting → Owns p t id
+    → IsOfStream told s citing → IsOfStream told t deleting → Owns layout t id
     → (bytes : List ℕ) × (others : List ℕ)
     × (citing.entry ≡ Some bytes) × (deleting.entry ≡ Some others)
     × (Cites bytes id → ¬ SomeLineDeletes others id)

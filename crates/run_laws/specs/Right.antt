@@ -25,11 +25,12 @@ pub record Database : Type 0 where
 
 -- before the first line: the formula's clauses, from 1 on
 abbrev pub first_database : Cnf → LayoutValue → Database
-first_database f p = record {
+first_database formula layout = record {
   clauses = λ id.
-      if nat_lt 0 id && nat_le id (length f.clauses) then Some (clause_at f id) else None;
-  last = p.clauses;
-  free = p.room;
+      if nat_lt 0 id && nat_le id (length formula.clauses) then Some (clause_at formula id)
+      else None;
+  last = layout.clauses;
+  free = layout.room;
 }
 
 -- after a line: an addition puts its clause at its identity, each literal once; a deletion takes clauses away; an import changes
@@ -49,14 +50,14 @@ after_line base (Import id lits) = base
 
 -- An addition is right: its identity is the stream's own, and above the last; its literals are over the variables; there is room
 -- for its clause; its hints name clauses that are there; and these show its clause, which is no tautology, by propagation.
-pub record IsRightAddition (p : LayoutValue) (s : ℕ) (base : Database) (id : ℕ) (lits : List ℤ)
+pub record IsRightAddition (layout : LayoutValue) (s : ℕ) (base : Database) (id : ℕ) (lits : List ℤ)
     (hints : List ℕ) : Type 0 where
-  pub owns : Owns p s id
+  pub owns : Owns layout s id
   pub above : base.last < id
-  pub literals : AllByRecursion (λ l. nat_abs l ≤ p.vars) lits
+  pub literals : AllByRecursion (λ l. nat_abs l ≤ layout.vars) lits
   pub room : length (distinct lits) ≤ base.free
   pub hinted : List Clause
-  pub named : AllZip (λ h d. base.clauses h ≡ Some d) hints hinted
+  pub named : AllZip (λ hint clause. base.clauses hint ≡ Some clause) hints hinted
   pub shown : Accepts (distinct lits) hinted
 
 -- no number stands twice
@@ -71,40 +72,40 @@ pub record IsRightDeletion (base : Database) (ids : List ℕ) : Type 0 where
 
 -- An import is right: its identity isn't the stream's own, and the clause that is there has its literals, in whatever order and
 -- however often each is written.
-pub record IsRightImport (p : LayoutValue) (s : ℕ) (base : Database) (id : ℕ)
+pub record IsRightImport (layout : LayoutValue) (s : ℕ) (base : Database) (id : ℕ)
     (lits : List ℤ) : Type 0 where
-  pub other : ¬ Owns p s id
+  pub other : ¬ Owns layout s id
   pub clause : Clause
   pub there : base.clauses id ≡ Some clause
   pub same : (l : ℤ) → Has clause l ↔ Has lits l
 
 -- a line of stream s is right, after lines that left this database
 abbrev pub IsRightLine : LayoutValue → ℕ → Database → StreamLine → Type 0
-IsRightLine p s base (Addition id lits hints) = IsRightAddition p s base id lits hints
-IsRightLine p s base (Deletion lead ids) = IsRightDeletion base ids
-IsRightLine p s base (Import id lits) = IsRightImport p s base id lits
+IsRightLine layout s base (Addition id lits hints) = IsRightAddition layout s base id lits hints
+IsRightLine layout s base (Deletion lead ids) = IsRightDeletion base ids
+IsRightLine layout s base (Import id lits) = IsRightImport layout s base id lits
 
 -- each line is right after those before it
 abbrev pub AreRight : LayoutValue → ℕ → Database → List StreamLine → Type 0
-AreRight p s base [] = Unit {0}
-AreRight p s base (line ∷ lines) =
-    IsRightLine p s base line × AreRight p s (after_line base line) lines
+AreRight layout s base [] = Unit {0}
+AreRight layout s base (line ∷ lines) =
+    IsRightLine layout s base line × AreRight layout s (after_line base line) lines
 
 -- The bytes are a right stream s, by these lines: they are the lines' texts and nothing else, and each line is right.
-pub record IsRightStream (f : Cnf) (p : LayoutValue) (s : ℕ) (bytes : List ℕ)
+pub record IsRightStream (formula : Cnf) (layout : LayoutValue) (s : ℕ) (bytes : List ℕ)
     (lines : List StreamLine) : Type 0 where
   pub text : bytes ≡ flat_map line_text lines
   pub fits : AllByRecursion IsWithinLimits lines
-  pub right : AreRight p s (first_database f p) lines
+  pub right : AreRight layout s (first_database formula layout) lines
 
 -- The bytes begin with a right stream s, by these lines: with the lines' texts, and each line is right. Nothing is asked of what
 -- comes behind them.
-pub record IsRightBeginning (f : Cnf) (p : LayoutValue) (s : ℕ) (bytes : List ℕ)
+pub record IsRightBeginning (formula : Cnf) (layout : LayoutValue) (s : ℕ) (bytes : List ℕ)
     (lines : List StreamLine) : Type 0 where
   pub more : List ℕ
   pub text : bytes ≡ flat_map line_text lines ++ more
   pub fits : AllByRecursion IsWithinLimits lines
-  pub right : AreRight p s (first_database f p) lines
+  pub right : AreRight layout s (first_database formula layout) lines
 
 -- the line adds the empty clause
 abbrev pub AddsEmpty : StreamLine → Type 0
@@ -114,9 +115,10 @@ AddsEmpty (Import id lits) = ⊥
 
 -- The bytes are a right refutation of the formula, as stream s: they begin with right lines, one of which adds the empty clause. What
 -- comes behind these lines may be anything.
-pub record IsRightRefutation (f : Cnf) (p : LayoutValue) (s : ℕ) (bytes : List ℕ) : Type 0 where
+pub record IsRightRefutation (formula : Cnf) (layout : LayoutValue) (s : ℕ)
+    (bytes : List ℕ) : Type 0 where
   pub lines : List StreamLine
-  pub right : IsRightBeginning f p s bytes lines
+  pub right : IsRightBeginning formula layout s bytes lines
   pub empty : Any AddsEmpty lines
 
 -- The report of a right stream: that it ended; what was added and deleted, as counted off the lines; and whether a line adds the

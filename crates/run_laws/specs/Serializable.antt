@@ -13,21 +13,22 @@ use Rattle.run_laws.specs.Premises.{FoundStays}
 
 -- These events come to the verdict of the reports: the empty clause is published exactly if a report says that its stream added
 -- it, and a clause within the cube exactly if a report says that its stream added one.
-pub record ComeToVerdict (cube : CubeValue) (es : History) (reports : List Report) : Type 0 where
+pub record ComeToVerdict (cube : CubeValue) (history : History)
+    (reports : List Report) : Type 0 where
   pub empty : list_any (λ report. report.empty) reports
-      ≡ list_any (λ entry. length entry.1 == 0) (published es)
+      ≡ list_any (λ entry. length entry.1 == 0) (published history)
   pub within : list_any (λ report. report.within) reports
-      ≡ list_any (λ entry. is_within cube entry.1) (published es)
+      ≡ list_any (λ entry. is_within cube entry.1) (published history)
 
 -- The lines of a run, which has this one history, are serializable: for every list of streams that the readers told and by which
 -- the reports are judged, and for every closed set of these streams, of which none found an identity of another stream live that
 -- the history leaves retired, the set's lines have one order in which a checker of one thread gives the same reports; and where
 -- this holds of all streams together, they have one that comes to the verdict of the reports besides.
 abbrev pub IsSerializable : Cnf → TermsValue → List Telling → History → List Report → Type 0
-IsSerializable f terms told h reports = (streams : List Stream)
-    → AllZip IsTold told streams → AreJudgedIn terms (λ s. true) h 1 streams reports
-    → ((set : ℕ → Bool) → IsClosed terms.layout set streams → FoundStays f terms.layout set h
-    → IsOrdered f terms set streams reports)
-    × (FoundStays f terms.layout (λ s. true) h
-    → (order : IsOrdered f terms (λ s. true) streams reports)
+IsSerializable formula terms told history reports = (streams : List Stream)
+    → AllZip IsTold told streams → AreJudgedIn terms (λ s. true) history 1 streams reports
+    → ((set : ℕ → Bool) → IsClosed terms.layout set streams
+    → FoundStays formula terms.layout set history → IsOrdered formula terms set streams reports)
+    × (FoundStays formula terms.layout (λ s. true) history
+    → (order : IsOrdered formula terms (λ s. true) streams reports)
     × ComeToVerdict terms.cube (events_in order.blocks) reports)

@@ -24,8 +24,8 @@ pub record Step : Type 0 where
 
 -- the identity is the stream's own
 abbrev pub is_own : LayoutValue → ℕ → ℕ → Bool
-is_own p s id =
-    elim (owner p id) [
+is_own layout s id =
+    elim (owner layout id) [
       | owners.Formula ↦ false
       | owners.Stream t ↦ t == s
       | owners.Outside ↦ false
@@ -34,30 +34,30 @@ is_own p s id =
 -- what a line of stream s leaves of another stream's database: an addition puts its clause there too, and a deletion takes away
 -- what is stream s's own
 abbrev pub beside_line : LayoutValue → ℕ → Database → StreamLine → Database
-beside_line p s base (Addition id lits hints) = record {
+beside_line layout s base (Addition id lits hints) = record {
   clauses = λ j. if j == id then Some (distinct lits) else base.clauses j;
   last = base.last;
   free = base.free;
 }
-beside_line p s base (Deletion lead ids) = record {
-  clauses = λ j. if is_among ids j && is_own p s j then None else base.clauses j;
+beside_line layout s base (Deletion lead ids) = record {
+  clauses = λ j. if is_among ids j && is_own layout s j then None else base.clauses j;
   last = base.last;
   free = base.free;
 }
-beside_line p s base (Import id lits) = base
+beside_line layout s base (Import id lits) = base
 
 -- the databases of all streams, after a line of one
 abbrev pub after_step : LayoutValue → Step → (ℕ → Database) → ℕ → Database
-after_step p step bases t =
+after_step layout step bases t =
     if t == step.stream then after_line (bases t) step.line
-    else beside_line p step.stream (bases t) step.line
+    else beside_line layout step.stream (bases t) step.line
 
 -- each line is right, after those before it
 abbrev pub AreRightTogether : LayoutValue → (ℕ → Database) → List Step → Type 0
-AreRightTogether p bases [] = Unit {0}
-AreRightTogether p bases (step ∷ steps) =
-    IsRightLine p step.stream (bases step.stream) step.line
-    × AreRightTogether p (after_step p step bases) steps
+AreRightTogether layout bases [] = Unit {0}
+AreRightTogether layout bases (step ∷ steps) =
+    IsRightLine layout step.stream (bases step.stream) step.line
+    × AreRightTogether layout (after_step layout step bases) steps
 
 -- the lines of one stream, in order
 abbrev pub lines_by : ℕ → List Step → List StreamLine
@@ -66,10 +66,10 @@ lines_by s (step ∷ steps) =
     if step.stream == s then step.line ∷ lines_by s steps else lines_by s steps
 
 -- This order of lines shows that its streams are right together: each line has a text within the limits, and is right.
-pub record IsRightOrder (f : Cnf) (p : LayoutValue) (steps : List Step) : Type 0 where
-  pub streams : AllByRecursion (λ step. IsStream p step.stream) steps
+pub record IsRightOrder (formula : Cnf) (layout : LayoutValue) (steps : List Step) : Type 0 where
+  pub streams : AllByRecursion (λ step. IsStream layout step.stream) steps
   pub fits : AllByRecursion (λ step. IsWithinLimits step.line) steps
-  pub right : AreRightTogether p (λ t. first_database f p) steps
+  pub right : AreRightTogether layout (λ t. first_database formula layout) steps
 
 -- the readers of the set have the texts of its streams' lines left at first, and maybe more behind them
 abbrev pub HaveTexts : (ℕ → Bool) → List Step → List Telling → Type 0
@@ -82,11 +82,11 @@ HaveTexts set steps told =
 -- lines do; or memory ran out, or a read failed, in these lines; or one of them cites a clause of another stream that wasn't there,
 -- or wasn't any more. That is so whatever the streams outside the set are, and whatever comes behind the lines.
 abbrev pub TogetherBegins : Type 0
-TogetherBegins = (f : Cnf) (terms : TermsValue) (set : ℕ → Bool) (steps : List Step)
+TogetherBegins = (formula : Cnf) (terms : TermsValue) (set : ℕ → Bool) (steps : List Step)
     (told : List Telling) (reports : List Report) (s : ℕ) (report : Report)
-    → IsCnf f → Fits terms.layout f → IsRightOrder f terms.layout steps
+    → IsCnf formula → Fits terms.layout formula → IsRightOrder formula terms.layout steps
     → AllByRecursion (λ step. IsTrue (set step.stream)) steps
-    → IsRun f terms told reports → HaveTexts set steps told
+    → IsRun formula terms told reports → HaveTexts set steps told
     → IsTrue (set s) → IsOfStream reports s report
     → TellsAtLeast report (right_report terms s (lines_by s steps))
     ⊎ (IsCutOffIn (length (lines_by s steps)) report
@@ -95,11 +95,11 @@ TogetherBegins = (f : Cnf) (terms : TermsValue) (set : ℕ → Bool) (steps : Li
 -- Where nothing comes behind a stream's lines, it ended, as its right report says; or memory ran out, or a read failed; or a line of
 -- it cites a clause of another stream that wasn't there, or wasn't any more.
 abbrev pub RightTogether : Type 0
-RightTogether = (f : Cnf) (terms : TermsValue) (set : ℕ → Bool) (steps : List Step)
+RightTogether = (formula : Cnf) (terms : TermsValue) (set : ℕ → Bool) (steps : List Step)
     (told : List Telling) (reports : List Report) (s : ℕ) (telling : Telling) (report : Report)
-    → IsCnf f → Fits terms.layout f → IsRightOrder f terms.layout steps
+    → IsCnf formula → Fits terms.layout formula → IsRightOrder formula terms.layout steps
     → AllByRecursion (λ step. IsTrue (set step.stream)) steps
-    → IsRun f terms told reports → HaveTexts set steps told
+    → IsRun formula terms told reports → HaveTexts set steps told
     → IsTrue (set s) → IsOfStream told s telling
     → telling.entry ≡ Some (flat_map line_text (lines_by s steps))
     → IsOfStream reports s report → ¬ IsOfMemory report → ¬ IsOfFailure report

@@ -12,17 +12,19 @@ IsOfStream xs s x = (0 < s) × (slice_get xs (s - 1) ≡ Some x)
 
 -- no stream outside the set owns the identity
 abbrev pub IsOwnedWithin : LayoutValue → (ℕ → Bool) → ℕ → Type 0
-IsOwnedWithin p set id = (t : ℕ) → Owns p t id → IsTrue (set t)
+IsOwnedWithin layout set id = (t : ℕ) → Owns layout t id → IsTrue (set t)
 
 -- no line that the bytes are cut into cites an identity that a stream outside the set owns
-pub record CiteWithin (p : LayoutValue) (set : ℕ → Bool) (bytes : List ℕ) : Type 0 where
+pub record CiteWithin (layout : LayoutValue) (set : ℕ → Bool) (bytes : List ℕ) : Type 0 where
   pub lines : List StreamLine
   pub rest : List ℕ
   pub cut : Cut bytes lines rest
-  pub within : AllByRecursion (λ line. AllByRecursion (IsOwnedWithin p set) (cited_by line)) lines
+  pub within :
+      AllByRecursion (λ line. AllByRecursion (IsOwnedWithin layout set) (cited_by line)) lines
 
 -- The set is closed: no stream of it cites an identity of a stream outside it, in the bytes by which it is
 -- judged.
 abbrev pub IsClosed : LayoutValue → (ℕ → Bool) → List Stream → Type 0
-IsClosed p set streams = (s : ℕ) (stream : Stream) → IsTrue (set s) → IsOfStream streams s stream
-    → CiteWithin p set stream.bytes
+IsClosed layout set streams =
+    (s : ℕ) (stream : Stream) → IsTrue (set s) → IsOfStream streams s stream
+    → CiteWithin layout set stream.bytes

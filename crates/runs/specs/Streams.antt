@@ -53,9 +53,9 @@ pub record IsTold (telling : Telling) (stream : Stream) : Type 0 where
 
 -- The stream is judged by these blocks of events; one without an end is judged so whatever its end would have been.
 abbrev pub JudgesStream : Setting → Stream → List History → Report → Type 0
-JudgesStream c stream blocks report =
+JudgesStream setting stream blocks report =
     (end : StreamEnd) → IfSome stream.end (λ known. known ≡ end)
-    → JudgesBlocks c stream.bytes end blocks report
+    → JudgesBlocks setting stream.bytes end blocks report
 
 -- What the reports of a run stand on: streams, each of which is what its reader told, and of which the judgement holds.
 pub record StandsOnStreams (told : List Telling) (Judged : List Stream → Type 0) : Type 0 where
@@ -82,9 +82,9 @@ events_in blocks = flat_map (λ block. block.events) blocks
 
 -- the block is of a stream of the layout and of the set, and its events are that stream's
 abbrev pub IsBlockWithin : LayoutValue → (ℕ → Bool) → Block → Type 0
-IsBlockWithin p set block =
-    IsStream p block.stream × IsTrue (set block.stream)
-    × AllByRecursion (λ e. stream_of e ≡ block.stream) block.events
+IsBlockWithin layout set block =
+    IsStream layout block.stream × IsTrue (set block.stream)
+    × AllByRecursion (λ event. stream_of event ≡ block.stream) block.events
 
 -- What the streams of a run are all checked by: the layout, the cube, and how often an identity of another stream is fetched again.
 pub record TermsValue : Type 0 where
@@ -110,10 +110,10 @@ AreJudged terms set AreOwn s _ _ = ⊥
 
 -- The reports of a set of streams have an order of lines: a legal history of whole lines of these streams, each stream's in
 -- its order, by which each stream is judged so.
-pub record IsOrdered (f : Cnf) (terms : TermsValue) (set : ℕ → Bool) (streams : List Stream)
+pub record IsOrdered (formula : Cnf) (terms : TermsValue) (set : ℕ → Bool) (streams : List Stream)
     (reports : List Report) : Type 0 where
   pub blocks : List Block
   pub within : AllByRecursion (IsBlockWithin terms.layout set) blocks
-  pub legal : IsLegal f terms.layout (events_in blocks)
+  pub legal : IsLegal formula terms.layout (events_in blocks)
   pub judged : AreJudged terms set (λ t own_blocks. own_blocks ≡ blocks_of t blocks) 1
       streams reports

@@ -27,7 +27,7 @@ abbrev pub streams_of : List Block → List ℕ
 streams_of blocks = map (λ block. block.stream) blocks
 
 -- The reports of all streams have an order of lines, and it is by turns.
-pub record IsOrderedByTurns (f : Cnf) (terms : TermsValue) (streams : List Stream)
+pub record IsOrderedByTurns (formula : Cnf) (terms : TermsValue) (streams : List Stream)
     (reports : List Report) : Type 0 where
-  pub order : IsOrdered f terms (λ s. true) streams reports
+  pub order : IsOrdered formula terms (λ s. true) streams reports
   pub turns : IsByTurns (streams_of order.blocks)

@@ -11,7 +11,7 @@ use Rattle.lrup_model.specs.declared.layout.Owner.TheVariants as owners
 use Rattle.lrup_model.specs.Event as events
 use Rattle.lrup_model.specs.Event.{Event, History, Reply, stream_of}
 use Rattle.lrup_model.specs.State.{State, Slot, absent, live, retired, IsLive, IsRetired, retire_slot, after, run}
-use Rattle.lrup_model.specs.Running.{run-append}
+use Rattle.lrup_model.specs.RunningLemmas.{run-append}
 use Rattle.lrup_model.specs.declared.clause_map.Retired.TheVariants as retiring
 use Rattle.lrup_model.specs.EntryLemmas.{retired_now}
 use Rattle.lrup_text.specs.Lines.{StreamLine, Addition, Deletion, Import}

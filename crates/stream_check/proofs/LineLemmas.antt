@@ -10,7 +10,7 @@ use Rattle.lrup_model.specs.Event as events
 use Rattle.lrup_model.specs.Event.{Event, History, stream_of, own, spent}
 use Rattle.lrup_model.specs.State.{State, Slot, absent, live, retire_slot, run}
 use Rattle.lrup_model.specs.Place.{Caller, Place, Tells, IsVacantAbove}
-use Rattle.lrup_model.specs.Running.{run-append, spent-append}
+use Rattle.lrup_model.specs.RunningLemmas.{run-append, spent-append}
 use Rattle.lrup_model.specs.HistoryLemmas.{put, put-same, put-other, spent_one}
 use Rattle.lrup_model.specs.declared.clause_map.Retired.TheVariants as retiring
 use Rattle.lrup_text.specs.Lines.{StreamLine, Addition, Deletion, Import}

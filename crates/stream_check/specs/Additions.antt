@@ -16,39 +16,47 @@ use Rattle.stream_check.specs.Asking.{AsksThen}
 
 -- a conflict: good if no hint is left, else the next hint is in excess
 abbrev pub AtConflict : List ℕ → Event → History → LineVerdict → Type 0
-AtConflict [] published es v = (es ≡ published ∷ []) × (v ≡ Good)
-AtConflict (h ∷ hints) published es v = Fails 0 (faults.Excess h) es v
+AtConflict [] published history verdict = (history ≡ published ∷ []) × (verdict ≡ Good)
+AtConflict (hint ∷ hints) published history verdict = Fails 0 (faults.Excess hint) history verdict
 
 -- what the last reply to a hint does: its clause is a conflict, or is unit and gives the hints that are left one more false literal,
 -- or is neither
 abbrev pub AtReply : Reply → List ℤ → ℕ → List ℕ → Event → History → LineVerdict → (List ℤ → Type 0)
     → Type 0
-AtReply events.vacant n h hints published es v Next = Fails 0 (faults.Missing h) es v
-AtReply (events.live d) n h hints published es v Next =
-    (IsConflict n d × AtConflict hints published es v)
-    ⊎ (((l : ℤ) × IsUnit n d l × Next (n ++ neg_ℤ l ∷ []))
-    ⊎ ((¬ IsConflict n d) × ((l : ℤ) → ¬ IsUnit n d l) × Fails 0 (faults.NotUnit h) es v))
-AtReply events.retired n h hints published es v Next = Fails 0 (faults.Retired h) es v
+AtReply events.vacant falses hint hints published history verdict Next =
+    Fails 0 (faults.Missing hint) history verdict
+AtReply (events.live clause) falses hint hints published history verdict Next =
+    (IsConflict falses clause × AtConflict hints published history verdict)
+    ⊎ (((literal : ℤ) × IsUnit falses clause literal × Next (falses ++ neg_ℤ literal ∷ []))
+    ⊎ ((¬ IsConflict falses clause) × ((literal : ℤ) → ¬ IsUnit falses clause literal)
+    × Fails 0 (faults.NotUnit hint) history verdict))
+AtReply events.retired falses hint hints published history verdict Next =
+    Fails 0 (faults.Retired hint) history verdict
 
--- The hints one after the other, where n are the literals that are false: each is first sought among the dropped ones, then fetched, then tried.
+-- The hints one after the other, where `falses` are the literals that are false: each is first sought among the dropped ones, then fetched, then tried.
 abbrev pub JudgesHints : Setting → (ℕ → Bool) → Event → List ℤ → List ℕ → History → LineVerdict
     → Type 0
-JudgesHints c gone published n [] es v = Fails 0 faults.NoConflict es v
-JudgesHints c gone published n (h ∷ hints) es v =
-    Test (gone h ≡ false) (faults.Dropped h) es v
-    (AsksThen c h es (λ r rest. AtReply r n h hints published rest v
-    (λ m. JudgesHints c gone published m hints rest v)))
+JudgesHints setting gone published falses [] history verdict =
+    Fails 0 faults.NoConflict history verdict
+JudgesHints setting gone published falses (hint ∷ hints) history verdict =
+    Test (gone hint ≡ false) (faults.Dropped hint) history verdict
+    (AsksThen setting hint history
+    (λ reply rest. AtReply reply falses hint hints published rest verdict
+    (λ more_falses. JudgesHints setting gone published more_falses hints rest verdict)))
 
 -- the publish of an addition that is good
 abbrev pub published_by : Setting → ℕ → List ℤ → Event
-published_by c id lits = events.publish c.stream id (distinct lits) publishing.Done
+published_by setting id lits = events.publish setting.stream id (distinct lits) publishing.Done
 
 -- an addition's events and its verdict, after the lines that left this standing
 abbrev pub JudgesAddition : Setting → Standing → ℕ → List ℤ → List ℕ → History → LineVerdict
     → Type 0
-JudgesAddition c st id lits hints es v =
-    Test (Owns c.layout c.stream id × (st.last < id)) faults.Identity es v
-    (Test (AllByRecursion (λ l. nat_abs l ≤ c.layout.vars) lits) faults.Literal es v
-    (Test (¬ IsTautology lits) faults.Tautology es v
-    (Test (length (distinct lits) ≤ st.free) faults.NoRoom es v
-    (JudgesHints c st.gone (published_by c id lits) (distinct lits) hints es v))))
+JudgesAddition setting standing id lits hints history verdict =
+    Test (Owns setting.layout setting.stream id × (standing.last < id))
+    faults.Identity history verdict
+    (Test (AllByRecursion (λ l. nat_abs l ≤ setting.layout.vars) lits)
+    faults.Literal history verdict
+    (Test (¬ IsTautology lits) faults.Tautology history verdict
+    (Test (length (distinct lits) ≤ standing.free) faults.NoRoom history verdict
+    (JudgesHints setting standing.gone (published_by setting id lits) (distinct lits) hints
+    history verdict))))

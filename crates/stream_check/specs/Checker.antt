@@ -30,14 +30,20 @@ use Rattle.stream_check.specs.CheckerValue.{Tally, report_of_tally, CheckerValue
 
 -- what the good lines so far leave, where so much room is left
 abbrev pub standing_at : StreamState → ℕ → Standing
-standing_at h free = record { last = h.last; free = free; gone = is_among h.dropped.ids }
+standing_at state free =
+    record { last = state.last; free = free; gone = is_among state.dropped.ids }
 
 -- how many identities were deleted
 abbrev pub deleted_at : StreamState → ℕ
-deleted_at h = capped (h.retired + length h.dropped.ids)
+deleted_at state = capped (state.retired + length state.dropped.ids)
 
 abbrev pub tally_at : StreamState → Tally
-tally_at h = record { added = h.added; deleted = deleted_at h; empty = h.empty; within = h.within }
+tally_at state = record {
+  added = state.added;
+  deleted = deleted_at state;
+  empty = state.empty;
+  within = state.within;
+}
 
 -- what only a good line changes
 pub record KeepsLines (old new : StreamState) : Type 0 where
@@ -49,16 +55,16 @@ pub record KeepsLines (old new : StreamState) : Type 0 where
   pub line : new.line ≡ old.line
 
 -- The addition passes the tests before its hints, and its clause is taken up.
-pub record Admits (c : Setting) (st : Standing) (id : ℕ) (lits : List ℤ)
+pub record Admits (setting : Setting) (standing : Standing) (id : ℕ) (lits : List ℤ)
     (marks : Propagation) : Type 0 where
-  pub owns : Owns c.layout c.stream id
-  pub above : st.last < id
-  pub fits : length (distinct lits) ≤ st.free
-  pub clause : IsClause c.layout.vars (distinct lits)
+  pub owns : Owns setting.layout setting.stream id
+  pub above : standing.last < id
+  pub fits : length (distinct lits) ≤ standing.free
+  pub clause : IsClause setting.layout.vars (distinct lits)
   pub consistent : ¬ IsTautology (distinct lits)
   pub marks_are : marks
       ≡ record {
-        vars = c.layout.vars;
+        vars = setting.layout.vars;
         clause = distinct lits;
         falses = distinct lits;
         ready = true;
@@ -67,13 +73,14 @@ pub record Admits (c : Setting) (st : Standing) (id : ℕ) (lits : List ℤ)
 -- the tests before the hints: they hold, and the hints decide, or one fails
 abbrev pub AdmitsBy : Setting → Standing → ℕ → List ℤ → Propagation → Result (Unit {0}) Fault
     → Type 0
-AdmitsBy c st id lits marks (Ok _) =
-    Admits c st id lits marks
-    × ((hints : List ℕ) (es : History) (v : LineVerdict)
-    → JudgesHints c st.gone (published_by c id lits) (distinct lits) hints es v
-    → JudgesAddition c st id lits hints es v)
-AdmitsBy c st id lits marks (Err fault) =
-    (hints : List ℕ) → JudgesAddition c st id lits hints [] (Bad 0 fault)
+AdmitsBy setting standing id lits marks (Ok _) =
+    Admits setting standing id lits marks
+    × ((hints : List ℕ) (history : History) (verdict : LineVerdict)
+    → JudgesHints setting standing.gone (published_by setting id lits) (distinct lits) hints
+    history verdict
+    → JudgesAddition setting standing id lits hints history verdict)
+AdmitsBy setting standing id lits marks (Err fault) =
+    (hints : List ℕ) → JudgesAddition setting standing id lits hints [] (Bad 0 fault)
 
 -- the text that a reader has read of a line
 abbrev pub read_of : ReaderState → List ℕ
@@ -82,42 +89,42 @@ read_of (Err fault) = []
 
 -- a checker of these parts
 abbrev pub value_of : StreamState → List ℕ → Option Ending → CheckerValue
-value_of h pending ending = record {
-  setting = h.setting;
-  tally = tally_at h;
-  last = h.last;
-  dropped = h.dropped.ids;
-  retired = h.retired;
+value_of state pending ending = record {
+  setting = state.setting;
+  tally = tally_at state;
+  last = state.last;
+  dropped = state.dropped.ids;
+  retired = state.retired;
   pending = pending;
-  line = h.line;
+  line = state.line;
   ending = ending;
 }
 
 abbrev pub holding_of : CheckerValue → ℕ → Holding
-holding_of v free = record {
-  tally = v.tally;
-  standing = record { last = v.last; free = free; gone = is_among v.dropped };
-  pending = v.pending;
-  line = v.line;
+holding_of checker free = record {
+  tally = checker.tally;
+  standing = record { last = checker.last; free = free; gone = is_among checker.dropped };
+  pending = checker.pending;
+  line = checker.line;
 }
 
 abbrev pub state_by : CheckerValue → ℕ → Option Ending → CheckerState
-state_by v free None = Going (holding_of v free)
-state_by v free (Some ending) = Over (report_of_tally v.tally ending)
+state_by checker free None = Going (holding_of checker free)
+state_by checker free (Some ending) = Over (report_of_tally checker.tally ending)
 
 -- what the checker is left as, where so much room is left
 abbrev pub checker_state : CheckerValue → ℕ → CheckerState
-checker_state v free = state_by v free v.ending
+checker_state checker free = state_by checker free checker.ending
 
 -- What a checker needs of a place: it is the checker's, and its own identities above the last one that was added are vacant.
-pub record IsReadyAt (v : CheckerValue) (p : Place) : Type 0 where
-  pub at : IsPlaceOf v.setting p
-  pub vacant : IsVacantAbove p v.last
+pub record IsReadyAt (checker : CheckerValue) (place : Place) : Type 0 where
+  pub at : IsPlaceOf checker.setting place
+  pub vacant : IsVacantAbove place checker.last
 
 -- Whatever bytes and blocks left the checker as it was, these bytes and blocks more leave it as it is.
 abbrev pub LeavesOn : Setting → CheckerState → List ℕ → List History → CheckerState → Type 0
-LeavesOn c old used blocks new = (bytes : List ℕ) (before : List History)
-    → Leaves c bytes before old → Leaves c (bytes ++ used) (before ++ blocks) new
+LeavesOn setting old used blocks new = (bytes : List ℕ) (before : List History)
+    → Leaves setting bytes before old → Leaves setting (bytes ++ used) (before ++ blocks) new
 
 -- The blocks that a call comes to: that of the line that it ends, or none, or where the reading ends that of the last line, if there is one.
 abbrev pub AreBlocksOf : CheckTurn → List History → Type 0
@@ -152,12 +159,13 @@ StaysOver old new used = (ending : Ending) → old.ending ≡ Some ending → (n
 
 -- a checker before its first byte
 pub record IsNew (layout : LayoutValue) (cube : CubeValue) (stream tries : ℕ)
-    (v : CheckerValue) : Type 0 where
-  pub setting : v.setting ≡ record { layout = layout; cube = cube; stream = stream; tries = tries }
-  pub last : v.last ≡ layout.clauses
-  pub retired : v.retired ≡ 0
-  pub ending : v.ending ≡ None
-  pub left : Leaves v.setting [] [] (checker_state v layout.room)
+    (checker : CheckerValue) : Type 0 where
+  pub setting : checker.setting
+      ≡ record { layout = layout; cube = cube; stream = stream; tries = tries }
+  pub last : checker.last ≡ layout.clauses
+  pub retired : checker.retired ≡ 0
+  pub ending : checker.ending ≡ None
+  pub left : Leaves checker.setting [] [] (checker_state checker layout.room)
 
 abbrev pub EndsBy : Option Ending → StreamEnd → CheckerValue → CheckerValue → Type 0
 EndsBy None end old new =
@@ -179,8 +187,8 @@ ReportsEnd end old new =
     × JudgesBlocks old.setting bytes end blocks (report_of_tally new.tally ending)
 
 -- a checker that isn't over reads on, and its parts are for one setting
-pub record IsSound (c : Setting) (vars : ℕ) (reader : ReaderState)
+pub record IsSound (setting : Setting) (vars : ℕ) (reader : ReaderState)
     (ending : Option Ending) : Type 0 where
   pub reads : ending ≡ None → reader ≡ Ok (read_of reader)
-  pub variables : c.layout.vars ≡ vars
-  pub tries : c.tries < 2 ^ 63
+  pub variables : setting.layout.vars ≡ vars
+  pub tries : setting.tries < 2 ^ 63

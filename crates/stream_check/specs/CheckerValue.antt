@@ -13,12 +13,12 @@ pub record Tally : Type 0 where
 
 -- the report of these counts, with this ending
 abbrev pub report_of_tally : Tally → Ending → Report
-report_of_tally t ending =
+report_of_tally tally ending =
     record {
-      added = t.added;
-      deleted = t.deleted;
-      empty = t.empty;
-      within = t.within;
+      added = tally.added;
+      deleted = tally.deleted;
+      empty = tally.empty;
+      within = tally.within;
       ending = ending;
     }
 

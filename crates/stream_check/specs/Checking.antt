@@ -26,28 +26,28 @@ use Rattle.stream_check.specs.Additions.{JudgesHints, published_by}
 use Rattle.stream_check.specs.Deletions.{JudgesDeletion, StopsDeletion}
 
 -- the place is this stream's, at this layout
-pub record IsPlaceOf (c : Setting) (p : Place) : Type 0 where
-  pub layout : p.caller.layout ≡ c.layout
-  pub stream : p.caller.stream ≡ c.stream
+pub record IsPlaceOf (setting : Setting) (place : Place) : Type 0 where
+  pub layout : place.caller.layout ≡ setting.layout
+  pub stream : place.caller.stream ≡ setting.stream
 
 -- a live clause that a fetch gave is known at the place, every clause there follows, and the layout has the formula's variables
 abbrev pub Gives : Place → Fetched → Type 0
-Gives p fetched.Vacant = Unit {0}
-Gives p (fetched.Live clip) =
-    IsKnown p clip × AllFollow p × (p.caller.formula.vars ≡ p.caller.layout.vars)
-Gives p fetched.Retired = Unit {0}
+Gives place fetched.Vacant = Unit {0}
+Gives place (fetched.Live clip) =
+    IsKnown place clip × AllFollow place × (place.caller.formula.vars ≡ place.caller.layout.vars)
+Gives place fetched.Retired = Unit {0}
 
 -- the event is a fetch
 abbrev pub IsFetch : Event → Type 0
-IsFetch (events.fetch s id r) = Unit {0}
-IsFetch (events.publish s id d r) = ⊥
-IsFetch (events.retire s id r) = ⊥
+IsFetch (events.fetch s id reply) = Unit {0}
+IsFetch (events.publish s id clause reply) = ⊥
+IsFetch (events.retire s id reply) = ⊥
 
 -- the event is a retire
 abbrev pub IsRetire : Event → Type 0
-IsRetire (events.fetch s id r) = ⊥
-IsRetire (events.publish s id d r) = ⊥
-IsRetire (events.retire s id r) = Unit {0}
+IsRetire (events.fetch s id reply) = ⊥
+IsRetire (events.publish s id clause reply) = ⊥
+IsRetire (events.retire s id reply) = Unit {0}
 
 -- Additions
 
@@ -57,27 +57,27 @@ KeepsClause old new = (new.vars ≡ old.vars) × (new.clause ≡ old.clause)
 
 -- what a lookup found: the clip of a live clause that the stream didn't drop, or the fault of a dropped, missing or retired one
 abbrev pub LooksUp : Setting → (ℕ → Bool) → ℕ → Place → History → Result ClipValue Fault → Type 0
-LooksUp c gone id p es (Ok clip) =
-    (gone id ≡ false) × Asks c id es (events.live (clip_clause p clip))
-LooksUp c gone id p es (Err fault) =
-    Test (gone id ≡ false) (faults.Dropped id) es (Bad 0 fault)
-    ((Asks c id es events.vacant × (fault ≡ faults.Missing id))
-    ⊎ (Asks c id es events.retired × (fault ≡ faults.Retired id)))
+LooksUp setting gone id place history (Ok clip) =
+    (gone id ≡ false) × Asks setting id history (events.live (clip_clause place clip))
+LooksUp setting gone id place history (Err fault) =
+    Test (gone id ≡ false) (faults.Dropped id) history (Bad 0 fault)
+    ((Asks setting id history events.vacant × (fault ≡ faults.Missing id))
+    ⊎ (Asks setting id history events.retired × (fault ≡ faults.Retired id)))
 
 -- what the hints of an addition come to: they show its clause, or there is a fault
 abbrev pub Shows : Setting → (ℕ → Bool) → Cnf → Clause → List ℕ → History → Result (Unit {0}) Fault
     → Type 0
-Shows c gone f clause hints es (Ok _) =
-    (ds : List Clause) × AllByRecursion (IsDerived f) ds × Accepts clause ds
-    × (f.vars ≡ c.layout.vars)
-    × ((e : Event) → JudgesHints c gone e clause hints (es ++ e ∷ []) Good)
-Shows c gone f clause hints es (Err fault) =
-    (e : Event) → JudgesHints c gone e clause hints es (Bad 0 fault)
+Shows setting gone formula clause hints history (Ok _) =
+    (hinted : List Clause) × AllByRecursion (IsDerived formula) hinted × Accepts clause hinted
+    × (formula.vars ≡ setting.layout.vars)
+    × ((event : Event) → JudgesHints setting gone event clause hints (history ++ event ∷ []) Good)
+Shows setting gone formula clause hints history (Err fault) =
+    (event : Event) → JudgesHints setting gone event clause hints history (Bad 0 fault)
 
 -- no hint may be left after the conflict
 abbrev pub excess_of : List ℕ → Result (Unit {0}) Fault
 excess_of [] = Ok tt
-excess_of (h ∷ hints) = Err (faults.Excess h)
+excess_of (hint ∷ hints) = Err (faults.Excess hint)
 
 -- the verdict of an addition or an import that is good, or has this fault
 abbrev pub line_verdict : Result (Unit {0}) Fault → LineVerdict
@@ -86,20 +86,20 @@ line_verdict (Err fault) = Bad 0 fault
 
 -- a good addition makes fetches and is published, and a bad one makes fetches alone
 abbrev pub MakesEvents : Setting → ℕ → List ℤ → History → Result (Unit {0}) Fault → Type 0
-MakesEvents c id lits es (Ok _) = (fetches : History) × AllByRecursion IsFetch fetches
-    × (es ≡ fetches ++ published_by c id lits ∷ [])
-MakesEvents c id lits es (Err fault) = AllByRecursion IsFetch es
+MakesEvents setting id lits history (Ok _) = (fetches : History) × AllByRecursion IsFetch fetches
+    × (history ≡ fetches ++ published_by setting id lits ∷ [])
+MakesEvents setting id lits history (Err fault) = AllByRecursion IsFetch history
 
 -- Deletions
 
 -- An identity to delete that is an own one: the reply to one retire decides. No other has an event.
 abbrev pub DeletesOwn : Setting → ℕ → List ℕ → List ℕ → History → Result (Unit {0}) LineStop
     → Type 0
-DeletesOwn c id old new es (Ok _) =
-    (es ≡ events.retire c.stream id retiring.Done ∷ []) × (new ≡ old)
-DeletesOwn c id old new es (Err (stops.Bad fault)) =
-    (es ≡ events.retire c.stream id retiring.NotLive ∷ []) × (fault ≡ faults.NotLive id)
-DeletesOwn c id old new es (Err stops.Memory) = ⊥
+DeletesOwn setting id old new history (Ok _) =
+    (history ≡ events.retire setting.stream id retiring.Done ∷ []) × (new ≡ old)
+DeletesOwn setting id old new history (Err (stops.Bad fault)) =
+    (history ≡ events.retire setting.stream id retiring.NotLive ∷ []) × (fault ≡ faults.NotLive id)
+DeletesOwn setting id old new history (Err stops.Memory) = ⊥
 
 -- one of the formula's or of another stream's: it is kept among the dropped ones, where it isn't yet
 abbrev pub DropsShared : ℕ → List ℕ → List ℕ → Result (Unit {0}) LineStop → Type 0
@@ -111,16 +111,20 @@ DropsShared id old new (Err stops.Memory) = is_among old id ≡ false
 
 abbrev pub DeletesSide : Side → Setting → ℕ → List ℕ → List ℕ → History
     → Result (Unit {0}) LineStop → Type 0
-DeletesSide sides.Formula c id old new es result = (es ≡ []) × DropsShared id old new result
-DeletesSide sides.Own c id old new es result = DeletesOwn c id old new es result
-DeletesSide sides.Foreign c id old new es result = (es ≡ []) × DropsShared id old new result
-DeletesSide sides.Outside c id old new es result =
-    (es ≡ []) × (result ≡ Err (stops.Bad (faults.NotLive id)))
+DeletesSide sides.Formula setting id old new history result =
+    (history ≡ []) × DropsShared id old new result
+DeletesSide sides.Own setting id old new history result =
+    DeletesOwn setting id old new history result
+DeletesSide sides.Foreign setting id old new history result =
+    (history ≡ []) × DropsShared id old new result
+DeletesSide sides.Outside setting id old new history result =
+    (history ≡ []) × (result ≡ Err (stops.Bad (faults.NotLive id)))
 
 -- what became of one identity to delete, where these were dropped before, and these are afterwards
 abbrev pub DeletesOne : Setting → ℕ → List ℕ → List ℕ → History → Result (Unit {0}) LineStop
     → Type 0
-DeletesOne c id old new es result = DeletesSide (side_of c id) c id old new es result
+DeletesOne setting id old new history result =
+    DeletesSide (side_of setting id) setting id old new history result
 
 -- so many identities more were deleted with this one
 abbrev pub counted : Result (Unit {0}) LineStop → ℕ
@@ -129,15 +133,18 @@ counted (Err stop) = 0
 
 -- The dropped ones are those of before, and the shared ones of these identities.
 abbrev pub AreDropped : Setting → List ℕ → List ℕ → List ℕ → Type 0
-AreDropped c old ids new =
-    (id : ℕ) → is_among new id ≡ (is_among old id || is_shared (side_of c id) && is_among ids id)
+AreDropped setting old ids new =
+    (id : ℕ) → is_among new id
+    ≡ (is_among old id || is_shared (side_of setting id) && is_among ids id)
 
 -- What a deletion came to: it is good, or bad, or out of memory, after so many identities.
 abbrev pub Deletes : Setting → List ℕ → List ℕ → List ℕ → History → ℕ → Result (Unit {0}) LineStop
     → Type 0
-Deletes c old new ids es count (Ok _) =
-    JudgesDeletion c (is_among old) [] ids es Good × (count ≡ length ids) × AreDropped c old ids new
-Deletes c old new ids es count (Err (stops.Bad fault)) =
-    JudgesDeletion c (is_among old) [] ids es (Bad count fault)
-Deletes c old new ids es count (Err stops.Memory) =
-    (earlier : List ℕ) × (count ≡ length earlier) × StopsDeletion c (is_among old) ids es earlier
+Deletes setting old new ids history count (Ok _) =
+    JudgesDeletion setting (is_among old) [] ids history Good × (count ≡ length ids)
+    × AreDropped setting old ids new
+Deletes setting old new ids history count (Err (stops.Bad fault)) =
+    JudgesDeletion setting (is_among old) [] ids history (Bad count fault)
+Deletes setting old new ids history count (Err stops.Memory) =
+    (earlier : List ℕ) × (count ≡ length earlier)
+    × StopsDeletion setting (is_among old) ids history earlier

@@ -16,30 +16,32 @@ use Rattle.stream_check.specs.Additions.{published_by}
 
 -- each hint isn't gone, is asked, and is live at last, with these clauses in the order of the hints
 abbrev pub AreFound : Setting → (ℕ → Bool) → List ℕ → List Clause → History → Type 0
-AreFound c gone [] [] es = es ≡ []
-AreFound c gone [] (d ∷ ds) es = ⊥
-AreFound c gone (h ∷ hints) [] es = ⊥
-AreFound c gone (h ∷ hints) (d ∷ ds) es = (gone h ≡ false)
-    × ((asked rest : History) × (es ≡ asked ++ rest) × Asks c h asked (events.live d)
-    × AreFound c gone hints ds rest)
+AreFound setting gone [] [] history = history ≡ []
+AreFound setting gone [] (clause ∷ clauses) history = ⊥
+AreFound setting gone (hint ∷ hints) [] history = ⊥
+AreFound setting gone (hint ∷ hints) (clause ∷ clauses) history = (gone hint ≡ false)
+    × ((asked rest : History) × (history ≡ asked ++ rest)
+    × Asks setting hint asked (events.live clause)
+    × AreFound setting gone hints clauses rest)
 
 -- the addition passes the tests before its hints, the clauses that they found accept its clause, and its last event publishes that
-pub record IsGoodAddition (c : Setting) (st : Standing) (id : ℕ) (lits : List ℤ) (hints : List ℕ)
-    (es : History) : Type 0 where
-  pub owns : Owns c.layout c.stream id
-  pub above : st.last < id
-  pub literals : AllByRecursion (λ l. nat_abs l ≤ c.layout.vars) lits
-  pub room : length (distinct lits) ≤ st.free
+pub record IsGoodAddition (setting : Setting) (standing : Standing) (id : ℕ) (lits : List ℤ)
+    (hints : List ℕ) (history : History) : Type 0 where
+  pub owns : Owns setting.layout setting.stream id
+  pub above : standing.last < id
+  pub literals : AllByRecursion (λ l. nat_abs l ≤ setting.layout.vars) lits
+  pub room : length (distinct lits) ≤ standing.free
   pub clauses : List Clause
   pub fetches : History
-  pub found : AreFound c st.gone hints clauses fetches
+  pub found : AreFound setting standing.gone hints clauses fetches
   pub accepts : Accepts (distinct lits) clauses
-  pub published : es ≡ fetches ++ published_by c id lits ∷ []
+  pub published : history ≡ fetches ++ published_by setting id lits ∷ []
 
 -- a clause that the event finds is one of the formula's variables, and follows from it
 abbrev pub FindsSound : Cnf → Event → Type 0
-FindsSound f (events.fetch s id events.vacant) = Unit {0}
-FindsSound f (events.fetch s id (events.live d)) = IsClause f.vars d × Follows f d
-FindsSound f (events.fetch s id events.retired) = Unit {0}
-FindsSound f (events.publish s id d r) = Unit {0}
-FindsSound f (events.retire s id r) = Unit {0}
+FindsSound formula (events.fetch s id events.vacant) = Unit {0}
+FindsSound formula (events.fetch s id (events.live clause)) =
+    IsClause formula.vars clause × Follows formula clause
+FindsSound formula (events.fetch s id events.retired) = Unit {0}
+FindsSound formula (events.publish s id clause reply) = Unit {0}
+FindsSound formula (events.retire s id reply) = Unit {0}

@@ -13,15 +13,17 @@ use Rattle.stream_check.specs.Asking.{AsksThen}
 -- what the last reply does: a clause must have the import's literals, in whatever order and however often each is written; then the
 -- line is good, with no more events
 abbrev pub AtImported : Reply → ℕ → List ℤ → History → LineVerdict → Type 0
-AtImported events.vacant id lits es v = Fails 0 (faults.Missing id) es v
-AtImported (events.live d) id lits es v =
-    Test ((l : ℤ) → Has d l ↔ Has lits l) (faults.Differs id) es v ((es ≡ []) × (v ≡ Good))
-AtImported events.retired id lits es v = Fails 0 (faults.Retired id) es v
+AtImported events.vacant id lits history verdict = Fails 0 (faults.Missing id) history verdict
+AtImported (events.live clause) id lits history verdict =
+    Test ((l : ℤ) → Has clause l ↔ Has lits l) (faults.Differs id) history verdict
+    ((history ≡ []) × (verdict ≡ Good))
+AtImported events.retired id lits history verdict = Fails 0 (faults.Retired id) history verdict
 
 -- an import's events and its verdict, after the lines that left this standing: it is of the formula or of another stream, and not dropped
 abbrev pub JudgesImport : Setting → Standing → ℕ → List ℤ → History → LineVerdict → Type 0
-JudgesImport c st id lits es v =
-    Test (is_shared (side_of c id) ≡ true) faults.Identity es v
-    (Test (AllByRecursion (λ l. nat_abs l ≤ c.layout.vars) lits) faults.Literal es v
-    (Test (st.gone id ≡ false) (faults.Dropped id) es v
-    (AsksThen c id es (λ r rest. AtImported r id lits rest v))))
+JudgesImport setting standing id lits history verdict =
+    Test (is_shared (side_of setting id) ≡ true) faults.Identity history verdict
+    (Test (AllByRecursion (λ l. nat_abs l ≤ setting.layout.vars) lits)
+    faults.Literal history verdict
+    (Test (standing.gone id ≡ false) (faults.Dropped id) history verdict
+    (AsksThen setting id history (λ reply rest. AtImported reply id lits rest verdict))))

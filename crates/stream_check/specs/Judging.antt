@@ -22,18 +22,21 @@ use Rattle.stream_check.specs.Imports.{JudgesImport}
 
 -- a line's events and its verdict, after the lines that left this standing
 abbrev pub JudgesLine : Setting → Standing → StreamLine → History → LineVerdict → Type 0
-JudgesLine c st (Addition id lits hints) es v = JudgesAddition c st id lits hints es v
-JudgesLine c st (Deletion lead ids) es v = JudgesDeletion c st.gone [] ids es v
-JudgesLine c st (Import id lits) es v = JudgesImport c st id lits es v
+JudgesLine setting standing (Addition id lits hints) history verdict =
+    JudgesAddition setting standing id lits hints history verdict
+JudgesLine setting standing (Deletion lead ids) history verdict =
+    JudgesDeletion setting standing.gone [] ids history verdict
+JudgesLine setting standing (Import id lits) history verdict =
+    JudgesImport setting standing id lits history verdict
 
 -- each line is good after the good lines before it, and has one block of events
 abbrev pub AreGood : Setting → List StreamLine → List StreamLine → List History → Type 0
-AreGood c before [] [] = Unit {0}
-AreGood c before [] (block ∷ blocks) = ⊥
-AreGood c before (line ∷ lines) [] = ⊥
-AreGood c before (line ∷ lines) (block ∷ blocks) =
-    JudgesLine c (standing_of c before) line block Good
-    × AreGood c (before ++ line ∷ []) lines blocks
+AreGood setting before [] [] = Unit {0}
+AreGood setting before [] (block ∷ blocks) = ⊥
+AreGood setting before (line ∷ lines) [] = ⊥
+AreGood setting before (line ∷ lines) (block ∷ blocks) =
+    JudgesLine setting (standing_of setting before) line block Good
+    × AreGood setting (before ++ line ∷ []) lines blocks
 
 -- the events of the blocks, in order
 abbrev pub joined : List History → History
@@ -41,12 +44,12 @@ joined blocks = flat_map (λ block. block) blocks
 
 -- the report of these good lines, some more deleted identities, and this ending
 abbrev pub report_of : Setting → List StreamLine → ℕ → Ending → Report
-report_of c lines deleted ending =
+report_of setting lines deleted ending =
     record {
       added = length (additions_of lines);
       deleted = capped (sum_by (λ line. length (deleted_by line)) lines + deleted);
       empty = list_any (λ addition. length addition.1 == 0) (additions_of lines);
-      within = list_any (λ addition. is_within c.cube addition.1) (additions_of lines);
+      within = list_any (λ addition. is_within setting.cube addition.1) (additions_of lines);
       ending = ending;
     }
 
@@ -58,40 +61,41 @@ ending_at stream_ends.Failed rest number = endings.ReadFailed number
 
 -- After good lines one of four things ends the stream, with the line number after theirs. Where the
 -- rest begins with a deletion, good or bad, memory may run out in it.
-pub data EndsAfter (c : Setting) (lines : List StreamLine) (rest : List ℕ) (end : StreamEnd)
+pub data EndsAfter (setting : Setting) (lines : List StreamLine) (rest : List ℕ) (end : StreamEnd)
     (blocks : List History) (report : Report) : Type 0 where
   -- a line that is bad, whatever follows it
   at_bad_line :
       (line : StreamLine) (more : List ℕ) (text : rest ≡ line_text line ++ more)
       (fits : IsWithinLimits line) (block : History) (one_block : blocks ≡ block ∷ [])
       (deleted : ℕ) (fault : Fault)
-      (bad : JudgesLine c (standing_of c lines) line block (Bad deleted fault))
-      (says : report ≡ report_of c lines deleted (endings.Bad (capped (length lines + 1)) fault))
-      → EndsAfter c lines rest end blocks report
+      (bad : JudgesLine setting (standing_of setting lines) line block (Bad deleted fault))
+      (says : report
+      ≡ report_of setting lines deleted (endings.Bad (capped (length lines + 1)) fault))
+      → EndsAfter setting lines rest end blocks report
   -- a text that begins no line, whatever follows it
   at_bad_text :
       (fault : LineFault) (text : HasTextFault rest fault) (no_block : blocks ≡ [])
       (says : report
-      ≡ report_of c lines 0 (endings.Bad (capped (length lines + 1)) (faults.Text fault)))
-      → EndsAfter c lines rest end blocks report
+      ≡ report_of setting lines 0 (endings.Bad (capped (length lines + 1)) (faults.Text fault)))
+      → EndsAfter setting lines rest end blocks report
   -- a deletion that ran out of memory, whatever follows it
   at_memory :
       (lead : ℕ) (ids more : List ℕ) (text : rest ≡ line_text (Deletion lead ids) ++ more)
       (fits : IsWithinLimits (Deletion lead ids)) (block : History)
       (one_block : blocks ≡ block ∷ []) (earlier : List ℕ)
-      (stops : StopsDeletion c (standing_of c lines).gone ids block earlier)
+      (stops : StopsDeletion setting (standing_of setting lines).gone ids block earlier)
       (says : report
-      ≡ report_of c lines (length earlier) (endings.Memory (capped (length lines + 1))))
-      → EndsAfter c lines rest end blocks report
+      ≡ report_of setting lines (length earlier) (endings.Memory (capped (length lines + 1))))
+      → EndsAfter setting lines rest end blocks report
   -- the end of the stream, with a rest that may still become a line
   at_end :
       (pending : IsPending rest) (no_block : blocks ≡ [])
-      (says : report ≡ report_of c lines 0 (ending_at end rest (capped (length lines + 1))))
-      → EndsAfter c lines rest end blocks report
+      (says : report ≡ report_of setting lines 0 (ending_at end rest (capped (length lines + 1))))
+      → EndsAfter setting lines rest end blocks report
 
 -- The stream of these bytes and this end, whose lines have these blocks of events, is judged so: its good lines come first, and then what ended it.
-pub record JudgesBlocks (c : Setting) (bytes : List ℕ) (end : StreamEnd) (blocks : List History)
-    (report : Report) : Type 0 where
+pub record JudgesBlocks (setting : Setting) (bytes : List ℕ) (end : StreamEnd)
+    (blocks : List History) (report : Report) : Type 0 where
   pub lines : List StreamLine
   pub rest : List ℕ
   pub front : List History
@@ -99,12 +103,12 @@ pub record JudgesBlocks (c : Setting) (bytes : List ℕ) (end : StreamEnd) (bloc
   pub split : blocks ≡ front ++ back
   pub text : bytes ≡ flat_map line_text lines ++ rest
   pub fits : AllByRecursion IsWithinLimits lines
-  pub good : AreGood c [] lines front
-  pub ends : EndsAfter c lines rest end back report
+  pub good : AreGood setting [] lines front
+  pub ends : EndsAfter setting lines rest end back report
 
 -- the stream of these bytes, this end and these events is judged so
-pub record Judges (c : Setting) (bytes : List ℕ) (end : StreamEnd) (es : History)
+pub record Judges (setting : Setting) (bytes : List ℕ) (end : StreamEnd) (history : History)
     (report : Report) : Type 0 where
   pub blocks : List History
-  pub events : es ≡ joined blocks
-  pub judges : JudgesBlocks c bytes end blocks report
+  pub events : history ≡ joined blocks
+  pub judges : JudgesBlocks setting bytes end blocks report

@@ -23,29 +23,30 @@ pub data CheckerState : Type 0 where
   Over : Report → CheckerState
 
 -- the same last identity and room, and the same dropped ones
-pub record SameStanding (a b : Standing) : Type 0 where
-  pub last : a.last ≡ b.last
-  pub free : a.free ≡ b.free
-  pub gone : (id : ℕ) → a.gone id ≡ b.gone id
+pub record SameStanding (standing other : Standing) : Type 0 where
+  pub last : standing.last ≡ other.last
+  pub free : standing.free ≡ other.free
+  pub gone : (id : ℕ) → standing.gone id ≡ other.gone id
 
 -- All lines are good, with these blocks of events, the rest may still become a line, and the checker holds what they leave: its counts
 -- are those that a report of these lines has, whatever the ending.
-pub record LeavesGoing (c : Setting) (bytes : List ℕ) (blocks : List History)
+pub record LeavesGoing (setting : Setting) (bytes : List ℕ) (blocks : List History)
     (now : Holding) : Type 0 where
   pub lines : List StreamLine
   pub cut : Cut bytes lines now.pending
   pub pending : IsPending now.pending
-  pub good : AreGood c [] lines blocks
-  pub tally : (ending : Ending) → report_of_tally now.tally ending ≡ report_of c lines 0 ending
-  pub standing : SameStanding now.standing (standing_of c lines)
+  pub good : AreGood setting [] lines blocks
+  pub tally : (ending : Ending)
+      → report_of_tally now.tally ending ≡ report_of setting lines 0 ending
+  pub standing : SameStanding now.standing (standing_of setting lines)
   pub line : now.line ≡ capped (length lines + 1)
 
 -- The bytes so far, whose lines have these blocks of events, leave the checker so. One that is over has a report that is right whatever the end is.
 abbrev pub Leaves : Setting → List ℕ → List History → CheckerState → Type 0
-Leaves c bytes blocks (Going now) = LeavesGoing c bytes blocks now
-Leaves c bytes blocks (Over report) =
-    JudgesBlocks c bytes stream_ends.Ended blocks report
-    × JudgesBlocks c bytes stream_ends.Failed blocks report
+Leaves setting bytes blocks (Going now) = LeavesGoing setting bytes blocks now
+Leaves setting bytes blocks (Over report) =
+    JudgesBlocks setting bytes stream_ends.Ended blocks report
+    × JudgesBlocks setting bytes stream_ends.Failed blocks report
 
 -- One good line more
 
@@ -55,32 +56,32 @@ last_after last (Deletion lead ids) = last
 last_after last (Import id lits) = last
 
 abbrev pub standing_after : Setting → Standing → StreamLine → Standing
-standing_after c st line = record {
-  last = last_after st.last line;
-  free = st.free - sum_by (λ addition. length addition.1) (additions_of (line ∷ []));
-  gone = λ id. st.gone id || is_shared (side_of c id) && is_among (deleted_by line) id;
+standing_after setting standing line = record {
+  last = last_after standing.last line;
+  free = standing.free - sum_by (λ addition. length addition.1) (additions_of (line ∷ []));
+  gone = λ id. standing.gone id || is_shared (side_of setting id) && is_among (deleted_by line) id;
 }
 
 abbrev pub tally_after : Setting → Tally → StreamLine → Tally
-tally_after c t line = record {
-  added = t.added + length (additions_of (line ∷ []));
-  deleted = capped (t.deleted + length (deleted_by line));
-  empty = t.empty || list_any (λ addition. length addition.1 == 0) (additions_of (line ∷ []));
-  within = t.within
-      || list_any (λ addition. is_within c.cube addition.1) (additions_of (line ∷ []));
+tally_after setting tally line = record {
+  added = tally.added + length (additions_of (line ∷ []));
+  deleted = capped (tally.deleted + length (deleted_by line));
+  empty = tally.empty || list_any (λ addition. length addition.1 == 0) (additions_of (line ∷ []));
+  within = tally.within
+      || list_any (λ addition. is_within setting.cube addition.1) (additions_of (line ∷ []));
 }
 
 -- what a checker holds after one good line more
-pub record TakesLine (c : Setting) (old : Holding) (taken : StreamLine)
+pub record TakesLine (setting : Setting) (old : Holding) (taken : StreamLine)
     (new : Holding) : Type 0 where
-  pub tally : new.tally ≡ tally_after c old.tally taken
-  pub standing : SameStanding new.standing (standing_after c old.standing taken)
+  pub tally : new.tally ≡ tally_after setting old.tally taken
+  pub standing : SameStanding new.standing (standing_after setting old.standing taken)
   pub pending : new.pending ≡ []
   pub line : new.line ≡ capped (old.line + 1)
 
 -- what a checker holds before the first byte
-pub record IsFresh (c : Setting) (now : Holding) : Type 0 where
+pub record IsFresh (setting : Setting) (now : Holding) : Type 0 where
   pub tally : now.tally ≡ record { added = 0; deleted = 0; empty = false; within = false }
-  pub standing : SameStanding now.standing (standing_of c [])
+  pub standing : SameStanding now.standing (standing_of setting [])
   pub pending : now.pending ≡ []
   pub line : now.line ≡ 1

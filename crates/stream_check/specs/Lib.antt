@@ -5,7 +5,6 @@ pub mod Standing
 pub mod Verdicts
 pub mod Asking
 pub mod Additions
-pub mod CubeLemmas
 pub mod Deletions
 pub mod Imports
 pub mod Judging
@@ -13,12 +12,13 @@ pub mod Leaving
 pub mod Checking
 pub mod CheckerValue
 pub mod Checker
-pub mod ReportLemmas
 pub mod Taking
 pub mod Forks
 pub mod Reducing
-pub mod ReducingLemmas
 pub mod Finding
+pub mod CubeLemmas
 pub mod AdditionLemmas
 pub mod StandingLemmas
+pub mod ReportLemmas
+pub mod ReducingLemmas
 pub mod Laws

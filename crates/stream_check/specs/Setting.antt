@@ -20,10 +20,10 @@ max_tries = 1000000
 
 -- whose the identity is, as the setting's stream sees it
 abbrev pub side_of : Setting → ℕ → Side
-side_of c id =
-    elim (owner c.layout id) [
+side_of setting id =
+    elim (owner setting.layout id) [
       | owners.Formula ↦ sides.Formula
-      | owners.Stream s ↦ if s == c.stream then sides.Own else sides.Foreign
+      | owners.Stream s ↦ if s == setting.stream then sides.Own else sides.Foreign
       | owners.Outside ↦ sides.Outside
     ]
 

@@ -34,18 +34,18 @@ is_among ids id = list_any (λ j. j == id) ids
 -- The standing that these lines leave if all are good: the greatest identity of the additions, or the formula's last one if there are none; the room less the
 -- sizes of their clauses; and of the deleted identities those of the formula and of other streams.
 abbrev pub standing_of : Setting → List StreamLine → Standing
-standing_of c lines = record {
-  last = fold max c.layout.clauses (map (λ addition. addition.0) (additions_of lines));
-  free = c.layout.room - sum_by (λ addition. length addition.1) (additions_of lines);
+standing_of setting lines = record {
+  last = fold max setting.layout.clauses (map (λ addition. addition.0) (additions_of lines));
+  free = setting.layout.room - sum_by (λ addition. length addition.1) (additions_of lines);
   gone = λ id.
-      is_shared (side_of c id) && list_any (λ line. is_among (deleted_by line) id) lines;
+      is_shared (side_of setting id) && list_any (λ line. is_among (deleted_by line) id) lines;
 }
 
 -- What 64 bits show of a count: above 2^64 - 1 it stands as that. Counts of additions never come
 -- there, since their identities don't; counts of deletions don't in a legal history.
 abbrev pub capped : ℕ → ℕ
-capped n = min n (2 ^ 64 - 1)
+capped count = min count (2 ^ 64 - 1)
 
 -- the complement of each literal of the clause is in the cube
 abbrev pub is_within : CubeValue → Clause → Bool
-is_within cube c = list_all (λ l. list_any (λ k. int_eq k (neg_ℤ l)) cube) c
+is_within cube clause = list_all (λ l. list_any (λ k. int_eq k (neg_ℤ l)) cube) clause

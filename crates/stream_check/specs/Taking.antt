@@ -18,13 +18,17 @@ use Rattle.stream_check.specs.Checker.{standing_at, tally_at, deleted_at}
 
 -- what is held, with this text read of the next line, where so much room is left
 abbrev pub hold : StreamState → List ℕ → ℕ → Holding
-hold h pending free =
-    record { tally = tally_at h; standing = standing_at h free; pending = pending; line = h.line }
+hold state pending free = record {
+  tally = tally_at state;
+  standing = standing_at state free;
+  pending = pending;
+  line = state.line;
+}
 
 -- the place is one where the next line can be checked
-pub record IsReady (h : StreamState) (p : Place) : Type 0 where
-  pub at : IsPlaceOf h.setting p
-  pub vacant : IsVacantAbove p h.last
+pub record IsReady (state : StreamState) (place : Place) : Type 0 where
+  pub at : IsPlaceOf state.setting place
+  pub vacant : IsVacantAbove place state.last
 
 -- so many identities more were deleted, and nothing else was counted
 pub record DeletesMore (old new : StreamState) (count : ℕ) : Type 0 where
@@ -37,15 +41,15 @@ pub record DeletesMore (old new : StreamState) (count : ℕ) : Type 0 where
 -- what the events of one line came to
 abbrev pub TakesBy : StreamState → ℕ → StreamState → ℕ → StreamLine → History
     → Result (Unit {0}) LineStop → Type 0
-TakesBy old free new left line es (Ok _) =
-    JudgesLine old.setting (standing_at old free) line es Good
+TakesBy old free new left line history (Ok _) =
+    JudgesLine old.setting (standing_at old free) line history Good
     × ((read : List ℕ) → TakesLine old.setting (hold old read free) line (hold new [] left))
-TakesBy old free new left line es (Err (stops.Bad fault)) =
-    (count : ℕ) × JudgesLine old.setting (standing_at old free) line es (Bad count fault)
+TakesBy old free new left line history (Err (stops.Bad fault)) =
+    (count : ℕ) × JudgesLine old.setting (standing_at old free) line history (Bad count fault)
     × DeletesMore old new count
-TakesBy old free new left line es (Err stops.Memory) =
+TakesBy old free new left line history (Err stops.Memory) =
     (lead : ℕ) × (ids earlier : List ℕ) × (line ≡ Deletion lead ids)
-    × StopsDeletion old.setting (is_among old.dropped.ids) ids es earlier
+    × StopsDeletion old.setting (is_among old.dropped.ids) ids history earlier
     × DeletesMore old new (length earlier)
 
 -- a line that stopped ends the reading so

@@ -11,9 +11,9 @@ pub data LineVerdict : Type 0 where
 
 -- no more events, and this fault, where the line deleted so many identities before it
 abbrev pub Fails : ℕ → Fault → History → LineVerdict → Type 0
-Fails deleted fault es v = (es ≡ []) × (v ≡ Bad deleted fault)
+Fails deleted fault history verdict = (history ≡ []) × (verdict ≡ Bad deleted fault)
 
 -- Either the test fails, with this fault and nothing deleted, or it holds and what comes next decides. Only additions and imports
 -- have tests.
 abbrev pub Test : Type 0 → Fault → History → LineVerdict → Type 0 → Type 0
-Test Holds fault es v Next = ((¬ Holds) × Fails 0 fault es v) ⊎ (Holds × Next)
+Test Holds fault history verdict Next = ((¬ Holds) × Fails 0 fault history verdict) ⊎ (Holds × Next)

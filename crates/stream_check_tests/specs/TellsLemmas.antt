@@ -6,7 +6,7 @@ use Rattle.lrup_model.specs.Layout.{Owns}
 use Rattle.lrup_model.specs.Event.{History, stream_of, spent}
 use Rattle.lrup_model.specs.State.{State, after, run}
 use Rattle.lrup_model.specs.Place.{Caller, Place, Tells}
-use Rattle.lrup_model.specs.Running.{run-append, spent-append, callers-append}
+use Rattle.lrup_model.specs.RunningLemmas.{run-append, spent-append, callers-append}
 use Rattle.lrup_model.specs.HistoryLemmas.{after-agrees}
 
 -- states that agree at an identity agree there after the same events

@@ -49,12 +49,12 @@ pub record CanBegin {S : Type 0} (store : StoreValue) (jobs : JobsValue S) : Typ
 
 -- The report judges the bytes received up to a mark by the calls that the pass made since, and these identities are dropped by
 -- them.
-pub record JudgesAtPass (v : CheckerValue) (old new : PassValue) (items : List ℕ)
+pub record JudgesAtPass (checker : CheckerValue) (old new : PassValue) (items : List ℕ)
     (ids : List ℕ) (report : Report) : Type 0 where
   pub store : store_of new ≡ store_of old
   pub blocks : List History
   pub moves : PassMoves old.view new.view (joined blocks)
-  pub judged : JudgesAtMark v (pass_place old.view).room items blocks ids report
+  pub judged : JudgesAtMark checker (pass_place old.view).room items blocks ids report
 
 -- What was found is how the stream that the reader told, and its reads gave, is judged, by the calls that the pass made, where
 -- the checker had taken no byte before; and what its bytes dropped.

@@ -39,13 +39,14 @@ impl<R: Source + Drop, G: Gate + Drop> Model for StreamJobs<R, G> {
 
     ghost Value = { JobsValue R };
 
-    ghost view = { λ j. record {
-      reader = j.reading.reader;
-      checker = j.checking.checker;
-      pass = j.pass;
+    ghost view = { λ jobs. record {
+      reader = jobs.reading.reader;
+      checker = jobs.checking.checker;
+      pass = jobs.pass;
     } };
 
-    ghost invariant = { λ j. IsPair j.reading.sender.producer j.checking.receiver.consumer };
+    ghost invariant = { λ jobs. IsPair jobs.reading.sender.producer
+        jobs.checking.receiver.consumer };
 }
 
 impl<R: Source + Drop, G: Gate + Drop> StreamJobs<R, G> {
@@ -111,14 +112,14 @@ impl<R: Source + Drop, G: Gate + Drop> Model for HalfStarted<R, G> {
 
     ghost Value = { JobsValue R };
 
-    ghost view = { λ h. record {
-      reader = h.reading.reader;
-      checker = h.checking.promise.job.value.checker;
-      pass = h.checking.promise.pass.value;
+    ghost view = { λ half. record {
+      reader = half.reading.reader;
+      checker = half.checking.promise.job.value.checker;
+      pass = half.checking.promise.pass.value;
     } };
 
-    ghost invariant = { λ h. IsPair h.reading.sender.producer
-        h.checking.promise.job.value.receiver.consumer };
+    ghost invariant = { λ half. IsPair half.reading.sender.producer
+        half.checking.promise.job.value.receiver.consumer };
 }
 
 /// Both threads were started.
@@ -134,12 +135,12 @@ impl<R: Source + Drop, G: Gate + Drop> Model for Started<R, G> {
 
     ghost Value = { JobsValue R };
 
-    ghost view = { λ s. record {
-      reader = s.reading.promise.job.value.reader;
-      checker = s.checking.promise.job.value.checker;
-      pass = s.checking.promise.pass.value;
+    ghost view = { λ started. record {
+      reader = started.reading.promise.job.value.reader;
+      checker = started.checking.promise.job.value.checker;
+      pass = started.checking.promise.pass.value;
     } };
 
-    ghost invariant = { λ s. IsPair s.reading.promise.job.value.sender.producer
-        s.checking.promise.job.value.receiver.consumer };
+    ghost invariant = { λ started. IsPair started.reading.promise.job.value.sender.producer
+        started.checking.promise.job.value.receiver.consumer };
 }

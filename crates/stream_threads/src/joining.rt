@@ -38,11 +38,11 @@ impl<R: Source + Drop> Model for StreamResult<R> {
 
     ghost Value = { FoundValue R };
 
-    ghost view = { λ f. record {
-      report = f.report;
-      reader = f.reader;
-      pass = f.pass;
-      dropped = f.dropped;
+    ghost view = { λ found. record {
+      report = found.report;
+      reader = found.reader;
+      pass = found.pass;
+      dropped = found.dropped;
     } };
 }
 
@@ -60,12 +60,13 @@ impl<R: Source + Drop, G: Gate + Drop> Model for Room<R, G> {
 
     ghost Value = { ℕ };
 
-    ghost view = { λ r. vec_capacity r.halves };
+    ghost view = { λ room. vec_capacity room.halves };
 
-    ghost invariant = { λ r. (r.halves.items ≡ []) × (r.started.items ≡ []) × (r.ends.items ≡ [])
-        × (r.found.items ≡ []) × (vec_capacity r.started ≡ vec_capacity r.halves)
-        × (vec_capacity r.ends ≡ vec_capacity r.halves)
-        × (vec_capacity r.found ≡ vec_capacity r.halves) };
+    ghost invariant = { λ room. (room.halves.items ≡ []) × (room.started.items ≡ [])
+        × (room.ends.items ≡ []) × (room.found.items ≡ [])
+        × (vec_capacity room.started ≡ vec_capacity room.halves)
+        × (vec_capacity room.ends ≡ vec_capacity room.halves)
+        × (vec_capacity room.found ≡ vec_capacity room.halves) };
 }
 
 impl<R: Source + Drop, G: Gate + Drop> Room<R, G> {

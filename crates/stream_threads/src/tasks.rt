@@ -30,10 +30,10 @@ pub(crate) struct ReadTask<R: Source + Drop> {
 }
 
 impl<R: Source + Drop> Promise<Option<Sent<R>>> for ReadTask<R> {
-    ghost kept_by = { λ task end. IfSome end (λ s.
-        SameProducer task.job.value.sender.producer s.producer
-        × SendsAll _ (source_view R.left R.has_failed R.reads) task.job.value.reader s.reader
-        (Rattle.rtrb.specs.Ring.sent s.producer)) };
+    ghost kept_by = { λ task end. IfSome end (λ sent.
+        SameProducer task.job.value.sender.producer sent.producer
+        × SendsAll _ (source_view R.left R.has_failed R.reads) task.job.value.reader sent.reader
+        (Rattle.rtrb.specs.Ring.sent sent.producer)) };
 }
 
 /// What a checking thread was started with.
@@ -44,10 +44,10 @@ pub(crate) struct CheckTask<G: Gate + Drop> {
 }
 
 impl<G: Gate + Drop> Promise<Option<CheckedPass>> for CheckTask<G> {
-    ghost kept_by = { λ task end. IfSome end (λ e.
-        SameConsumer task.job.value.receiver.consumer e.checked.consumer
-        × IfSome e.checked.report (JudgesAtPass task.job.value.checker task.pass.value e.pass
-        (received e.checked.consumer) e.checked.dropped.ids)) };
+    ghost kept_by = { λ task end. IfSome end (λ found.
+        SameConsumer task.job.value.receiver.consumer found.checked.consumer
+        × IfSome found.checked.report (JudgesAtPass task.job.value.checker task.pass.value found.pass
+        (received found.checked.consumer) found.checked.dropped.ids)) };
 }
 
 /// Waits for the start signal, and then reads all and sends it. None where the signal says to leave.

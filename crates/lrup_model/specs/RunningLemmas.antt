@@ -26,10 +26,10 @@ own-append g h s = filter-append (λ e. stream_of e == s) g h
 
 -- the literals that an event takes of its stream's room
 abbrev pub size_of : Event → ℕ
-size_of (events.fetch s id r) = 0
-size_of (events.publish s id c publishing.Done) = length c
-size_of (events.publish s id c publishing.Taken) = 0
-size_of (events.retire s id r) = 0
+size_of (events.fetch s id reply) = 0
+size_of (events.publish s id clause publishing.Done) = length clause
+size_of (events.publish s id clause publishing.Taken) = 0
+size_of (events.retire s id reply) = 0
 
 sizes : (es : History) → sum_by (λ p. length p.1) (published es) ≡ sum_by size_of es
 sizes [] = refl
