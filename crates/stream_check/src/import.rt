@@ -12,7 +12,6 @@ use crate::addition::{Buffers, make_literals};
 use crate::asking::look_up;
 use crate::fault::Fault;
 use crate::gate::Gate;
-use crate::setting::Side;
 use crate::stream_state::StreamState;
 use lrup_model::{ClauseMap, Id};
 
@@ -36,9 +35,8 @@ impl Buffers {
             (es : History) × M.moves map.old map.new es × AllByRecursion IsFetch es
             × JudgesImport state.now.setting standing id lits.now es (line_verdict result) }
     {
-        match state.setting.side(id) {
-            Side::Formula | Side::Foreign => {}
-            Side::Own | Side::Outside => return Err(Fault::Identity),
+        if !state.setting.shares(id) {
+            return Err(Fault::Identity);
         }
         if !make_literals(&mut self.literals, lits, self.vars) {
             return Err(Fault::Literal);

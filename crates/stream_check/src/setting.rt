@@ -1,7 +1,7 @@
 //! The stream whose lines are checked, and the terms of the checking.
 ghost use Rattle.std.specs.Prelude.{◌≡◌, ◌↔◌, IsTrue};
 ghost use Rattle.lrup_model.specs.Layout.{IsIdentity};
-ghost use Rattle.stream_check.specs.Setting.{side_of, tries_on};
+ghost use Rattle.stream_check.specs.Setting.{side_of, is_shared, tries_on};
 ghost use Rattle.stream_check.specs.Standing.{is_within};
 
 use lrup_model::{Cube, Id, Layout, Lit, Owner};
@@ -104,6 +104,16 @@ impl Setting {
         ensures { IsTrue result ↔ IsIdentity self.now.layout id }
     {
         0 < id && id <= self.last
+    }
+
+    /// Whether it is the formula's or another stream's.
+    pub fn shares(&self, id: Id) -> bool
+        ensures { result ≡ is_shared (side_of self.now id) }
+    {
+        match self.side(id) {
+            Side::Formula | Side::Foreign => true,
+            Side::Own | Side::Outside => false,
+        }
     }
 
     /// Whose the identity is.

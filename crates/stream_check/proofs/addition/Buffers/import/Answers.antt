@@ -1,4 +1,4 @@
-use Rattle.std.proofs.Common.{◌≡◌, ◌≤◌, ◌⊎◌, ℕ, [], inl, inr, true, nat_abs, refl, sym, ap, subst, ◌∙◌, append-nil}
+use Rattle.std.proofs.Common.{◌≡◌, ◌≤◌, ℕ, [], inl, inr, nat_abs, refl, sym, subst, ◌∙◌, append-nil}
 use Rattle.std.specs.Prelude.{◌↔◌, List, ℤ}
 use Rattle.std.specs.List.{AllByRecursion}
 use Rattle.std.proofs.lemmas.Bool.{true≢false}
@@ -6,9 +6,6 @@ use Rattle.std.proofs.lemmas.Result.{err_from_is_err_and}
 use Rattle.lrup_model.specs.Clause.{Clause, Has}
 use Rattle.lrup_model.specs.Literal.{IsLiteral}
 use Rattle.lrup_model.specs.Place.{clip_clause}
-use Rattle.stream_check.specs.declared.setting.Side.{Side}
-use Rattle.stream_check.specs.declared.setting.Side.TheVariants as sides
-use Rattle.stream_check.specs.Setting.{Setting, side_of, is_shared}
 use Rattle.stream_check.specs.Checker.{standing_at}
 use Rattle.stream_check.proofs.AddLemmas.{variables_within}
 use Rattle.stream_check.specs.AdditionLemmas.{literals_within}
@@ -17,11 +14,6 @@ use Rattle.stream_check.proofs.addition.Buffers.import.Goals as goal
 
 abbrev HasSame : Clause → List ℤ → Type 0
 HasSame d lits = (l : ℤ) → Has d l ↔ Has lits l
-
-shared_at : (setting : Setting) (id : ℕ) (side : Side) → side_of setting id ≡ side → (side ≡ sides.Formula) ⊎ (side ≡ sides.Foreign)
-    → is_shared (side_of setting id) ≡ true
-shared_at setting id side is (inl formula) = ap is_shared (is ∙ formula)
-shared_at setting id side is (inr foreign) = ap is_shared (is ∙ foreign)
 
 pub returns-then-not-make_literals-clause-judged : goal.returns-then-not-make_literals-clause-judged
 returns-then-not-make_literals-clause-judged g c =
@@ -34,7 +26,7 @@ returns-then-not-make_literals-clause-judged g c =
       [],
       g.met.M.ClauseMap.moves_none c.args.map.now,
       tt,
-      bad_literal s st c.args.id c.args.lits.now (shared_at s c.args.id c.side.result c.side.ensures c.in-Formula.is) no,
+      bad_literal s st c.args.id c.args.lits.now (sym c.shares.ensures ∙ c.if-not-shares.false) no,
     )
 
 -- the lookup has a fault
@@ -51,7 +43,7 @@ returns-in_err-clip-clause-judged g c =
       looked.0,
       looked.1,
       looked.2,
-      rw (given.1, given.2) (import_unfound s st c.args.id lits (shared_at s c.args.id c.side.result c.side.ensures c.in-Formula.is)
+      rw (given.1, given.2) (import_unfound s st c.args.id lits (sym c.shares.ensures ∙ c.if-not-shares.false)
           (variables_within s.layout.vars lits within) q looked.0 c.in_err-clip.field-0.0 looked.3),
     )
 
@@ -73,8 +65,8 @@ returns-clause-judged g c =
       looked.0,
       subst (g.M.ClauseMap.moves c.args.map.now c.same.new.map) (append-nil looked.0) moved,
       looked.2,
-      import_found s st c.args.id lits (shared_at s c.args.id c.side.result c.side.ensures c.in-Formula.is)
-          (variables_within s.layout.vars lits within) (clip_clause q c.in_ok-clip.clip) looked.0 _ looked.3.0 looked.3.1
+      import_found s st c.args.id lits (sym c.shares.ensures ∙ c.if-not-shares.false) (variables_within s.layout.vars lits within)
+          (clip_clause q c.in_ok-clip.clip) looked.0 _ looked.3.0 looked.3.1
           (inr (same, (refl, refl))),
     )
 
@@ -96,7 +88,7 @@ returns-then-not-same-clause-judged g c =
       looked.0,
       subst (g.M.ClauseMap.moves c.args.map.now c.same.new.map) (append-nil looked.0) moved,
       looked.2,
-      import_found s st c.args.id lits (shared_at s c.args.id c.side.result c.side.ensures c.in-Formula.is)
-          (variables_within s.layout.vars lits within) (clip_clause q c.in_ok-clip.clip) looked.0 _ looked.3.0 looked.3.1
+      import_found s st c.args.id lits (sym c.shares.ensures ∙ c.if-not-shares.false) (variables_within s.layout.vars lits within)
+          (clip_clause q c.in_ok-clip.clip) looked.0 _ looked.3.0 looked.3.1
           (inl (other, (refl, refl))),
     )
