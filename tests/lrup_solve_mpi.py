@@ -262,9 +262,7 @@ def known() -> List[Row]:
     return rows + [("rounds, nothing shared", in_rounds, 2, "pigeons 8", 40000, ["--no-share"], 20), ("exchanges", exchanges),
                    ("assumptions", assuming), ("a full row", full_row), ("time is up", time_is_up),
                    ("gifts of an earlier round", rests_on, "lateness", r"bad line|hasn't taken|hasn't saved",
-                    {"FIRST_WORDS": 20000, "LATE": 1}),
-                   ("gifts once lrupd has saved", rests_on, "saving", r"bad line|hasn't taken|hasn't saved",
-                    {"FIRST_WORDS": 20000, "EXCHANGING": 0.02})]
+                    {"FIRST_WORDS": 20000, "LATE": 1})]
 
 
 def refusals() -> List[Row]:
