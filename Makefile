@@ -105,8 +105,8 @@ filter-test: $(BUILT) exact ## check: the filter, in rounds too, with the solver
 	@python3 tests/filter_streams.py $(PROGRAM) && python3 tests/filter_rounds.py $(PROGRAM)
 	@python3 tests/filter_mutants.py $(PROGRAM)
 
-# Without CaDiCaL's library nothing is run, and without MPI nothing of lrup-solve-mpi. The gate leaves that out: it takes ten minutes,
-# and its processes race with the clock.
+# Without CaDiCaL's library nothing is run, and without MPI nothing of lrup-solve-mpi. The gate leaves that out: it takes ten to
+# twenty minutes, and its processes race with the clock.
 MPI ?= yes
 solve-test: $(BUILT) c-and-python ## check: lrup-solve, and what may happen to it, with 300 random formulas
 	@python3 tests/lrup_solve.py $(PROGRAM) && python3 tests/lrup_solve_rounds.py $(PROGRAM)
