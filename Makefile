@@ -20,15 +20,15 @@ STREAMS ?= $(addprefix examples/bmc-four.,1 2 3 4)
 OPTIONS ?= --tries 1000000
 
 .PHONY: run build install examples live checkpoints demo solver exact solve solver-test filter-test solve-test neighbours sweep
-.PHONY: leaks instructions audit tables pages test toolchain c-and-python libcadical
-.PHONY: help try deb dist quick
+.PHONY: leaks instructions audit tables pages test toolchain c-and-python libcadical solve-objects mpicxx
+.PHONY: help try deb dist quick edits
 
 help:
 	@awk -f gate/help.awk $(firstword $(MAKEFILE_LIST))
 
 # rt's own lines are left out.
 try: toolchain ## try: run the program on an example in about a minute, before anything is proved
-	@log=$$(mktemp); trap 'rm -f "$$log"' EXIT; status=0; cd crates/lrupd && $(RT) try -- \
+	@echo "compiling, about a minute .." >&2; log=$$(mktemp); trap 'rm -f "$$log"' EXIT; status=0; cd crates/lrupd && $(RT) try -- \
 	$(foreach word,$(OPTIONS) $(FORMULA) $(STREAMS),$(or $(realpath $(word)),$(word))) < /dev/null 2> "$$log" || status=$$?; \
 	grep -q '^run=ended ' "$$log" || { cat "$$log"; exit 1; }; \
 	grep -v '^checked: \|^races: \|^run=' "$$log" >&2; \
@@ -86,15 +86,18 @@ exact: c-and-python ## build: the filter that makes streams of other solvers' pr
 	@mkdir -p $(dir $(EXACT))
 	@$(CC) -std=c11 -O2 -Wall -Wextra -o $(EXACT) tools/exact/*.c
 
-# Neither verified nor trusted. It looks for lrupd and lrup-chain beside it.
-solve: c-and-python libcadical ## build: lrup-solve, from a formula to a proved verdict, at tools/solve/out; wants CaDiCaL's library
+# Neither verified nor trusted.
+solve: solve-objects ## build: lrup-solve, from a formula to a proved verdict, at tools/solve/out; wants CaDiCaL's library
+	@$(CXX) -std=c++17 $(SOLVE_FLAGS) -Wall -Wextra -DVERSION='"$(VERSION)"' -o $(SOLVE) $(ALONE) $(SOLVE).objects/*.o -lcadical
+
+# What both look for beside them is there, too: lrupd and lrup-chain.
+solve-objects: c-and-python libcadical
 	@mkdir -p $(SOLVE).objects
 	@cd $(SOLVE).objects && $(CC) -std=c11 -D_GNU_SOURCE $(SOLVE_FLAGS) -Wall -Wextra -c $(abspath $(wildcard tools/solve/*.c) $(FILTER))
-	@$(CXX) -std=c++17 $(SOLVE_FLAGS) -Wall -Wextra -DVERSION='"$(VERSION)"' -o $(SOLVE) $(ALONE) $(SOLVE).objects/*.o -lcadical
 	@ln -sfr $(PROGRAM) $(dir $(SOLVE))lrupd && ln -sfr tools/lrup-chain $(dir $(SOLVE))lrup-chain
 
 # It isn't installed: it goes with the MPI of where it was built.
-solve-mpi: solve mpicxx ## build: lrup-solve-mpi, the same in several processes on one host or more; wants MPI, too
+solve-mpi: solve-objects mpicxx ## build: lrup-solve-mpi, the same in several processes on one host or more; wants MPI, too
 	@OMPI_CXX="$(CXX)" mpicxx -std=c++17 $(SOLVE_FLAGS) -Wall -Wextra -DVERSION='"$(VERSION)"' -o $(SOLVE)-mpi \
 	$(filter-out tools/solve/alone.cpp,$(wildcard tools/solve/*.cpp)) $(SOLVE).objects/*.o -lcadical
 
@@ -105,13 +108,13 @@ filter-test: $(BUILT) exact ## check: the filter, in rounds too, with the solver
 	@python3 tests/filter_streams.py $(PROGRAM) && python3 tests/filter_rounds.py $(PROGRAM)
 	@python3 tests/filter_mutants.py $(PROGRAM)
 
-# Without CaDiCaL's library nothing is run, and without MPI nothing of lrup-solve-mpi. The gate leaves that out: it takes ten to
-# twenty minutes, and its processes race with the clock.
+# Without CaDiCaL's library nothing is run, and without MPI nothing of lrup-solve-mpi. With MPI= only what takes seconds there, as in
+# the gate.
 MPI ?= yes
 solve-test: $(BUILT) c-and-python ## check: lrup-solve, and what may happen to it, with 300 random formulas
 	@python3 tests/lrup_solve.py $(PROGRAM) && python3 tests/lrup_solve_rounds.py $(PROGRAM)
 	@python3 tests/lrup_solve_solvers.py $(PROGRAM)
-	@$(if $(MPI),python3 tests/lrup_solve_mpi.py $(PROGRAM),echo "lrup-solve-mpi: not tested here")
+	@python3 tests/lrup_solve_mpi.py $(PROGRAM) $(if $(MPI),,-O2 small)
 
 neighbours: $(BUILT) c-and-python ## check: what is said of a good proof beside hostile streams, which never changes
 	@python3 tests/program_neighbours.py $(PROGRAM)
@@ -156,16 +159,23 @@ LIMIT ?= 90
 quick: toolchain c-and-python ## check: after a change of CRATE=name: layout, proofs, its tests before they are proved, the pages
 	@sh gate/quick.sh $(RT) $(CRATE) $(LIMIT)
 
+# They turn the same clauses as others that the gate tries, of which each costs a check of its crate.
+edits: toolchain ## check: the edits that the gate leaves out, of CRATE=name or of all crates; each has to be refused
+	@sh gate/edits.sh $(RT) $(CRATE)
+
 # The whole gate: the pages; every proof from nothing, each edit that must be refused, each test, and the program as two compilers
 # build it; then, with the program that was built there, the examples, the live run, checkpoints and chains of runs, the solver's
 # streams and the filter's, mutated proofs, lrup-solve, a proof beside hostile streams, each call of the system refused in turn, of
 # the program and of tests, memory given back, and the instructions that lines take. The last line is rt's own, 'N passed, M
 # failed'.
-TESTS := examples live checkpoints solver-test filter-test solve-test neighbours sweep leaks instructions
+# Side by side, those that take longest first; what each one prints comes when it has ended.
+TESTS := solve-test filter-test sweep checkpoints examples neighbours solver-test leaks live instructions
+SIDE_BY_SIDE := --output-sync=target -j $(shell nproc)
 test: SHELL := /bin/bash
-test: toolchain pages solver exact ## check: the gate, 25 to 100 minutes: every proof, edit and test; has to pass before a push
-	@rm -f $(addprefix $(dir $(SOLVE)),lrupd lrup-chain); set -o pipefail; log=$$(mktemp); trap 'rm -f "$$log"' EXIT; \
-	$(RT) ci | tee "$$log" && $(MAKE) --no-print-directory BUILT= MPI= $(TESTS) && tail -n 1 "$$log"
+test: toolchain pages solver exact ## check: the gate, 25 to 90 minutes: every proof, edit and test; has to pass before a push
+	@rm -f $(addprefix $(dir $(SOLVE)),lrupd lrup-chain); set -o pipefail; log=$$(mktemp); trap 'rm -f "$$log"' EXIT; SECONDS=0; \
+	$(RT) ci | tee "$$log" && proved=$$SECONDS && $(MAKE) --no-print-directory $(SIDE_BY_SIDE) BUILT= MPI= $(TESTS) && \
+	echo "rt ci took $$proved seconds, and the tests of programs $$((SECONDS - proved))" && tail -n 1 "$$log"
 
 toolchain:
 	@command -v $(RT) > /dev/null || { echo "lrupd needs Rattle's toolchain: no command '$(RT)' is on the PATH"; exit 1; }

@@ -95,7 +95,7 @@ COUNTS
 for name in "$crate" "${crate}_tests"; do
     [ ! -d "crates/$name" ] || step "$name: layout" "crates/$name" "$rt" fmt
 done
-step "$crate: proofs" "crates/$crate" "$rt" check
+step "$crate: proofs, after those of libraries that have changed" "crates/$crate" "$rt" check
 [ ! -d "crates/${crate}_tests" ] || tests
 step "pages" . make -s --no-print-directory pages
 above=$(crates_above)

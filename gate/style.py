@@ -6,7 +6,7 @@
 It lists names in backticks, in the documents, that don't exist; lines of clauses and of definitions beyond 100 columns, and of
 proofs beyond 140; lemmas that are stated twice; names that mean one thing in one crate and another in another; where the picture of
 the crates isn't what crates.txt says; targets of the Makefile that CONTRIBUTING doesn't list as `make help` does; links in the
-documents that lead nowhere; whether README is longer than it may be; whether the logic of README is the one of the `rt` on the
+documents that lead nowhere; edits that the gate leaves out, and that don't fit their sources; whether README is longer than it may be; whether the logic of README is the one of the `rt` on the
 PATH, if there is one; and whether `lrupd --version` says what the file VERSION does. The last line has the counts, and the status
 is 1 where one of them isn't 0.
 
@@ -34,7 +34,7 @@ MOST_WORDS = 900  # of README
 FOREIGN = set("""
 ANTT.md CONTRACTS.md SHORTER_PROOFS.md BUILD.bazel start_lib start_io proves untested --only
 cadical libcadical-dev yosys -j -v -q --plain --no-binary pv socat ssh madvise
-veth --host oob_tcp_keepalive_time oob_tcp_keepalive_intvl oob_tcp_keepalive_probes plm_rsh_agent
+veth docker0 btl_tcp_if_include --host oob_tcp_keepalive_time oob_tcp_keepalive_intvl oob_tcp_keepalive_probes plm_rsh_agent
 group1 group2 my_lemma run_ serial_ worker_ XValue OPTIONS=--serial LIMIT=900
 """.split())
 
@@ -214,7 +214,7 @@ def wrong_arrows():
 
 # The Makefile's lines in CONTRIBUTING.
 
-UNLISTED = {"help", "toolchain", "c-and-python", "libcadical", "mpicxx"}
+UNLISTED = {"help", "toolchain", "c-and-python", "libcadical", "mpicxx", "solve-objects"}
 
 
 def unlisted_targets():
@@ -401,6 +401,36 @@ def unknown_names():
             yield f"{shown(path)}:{number}: there is no `{word}`" + (f", of `{span}`" if word != span else "")
 
 
+# Edits that the gate leaves out. rt looks at the others.
+
+
+def changed(edit, crate):
+    """Applies the edit to the files that it names. What is off is given back."""
+    texts, path, old = {}, None, None
+    for line in edit.read_text().splitlines():
+        word, _, text = line.partition(": ")
+        if word == "file":
+            path = crate / text.strip()
+            texts.setdefault(path, path.read_text() if path.is_file() else "")
+        elif word == "old" and path:
+            old = text
+        elif word == "new" and old is not None:
+            if texts[path].count(old) != 1:
+                return f"an old text stands {texts[path].count(old)} times in {shown(path)}"
+            texts[path], old = texts[path].replace(old, text), None
+        elif line:
+            return f"a line that isn't read: {line}"
+    return None if texts else "it changes nothing"
+
+
+def misfits():
+    for edit in files(r"gate/edits/.*"):
+        crate = ROOT / "crates" / edit.parent.name
+        why = "it is in the gate, too" if (crate / "must-fail" / edit.name).exists() else changed(edit, crate)
+        if why:
+            yield f"{shown(edit)}: {why}"
+
+
 def main():
     if sys.argv[1:]:
         sys.exit(__doc__)
@@ -409,8 +439,8 @@ def main():
               ("statements of lemmas more than once", repeated_statements), ("names with two meanings", names_with_two_meanings),
               ("arrows that are wrong", wrong_arrows),
               ("targets and lines of make help that differ", unlisted_targets), ("links that lead nowhere", dead_links),
-              ("pages too long", long_readme), ("other logics", other_logics),
-              ("other versions", other_versions)]
+              ("edits that don't fit", misfits), ("pages too long", long_readme),
+              ("other logics", other_logics), ("other versions", other_versions)]
     counts = []
     for what, check in checks:
         found = list(check())

@@ -1,44 +1,50 @@
 #!/usr/bin/env python3
 """Runs lrup-solve-mpi in two to eight processes of one host, and breaks what may break between them.
 
-    lrup_solve_mpi.py PROGRAM [FLAGS]
+    lrup_solve_mpi.py PROGRAM [FLAGS [small]]
 
 Each answer, with and without sharing, rows so small that a run goes on for many rounds, the record; what is refused; each kind of
 process killed or stopped, in process 0 and in another one, and mpirun ended. The flags, and what is shown, are as of lrup_solve.py;
-without MPI, or mpirun, nothing is run.
+with `small` only what takes seconds is run, and it says what is left out. Without MPI, or mpirun, nothing is run.
 """
 import os
 import random
 import re
+import shlex
 import shutil
 import signal
 import subprocess
 import sys
 import time
 from pathlib import Path
-from typing import Dict, List, Mapping, Optional, Sequence
+from typing import Dict, List, Mapping, Optional, Sequence, Tuple
 
 sys.dont_write_bytecode = True
-from harness import (FOUR, LIMIT, Failure, Ran, Row, closing, dimacs, example, generated, random_clauses, run, until, want,
-                     words_given, written)
+from harness import (FOUR, LIMIT, ROOT, TESTS, Failure, Ran, Row, closing, compiled, dimacs, example, generated, random_clauses, run,
+                     until, want, words_given, written)
 from solving import PROGRAM, SOLVE, TESTED, Answer, check_again, children_of, is_alive, of_process, run_built, want_answer
 
-words_given(__doc__, most=2)
+words_given(__doc__, most=3 if sys.argv[3:] == ["small"] else 2)
+ONLY_SMALL = sys.argv[3:] == ["small"]
+SMALL_FORMULAS = (("bmc.cnf", 20), ("pigeonhole.cnf", 20), ("random 200 22 4.2", 10))
 SMALL = {"SAME_WORDS": 1, "SLICE": 100, "EXCHANGING": 0.05}     # rows that don't grow, and much that is exchanged
-PATIENT = ["--mca", "odls_base_sigkill_timeout", "3"]           # seconds that mpirun gives to those that it ends
+PATIENCE = 3    # seconds that mpirun gives to those that it ends, where their words count
 ENDED = 30      # seconds, in which a run has to end that can't go on; in ten where nothing else runs
-LATE = ["sh", "-c", 'test "$OMPI_COMM_WORLD_RANK" != 0 || sleep 5; exec "$@"', "sh"]    # process 0, by more than PATIENT
+LATE = ["sh", "-c", 'test "$OMPI_COMM_WORLD_RANK" != 0 || sleep 2; exec "$@"', "sh"]    # process 0
+BROKEN = "bad line|hasn't taken|hasn't saved"
 ENGINE_KILLED = "the engine ended by a signal: Killed|its filter stopped: .*the proof ends "     # whichever is seen first
 GROWING = 16_000_000    # bytes: two streams with 4 MB on the way, 2 MB that wait, and what is in pipes
 
 
 def launched(processes: int, words: Sequence[object], tested: Optional[Mapping[str, object]] = None,
-             before: Sequence[str] = ()) -> List[str]:
-    """What starts so many on this host, whoever one is. mpirun's own lines are left out."""
+             before: Sequence[str] = (), patience: int = 0) -> List[str]:
+    """What starts so many on this host, whoever one is. mpirun's own lines are left out. As soon as one ends with another status
+    than 0, as process 0 with most answers, it ends the others, and waits for its patience's end, twice."""
     program = f"{SOLVE if tested is None else TESTED}-mpi"
     as_root = ["--allow-run-as-root"] * (os.getuid() == 0)
     exported = [word for name, value in (tested or {}).items() for word in ("-x", f"LRUP_SOLVE_{name}={value}")]
-    launcher = ["mpirun", "-q", *as_root, "--oversubscribe", "--bind-to", "none", *PATIENT, *exported]
+    patient = ["--mca", "odls_base_sigkill_timeout", patience]
+    launcher = ["mpirun", "-q", *as_root, "--oversubscribe", "--bind-to", "none", *patient, *exported]
     return [str(word) for word in [*launcher, "-n", processes, *before, program, "--lrupd", PROGRAM, *words]]
 
 
@@ -60,6 +66,16 @@ def of_processes(answer: Answer, what: str) -> List[int]:
     return [int(number.replace(",", "")) for number in re.findall(rf"^c process \d+: .*?([\d,]+) {what}", answer.out, re.M)]
 
 
+def alone(work: Path) -> None:
+    """What is sent and placed, without MPI."""
+    tool = ROOT / "tools" / "solve"
+    outbox = compiled(work / "outbox.o", [tool / "outbox.c"], "-std=c11", "-c")
+    sources = [TESTS / "exchange.cpp", tool / "mpi_exchange.cpp", outbox]
+    done = run([*shlex.split(os.environ.get("CXX", "c++")), "-std=c++17", "-Wall", "-Wextra", "-o", work / "exchange", *sources])
+    want((done.err, done.status), ("", 0), "what the compiler says")
+    want(run([work / "exchange"]), Ran("", "", 0), "what is off")
+
+
 # Answers.
 
 
@@ -75,7 +91,7 @@ def answers(processes: int, words: str, options: List[str], status: int, work: P
 def exchanges(work: Path) -> None:
     """What goes out comes in or is late; some of it is used. Without sharing nothing goes out."""
     for options, share in ([], True), (["--no-share"], False):
-        answer = solve(3, ["-v", "-j", "1", *options, generated("pigeons 9", work)], {"EXCHANGING": 0.05})
+        answer = solve(3, ["-v", "-j", "1", *options, generated("pigeons 8", work)], {"EXCHANGING": 0.05})
         want_answer(answer, 20)
         sent, came = of_processes(answer, "sent"), of_processes(answer, "came")
         citing = of_processes(answer, "% of lines cite another process")
@@ -117,18 +133,32 @@ def time_is_up(work: Path) -> None:
     want("time is up" in answer.comments, True, "the cause")
 
 
-def rests_on(what: str, found: str, tested: Mapping[str, object], work: Path) -> None:
-    """Without it lrupd refuses some of the proofs; with it there is nothing of the kind."""
-    seen = {True: 0, False: 0}
-    for seed in range(12):
-        formula = generated(f"random 170 {seed}", work)
-        for left_out in (True, False):
-            words = {**SMALL, **tested, **({"WITHOUT": what, "TRIES": 20000} if left_out else {})}
-            answer = solve(3, ["-v", "--time", "20", "-j", "1", formula], words)
-            seen[left_out] += any(re.search(found, line) for line in answer.comments)
-        if seen[True] and seed > 1:
-            break
-    want((seen[True] > 0, seen[False]), (True, 0), f"runs that broke without it, and with it: {seen}")
+def breaks(answer: Answer) -> bool:
+    return any(re.search(BROKEN, line) for line in answer.comments)
+
+
+def rests_on(what: str, late: str, work: Path) -> None:
+    """What comes late breaks nothing, and is dropped. Without it nearly each run breaks."""
+    broken = 0
+    for seed in range(3):
+        words = ["-v", "-j", "1", generated(f"random 250 {seed} 5", work)]
+        tested = {**SMALL, "FIRST_WORDS": 150000, "EXCHANGING": 0.01, "LATE": late}
+        answer = solve(3, words, tested)
+        want_answer(answer, 20)
+        want((breaks(answer), sum(of_processes(answer, "late")) > 0), (False, True), f"a break, and what came late\n{answer.out}")
+        broken += breaks(solve(3, ["--time", "20", *words], {**tested, "WITHOUT": what, "TRIES": 20000}))
+    want(broken > 1, True, f"{broken} of 3 runs broke without it")
+
+
+def lines_first(work: Path) -> None:
+    """The lines of streams come piece by piece once these are whole, and then what follows from them: in a run of one round engine 1
+    gets no gift. Without what holds gifts back it does."""
+    for left_out in ({}, {"WITHOUT": "clearing"}):
+        tested = {**SMALL, "FIRST_WORDS": 8000000, "EXCHANGING": 0.01, "LATE": "lines"}
+        answer = solve(3, ["-v", "-j", "1", generated("random 220 0 5", work)], {**tested, **left_out})
+        want_answer(answer, 20)
+        taken = re.search("^c engine 1: .* clauses: ([0-9,]+) taken over", answer.out, re.M)
+        want(bool(taken) and taken[1] != "0", bool(left_out), f"whether engine 1 takes over any in\n{answer.out}")
 
 
 # Refused.
@@ -162,17 +192,18 @@ def bad_formula(work: Path) -> None:
 class Running:
     """A run that takes long, with the ids of what belongs to it: by process, by name."""
 
-    def __init__(self, formula: Path, processes: int, tested: Optional[Mapping[str, object]] = None) -> None:
-        words = launched(processes, ["-v", "-j", "1", formula], tested)
+    def __init__(self, formula: Path, processes: int, tested: Optional[Mapping[str, object]] = None, patience: int = 0) -> None:
+        words = launched(processes, ["-v", "-j", "1", formula], tested, patience=patience)
         self.main = subprocess.Popen(words, stdout=subprocess.PIPE, stderr=subprocess.PIPE, text=True)
         self.ids: List[Dict[str, int]] = []
         try:
-            until("processes at work", lambda: self.is_at_work(processes), 30)
+            until("processes at work", lambda: self.is_at_work(processes))
         except Failure:
             self.main.kill()
             raise
 
     def is_at_work(self, processes: int) -> bool:
+        want(self.main.poll(), None, "mpirun's status")
         found = {}
         for pid in children_of_all(self.main.pid):
             rank = re.search(r"\0OMPI_COMM_WORLD_RANK=(\d+)\0", of_process(pid, "environ"))
@@ -201,7 +232,7 @@ def children_of_all(pid: int) -> List[int]:
 
 def ends(process: int, name: str, number: int, cause: str, work: Path) -> None:
     """Without an answer, and soon; 'mpirun' is the one that started them."""
-    running = Running(generated("pigeons 11", work), 2)
+    running = Running(generated("pigeons 11", work), 2, patience=PATIENCE)
     os.kill(running.main.pid if name == "mpirun" else running.ids[process][name], number)
     answer = Answer(running.end())
     want(running.seconds < ENDED, True, f"{running.seconds} seconds to the end")
@@ -236,33 +267,43 @@ def slow_checker(work: Path) -> None:
     runs, lrupd = [one["run"] for one in running.ids], running.ids[0]["lrupd"]
     os.kill(lrupd, signal.SIGSTOP)
     kept = [bytes_kept(pid) for pid in runs]
+    grown = lambda: max(bytes_kept(pid) - before for pid, before in zip(runs, kept))
     try:
-        until("nothing grows", lambda: stands_still(runs), 60)
-        grown = [bytes_kept(pid) - before for pid, before in zip(runs, kept)]
+        until("nothing grows", lambda: grown() >= GROWING or stands_still(runs))
+        found = grown()
     finally:
         os.kill(lrupd, signal.SIGCONT)
     want_answer(Answer(running.end()), 20)
-    want(max(grown) < GROWING, True, f"the bytes that came while it stood still, {grown}")
+    want(found < GROWING, True, f"the bytes that came while it stood still, {found}")
 
 
 # The tests.
 
 
+def answering(processes: int, engines: int, formulas: Sequence[Tuple[str, int]]) -> List[Row]:
+    return [(f"{words}, {processes} of {engines}", answers, processes, words, ["-j", str(engines)], status)
+            for words, status in formulas]
+
+
 def known() -> List[Row]:
+    rows = [row for processes, engines in ((2, 2), (8, 1)) for row in answering(processes, engines, SMALL_FORMULAS)]
+    rows += [row for processes, engines in ((1, 1), (2, 1), (2, 2), (4, 1), (8, 1))
+             for row in answering(processes, engines, [("pigeons 9", 20)])]
+    return rows + [("nothing shared", answers, 2, "pigeons 8", ["-j", "1", "--no-share"], 20), ("exchanges", exchanges),
+                   ("a full row", full_row), ("time is up", time_is_up)]
+
+
+def rounds() -> List[Row]:
     rows: List[Row] = []
-    for processes, engines in ((1, 1), (2, 1), (2, 2), (4, 1), (8, 1)):
-        for words, status in (("bmc.cnf", 20), ("pigeonhole.cnf", 20), ("pigeons 9", 20), ("random 200 22 4.2", 10)):
-            rows.append((f"{words}, {processes} of {engines}", answers, processes, words, ["-j", str(engines)], status))
-    rows.append(("nothing shared", answers, 2, "pigeons 8", ["-j", "1", "--no-share"], 20))
     for processes in (1, 2, 4):
         rows += [(f"rounds of bmc, {processes}", in_rounds, processes, "bmc.cnf", 1500 * processes, [], 20),
                  (f"rounds of pigeonholes, {processes}", in_rounds, processes, "pigeons 8", 20000 * processes, [], 20),
                  (f"rounds of a random formula, {processes}", in_rounds, processes, "random 170 4", 12000 * processes, [], 20),
                  (f"rounds, satisfiable, {processes}", in_rounds, processes, "random 260 5 4.15", 30000 * processes, [], 10)]
-    return rows + [("rounds, nothing shared", in_rounds, 2, "pigeons 8", 40000, ["--no-share"], 20), ("exchanges", exchanges),
-                   ("assumptions", assuming), ("a full row", full_row), ("time is up", time_is_up),
-                   ("gifts of an earlier round", rests_on, "lateness", r"bad line|hasn't taken|hasn't saved",
-                    {"FIRST_WORDS": 20000, "LATE": 1})]
+    return rows + [("rounds, nothing shared", in_rounds, 2, "pigeons 8", 40000, ["--no-share"], 20), ("assumptions", assuming),
+                   ("gifts of an earlier round", rests_on, "lateness", "gifts"),
+                   ("gifts of the next round", rests_on, "passing", "saved"),
+                   ("lines before what follows from them", lines_first)]
 
 
 def refusals() -> List[Row]:
@@ -277,18 +318,19 @@ def refusals() -> List[Row]:
             ("a formula that lrupd refuses", bad_formula)]
 
 
+def ending(process: int, name: str, word: str, number: int, cause: str) -> Row:
+    return f"{name} of process {process} {word}", ends, process, name, number, cause
+
+
 def deaths() -> List[Row]:
-    rows: List[Row] = [(f"{name} of process {process} {word}", ends, process, name, number, cause)
-                       for process, name, word, number, cause in (
-                           (1, "run", "killed", signal.SIGKILL, "Terminated"),
-                           (1, "carrier", "killed", signal.SIGKILL, "Terminated|MPI's process"),
-                           (0, "carrier", "killed", signal.SIGKILL, "MPI's process here ended by a signal"),
-                           (0, "lrupd", "killed", signal.SIGKILL, "lrupd ended by a signal: Killed"),
-                           (0, "run", "terminated", signal.SIGTERM, "Terminated"),
-                           (1, "run", "stopped", signal.SIGSTOP, "process 1 has said nothing for 8 seconds"),
-                           (1, "carrier", "stopped", signal.SIGSTOP, "process 1 has said nothing for 8 seconds"),
-                           (0, "mpirun", "interrupted", signal.SIGINT, "Terminated"),
-                           (0, "mpirun", "terminated", signal.SIGTERM, "Terminated"))]
+    rows: List[Row] = [ending(*words) for words in (
+        (1, "carrier", "killed", signal.SIGKILL, "Terminated|MPI's process"),
+        (0, "carrier", "killed", signal.SIGKILL, "MPI's process here ended by a signal"),
+        (0, "run", "terminated", signal.SIGTERM, "Terminated"),
+        (1, "run", "stopped", signal.SIGSTOP, "process 1 has said nothing for 8 seconds"),
+        (1, "carrier", "stopped", signal.SIGSTOP, "process 1 has said nothing for 8 seconds"),
+        (0, "mpirun", "interrupted", signal.SIGINT, "Terminated"),
+        (0, "mpirun", "terminated", signal.SIGTERM, "Terminated"))]
     rows.append(("a checker that stands still", slow_checker))
     return rows + [(f"{name} of process {process} of {processes} killed", goes_on, processes, process, name, lost)
                    for processes, process, name, lost in (
@@ -298,12 +340,24 @@ def deaths() -> List[Row]:
                        (2, 1, "filter 2", "engine 2 is lost: "))]
 
 
+def small_rows() -> List[Row]:
+    """Nothing here waits long, or races with the clock."""
+    return [("an exchange without MPI", alone), *refusals(),
+            *(row for processes in (1, 2, 4) for row in answering(processes, 1, SMALL_FORMULAS)),
+            ending(0, "lrupd", "killed", signal.SIGKILL, "lrupd ended by a signal: Killed"),
+            ending(1, "run", "killed", signal.SIGKILL, "Terminated")]
+
+
 def main() -> int:
-    rows = [*known(), *refusals(), *deaths()]
-    if not shutil.which("mpirun"):
-        print("lrup-solve-mpi: skipped, no mpirun is on the PATH: in Debian the package openmpi-bin")
-        return closing(0, 0, len(rows))
-    return run_built(rows, target="solve-mpi")
+    rows, more = small_rows(), {"answers": known(), "rounds": rounds(), "deaths": deaths()}
+    if not shutil.which("mpirun") or "Open MPI" not in run(["mpirun", "--version"]).out:
+        print("lrup-solve-mpi: skipped, no mpirun of Open MPI is on the PATH: in Debian the package openmpi-bin")
+        return closing(0, 0, len(rows) + sum(map(len, more.values())))
+    if ONLY_SMALL:
+        left_out = ", ".join(f"{len(found)} rows of {kind}" for kind, found in more.items())
+        print(f"lrup-solve-mpi: left out are {left_out}", flush=True)
+        return run_built(rows, target="solve-mpi", for_tests=False)
+    return run_built([*rows, *(row for found in more.values() for row in found)], target="solve-mpi")
 
 
 sys.exit(main())

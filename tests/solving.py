@@ -154,9 +154,9 @@ def kill_children(children: Mapping[str, int], names: Sequence[str], number: int
 # The builds.
 
 
-def build(target: str) -> Optional[str]:
+def build(target: str, for_tests: bool) -> Optional[str]:
     """None, or why there is nothing to be tested."""
-    for path, flags in ((SOLVE, FLAGS), (TESTED, FLAGS + " -DSOLVE_TESTS")):
+    for path, flags in ((SOLVE, FLAGS), (TESTED, FLAGS + " -DSOLVE_TESTS"))[:1 + for_tests]:
         out, err, status = run(["make", "-s", "-C", ROOT, target, f"SOLVE={path.relative_to(ROOT)}", f"SOLVE_FLAGS={flags}"],
                                limit=600)
         if status and re.search("libcadical-dev|libopenmpi-dev", out + err):
@@ -166,8 +166,8 @@ def build(target: str) -> Optional[str]:
     return None
 
 
-def run_built(rows: Sequence[Row], title: str = "", target: str = "solve") -> int:
-    cause = build(target)
+def run_built(rows: Sequence[Row], title: str = "", target: str = "solve", for_tests: bool = True) -> int:
+    cause = build(target, for_tests)
     if cause:
         print(f"lrup-{target}: skipped, {cause}")
         return closing(0, 0, len(rows), title)

@@ -60,11 +60,12 @@ static bool is_own(const Filter *filter, uint64_t identity) {
     return (identity - filter->formula.clauses - 1) % filter->streams == filter->stream - 1;
 }
 
-// Marks the clause, if the stream may delete it: the formula's come first, then its own.
+// Marks the clause, if the stream may delete it: the formula's come first, then its own. One that was taken over by a wrong identity,
+// which lrupd refuses, may have one that the stream has yet to give.
 static void mark(const Filter *filter, unsigned char *marks, uint64_t identity) {
     uint64_t formula = filter->formula.clauses;
     if (identity <= formula) marks[identity - 1] = 1;
-    else if (is_own(filter, identity)) marks[formula + (identity - formula - 1) / filter->streams] = 1;
+    else if (identity <= filter->last && is_own(filter, identity)) marks[formula + (identity - formula - 1) / filter->streams] = 1;
 }
 
 // All clauses of the formula and of the stream that the filter doesn't hold, but for these. The stream has deleted none so far.

@@ -38,7 +38,7 @@ std::string Exchange::collect() {
     std::vector<Found> all;
     Message message;
     if (LOAD(shared->round) != round) begin_round();
-    if (LOAD(shared->saved_round) >= round) pass_over();
+    if (LOAD(shared->saved_round) >= round && !without("passing")) pass_over();
     for (size_t k = size_t(first); k < size_t(end); k++)
         while (const uint32_t *gift = next_gift(shared, outboxes[k], &read[k], cleared[k])) all.push_back({ int(k), gift });
     std::stable_sort(all.begin(), all.end(), [](const Found &one, const Found &other) { return one.gift[0] < other.gift[0]; });

@@ -181,7 +181,9 @@ private:
         if (LOAD(part.mapped_round) + 1 != round_on || LOAD(shared->saved_round) >= round_on) return true;
         uint64_t used = LOAD(part.outbox_used), bytes = LOAD(part.bytes);
         static std::vector<char> piece(PIECE_OF_A_STREAM);
-        while (one.sent < bytes && one.sent < LOAD(part.fed) + WINDOW && !link.is_full()) {
+        bool is_whole = teams[k].filter.ended() || LOAD(part.ended_round) == round_on;
+        uint64_t pieces = comes_late("lines") ? is_whole : UINT64_MAX;
+        for (; pieces > 0 && one.sent < bytes && one.sent < LOAD(part.fed) + WINDOW && !link.is_full(); pieces--) {
             size_t wanted = std::min<uint64_t>(piece.size(), bytes - one.sent);
             ssize_t count = pread(teams[k].stream, piece.data(), wanted, off_t(one.sent));
             if (count <= 0) refuse("cannot read a stream again: " + (count < 0 ? error_text() : "it is cut"));
@@ -196,7 +198,7 @@ private:
             fallocate(teams[k].stream, FALLOC_FL_PUNCH_HOLE | FALLOC_FL_KEEP_SIZE, 0, off_t(one.sent / PAGE * PAGE));
             one.dropped = one.sent;
         }
-        if (one.sent == bytes) exchange.clear(int(k), used);
+        if (one.sent == bytes || without("clearing")) exchange.clear(int(k), used);
         return one.sent == bytes;
     }
 

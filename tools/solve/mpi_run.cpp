@@ -96,6 +96,7 @@ void Linked::open_exchange() {
 void Linked::exchange_gifts() {
     const char *seconds = test_word("LRUP_SOLVE_EXCHANGING");
     if (!options.shares() || exchanging || now() - exchanged < (seconds ? atof(seconds) : EXCHANGING)) return;
+    if (holds_back()) return;
     exchanging = true;
     exchanged = now();
     link.send(GIFTS, 0, exchange.collect());
@@ -110,12 +111,48 @@ void Linked::look_at_link() {
     link.step();
     for (Message message; link.receive(message);) {
         silent[size_t(message.head.process)] = 0;
-        if (message.head.word == GIFTS && test_word("LRUP_SOLVE_LATE")) std::swap(message, held);
-        if (message.head.word == GIFTS) exchange.place(message);
-        else if (message.head.word != EXCHANGED) look_at(message);
-        else if (uint64_t taken = 0; message.take(taken)) exchange.traffic.nanoseconds += taken, exchanging = false;
+        if (keeps(message)) kept.push_back(message);
+        else take(message);
+        for (; !kept.empty() && is_due(kept.front()); kept.pop_front()) take(kept.front());
     }
     exchange_gifts();
+}
+
+void Linked::take(Message &message) {
+    if (message.head.word == GIFTS) exchange.place(message);
+    else if (message.head.word != EXCHANGED) look_at(message);
+    else if (uint64_t taken = 0; message.take(taken)) exchange.traffic.nanoseconds += taken, exchanging = false;
+}
+
+// For tests, LRUP_SOLVE_LATE says what comes late: 'gifts', those of a round in the next one; 'saved', the word that a round is
+// saved, and what process 0 says after it, behind gifts that it collected once its outboxes had the identities of the next round;
+// 'lines', those of a stream once it is whole, piece by piece.
+
+template <typename Item> static Item beginning(const Message &message) {
+    Item item = {};
+    memcpy(&item, message.rest(), std::min(sizeof item, message.left()));
+    return item;
+}
+
+bool Linked::keeps(const Message &message) {
+    uint32_t word = message.head.word;
+    if (comes_late("gifts")) return word == GIFTS && !is_due(message);
+    if (word == GIFTS && message.head.process == 0) awaited--;
+    bool is_kept = comes_late("saved") && word == CONTROL && beginning<Control>(message).saved_round > LOAD(shared->saved_round);
+    if (is_kept && kept.empty()) awaited = 3;       // one may be on its way; until the last the others share
+    return is_kept;
+}
+
+bool Linked::is_due(const Message &message) const {
+    return message.head.word == GIFTS ? beginning<uint64_t>(message) < LOAD(shared->round) : awaited <= 0;
+}
+
+// Process 0 collects as a round begins, and then nothing before its filters have those identities.
+bool Linked::holds_back() const {
+    if (!comes_late("saved") || link.process != 0 || !exchange.has_begun()) return false;
+    for (int k = first; k < first + here; k++)
+        if (teams[size_t(k)].filter.running && LOAD(shared->parts[k].mapped_round) < LOAD(shared->round)) return true;
+    return false;
 }
 
 void Linked::leave(double seconds) {

@@ -108,6 +108,7 @@ public:
     void open(Shared *all, const std::vector<uint32_t *> &boxes);
     void clear(int engine, uint64_t used) { cleared[size_t(engine)] = used; }   // the lines before that position are on their way
     std::string collect();              // since the last time
+    bool has_begun() const { return LOAD(shared->round) == round; }     // it has collected in the round that is on
     void place(Message &message);
 
 private:
@@ -152,7 +153,8 @@ protected:
     int first, here;                    // engines, from 0
     double exchanged = 0;
     bool exchanging = false;
-    Message held;                       // for tests
+    std::deque<Message> kept;           // for tests: what comes late, and behind how many gifts of process 0
+    int awaited = 0;
     std::vector<double> silent;         // by process, seconds
     double looked = now();
 
@@ -163,6 +165,10 @@ protected:
     void open_exchange();
     void exchange_gifts();
     void look_at_link();
+    void take(Message &message);
+    bool keeps(const Message &message);
+    bool is_due(const Message &message) const;
+    bool holds_back() const;
     int silent_process() const;         // for too long, or -1
     void leave(double seconds);         // with what the others have left to say
     virtual void look_at(Message &message) = 0;

@@ -89,16 +89,19 @@ typedef struct {
     size_t assumed_length;
 } Filtering;
 
-// Builds for the tests alone leave out what sharing rests on, one thing at a time, to see that it breaks.
+// Builds for the tests alone leave out what sharing rests on, one thing at a time, to see that it breaks; and have messages come late.
 #ifdef SOLVE_TESTS
 static inline const char *test_word(const char *name) { return getenv(name); }
-static inline bool without(const char *what) {
-    const char *word = test_word("LRUP_SOLVE_WITHOUT");
+static inline bool test_says(const char *name, const char *what) {
+    const char *word = test_word(name);
     return word && strcmp(word, what) == 0;
 }
+static inline bool without(const char *what) { return test_says("LRUP_SOLVE_WITHOUT", what); }
+static inline bool comes_late(const char *what) { return test_says("LRUP_SOLVE_LATE", what); }
 #else
 #define test_word(name) ((const char *)0)
 #define without(what) false
+#define comes_late(what) false
 #endif
 
 #ifdef __cplusplus

@@ -7,7 +7,7 @@ use checkpoint::{SaveFault, Wanted, save};
 use dimacs::parse;
 use lrup_model::{Formula, Id, Layout, PlainMap};
 use lrup_text::Sink;
-use std::alloc::Global;
+use std::alloc::{AllocError, Global};
 use std::fmt::{self, Write};
 use std::process::Abort;
 use std::test::Fail;
@@ -68,63 +68,77 @@ fn save_at_first(
     save(alloc, &mut map.desk(1), layout, &ALL, paper)
 }
 
+/// Texts that are read, and what is written of their formulas.
+static WRITTEN: [(&str, &str); 5] = [
+    ("p cnf 0 0", "p cnf 0 0\n"),
+    ("p cnf 0 1\n0", "p cnf 0 1\n0\n"),
+    ("c none\np cnf 3 0\n", "p cnf 3 0\n"),
+    ("p cnf 1 1\nc id 7\n1 0\n", "p cnf 1 1\n1 0\n"),
+    (
+        "p cnf 16777215 3\n-16777215 16777215\n0 9 -10 9 0 0",
+        "p cnf 16777215 3\n-16777215 16777215 0\n9 -10 0\n0\n",
+    ),
+];
+
+/// Saves a formula by writes of so many bytes, of which this one fails, and none where that is 0.
+fn saves(
+    rt: &(impl Abort + AllocGlobal),
+    formula: &Formula,
+    most: usize,
+    fails_at: usize,
+    wanted: Result<(), SaveFault>,
+    written: &[u8],
+) -> Result<(), Fail> {
+    let mut paper = Paper::new(rt.alloc(), most, fails_at);
+    let saved = save_formula(rt.alloc(), formula, &mut paper)?;
+    let found = (saved, paper.failed(), paper.bytes.as_slice());
+    same(rt, found, (wanted, fails_at > 0, written));
+    Ok(())
+}
+
 #[test]
 fn what_is_read_is_written(rt: HostRuntime) -> Result<(), Fail> {
-    for (read, written) in [
-        ("p cnf 0 0", "p cnf 0 0\n"),
-        ("p cnf 0 1\n0", "p cnf 0 1\n0\n"),
-        ("c none\np cnf 3 0\n", "p cnf 3 0\n"),
-        ("p cnf 1 1\nc id 7\n1 0\n", "p cnf 1 1\n1 0\n"),
-        (
-            "p cnf 16777215 3\n-16777215 16777215\n0 9 -10 9 0 0",
-            "p cnf 16777215 3\n-16777215 16777215 0\n9 -10 0\n0\n",
-        ),
-    ] {
+    for &(read, written) in &WRITTEN {
         let formula = parse(rt.alloc(), read.as_bytes())?;
-        let mut paper = Paper::new(rt.alloc(), 1000, 0);
-        let saved = save_formula(rt.alloc(), &formula, &mut paper)?;
-        same(
-            &rt,
-            (saved, paper.bytes.as_slice()),
-            (Ok(()), written.as_bytes()),
-        );
+        saves(&rt, &formula, 1_000, 0, Ok(()), written.as_bytes())?;
     }
     Ok(())
+}
+
+/// A text of 1,000 clauses.
+fn long_text(alloc: Global) -> Result<String, AllocError> {
+    let mut text = String::from_str(alloc, "p cnf 9999 1000\n")?;
+    for number in 1_000..2_000u64 {
+        write!(text, "{number} -{number} 9999 1 0\n")?;
+    }
+    Ok(text)
 }
 
 /// 1,000 clauses fill the buffer again and again.
 #[test]
 fn a_long_text_breaks_at_any_write(rt: HostRuntime) -> Result<(), Fail> {
-    let mut text = String::new(rt.alloc());
-    text.push_str("p cnf 9999 1000\n")?;
-    for number in 1_000..2_000u64 {
-        write!(text, "{number} -{number} 9999 1 0\n")?;
-    }
+    let text = long_text(rt.alloc())?;
     let formula = parse(rt.alloc(), text.as_bytes())?;
-    let writes = text.len().div_ceil(4_096);
-    for fails_at in 0..=writes {
-        let mut paper = Paper::new(rt.alloc(), usize::MAX, fails_at);
-        let saved = save_formula(rt.alloc(), &formula, &mut paper)?;
-        let (wanted, went) = match fails_at {
-            0 => (Ok(()), text.len()),
-            _ => (Err(SaveFault::Unwritten), (fails_at - 1) * 4_096),
-        };
-        same(&rt, (saved, paper.failed()), (wanted, fails_at > 0));
-        let beginning = &text.as_bytes()[..went.min(text.len())];
-        same(&rt, paper.bytes.as_slice(), beginning);
+    saves(&rt, &formula, usize::MAX, 0, Ok(()), text.as_bytes())?;
+    for fails_at in 1..=text.len().div_ceil(4_096) {
+        let went = (fails_at - 1).saturating_mul(4_096).min(text.len());
+        let (fault, beginning) = (SaveFault::Unwritten, &text.as_bytes()[..went]);
+        saves(&rt, &formula, usize::MAX, fails_at, Err(fault), beginning)?;
     }
     Ok(())
 }
 
+/// Faults and their texts.
+static FAULT_TEXTS: [(SaveFault, &str); 3] = [
+    (SaveFault::Memory, "checkpoint not written: out of memory"),
+    (SaveFault::TooLarge, "checkpoint refused: limit"),
+    (SaveFault::Unwritten, "checkpoint not written"),
+];
+
 #[test]
 fn faults_have_texts(rt: HostRuntime) -> Result<(), Fail> {
-    for (fault, text) in [
-        (SaveFault::Memory, "checkpoint not written: out of memory"),
-        (SaveFault::TooLarge, "checkpoint refused: limit"),
-        (SaveFault::Unwritten, "checkpoint not written"),
-    ] {
-        let told = format!(in rt.alloc(); "{fault}")?;
-        same(&rt, told.as_str(), text);
+    for &(fault, text) in &FAULT_TEXTS {
+        same(&rt, fault.to_string(rt.alloc())?.as_str(), text);
     }
     Ok(())
 }

@@ -3,11 +3,13 @@ ghost use Rattle.std.specs.Prelude.{◌≡◌, ◌-◌, ◌<◌, ◌≤◌, ◌�
 ghost use Rattle.lrup_model.specs.Event.{History};
 ghost use Rattle.lrup_model.specs.History.{IsPublishable};
 ghost use Rattle.lrup_model.specs.Layout.{IsStream};
+ghost use Rattle.lrup_model.specs.Literal.{IsLiteral};
 ghost use Rattle.lrup_model.specs.Plain.{formula_of};
 ghost use Rattle.lrup_model.specs.Pass.{pass_place};
 ghost use Rattle.lrup_model.specs.Place.{IsKnown};
 ghost use Rattle.test_support.specs.Worked.{four};
-ghost use Rattle.clause_store.specs.Passes.{store_of, AreOf};
+ghost use Rattle.lrup_model.specs.Formula.{Cnf};
+ghost use Rattle.clause_store.specs.Passes.{StoreValue, store_of, AreOf};
 ghost use Rattle.clause_store_tests.specs.Worked.{IsPassAt, ArePassesAt, raced};
 
 use clause_store::{Desk, Pass, Store};
@@ -38,18 +40,36 @@ fn holds(rt: &impl Abort, fact: bool)
     assert!(rt; fact);
 }
 
+/// A store of a formula, and its passes.
+fn open(alloc: Global, formula: &Formula, layout: Layout) -> Result<(Store, Vec<Pass>), Fail>
+    ensures { (f : Cnf) → formula.now ≡ f
+        → IfOk result (λ opened. ArePassesAt f opened.0 opened.1.items) }
+{
+    if !layout.fits(formula) {
+        return Err("no layout".into());
+    }
+    let (store, passes) = Store::open(alloc, formula, layout)?;
+    Ok((store, passes))
+}
+
+/// The two passes of a store.
+fn two_of(mut passes: Vec<Pass>) -> Result<(Pass, Pass), Fail>
+    ensures { (f : Cnf) (store : StoreValue) → ArePassesAt f store passes.items
+        → IfOk result (λ two. ArePassesAt f store (two.0 ∷ two.1 ∷ [])) }
+{
+    let second = passes.pop().ok_or("no pass")?;
+    let first = passes.pop().ok_or("one pass")?;
+    Ok((first, second))
+}
+
 /// A store of four clauses for two streams with so many identities and so much room each, and their passes.
 fn open_two(alloc: Global, identities: u64, room: u64) -> Result<(Store, Pass, Pass), Fail>
     ensures { IfOk result (λ opened. ArePassesAt four opened.0 (opened.1 ∷ opened.2 ∷ [])) }
 {
     let formula = four_clauses(alloc)?;
     let layout = Layout::new(2, 4, 8, 2, identities, room)?;
-    if !layout.fits(&formula) {
-        return Err("no layout".into());
-    }
-    let (store, mut passes) = Store::open(alloc, &formula, layout)?;
-    let second = passes.pop().ok_or("no pass")?;
-    let first = passes.pop().ok_or("one pass")?;
+    let (store, passes) = open(alloc, &formula, layout)?;
+    let (first, second) = two_of(passes)?;
     Ok((store, first, second))
 }
 
@@ -106,8 +126,9 @@ fn publish(store: &Store, pass: &mut Pass, id: Id, clause: &[Lit]) -> Option<Pub
 
 /// Retires the clause of an identity of the pass's own.
 fn retire(store: &Store, pass: &mut Pass, id: Id) -> Option<Retired>
-    requires { IsPassAt four store.now pass.old }
-    ensures { IsPassAt four store.now pass.new }
+    requires { store_of pass.old ≡ store.now }
+    ensures store { store_of pass.new ≡ store.now }
+    ensures caller { pass.new.view.caller ≡ pass.old.view.caller }
 {
     if !store.owns(pass, id) {
         return None;
@@ -494,11 +515,7 @@ fn open_race(
 {
     let formula = refuted(alloc)?;
     let layout = Layout::new(40_001, 1, 0, streams, identities, room)?;
-    if !layout.fits(&formula) {
-        return Err("no layout".into());
-    }
-    let (store, passes) = Store::open(alloc, &formula, layout)?;
-    Ok((store, passes))
+    open(alloc, &formula, layout)
 }
 
 /// The two literals that the clause of an identity has at most: its own number, and its neighbour's complement.
@@ -506,6 +523,7 @@ fn raced_literals(id: Id) -> (Lit, Lit)
     requires { (1 < id) × (id ≤ 40001) }
     ensures first { result.0 ≡ pos id }
     ensures second { result.1 ≡ neg_ℤ (pos (id - 1)) }
+    ensures within { IsLiteral 40001 result.0 × IsLiteral 40001 result.1 }
 {
     (lit(id as i64), lit((id - 1) as i64).complement())
 }
@@ -524,17 +542,6 @@ fn publish_raced(store: &Store, pass: &mut Pass, id: Id) -> Option<Published>
         1 => store.publish(pass, id, &[first]),
         _ => store.publish(pass, id, &[first, second]),
     })
-}
-
-/// Retires the clause of an identity of the race.
-fn retire_raced(store: &Store, pass: &mut Pass, id: Id) -> Option<Retired>
-    requires { IsPassAt raced store.now pass.old }
-    ensures { IsPassAt raced store.now pass.new }
-{
-    if !store.owns(pass, id) {
-        return None;
-    }
-    Some(store.retire(pass, id))
 }
 
 /// Is this the clause of the race, in whichever order it lies?

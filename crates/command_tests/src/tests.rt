@@ -139,6 +139,15 @@ impl<'a> Files for Shelf<'a> {
 
 const PATHS: &[&str] = &["1", "2", "3", "4", "5", "6", "7", "8", "9"];
 
+/// What is said of a stream that refutes the formula by two clauses.
+const REFUTED: &str = "c stream 1: 2 added, 0 deleted, ended\ns UNSATISFIABLE\n";
+
+/// What is said of two streams that refute it, the first with one clause and the second with two.
+const ONE_AND_TWO_ADDED: &str = "c stream 1: 1 added, 0 deleted, ended
+c stream 2: 2 added, 0 deleted, ended
+s UNSATISFIABLE
+";
+
 /// The formula at `f`, and the streams at `1`, `2` and so on up to 9. They come three bytes a read.
 fn shelf_of<'a>(alloc: Global, formula: &'a str, streams: &[&'a str]) -> Result<Shelf<'a>, Fail> {
     let mut entries = Vec::new(alloc);

@@ -11,7 +11,7 @@ use std::alloc::{AllocError, Global};
 use std::fmt;
 use std::process::Abort;
 use std::test::Fail;
-use std::thread::join;
+use std::thread::{Threads, join};
 use test_support::{four_clauses, lit};
 
 /// Stops the test where two values differ: an assertion that is proved once for all tests.
@@ -24,6 +24,23 @@ fn holds(rt: &impl Abort, fact: bool)
     ensures { IsTrue fact }
 {
     assert!(rt; fact);
+}
+
+/// The worked formula, and a layout of it for so many streams with so many identities and so much room each.
+fn worked(
+    rt: &(impl Abort + AllocGlobal),
+    streams: u64,
+    identities: u64,
+    room: u64,
+) -> Result<(Formula, Layout), Fail>
+    ensures formula { IfOk result (λ made. made.0 ≡ four) }
+    ensures fits { IfOk result (λ made. Fits made.1 made.0) }
+    ensures streams { IfOk result (λ made. made.1.streams ≡ streams) }
+{
+    let formula = four_clauses(rt.alloc())?;
+    let layout = Layout::new(2, 4, 8, streams, identities, room)?;
+    holds(rt, layout.fits(&formula));
+    Ok((formula, layout))
 }
 
 /// A row of one stream, and its seat.
@@ -117,50 +134,95 @@ fn retire(row: &Row, layout: &Layout, seat: &mut Seat, stream: u64, id: u64) -> 
     Some(row.withdraw(seat, id))
 }
 
-/// The row of one stream, as it is opened, after a publish, and after that clause was retired.
-#[test]
-fn the_row_has_its_words(rt: HostRuntime) -> Result<(), Fail> {
-    let formula = four_clauses(rt.alloc())?;
-    let layout = Layout::new(2, 4, 8, 1, 1, 2)?;
-    holds(&rt, layout.fits(&formula));
-    let (row, mut seat) = open_one(rt.alloc(), &formula, &layout)?;
-    let mut words = [0; 16];
-    words[1..5].copy_from_slice(&[25165833, 29360137, 33554441, 37748745]);
-    words[6..10].copy_from_slice(&[17179869186, 17179869187, 21474836482, 21474836483]);
-    holds(&rt, has_words(&row, &layout, &mut seat, &words));
-    same(&rt, seat.room(), 2);
-    let answer = publish(&row, &layout, &mut seat, 1, 5, &[lit(2)]);
-    same(&rt, answer, Some(Published::Done));
+/// The words of the worked formula's row for one stream with one identity and room for two literals, as it is opened.
+static OPENED: [u64; 16] = [
+    0,
+    25165833,
+    29360137,
+    33554441,
+    37748745,
+    0,
+    17179869186,
+    17179869187,
+    21474836482,
+    21474836483,
+    0,
+    0,
+    0,
+    0,
+    0,
+    0,
+];
+
+/// That row as it is opened, after a publish, and after that clause was retired.
+fn check_words(rt: &impl Abort, row: &Row, layout: &Layout, seat: &mut Seat)
+    requires { IsSeatAt four row.now layout.now 1 seat.old }
+{
+    let mut words = OPENED;
+    holds(rt, has_words(row, layout, seat, &words));
+    same(rt, seat.room(), 2);
+    let answer = publish(row, layout, seat, 1, 5, &[lit(2)]);
+    same(rt, answer, Some(Published::Done));
     words[5] = 58720261;
     words[14] = 4;
-    holds(&rt, has_words(&row, &layout, &mut seat, &words));
-    same(&rt, seat.room(), 1);
-    let answer = retire(&row, &layout, &mut seat, 1, 5);
-    same(&rt, answer, Some(Retired::Done));
+    holds(rt, has_words(row, layout, seat, &words));
+    same(rt, seat.room(), 1);
+    let answer = retire(row, layout, seat, 1, 5);
+    same(rt, answer, Some(Retired::Done));
     words[5] = 58720262;
-    holds(&rt, has_words(&row, &layout, &mut seat, &words));
-    same(&rt, seat.room(), 1);
+    holds(rt, has_words(row, layout, seat, &words));
+    same(rt, seat.room(), 1);
+}
+
+#[test]
+fn the_row_has_its_words(rt: HostRuntime) -> Result<(), Fail> {
+    let (formula, layout) = worked(&rt, 1, 1, 2)?;
+    let (row, mut seat) = open_one(rt.alloc(), &formula, &layout)?;
+    check_words(&rt, &row, &layout, &mut seat);
     Ok(())
 }
 
-/// The row after a clause of one literal, and then one of two, which begins in a word of its own.
+/// The words of the row after a clause of one literal, and then one of two.
+static ONE_AND_TWO: [u64; 18] = [
+    0,
+    29360137,
+    33554441,
+    37748745,
+    41943049,
+    62914565,
+    67108873,
+    17179869186,
+    17179869187,
+    21474836482,
+    21474836483,
+    0,
+    0,
+    0,
+    0,
+    4,
+    17179869186,
+    0,
+];
+
+/// Publishes a clause of one literal, and then one of two.
+fn publish_one_and_two(rt: &impl Abort, row: &Row, layout: &Layout, seat: &mut Seat)
+    requires { IsSeatAt four row.now layout.now 1 seat.old }
+    ensures { IsSeatAt four row.now layout.now 1 seat.new }
+{
+    let answer = publish(row, layout, seat, 1, 5, &[lit(2)]);
+    same(rt, answer, Some(Published::Done));
+    let answer = publish(row, layout, seat, 1, 6, &[lit(1), lit(2)]);
+    same(rt, answer, Some(Published::Done));
+    same(rt, seat.room(), 0);
+}
+
+/// The clause of two literals begins in a word of its own.
 #[test]
 fn a_clause_begins_in_a_word_of_its_own(rt: HostRuntime) -> Result<(), Fail> {
-    let formula = four_clauses(rt.alloc())?;
-    let layout = Layout::new(2, 4, 8, 1, 2, 3)?;
-    holds(&rt, layout.fits(&formula));
+    let (formula, layout) = worked(&rt, 1, 2, 3)?;
     let (row, mut seat) = open_one(rt.alloc(), &formula, &layout)?;
-    let answer = publish(&row, &layout, &mut seat, 1, 5, &[lit(2)]);
-    same(&rt, answer, Some(Published::Done));
-    let answer = publish(&row, &layout, &mut seat, 1, 6, &[lit(1), lit(2)]);
-    same(&rt, answer, Some(Published::Done));
-    same(&rt, seat.room(), 0);
-    let mut words = [0; 18];
-    words[1..5].copy_from_slice(&[29360137, 33554441, 37748745, 41943049]);
-    words[5..7].copy_from_slice(&[62914565, 67108873]);
-    words[7..11].copy_from_slice(&[17179869186, 17179869187, 21474836482, 21474836483]);
-    words[15..17].copy_from_slice(&[4, 17179869186]);
-    holds(&rt, has_words(&row, &layout, &mut seat, &words));
+    publish_one_and_two(&rt, &row, &layout, &mut seat);
+    holds(&rt, has_words(&row, &layout, &mut seat, &ONE_AND_TWO));
     Ok(())
 }
 
@@ -173,6 +235,21 @@ fn uneven_clauses(alloc: Global) -> Result<Formula, AllocError> {
     Ok(formula)
 }
 
+/// The words of their row.
+static UNEVEN: [u64; 11] = [
+    0,
+    20971533,
+    29360129,
+    29360137,
+    0,
+    17179869186,
+    6,
+    21474836483,
+    0,
+    0,
+    0,
+];
+
 /// The row of a formula with an odd clause and an empty one, as it is opened.
 #[test]
 fn a_formulas_clause_begins_in_a_word_of_its_own(rt: HostRuntime) -> Result<(), Fail> {
@@ -180,20 +257,7 @@ fn a_formulas_clause_begins_in_a_word_of_its_own(rt: HostRuntime) -> Result<(), 
     let layout = Layout::new(3, 3, 5, 1, 1, 1)?;
     holds(&rt, layout.fits(&formula));
     let (row, mut seat) = open_one(rt.alloc(), &formula, &layout)?;
-    let words = [
-        0,
-        20971533,
-        29360129,
-        29360137,
-        0,
-        17179869186,
-        6,
-        21474836483,
-        0,
-        0,
-        0,
-    ];
-    holds(&rt, has_words(&row, &layout, &mut seat, &words));
+    holds(&rt, has_words(&row, &layout, &mut seat, &UNEVEN));
     Ok(())
 }
 
@@ -211,27 +275,40 @@ fn an_open_may_be_refused(rt: HostRuntime) -> Result<(), Fail> {
     Ok(())
 }
 
+/// The second stream publishes what it has identities and room for.
+fn spend_all(rt: &impl Abort, row: &Row, layout: &Layout, seat: &mut Seat)
+    requires { IsSeatAt four row.now layout.now 2 seat.old }
+    ensures { IsSeatAt four row.now layout.now 2 seat.new }
+{
+    let answer = publish(row, layout, seat, 2, 6, &[lit(-2)]);
+    same(rt, answer, Some(Published::Done));
+    same(rt, seat.room(), 0);
+    let answer = publish(row, layout, seat, 2, 8, &[]);
+    same(rt, answer, Some(Published::Done));
+    let answer = publish(row, layout, seat, 2, 8, &[]);
+    same(rt, answer, Some(Published::Taken));
+    same(rt, seat.room(), 0);
+}
+
+/// It retires a clause, and can do neither again.
+fn retire_six(rt: &impl Abort, row: &Row, layout: &Layout, seat: &mut Seat)
+    requires { IsSeatAt four row.now layout.now 2 seat.old }
+{
+    let answer = retire(row, layout, seat, 2, 6);
+    same(rt, answer, Some(Retired::Done));
+    let answer = retire(row, layout, seat, 2, 6);
+    same(rt, answer, Some(Retired::NotLive));
+    let answer = publish(row, layout, seat, 2, 6, &[]);
+    same(rt, answer, Some(Published::Taken));
+}
+
 /// Two streams, each with two identities and room for one literal.
 #[test]
 fn two_streams_take_turns(rt: HostRuntime) -> Result<(), Fail> {
-    let formula = four_clauses(rt.alloc())?;
-    let layout = Layout::new(2, 4, 8, 2, 2, 1)?;
-    holds(&rt, layout.fits(&formula));
+    let (formula, layout) = worked(&rt, 2, 2, 1)?;
     let (row, _first, mut second) = open_two(rt.alloc(), &formula, &layout)?;
-    let answer = publish(&row, &layout, &mut second, 2, 6, &[lit(-2)]);
-    same(&rt, answer, Some(Published::Done));
-    same(&rt, second.room(), 0);
-    let answer = publish(&row, &layout, &mut second, 2, 8, &[]);
-    same(&rt, answer, Some(Published::Done));
-    let answer = publish(&row, &layout, &mut second, 2, 8, &[]);
-    same(&rt, answer, Some(Published::Taken));
-    same(&rt, second.room(), 0);
-    let answer = retire(&row, &layout, &mut second, 2, 6);
-    same(&rt, answer, Some(Retired::Done));
-    let answer = retire(&row, &layout, &mut second, 2, 6);
-    same(&rt, answer, Some(Retired::NotLive));
-    let answer = publish(&row, &layout, &mut second, 2, 6, &[]);
-    same(&rt, answer, Some(Published::Taken));
+    spend_all(&rt, &row, &layout, &mut second);
+    retire_six(&rt, &row, &layout, &mut second);
     Ok(())
 }
 
@@ -269,17 +346,22 @@ fn publish_apart(
     (seat, answer)
 }
 
-/// Two threads use two seats at the same time. Once they met, each sees what the other did.
-#[test]
-fn two_threads_use_one_row(rt: HostRuntime) -> Result<(), Fail> {
-    let formula = four_clauses(rt.alloc())?;
-    let layout = Layout::new(2, 4, 8, 2, 1, 1)?;
-    holds(&rt, layout.fits(&formula));
-    let (row, first, second) = open_two(rt.alloc(), &formula, &layout)?;
-    let (row, layout) = (&row, &layout);
+/// Both streams publish a clause, each in a thread of its own.
+fn publish_at_once<R: Threads + Abort>(
+    rt: &R,
+    row: &Row,
+    layout: &Layout,
+    first: Seat,
+    second: Seat,
+) -> (Seat, Seat)
+    requires first { IsSeatAt four row.now layout.now 1 first }
+    requires second { IsSeatAt four row.now layout.now 2 second }
+    ensures first { IsSeatAt four row.now layout.now 1 result.0 }
+    ensures second { IsSeatAt four row.now layout.now 2 result.1 }
+{
     let (two, not_two) = ([lit(2)], [lit(-2)]);
-    let ((mut first, one), (mut second, other)) = join(
-        &rt,
+    let ((first, one), (second, other)) = join(
+        rt,
         || -> (Seat, Option<Published>)
             requires { IsSeatAt four row.now layout.now 1 first × IsPublishable four two }
             ensures { IsSeatAt four row.entry.now layout.entry.now 1 result.0 }
@@ -289,20 +371,36 @@ fn two_threads_use_one_row(rt: HostRuntime) -> Result<(), Fail> {
             ensures { IsSeatAt four row.entry.now layout.entry.now 2 result.0 }
         { publish_apart(row, layout, second, 2, 6, &not_two) },
     );
-    same(&rt, one, Some(Published::Done));
-    same(&rt, other, Some(Published::Done));
-    row.meet(&mut first, &mut second);
-    same(&rt, first_literal(row, layout, &mut first, 1, 6), Some(-2));
-    same(&rt, first_literal(row, layout, &mut second, 2, 5), Some(2));
-    let answer = retire(row, layout, &mut second, 2, 6);
-    same(&rt, answer, Some(Retired::Done));
-    row.meet(&mut first, &mut second);
-    let found = look(row, layout, &mut first, 1, 6).ok_or("no word")?;
-    same(&rt, (state(found), len(found)), (RETIRED, 1));
-    same(
-        &rt,
-        look(row, layout, &mut first, 1, 1),
-        Some(25165833 + 4194304),
-    );
+    let done = Some(Published::Done);
+    same(rt, (one, other), (done, done));
+    (first, second)
+}
+
+/// Once they met, each sees what the other did, and then that the second one's is retired.
+fn meet_and_look(rt: &impl Abort, row: &Row, layout: &Layout, first: &mut Seat, second: &mut Seat)
+    requires first { IsSeatAt four row.now layout.now 1 first.old }
+    requires second { IsSeatAt four row.now layout.now 2 second.old }
+    ensures { IsSeatAt four row.now layout.now 1 first.new }
+{
+    row.meet(first, second);
+    same(rt, first_literal(row, layout, first, 1, 6), Some(-2));
+    same(rt, first_literal(row, layout, second, 2, 5), Some(2));
+    let answer = retire(row, layout, second, 2, 6);
+    same(rt, answer, Some(Retired::Done));
+    row.meet(first, second);
+}
+
+/// Two threads use two seats at the same time. Once they met, each sees what the other did.
+#[test]
+fn two_threads_use_one_row(rt: HostRuntime) -> Result<(), Fail> {
+    let (formula, layout) = worked(&rt, 2, 1, 1)?;
+    let (row, first, second) = open_two(rt.alloc(), &formula, &layout)?;
+    let (mut first, mut second) = publish_at_once(&rt, &row, &layout, first, second);
+    meet_and_look(&rt, &row, &layout, &mut first, &mut second);
+    let found = look(&row, &layout, &mut first, 1, 6);
+    let found = found.map(|word| (state(word), len(word)));
+    same(&rt, found, Some((RETIRED, 1)));
+    let found = look(&row, &layout, &mut first, 1, 1);
+    same(&rt, found, Some(25165833 + 4194304));
     Ok(())
 }

@@ -32,34 +32,43 @@ fn holds(rt: &impl Abort, fact: bool)
     assert!(rt; fact);
 }
 
+/// Numbers of literals, their variables and their complements.
+static LITERALS: [(i64, u32, i64); 4] = [
+    (1, 1, -1),
+    (-1, 1, 1),
+    (16_777_215, 16_777_215, -16_777_215),
+    (-16_777_215, 16_777_215, 16_777_215),
+];
+
+/// Numbers of no literal.
+static NO_LITERALS: [i64; 5] = [0, 16_777_216, -16_777_216, i64::MAX, i64::MIN];
+
 #[test]
 fn literals_have_a_limit(rt: HostRuntime) -> Result<(), Fail> {
-    for (value, var, complement) in [
-        (1, 1, -1),
-        (-1, 1, 1),
-        (16_777_215, 16_777_215, -16_777_215),
-        (-16_777_215, 16_777_215, 16_777_215),
-    ] {
+    for &(value, var, complement) in &LITERALS {
         let literal = Lit::new(value).ok_or("no literal")?;
         let found = (literal.value(), literal.var(), literal.complement().value());
         same(&rt, found, (value, var, complement));
     }
-    for value in [0, 16_777_216, -16_777_216, i64::MAX, i64::MIN] {
+    for &value in &NO_LITERALS {
         same(&rt, (value, Lit::new(value)), (value, None));
     }
     Ok(())
 }
 
+/// Numbers of literals, and their codes.
+static CODES: [(i64, u32); 6] = [
+    (1, 2),
+    (-1, 3),
+    (2, 4),
+    (-2, 5),
+    (16_777_215, 33_554_430),
+    (-16_777_215, 33_554_431),
+];
+
 #[test]
 fn literals_have_codes(rt: HostRuntime) -> Result<(), Fail> {
-    for (value, code) in [
-        (1, 2),
-        (-1, 3),
-        (2, 4),
-        (-2, 5),
-        (16_777_215, 33_554_430),
-        (-16_777_215, 33_554_431),
-    ] {
+    for &(value, code) in &CODES {
         let literal = Lit::new(value).ok_or("no literal")?;
         same(&rt, (value, literal.code()), (value, code));
         holds(&rt, 2 <= code && code <= 33_554_431);
@@ -68,36 +77,57 @@ fn literals_have_codes(rt: HostRuntime) -> Result<(), Fail> {
     Ok(())
 }
 
+/// The greatest number.
+const ALL: u64 = u64::MAX;
+
+/// Six numbers of a layout, and why there is none of them.
+static LAYOUTS: [([u64; 6], Option<LayoutFault>); 21] = [
+    ([16_777_215, 4, 8, 1, 0, 0], None),
+    (
+        [16_777_216, 4, 8, 1, 0, 0],
+        Some(LayoutFault::TooManyVariables),
+    ),
+    ([2, 16_777_215, 8, 1, 0, 0], None),
+    (
+        [2, 16_777_216, 8, 1, 0, 0],
+        Some(LayoutFault::TooManyClauses),
+    ),
+    ([2, 4, 8, 0, 0, 0], Some(LayoutFault::BadStreamCount)),
+    ([2, 4, 8, 64, 0, 0], None),
+    ([2, 4, 8, 65, 0, 0], Some(LayoutFault::BadStreamCount)),
+    ([2, 4, 8, 1, 268_435_443, 0], None),
+    ([2, 4, 8, 1, 268_435_444, 0], Some(LayoutFault::RowTooLong)),
+    ([2, 4, 8, 1, 0, 268_435_443], None),
+    ([2, 4, 8, 1, 0, 268_435_444], Some(LayoutFault::RowTooLong)),
+    ([2, 4, 268_435_451, 1, 0, 0], None),
+    ([2, 4, 268_435_452, 1, 0, 0], Some(LayoutFault::RowTooLong)),
+    ([2, 4, 8, 64, 2_097_151, 2_097_152], None),
+    (
+        [2, 4, 8, 64, 2_097_152, 2_097_152],
+        Some(LayoutFault::RowTooLong),
+    ),
+    (
+        [ALL, ALL, ALL, ALL, ALL, ALL],
+        Some(LayoutFault::TooManyVariables),
+    ),
+    (
+        [2, ALL, ALL, ALL, ALL, ALL],
+        Some(LayoutFault::TooManyClauses),
+    ),
+    (
+        [2, 4, ALL, ALL, ALL, ALL],
+        Some(LayoutFault::BadStreamCount),
+    ),
+    ([2, 4, ALL, 64, ALL, ALL], Some(LayoutFault::RowTooLong)),
+    ([2, 4, 8, 64, ALL, 0], Some(LayoutFault::RowTooLong)),
+    ([2, 4, 8, 64, 0, ALL], Some(LayoutFault::RowTooLong)),
+];
+
 #[test]
 fn layouts_have_limits(rt: HostRuntime) {
-    const ALL: u64 = u64::MAX;
-    use LayoutFault::{BadStreamCount, RowTooLong, TooManyClauses, TooManyVariables};
-    let table = [
-        (16_777_215, 4, 8, 1, 0, 0, None),
-        (16_777_216, 4, 8, 1, 0, 0, Some(TooManyVariables)),
-        (2, 16_777_215, 8, 1, 0, 0, None),
-        (2, 16_777_216, 8, 1, 0, 0, Some(TooManyClauses)),
-        (2, 4, 8, 0, 0, 0, Some(BadStreamCount)),
-        (2, 4, 8, 64, 0, 0, None),
-        (2, 4, 8, 65, 0, 0, Some(BadStreamCount)),
-        (2, 4, 8, 1, 268_435_443, 0, None),
-        (2, 4, 8, 1, 268_435_444, 0, Some(RowTooLong)),
-        (2, 4, 8, 1, 0, 268_435_443, None),
-        (2, 4, 8, 1, 0, 268_435_444, Some(RowTooLong)),
-        (2, 4, 268_435_451, 1, 0, 0, None),
-        (2, 4, 268_435_452, 1, 0, 0, Some(RowTooLong)),
-        (2, 4, 8, 64, 2_097_151, 2_097_152, None),
-        (2, 4, 8, 64, 2_097_152, 2_097_152, Some(RowTooLong)),
-        (ALL, ALL, ALL, ALL, ALL, ALL, Some(TooManyVariables)),
-        (2, ALL, ALL, ALL, ALL, ALL, Some(TooManyClauses)),
-        (2, 4, ALL, ALL, ALL, ALL, Some(BadStreamCount)),
-        (2, 4, ALL, 64, ALL, ALL, Some(RowTooLong)),
-        (2, 4, 8, 64, ALL, 0, Some(RowTooLong)),
-        (2, 4, 8, 64, 0, ALL, Some(RowTooLong)),
-    ];
-    for (vars, clauses, literals, streams, lines, room, fault) in table {
+    for &(numbers, fault) in &LAYOUTS {
+        let [vars, clauses, literals, streams, lines, room] = numbers;
         let found = Layout::new(vars, clauses, literals, streams, lines, room).err();
-        let numbers = (vars, clauses, literals, streams, lines, room);
         same(&rt, (numbers, found), (numbers, fault));
     }
 }
@@ -120,22 +150,24 @@ fn the_longest_row_has_its_words(rt: HostRuntime) -> Result<(), Fail> {
     Ok(())
 }
 
+/// Who owns the identities from 0 on.
+static OWNERS: [Owner; 10] = [
+    Owner::Outside,
+    Owner::Formula,
+    Owner::Formula,
+    Owner::Formula,
+    Owner::Formula,
+    Owner::Stream(1),
+    Owner::Stream(2),
+    Owner::Stream(1),
+    Owner::Stream(2),
+    Owner::Outside,
+];
+
 #[test]
 fn streams_own_by_turns(rt: HostRuntime) -> Result<(), Fail> {
     let layout = Layout::new(2, 4, 8, 2, 2, 3)?;
-    let owners = [
-        Owner::Outside,
-        Owner::Formula,
-        Owner::Formula,
-        Owner::Formula,
-        Owner::Formula,
-        Owner::Stream(1),
-        Owner::Stream(2),
-        Owner::Stream(1),
-        Owner::Stream(2),
-        Owner::Outside,
-    ];
-    for (id, owner) in owners.iter().enumerate() {
+    for (id, owner) in OWNERS.iter().enumerate() {
         let found = (id, layout.owner(id as u64), layout.covers(id as u64));
         same(&rt, found, (id, *owner, 0 < id && id < 9));
     }
@@ -143,20 +175,22 @@ fn streams_own_by_turns(rt: HostRuntime) -> Result<(), Fail> {
     Ok(())
 }
 
+/// Faults and their texts.
+static FAULT_TEXTS: [(LayoutFault, &str); 4] = [
+    (LayoutFault::TooManyVariables, "formula refused: limit"),
+    (LayoutFault::TooManyClauses, "formula refused: limit"),
+    (LayoutFault::BadStreamCount, "stream count"),
+    (LayoutFault::RowTooLong, "row too long"),
+];
+
 #[test]
 fn faults_and_literals_have_texts(rt: HostRuntime) -> Result<(), Fail> {
-    let alloc = rt.alloc();
-    for (fault, text) in [
-        (LayoutFault::TooManyVariables, "formula refused: limit"),
-        (LayoutFault::TooManyClauses, "formula refused: limit"),
-        (LayoutFault::BadStreamCount, "stream count"),
-        (LayoutFault::RowTooLong, "row too long"),
-    ] {
-        same(&rt, fault.to_string(alloc)?.as_str(), text);
+    for &(fault, text) in &FAULT_TEXTS {
+        same(&rt, fault.to_string(rt.alloc())?.as_str(), text);
     }
-    for (value, text) in [(-2, "-2"), (16_777_215, "16777215")] {
-        same(&rt, lit(value).to_string(alloc)?.as_str(), text);
-    }
+    same(&rt, lit(-2).to_string(rt.alloc())?.as_str(), "-2");
+    let last = lit(16_777_215);
+    same(&rt, last.to_string(rt.alloc())?.as_str(), "16777215");
     Ok(())
 }
 
@@ -234,27 +268,29 @@ fn ask_cube(
     ))
 }
 
+/// A cube, a clause and a literal; the cube's greatest variable, whether it refutes the clause, and whether it has the literal.
+static ASKED: [(&[i64], &[i64], i64, (u32, bool, bool)); 11] = [
+    (&[-2], &[2], -2, (2, true, true)),
+    (&[-2, 1, -2], &[2], 2, (2, true, false)),
+    (&[-2, 1, -2], &[-1, 2], 1, (2, true, true)),
+    (&[-2, 1, -2], &[-1, -2], -1, (2, false, false)),
+    (&[2], &[2], 2, (2, false, true)),
+    (&[2], &[], 1, (2, true, false)),
+    (&[], &[], 1, (0, true, false)),
+    (&[], &[2], -2, (0, false, false)),
+    (&[1, -1], &[1], -1, (1, true, true)),
+    (&[1, -1], &[-1, 1], 2, (1, true, false)),
+    (
+        &[3, 16_777_215, -7],
+        &[-3, -16_777_215],
+        7,
+        (16_777_215, true, false),
+    ),
+];
+
 #[test]
 fn cubes_refute_clauses(rt: HostRuntime) -> Result<(), Fail> {
-    let rows: [(&[i64], &[i64], i64, (u32, bool, bool)); 11] = [
-        (&[-2], &[2], -2, (2, true, true)),
-        (&[-2, 1, -2], &[2], 2, (2, true, false)),
-        (&[-2, 1, -2], &[-1, 2], 1, (2, true, true)),
-        (&[-2, 1, -2], &[-1, -2], -1, (2, false, false)),
-        (&[2], &[2], 2, (2, false, true)),
-        (&[2], &[], 1, (2, true, false)),
-        (&[], &[], 1, (0, true, false)),
-        (&[], &[2], -2, (0, false, false)),
-        (&[1, -1], &[1], -1, (1, true, true)),
-        (&[1, -1], &[-1, 1], 2, (1, true, false)),
-        (
-            &[3, 16_777_215, -7],
-            &[-3, -16_777_215],
-            7,
-            (16_777_215, true, false),
-        ),
-    ];
-    for (cube, clause, literal, wanted) in rows {
+    for &(cube, clause, literal, wanted) in &ASKED {
         let found = ask_cube(rt.alloc(), cube, clause, literal)?;
         same(&rt, (cube, clause, found), (cube, clause, wanted));
     }

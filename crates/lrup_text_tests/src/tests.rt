@@ -1,19 +1,19 @@
 // Reading texts that were spelled by hand, in every cutting, and writing.
-ghost use Rattle.std.specs.Prelude.{◌≡◌, Some, IfOk, IsTrue};
+ghost use Rattle.std.specs.Prelude.{◌≡◌, Some, false, IsTrue};
 
-use lrup_model::Lit;
 use lrup_text::{
-    CubeFault, End, Line, LineFault, LineReader, ReadFault, ReaderTurn, Reading, Sink, Source,
-    WriteBuffer, WriteFault, Writing, read_cube, write_all, write_line,
+    End, Line, LineFault, LineReader, ReadFault, ReaderTurn, Reading, Sink, Source, WriteBuffer,
+    WriteFault, Writing, write_all, write_line,
 };
 use std::alloc::{AllocError, Global};
-use std::fmt::Write;
+use std::fmt;
 use std::process::Abort;
 use std::test::Fail;
-use std::{fmt, io};
 use test_support::Paper;
 
 mod cube_texts;
+mod cubes;
+mod devices;
 mod imports;
 
 /// Stops the test where two values differ: an assertion that is proved once for all tests.
@@ -28,7 +28,32 @@ fn holds(rt: &impl Abort, fact: bool)
     assert!(rt; fact);
 }
 
-/// Feeds the bytes in two pieces, cut at a place, and then the end.
+/// Feeds a piece: how much of it is used, and what that gives.
+fn feed(rt: &impl Abort, reader: &mut LineReader, piece: &[u8], used: usize, turn: ReaderTurn) {
+    let fed = reader.feed(piece);
+    same(rt, (fed.used, fed.turn), (used, turn));
+}
+
+/// Feeds the bytes in two pieces, cut at a place.
+fn feed_pieces(
+    rt: &impl Abort,
+    reader: &mut LineReader,
+    bytes: &[u8],
+    cut: usize,
+    used: usize,
+    turn: ReaderTurn,
+) {
+    let (front, rest) = bytes.split_at(cut.min(bytes.len()));
+    let first = reader.feed(front);
+    if first.turn != ReaderTurn::NeedMore {
+        same(rt, (first.used, first.turn), (used, turn));
+        return;
+    }
+    same(rt, first.used, front.len());
+    feed(rt, reader, rest, used.saturating_sub(front.len()), turn);
+}
+
+/// The same with a new reader, and then the end.
 fn feed_cut(
     rt: &impl Abort,
     alloc: Global,
@@ -39,23 +64,31 @@ fn feed_cut(
     end: End,
 ) -> Result<(), Fail> {
     let mut reader = LineReader::new(alloc)?;
-    let cut = cut.min(bytes.len());
-    let first = reader.feed(&bytes[..cut]);
-    if first.turn != ReaderTurn::NeedMore {
-        same(rt, first.used, used);
-        same(rt, first.turn, turn);
-        same(rt, reader.end(), end);
-        return Ok(());
-    }
-    same(rt, first.used, cut);
-    let second = reader.feed(&bytes[cut..]);
-    same(rt, second.used, used.saturating_sub(cut));
-    same(rt, second.turn, turn);
+    feed_pieces(rt, &mut reader, bytes, cut, used, turn);
     same(rt, reader.end(), end);
     Ok(())
 }
 
-/// Feeds the bytes one by one, and then the end.
+/// Feeds the bytes one by one.
+fn feed_bytes(
+    rt: &impl Abort,
+    reader: &mut LineReader,
+    bytes: &[u8],
+    used: usize,
+    turn: ReaderTurn,
+) {
+    for (i, byte) in bytes.iter().enumerate() {
+        let fed = reader.feed(&[*byte]);
+        same(rt, fed.used, 1);
+        if fed.turn != ReaderTurn::NeedMore {
+            same(rt, (i + 1, fed.turn), (used, turn));
+            return;
+        }
+    }
+    same(rt, (bytes.len(), turn), (used, ReaderTurn::NeedMore));
+}
+
+/// The same with a new reader, and then the end.
 fn feed_each(
     rt: &impl Abort,
     alloc: Global,
@@ -65,18 +98,7 @@ fn feed_each(
     end: End,
 ) -> Result<(), Fail> {
     let mut reader = LineReader::new(alloc)?;
-    for (i, byte) in bytes.iter().enumerate() {
-        let fed = reader.feed(&[*byte]);
-        same(rt, fed.used, 1);
-        if fed.turn != ReaderTurn::NeedMore {
-            same(rt, i + 1, used);
-            same(rt, fed.turn, turn);
-            same(rt, reader.end(), end);
-            return Ok(());
-        }
-    }
-    same(rt, bytes.len(), used);
-    same(rt, turn, ReaderTurn::NeedMore);
+    feed_bytes(rt, &mut reader, bytes, used, turn);
     same(rt, reader.end(), end);
     Ok(())
 }
@@ -100,42 +122,70 @@ fn feed_every_way(
     feed_each(rt, alloc, bytes, used, turn, end)
 }
 
+/// Texts that begin with a line, how many bytes of them it takes, and the line.
+static LINES: [(&[u8], usize, Line); 7] = [
+    (
+        b"5 2 0 1 2 0\n",
+        12,
+        Line::Add {
+            id: 5,
+            lits: &[2],
+            hints: &[1, 2],
+        },
+    ),
+    (
+        b"5 2 0 1 2 0\n6 0",
+        12,
+        Line::Add {
+            id: 5,
+            lits: &[2],
+            hints: &[1, 2],
+        },
+    ),
+    (
+        b"6 0 5 3 4 0\n",
+        12,
+        Line::Add {
+            id: 6,
+            lits: &[],
+            hints: &[5, 3, 4],
+        },
+    ),
+    (b"5 d 0\n", 6, Line::Delete { lead: 5, ids: &[] }),
+    (
+        b"9 d 5 6 0\n",
+        10,
+        Line::Delete {
+            lead: 9,
+            ids: &[5, 6],
+        },
+    ),
+    (
+        b"5 2 0 0\n",
+        8,
+        Line::Add {
+            id: 5,
+            lits: &[2],
+            hints: &[],
+        },
+    ),
+    (
+        b"999999999999999999 -1 999999999999999999 -999999999999999999 0 10 0\n",
+        68,
+        Line::Add {
+            id: 999_999_999_999_999_999,
+            lits: &[-1, 999_999_999_999_999_999, -999_999_999_999_999_999],
+            hints: &[10],
+        },
+    ),
+];
+
 #[test]
 fn lines(rt: HostRuntime) -> Result<(), Fail> {
-    let alloc = rt.alloc();
-    let five = Line::Add {
-        id: 5,
-        lits: &[2],
-        hints: &[1, 2],
-    };
-    feed_every_way(&rt, alloc, b"5 2 0 1 2 0\n", 12, ReaderTurn::Line(five))?;
-    feed_every_way(&rt, alloc, b"5 2 0 1 2 0\n6 0", 12, ReaderTurn::Line(five))?;
-    let six = Line::Add {
-        id: 6,
-        lits: &[],
-        hints: &[5, 3, 4],
-    };
-    feed_every_way(&rt, alloc, b"6 0 5 3 4 0\n", 12, ReaderTurn::Line(six))?;
-    let nothing = Line::Delete { lead: 5, ids: &[] };
-    feed_every_way(&rt, alloc, b"5 d 0\n", 6, ReaderTurn::Line(nothing))?;
-    let two = Line::Delete {
-        lead: 9,
-        ids: &[5, 6],
-    };
-    feed_every_way(&rt, alloc, b"9 d 5 6 0\n", 10, ReaderTurn::Line(two))?;
-    let unit = Line::Add {
-        id: 5,
-        lits: &[2],
-        hints: &[],
-    };
-    feed_every_way(&rt, alloc, b"5 2 0 0\n", 8, ReaderTurn::Line(unit))?;
-    let signs = Line::Add {
-        id: 999_999_999_999_999_999,
-        lits: &[-1, 999_999_999_999_999_999, -999_999_999_999_999_999],
-        hints: &[10],
-    };
-    let text = b"999999999999999999 -1 999999999999999999 -999999999999999999 0 10 0\n";
-    feed_every_way(&rt, alloc, text, 68, ReaderTurn::Line(signs))
+    for &(text, used, line) in &LINES {
+        feed_every_way(&rt, rt.alloc(), text, used, ReaderTurn::Line(line))?;
+    }
+    Ok(())
 }
 
 #[test]
@@ -145,42 +195,75 @@ fn unfinished(rt: HostRuntime) -> Result<(), Fail> {
     feed_every_way(&rt, alloc, b"5 2 0", 5, ReaderTurn::NeedMore)
 }
 
-#[test]
-fn faults(rt: HostRuntime) -> Result<(), Fail> {
-    let alloc = rt.alloc();
-    let spelling = ReaderTurn::Fault(LineFault::Spelling);
-    feed_every_way(&rt, alloc, b"\n", 1, spelling)?;
-    feed_every_way(&rt, alloc, b"05 2 0 0\n", 1, spelling)?;
-    feed_every_way(&rt, alloc, b"0 d 5 0\n", 1, spelling)?;
-    feed_every_way(&rt, alloc, b"5  2 0 1 2 0\n", 3, spelling)?;
-    feed_every_way(&rt, alloc, b"5 +2 0 0\n", 3, spelling)?;
-    feed_every_way(&rt, alloc, b"5 -0 0 0\n", 4, spelling)?;
-    feed_every_way(&rt, alloc, b"5 2 0 1 0\r\n", 10, spelling)?;
-    feed_every_way(&rt, alloc, b"5 2 0 1 0 \n", 10, spelling)?;
-    feed_every_way(&rt, alloc, b"5 d -1 0\n", 5, spelling)?;
-    feed_every_way(
-        &rt,
-        alloc,
-        b"5 1 0 -2 0\n",
-        7,
-        ReaderTurn::Fault(LineFault::RatHint),
-    )?;
-    let long = ReaderTurn::Fault(LineFault::TooLong);
-    feed_every_way(&rt, alloc, b"1000000000000000000 0 0\n", 19, long)?;
-    feed_every_way(
-        &rt,
-        alloc,
+/// Texts of no line, where that shows, and why.
+static FAULTY: [(&[u8], usize, LineFault); 13] = [
+    (b"\n", 1, LineFault::Spelling),
+    (b"05 2 0 0\n", 1, LineFault::Spelling),
+    (b"0 d 5 0\n", 1, LineFault::Spelling),
+    (b"5  2 0 1 2 0\n", 3, LineFault::Spelling),
+    (b"5 +2 0 0\n", 3, LineFault::Spelling),
+    (b"5 -0 0 0\n", 4, LineFault::Spelling),
+    (b"5 2 0 1 0\r\n", 10, LineFault::Spelling),
+    (b"5 2 0 1 0 \n", 10, LineFault::Spelling),
+    (b"5 d -1 0\n", 5, LineFault::Spelling),
+    (b"5 1 0 -2 0\n", 7, LineFault::RatHint),
+    (b"1000000000000000000 0 0\n", 19, LineFault::TooLong),
+    (
         b"5 1111111111111111111111111111111111111111",
         21,
-        long,
-    )?;
-    feed_every_way(
-        &rt,
-        alloc,
+        LineFault::TooLong,
+    ),
+    (
         b"5 -1111111111111111111111111111111111111111",
         22,
-        long,
-    )
+        LineFault::TooLong,
+    ),
+];
+
+#[test]
+fn faults(rt: HostRuntime) -> Result<(), Fail> {
+    for &(text, used, fault) in &FAULTY {
+        feed_every_way(&rt, rt.alloc(), text, used, ReaderTurn::Fault(fault))?;
+    }
+    Ok(())
+}
+
+/// So many times a part.
+fn push_often(text: &mut Vec<u8>, part: &[u8], count: usize) -> Result<(), AllocError> {
+    for _ in 0..count {
+        text.extend_from_slice(part)?;
+    }
+    Ok(())
+}
+
+/// A beginning, so many times a part, and an end.
+fn repeated(
+    alloc: Global,
+    texts: (&[u8], &[u8], &[u8]),
+    count: usize,
+) -> Result<Vec<u8>, AllocError> {
+    let (start, part, end) = texts;
+    let mut text = Vec::from_slice(alloc, start)?;
+    push_often(&mut text, part, count)?;
+    text.extend_from_slice(end)?;
+    Ok(text)
+}
+
+/// Feeds the bytes at once, cut after 65,536 of them, and one by one, and then the end.
+fn feed_long(
+    rt: &impl Abort,
+    alloc: Global,
+    bytes: &[u8],
+    used: usize,
+    turn: ReaderTurn,
+) -> Result<(), Fail> {
+    let end = match turn {
+        ReaderTurn::Fault(fault) => End::Fault(fault),
+        _ => End::Clean,
+    };
+    feed_cut(rt, alloc, bytes, 0, used, turn, end)?;
+    feed_cut(rt, alloc, bytes, 65_536, used, turn, end)?;
+    feed_each(rt, alloc, bytes, used, turn, end)
 }
 
 /// Feeds a beginning, so many times a part, and an end.
@@ -192,88 +275,86 @@ fn feed_repeated(
     used: usize,
     turn: ReaderTurn,
 ) -> Result<(), Fail> {
-    let (start, part, end) = texts;
-    let mut text = Vec::from_slice(alloc, start)?;
-    for _ in 0..count {
-        text.extend_from_slice(part)?;
-    }
-    text.extend_from_slice(end)?;
-    let end = match turn {
-        ReaderTurn::Fault(fault) => End::Fault(fault),
-        _ => End::Clean,
-    };
-    feed_cut(rt, alloc, &text, 0, used, turn, end)?;
-    feed_cut(rt, alloc, &text, 65_536, used, turn, end)?;
-    feed_each(rt, alloc, &text, used, turn, end)
+    let text = repeated(alloc, texts, count)?;
+    feed_long(rt, alloc, &text, used, turn)
+}
+
+/// A beginning, a part and an end, how often the part comes, where the fault shows, and which it is.
+static TOO_MANY: [((&[u8], &[u8], &[u8]), usize, usize, LineFault); 4] = [
+    ((b"5 ", b"1 ", b""), 65_536, 131_073, LineFault::TooLong),
+    ((b"5 2 0", b" 1", b""), 65_537, 131_079, LineFault::TooLong),
+    ((b"5 d", b" 1", b""), 65_537, 131_077, LineFault::TooLong),
+    (
+        (b"5 2 0", b" 1", b" -"),
+        65_536,
+        131_079,
+        LineFault::RatHint,
+    ),
+];
+
+/// The longest clause is read.
+fn read_longest_clause(rt: &(impl Abort + AllocGlobal)) -> Result<(), Fail> {
+    let literals = vec![in rt.alloc(); 1; 65_535]?;
+    let longest = ReaderTurn::Line(Line::Add {
+        id: 5,
+        lits: &literals,
+        hints: &[],
+    });
+    let texts = (b"5 ".as_slice(), b"1 ".as_slice(), b"0 0\n".as_slice());
+    feed_repeated(rt, rt.alloc(), texts, 65_535, 131_076, longest)
+}
+
+/// The longest deletion is read.
+fn read_longest_deletion(rt: &(impl Abort + AllocGlobal)) -> Result<(), Fail> {
+    let identities = vec![in rt.alloc(); 1; 65_536]?;
+    let longest = ReaderTurn::Line(Line::Delete {
+        lead: 5,
+        ids: &identities,
+    });
+    let texts = (b"5 d".as_slice(), b" 1".as_slice(), b" 0\n".as_slice());
+    feed_repeated(rt, rt.alloc(), texts, 65_536, 131_078, longest)
 }
 
 #[test]
 fn limits(rt: HostRuntime) -> Result<(), Fail> {
-    let alloc = rt.alloc();
-    let long = ReaderTurn::Fault(LineFault::TooLong);
-    feed_repeated(&rt, alloc, (b"5 ", b"1 ", b""), 65_536, 131_073, long)?;
-    feed_repeated(&rt, alloc, (b"5 2 0", b" 1", b""), 65_537, 131_079, long)?;
-    feed_repeated(&rt, alloc, (b"5 d", b" 1", b""), 65_537, 131_077, long)?;
-    let rat = ReaderTurn::Fault(LineFault::RatHint);
-    feed_repeated(&rt, alloc, (b"5 2 0", b" 1", b" -"), 65_536, 131_079, rat)?;
-    let literals = vec![in alloc; 1; 65_535]?;
-    let longest = Line::Add {
-        id: 5,
-        lits: &literals,
-        hints: &[],
-    };
-    feed_repeated(
-        &rt,
-        alloc,
-        (b"5 ", b"1 ", b"0 0\n"),
-        65_535,
-        131_076,
-        ReaderTurn::Line(longest),
-    )?;
-    let identities = vec![in alloc; 1; 65_536]?;
-    let deletion = Line::Delete {
-        lead: 5,
-        ids: &identities,
-    };
-    feed_repeated(
-        &rt,
-        alloc,
-        (b"5 d", b" 1", b" 0\n"),
-        65_536,
-        131_078,
-        ReaderTurn::Line(deletion),
-    )
+    for &(texts, count, used, fault) in &TOO_MANY {
+        let fault = ReaderTurn::Fault(fault);
+        feed_repeated(&rt, rt.alloc(), texts, count, used, fault)?;
+    }
+    read_longest_clause(&rt)?;
+    read_longest_deletion(&rt)
 }
+
+/// Two lines and the beginning of a third.
+static TWO_AND_A_PART: [u8; 17] = *b"5 2 0 0\n6 0 5 0\n7";
+
+/// The two lines.
+static TWO: [Line; 2] = [
+    Line::Add {
+        id: 5,
+        lits: &[2],
+        hints: &[],
+    },
+    Line::Add {
+        id: 6,
+        lits: &[],
+        hints: &[5],
+    },
+];
 
 #[test]
 fn ends(rt: HostRuntime) -> Result<(), Fail> {
     let mut reader = LineReader::new(rt.alloc())?;
-    same(&rt, reader.feed(b"").turn, ReaderTurn::NeedMore);
+    feed(&rt, &mut reader, b"", 0, ReaderTurn::NeedMore);
     same(&rt, reader.end(), End::Clean);
-    let unit = Line::Add {
-        id: 5,
-        lits: &[2],
-        hints: &[],
-    };
-    let text = b"5 2 0 0\n6 0 5 0\n7";
-    let fed = reader.feed(text);
-    same(&rt, fed.used, 8);
-    same(&rt, fed.turn, ReaderTurn::Line(unit));
+    let text = &TWO_AND_A_PART;
+    feed(&rt, &mut reader, text, 8, ReaderTurn::Line(TWO[0]));
     same(&rt, reader.end(), End::Clean);
-    let empty = Line::Add {
-        id: 6,
-        lits: &[],
-        hints: &[5],
-    };
-    let fed = reader.feed(&text[8..]);
-    same(&rt, fed.used, 8);
-    same(&rt, fed.turn, ReaderTurn::Line(empty));
-    same(&rt, reader.feed(&text[16..]).turn, ReaderTurn::NeedMore);
+    feed(&rt, &mut reader, &text[8..], 8, ReaderTurn::Line(TWO[1]));
+    feed(&rt, &mut reader, &text[16..], 1, ReaderTurn::NeedMore);
     let truncated = LineFault::Truncated;
     same(&rt, reader.end(), End::Fault(truncated));
-    let after = reader.feed(text);
-    same(&rt, after.used, 0);
-    same(&rt, after.turn, ReaderTurn::Fault(truncated));
+    feed(&rt, &mut reader, text, 0, ReaderTurn::Fault(truncated));
     same(&rt, reader.end(), End::Fault(truncated));
     Ok(())
 }
@@ -283,210 +364,101 @@ fn fault_stays(rt: HostRuntime) -> Result<(), Fail> {
     let mut reader = LineReader::new(rt.alloc())?;
     same(&rt, reader.feed(b"5 2 0 0\n").used, 8);
     let fault = ReaderTurn::Fault(LineFault::RatHint);
-    let fed = reader.feed(b"5 1 0 -2 0\n");
-    same(&rt, fed.used, 7);
-    same(&rt, fed.turn, fault);
-    let again = reader.feed(b"5 2 0 0\n");
-    same(&rt, again.used, 0);
-    same(&rt, again.turn, fault);
+    feed(&rt, &mut reader, b"5 1 0 -2 0\n", 7, fault);
+    feed(&rt, &mut reader, b"5 2 0 0\n", 0, fault);
     same(&rt, reader.end(), End::Fault(LineFault::RatHint));
     Ok(())
 }
 
+/// Faults and their texts.
+static FAULT_TEXTS: [(LineFault, &str); 4] = [
+    (LineFault::Spelling, "spelling"),
+    (LineFault::TooLong, "too long"),
+    (LineFault::Truncated, "truncated"),
+    (LineFault::RatHint, "rat hint"),
+];
+
 #[test]
 fn fault_texts(rt: HostRuntime) -> Result<(), Fail> {
-    let faults = [
-        (LineFault::Spelling, "spelling"),
-        (LineFault::TooLong, "too long"),
-        (LineFault::Truncated, "truncated"),
-        (LineFault::RatHint, "rat hint"),
-    ];
-    for (fault, text) in faults {
+    for &(fault, text) in &FAULT_TEXTS {
         same(&rt, fault.to_string(rt.alloc())?.as_str(), text);
     }
     Ok(())
 }
 
-/// The literals of a text's cube over these variables, or the fault's text.
-fn cube_shown(
-    alloc: Global,
-    text: &[u8],
-    vars: u32,
-    literals: &[i64],
-) -> Result<String, AllocError> {
-    let cube = match read_cube(alloc, text, vars.min(Lit::MAX_VARIABLE)) {
-        Ok(cube) => cube,
-        Err(fault) => return format!(in alloc; "{fault}"),
+/// Does the line of one literal and one hint fit?
+fn adds(id: u64, literal: i64, hint: u64) -> bool {
+    let (lits, hints) = ([literal], [hint]);
+    let line = Line::Add {
+        id,
+        lits: &lits,
+        hints: &hints,
     };
-    let mut shown = String::from_str(alloc, "cube")?;
-    for literal in literals.iter().filter_map(|value| Lit::new(*value)) {
-        if cube.has(literal) {
-            write!(shown, " {literal}")?;
-        }
-    }
-    Ok(shown)
+    line.fits()
 }
 
-/// Reads the text of a cube over these variables.
-fn cube_is(
-    rt: &(impl Abort + AllocGlobal),
-    text: &[u8],
-    vars: u32,
-    wanted: &str,
-) -> Result<(), Fail> {
-    let literals = [1, -1, 2, -2, 3, -3, 16_777_215, -16_777_215];
-    let shown = cube_shown(rt.alloc(), text, vars, &literals)?;
-    assert_eq!(rt; shown.as_str(), wanted);
-    Ok(())
-}
+/// An identity, a literal and a hint, and whether their line fits.
+static FITTING: [(u64, i64, u64, bool); 7] = [
+    (999_999_999_999_999_999, 999_999_999_999_999_999, 1, true),
+    (1, -999_999_999_999_999_999, 999_999_999_999_999_999, true),
+    (0, 1, 1, false),
+    (1, 0, 1, false),
+    (1, 1_000_000_000_000_000_000, 1, false),
+    (1, -1_000_000_000_000_000_000, 1, false),
+    (1, 1, 0, false),
+];
 
-#[test]
-fn cubes(rt: HostRuntime) -> Result<(), Fail> {
-    cube_is(&rt, b"-2 0\n", 2, "cube -2")?;
-    cube_is(&rt, b"-2 1 -2 0\n", 2, "cube 1 -2")?;
-    cube_is(&rt, b"2 0\n", 2, "cube 2")?;
-    cube_is(&rt, b"0\n", 2, "cube")?;
-    cube_is(&rt, b"0\n", 0, "cube")?;
-    cube_is(&rt, b"1 -1 0\n", 2, "cube 1 -1")?;
-    cube_is(&rt, b"3 -1 2 0\n", 3, "cube -1 2 3")?;
-    let last = b"16777215 -16777215 0\n";
-    cube_is(&rt, last, 16_777_215, "cube 16777215 -16777215")
-}
-
-#[test]
-fn cubes_out_of_range(rt: HostRuntime) -> Result<(), Fail> {
-    let range = "variable out of range";
-    cube_is(&rt, b"3 0\n", 2, range)?;
-    cube_is(&rt, b"-3 0\n", 2, range)?;
-    cube_is(&rt, b"1 3 -2 0\n", 2, range)?;
-    cube_is(&rt, b"1 0\n", 0, range)?;
-    cube_is(&rt, b"16777216 0\n", 16_777_215, range)?;
-    cube_is(&rt, b"999999999999999999 0\n", 2, range)?;
-    cube_is(&rt, b"-999999999999999999 0\n", 2, range)
-}
-
-#[test]
-fn cubes_misspelled(rt: HostRuntime) -> Result<(), Fail> {
-    let texts: [&[u8]; 25] = [
-        b"",
-        b"\n",
-        b"-2 0",
-        b"+2 0\n",
-        b"-2 0\n0\n",
-        b"-2 0\n\n",
-        b"-2 0\r\n",
-        b"-2  0\n",
-        b" -2 0\n",
-        b"-2 0 \n",
-        b"-2\t0\n",
-        b"-2 00\n",
-        b"02 0\n",
-        b"-0 0\n",
-        b"- 2 0\n",
-        b"--2 0\n",
-        b"-2 d 0\n",
-        b"1,2 0\n",
-        b"1 0 2 0\n",
-        b"c\n-2 0\n",
-        b"0\n-2 0\n",
-        // misspelled, with a variable out of range before that
-        b"3 0",
-        b"3 x",
-        b"3 02 1111111111111111111 0\n",
-        b"999999999999999999",
-    ];
-    for text in texts {
-        cube_is(&rt, text, 2, "spelling")?;
-    }
-    let whole = b"-2 13 -2 0\n";
-    for end in 0..whole.len() {
-        cube_is(&rt, &whole[..end], 2, "spelling")?;
-    }
-    cube_is(&rt, whole, 2, "variable out of range")
-}
-
-#[test]
-fn cubes_too_long(rt: HostRuntime) -> Result<(), Fail> {
-    for text in [
-        b"1000000000000000000 0\n".as_slice(),
-        b"-1000000000000000000 0\n",
-        b"3 1111111111111111111 0\n",
-        b"1111111111111111111",
-        b"1111111111111111111x",
-    ] {
-        cube_is(&rt, text, 2, "too long")?;
-    }
-    for (literal, count, end, wanted) in [
-        (b"1 ".as_slice(), 65_535, b"0\n".as_slice(), "cube 1"),
-        (b"-1 ", 65_535, b"0\n", "cube -1"),
-        (b"1 ", 65_536, b"0\n", "too long"),
-        (b"-1 ", 65_536, b"0\n", "too long"),
-        (b"3 ", 65_535, b"0\n", "variable out of range"),
-        (b"1 ", 65_535, b"9", "too long"),
-        (b"1 ", 65_535, b"-x", "too long"),
-        (b"1 ", 65_535, b"x", "spelling"),
-        (b"1 ", 65_535, b"", "spelling"),
-        (b"1 ", 65_535, b"0", "spelling"),
-    ] {
-        let mut text = Vec::new(rt.alloc());
-        for _ in 0..count {
-            text.extend_from_slice(literal)?;
-        }
-        text.extend_from_slice(end)?;
-        cube_is(&rt, &text, 2, wanted)?;
-    }
-    Ok(())
-}
-
-#[test]
-fn cube_fault_texts(rt: HostRuntime) -> Result<(), Fail> {
-    let faults = [
-        (CubeFault::Spelling, "spelling"),
-        (CubeFault::TooLong, "too long"),
-        (CubeFault::Range, "variable out of range"),
-        (CubeFault::Memory, "out of memory"),
-    ];
-    for (fault, text) in faults {
-        same(&rt, fault.to_string(rt.alloc())?.as_str(), text);
-    }
-    Ok(())
+/// Does the deletion of these identities fit?
+fn deletes(ids: &[u64]) -> bool {
+    let line = Line::Delete { lead: 1, ids };
+    line.fits()
 }
 
 #[test]
 fn fits(rt: HostRuntime) -> Result<(), Fail> {
-    let most = 999_999_999_999_999_999;
-    let add = |id, literal, hint| {
-        Line::Add {
-            id,
-            lits: &[literal],
-            hints: &[hint],
-        }
-        .fits()
+    for &(id, literal, hint, wanted) in &FITTING {
+        let found = (id, literal, hint, adds(id, literal, hint));
+        same(&rt, found, (id, literal, hint, wanted));
+    }
+    for (count, wanted) in [(65_537, false), (65_536, true)] {
+        let ids = vec![in rt.alloc(); 1; count]?;
+        same(&rt, (count, deletes(&ids)), (count, wanted));
+    }
+    Ok(())
+}
+
+/// Writes the line three bytes at a time, which takes so many calls: it breaks at each of them, and not at the next one.
+fn write_in_threes(
+    rt: &(impl Abort + AllocGlobal),
+    line: &Line,
+    text: &[u8],
+    calls: usize,
+    fails_at: usize,
+) {
+    let mut paper = Paper::new(rt.alloc(), 3, fails_at);
+    let wrote = if line.fits() {
+        write_line(line, &mut paper)
+    } else {
+        Ok(())
     };
-    holds(&rt, add(most as u64, most, 1));
-    holds(&rt, add(1, -most, most as u64));
-    holds(&rt, !add(0, 1, 1));
-    holds(&rt, !add(1, 0, 1));
-    holds(&rt, !add(1, most + 1, 1));
-    holds(&rt, !add(1, -most - 1, 1));
-    holds(&rt, !add(1, 1, 0));
-    let many = vec![in rt.alloc(); 1; 65_537]?;
-    holds(
-        &rt,
-        !Line::Delete {
-            lead: 1,
-            ids: &many,
-        }
-        .fits(),
-    );
-    holds(
-        &rt,
-        Line::Delete {
-            lead: 1,
-            ids: &many[..65_536],
-        }
-        .fits(),
-    );
+    let breaks = fails_at <= calls;
+    let beginning = &text[..fails_at.saturating_sub(1).saturating_mul(3).min(text.len())];
+    let found = (wrote.is_err(), paper.failed(), paper.bytes.as_slice());
+    same(rt, found, (breaks, breaks, beginning));
+}
+
+/// Writes a deletion.
+fn write_deletion(rt: &(impl Abort + AllocGlobal)) -> Result<(), Fail> {
+    let deletion = Line::Delete {
+        lead: 5,
+        ids: &[5, 6],
+    };
+    let mut sink = Writing::new(Vec::new(rt.alloc()));
+    if deletion.fits() {
+        write_line(&deletion, &mut sink)?;
+    }
+    holds(rt, !sink.failed());
+    same(rt, sink.into_inner().as_slice(), b"5 d 5 6 0\n".as_slice());
     Ok(())
 }
 
@@ -497,90 +469,90 @@ fn writes(rt: HostRuntime) -> Result<(), Fail> {
         lits: &[-20, 3],
         hints: &[9, 100],
     };
-    let text = b"17 -20 3 0 9 100 0\n";
-    for writes in 0..8 {
-        let mut paper = Paper::new(rt.alloc(), 3, writes + 1);
-        let wrote = if line.fits() {
-            write_line(&line, &mut paper)
-        } else {
-            Ok(())
-        };
-        same(&rt, wrote.is_err(), writes < 7);
-        same(&rt, paper.failed(), writes < 7);
-        same(
-            &rt,
-            paper.bytes.as_slice(),
-            &text[..(3 * writes).min(text.len())],
-        );
+    for fails_at in 1..9 {
+        write_in_threes(&rt, &line, b"17 -20 3 0 9 100 0\n", 7, fails_at);
     }
-    let deletion = Line::Delete {
-        lead: 5,
-        ids: &[5, 6],
-    };
-    let mut sink = Writing::new(Vec::new(rt.alloc()));
-    if deletion.fits() {
-        write_line(&deletion, &mut sink)?;
-    }
-    holds(&rt, !sink.failed());
-    same(&rt, sink.into_inner().as_slice(), b"5 d 5 6 0\n".as_slice());
-    Ok(())
+    write_deletion(&rt)
+}
+
+/// Writes a text of three numbers.
+fn write_numbers<W: Sink>(sink: &mut W) -> Result<(), WriteFault>
+    requires { W.has_failed sink.old ≡ false }
+{
+    let mut buffer = WriteBuffer::new();
+    write_all(b"numbers: ", sink)?;
+    buffer.put_number(0, sink)?;
+    buffer.put(b", ", sink)?;
+    buffer.put_number(10, sink)?;
+    buffer.put(b", ", sink)?;
+    buffer.put_number(u64::MAX, sink)?;
+    buffer.flush(sink)
 }
 
 #[test]
 fn texts_are_written(rt: HostRuntime) -> Result<(), Fail> {
     let mut sink = Writing::new(Vec::new(rt.alloc()));
-    let mut buffer = WriteBuffer::new();
-    write_all(b"numbers: ", &mut sink)?;
-    buffer.put_number(0, &mut sink)?;
-    buffer.put(b", ", &mut sink)?;
-    buffer.put_number(10, &mut sink)?;
-    buffer.put(b", ", &mut sink)?;
-    buffer.put_number(u64::MAX, &mut sink)?;
-    buffer.flush(&mut sink)?;
-    same(
-        &rt,
-        sink.into_inner().as_slice(),
-        b"numbers: 0, 10, 18446744073709551615".as_slice(),
-    );
+    write_numbers(&mut sink)?;
+    let wanted = b"numbers: 0, 10, 18446744073709551615".as_slice();
+    same(&rt, sink.into_inner().as_slice(), wanted);
     Ok(())
 }
 
-/// Puts numbers where one more digit begins, and literals, and flushes.
-fn put_edges<W: Sink>(rt: &impl Abort, buffer: &mut WriteBuffer, sink: &mut W) -> Result<(), Fail> {
-    for number in [
-        9,
-        10,
-        99,
-        100,
-        999,
-        1_000,
-        9_999,
-        10_000,
-        99_999_999,
-        100_000_000,
-        u64::MAX,
-    ] {
+/// Numbers where one more digit begins.
+static NUMBERS: [u64; 11] = [
+    9,
+    10,
+    99,
+    100,
+    999,
+    1_000,
+    9_999,
+    10_000,
+    99_999_999,
+    100_000_000,
+    u64::MAX,
+];
+
+/// Literals where one more digit begins, 0, the variables' limit, and the least number.
+static LITERALS: [i64; 10] = [
+    0,
+    1,
+    -1,
+    -10,
+    9_999,
+    -10_000,
+    16_777_215,
+    -16_777_215,
+    100_000_000,
+    i64::MIN,
+];
+
+/// Puts the numbers, each with a blank after it.
+fn put_numbers<W: Sink>(
+    rt: &impl Abort,
+    buffer: &mut WriteBuffer,
+    sink: &mut W,
+) -> Result<(), WriteFault> {
+    for &number in &NUMBERS {
         holds(rt, !sink.failed());
         buffer.put_number(number, sink)?;
         buffer.put(b" ", sink)?;
     }
-    for literal in [
-        0,
-        1,
-        -1,
-        -10,
-        9_999,
-        -10_000,
-        16_777_215,
-        -16_777_215,
-        100_000_000,
-        i64::MIN,
-    ] {
+    Ok(())
+}
+
+/// Puts the literals, and flushes.
+fn put_literals<W: Sink>(
+    rt: &impl Abort,
+    buffer: &mut WriteBuffer,
+    sink: &mut W,
+) -> Result<(), WriteFault> {
+    for &literal in &LITERALS {
         holds(rt, !sink.failed());
         buffer.put_literal(literal, sink)?;
     }
     holds(rt, !sink.failed());
-    Ok(buffer.flush(sink)?)
+    buffer.flush(sink)
 }
 
 /// Numbers where one more digit begins, and literals, from the front of a buffer on and over its end.
@@ -593,7 +565,8 @@ fn numbers_are_written(rt: HostRuntime) -> Result<(), Fail> {
         let mut sink = Writing::new(Vec::new(rt.alloc()));
         let mut buffer = WriteBuffer::new();
         buffer.put(&front, &mut sink)?;
-        put_edges(&rt, &mut buffer, &mut sink)?;
+        put_numbers(&rt, &mut buffer, &mut sink)?;
+        put_literals(&rt, &mut buffer, &mut sink)?;
         let written = sink.into_inner();
         let (before, after) = written.as_slice().split_at(front.len().min(written.len()));
         same(&rt, (held, before), (held, front.as_slice()));
@@ -664,144 +637,36 @@ fn count_lines<S: Source>(rt: &impl Abort, alloc: Global, source: &mut S) -> Res
     Ok(lines)
 }
 
+/// Counts the lines of a text at a tape that may break at its end.
+fn count_at_tape(
+    rt: &(impl Abort + AllocGlobal),
+    bytes: &[u8],
+    breaks: bool,
+) -> Result<(usize, bool), Fail> {
+    let mut tape = Tape {
+        bytes,
+        breaks,
+        failed: false,
+    };
+    let lines = count_lines(rt, rt.alloc(), &mut tape)?;
+    Ok((lines, tape.failed()))
+}
+
+/// Counts the lines of a text that std reads.
+fn count_at_reading(rt: &(impl Abort + AllocGlobal), bytes: &[u8]) -> Result<(usize, bool), Fail> {
+    let mut source = Reading::new(bytes);
+    let lines = count_lines(rt, rt.alloc(), &mut source)?;
+    Ok((lines, source.failed()))
+}
+
 #[test]
 fn sources_end_and_fail(rt: HostRuntime) -> Result<(), Fail> {
     let text = b"5 2 0 0\n6 0 5 0\n5 d 5 0\n";
     for end in 0..=text.len() {
-        for breaks in [false, true] {
-            let mut tape = Tape {
-                bytes: &text[..end],
-                breaks,
-                failed: false,
-            };
-            same(&rt, count_lines(&rt, rt.alloc(), &mut tape)?, end / 8);
-            same(&rt, tape.failed(), breaks);
-        }
-        let mut source = Reading::new(&text[..end]);
-        same(&rt, count_lines(&rt, rt.alloc(), &mut source)?, end / 8);
-        holds(&rt, !source.failed());
-    }
-    Ok(())
-}
-
-/// A device that moves all bytes it is given room for, and fails at one of its calls alone.
-#[derive(Drop)]
-struct FailsOnce {
-    calls: usize,
-    fails_at: usize,
-}
-
-impl FailsOnce {
-    fn new(fails_at: usize) -> FailsOnce {
-        FailsOnce { calls: 0, fails_at }
-    }
-
-    fn call(&mut self, bytes: usize) -> io::Result<usize>
-        ensures { IfOk result (λ count. count ≡ bytes) }
-    {
-        self.calls = self.calls.saturating_add(1);
-        if self.calls == self.fails_at {
-            return Err(io::Error::from(io::ErrorKind::Interrupted));
-        }
-        Ok(bytes)
-    }
-}
-
-impl io::Read for FailsOnce {
-    fn read(&mut self, buffer: &mut [u8]) -> io::Result<usize> {
-        buffer.fill(b'1');
-        self.call(buffer.len())
-    }
-}
-
-impl io::Write for FailsOnce {
-    fn write(&mut self, bytes: &[u8]) -> io::Result<usize> {
-        self.call(bytes.len())
-    }
-
-    fn flush(&mut self) -> io::Result<()> {
-        Ok(())
-    }
-}
-
-#[test]
-fn failed_reads_are_not_repeated(rt: HostRuntime) -> Result<(), Fail> {
-    for size in [8usize, 70_000] {
-        let mut buffer = vec![in rt.alloc(); 0u8; size]?;
-        for fails_at in 1..=5usize {
-            let mut source = Reading::new(FailsOnce::new(fails_at));
-            for call in 1..=8usize {
-                if source.failed() {
-                    break;
-                }
-                let wanted = if call == fails_at {
-                    Err(ReadFault)
-                } else {
-                    Ok(size)
-                };
-                same(&rt, source.read(&mut buffer), wanted);
-            }
-            holds(&rt, source.failed());
-            same(&rt, source.into_inner().calls, fails_at);
-        }
-    }
-    Ok(())
-}
-
-#[test]
-fn failed_writes_are_not_repeated(rt: HostRuntime) -> Result<(), Fail> {
-    for size in [8usize, 512, 513, 70_000] {
-        let bytes = vec![in rt.alloc(); b'1'; size]?;
-        for fails_at in 1..=5usize {
-            let mut sink = Writing::new(FailsOnce::new(fails_at));
-            for call in 1..=8usize {
-                if sink.failed() {
-                    break;
-                }
-                let wanted = if call == fails_at {
-                    Err(WriteFault)
-                } else {
-                    Ok(size)
-                };
-                same(&rt, sink.write(&bytes), wanted);
-            }
-            holds(&rt, sink.failed());
-            same(&rt, sink.into_inner().calls, fails_at);
-        }
-    }
-    Ok(())
-}
-
-#[test]
-fn long_lines_are_written_up_to_a_fault(rt: HostRuntime) -> Result<(), Fail> {
-    let ids = vec![in rt.alloc(); 999_999_999_999_999_999; 65_536]?;
-    let line = Line::Delete { lead: 5, ids: &ids };
-    for fails_at in [0usize, 1, 2, 3, 300] {
-        let mut sink = Writing::new(FailsOnce::new(fails_at));
-        if line.fits() {
-            let wrote = write_line(&line, &mut sink);
-            same(&rt, wrote.is_err(), fails_at > 0);
-        }
-        same(&rt, sink.failed(), fails_at > 0);
-        let calls = sink.into_inner().calls;
-        holds(&rt, calls > 300 || calls == fails_at);
-    }
-    Ok(())
-}
-
-#[test]
-fn buffers_write_4096_bytes_at_a_time(rt: HostRuntime) -> Result<(), Fail> {
-    let bytes = vec![in rt.alloc(); b'x'; 10_000]?;
-    for (fails_at, calls) in [(0usize, 3), (1, 1), (2, 2), (3, 3)] {
-        let mut sink = Writing::new(FailsOnce::new(fails_at));
-        let mut buffer = WriteBuffer::new();
-        let wrote = match buffer.put(&bytes, &mut sink) {
-            Ok(()) => buffer.flush(&mut sink),
-            Err(fault) => Err(fault),
-        };
-        same(&rt, wrote.is_err(), fails_at > 0);
-        same(&rt, sink.failed(), fails_at > 0);
-        same(&rt, sink.into_inner().calls, calls);
+        let bytes = &text[..end];
+        same(&rt, count_at_tape(&rt, bytes, false)?, (end / 8, false));
+        same(&rt, count_at_tape(&rt, bytes, true)?, (end / 8, true));
+        same(&rt, count_at_reading(&rt, bytes)?, (end / 8, false));
     }
     Ok(())
 }

@@ -1,10 +1,10 @@
 // The texts of a report, and sinks that fail; and what the runs of both modules are given.
-ghost use Rattle.std.specs.Prelude.{◌≡◌, ◌≤◌, false, IfOk, IsTrue};
+ghost use Rattle.std.specs.Prelude.{◌≡◌, ◌≤◌, false, IfOk, IsTrue, vec_len};
 ghost use Rattle.std.specs.List.{AllByRecursion};
 ghost use Rattle.stream_check.specs.Setting.{max_tries};
 
 use lrup_model::{Cube, Id, LayoutFault};
-use lrup_text::{LineFault, Sink, WriteFault};
+use lrup_text::{LineFault, Sink, Source, WriteFault};
 use portfolio::{
     Options, Outcome, RunFault, SerialOutcome, Verdict, run, run_serial, write_report,
 };
@@ -205,6 +205,40 @@ enum By {
 
 const BOTH: [By; 2] = [By::Threads, By::Turns];
 
+/// A run over the four clauses with a thread for each stream. It promises nothing, so that tests needn't carry what `run` does.
+fn run_by_threads<T: Threads + Wait + Sync, R: Source + Send + Drop, G: Gate + Send + Drop>(
+    rt: &T,
+    alloc: Global,
+    cube: &Cube,
+    options: Options,
+    readers: Vec<R>,
+    gates: Vec<G>,
+) -> Result<Outcome<R>, Fail>
+    requires gates { vec_len gates ≡ vec_len readers }
+    requires running { AllByRecursion (λ r. R.has_failed r ≡ false) readers.items }
+{
+    let formula = four_clauses(alloc)?;
+    let outcome = run(rt, alloc, &formula, cube, options, readers, gates)?;
+    Ok(outcome)
+}
+
+/// The same on one thread.
+fn run_by_turns<W: Wait, R: Source + Drop, G: Gate + Drop>(
+    wait: &W,
+    alloc: Global,
+    cube: &Cube,
+    options: Options,
+    readers: Vec<R>,
+    gates: Vec<G>,
+) -> Result<SerialOutcome<R>, Fail>
+    requires gates { vec_len gates ≡ vec_len readers }
+    requires running { AllByRecursion (λ r. R.has_failed r ≡ false) readers.items }
+{
+    let formula = four_clauses(alloc)?;
+    let outcome = run_serial(wait, alloc, &formula, cube, options, readers, gates)?;
+    Ok(outcome)
+}
+
 /// The reports of a run over the four clauses, without assumptions.
 fn reports_of<'a, T: Threads + Wait + Sync>(
     rt: &T,
@@ -230,11 +264,10 @@ fn found_under<'a, T: Threads + Wait + Sync>(
 ) -> Result<(Vec<Report>, Verdict), Fail>
     requires { AllByRecursion (λ r. r.failed ≡ false) readers.items }
 {
-    let formula = four_clauses(alloc)?;
     let gates = vec![in alloc; Open; readers.len()]?;
     match by {
         By::Threads => {
-            let outcome = run(rt, alloc, &formula, cube, options, readers, gates)?;
+            let outcome = run_by_threads(rt, alloc, cube, options, readers, gates)?;
             let Outcome {
                 reports,
                 verdict,
@@ -243,7 +276,7 @@ fn found_under<'a, T: Threads + Wait + Sync>(
             Ok((reports, verdict))
         }
         By::Turns => {
-            let outcome = run_serial(rt, alloc, &formula, cube, options, readers, gates)?;
+            let outcome = run_by_turns(rt, alloc, cube, options, readers, gates)?;
             let SerialOutcome {
                 reports,
                 verdict,
@@ -272,7 +305,8 @@ fn writes_text(
     Ok(())
 }
 
-const VERDICTS: [(Verdict, &str); 3] = [
+/// Verdicts, and their words in a report.
+static VERDICT_WORDS: [(Verdict, &str); 3] = [
     (Verdict::Unknown, "UNKNOWN"),
     (
         Verdict::UnsatisfiableUnder,
@@ -281,89 +315,133 @@ const VERDICTS: [(Verdict, &str); 3] = [
     (Verdict::Unsatisfiable, "UNSATISFIABLE"),
 ];
 
+/// Additions, deletions and ending, and what is written of them.
+static LINES: [(u64, u64, Ending, &str); 20] = [
+    (0, 0, Ending::Ended, "0 added, 0 deleted, ended"),
+    (2, 1, Ending::Ended, "2 added, 1 deleted, ended"),
+    (
+        u64::MAX,
+        0,
+        Ending::ReadFailed(u64::MAX),
+        "18446744073709551615 added, 0 deleted, read failed at line 18446744073709551615",
+    ),
+    (
+        0,
+        u64::MAX,
+        Ending::Memory(1),
+        "0 added, 18446744073709551615 deleted, out of memory at line 1",
+    ),
+    (
+        0,
+        0,
+        Ending::Bad(1, Fault::Text(LineFault::Spelling)),
+        "0 added, 0 deleted, bad line 1 (spelling)",
+    ),
+    (
+        0,
+        0,
+        Ending::Bad(1, Fault::Text(LineFault::TooLong)),
+        "0 added, 0 deleted, bad line 1 (too long)",
+    ),
+    (
+        0,
+        0,
+        Ending::Bad(1, Fault::Text(LineFault::Truncated)),
+        "0 added, 0 deleted, bad line 1 (truncated)",
+    ),
+    (
+        0,
+        0,
+        Ending::Bad(1, Fault::Text(LineFault::RatHint)),
+        "0 added, 0 deleted, bad line 1 (rat hint)",
+    ),
+    (
+        1,
+        0,
+        Ending::Bad(2, Fault::Identity),
+        "1 added, 0 deleted, bad line 2 (identity)",
+    ),
+    (
+        0,
+        0,
+        Ending::Bad(1, Fault::Literal),
+        "0 added, 0 deleted, bad line 1 (literal)",
+    ),
+    (
+        0,
+        0,
+        Ending::Bad(1, Fault::Tautology),
+        "0 added, 0 deleted, bad line 1 (tautology)",
+    ),
+    (
+        0,
+        0,
+        Ending::Bad(1, Fault::NoRoom),
+        "0 added, 0 deleted, bad line 1 (no room)",
+    ),
+    (
+        0,
+        1,
+        Ending::Bad(2, Fault::Dropped(1)),
+        "0 added, 1 deleted, bad line 2 (dropped 1)",
+    ),
+    (
+        0,
+        0,
+        Ending::Bad(1, Fault::Missing(u64::MAX)),
+        "0 added, 0 deleted, bad line 1 (missing 18446744073709551615)",
+    ),
+    (
+        1,
+        1,
+        Ending::Bad(3, Fault::Retired(5)),
+        "1 added, 1 deleted, bad line 3 (retired 5)",
+    ),
+    (
+        0,
+        0,
+        Ending::Bad(1, Fault::NotUnit(3)),
+        "0 added, 0 deleted, bad line 1 (not unit 3)",
+    ),
+    (
+        0,
+        0,
+        Ending::Bad(1, Fault::Excess(3)),
+        "0 added, 0 deleted, bad line 1 (excess 3)",
+    ),
+    (
+        0,
+        0,
+        Ending::Bad(u64::MAX, Fault::NoConflict),
+        "0 added, 0 deleted, bad line 18446744073709551615 (no conflict)",
+    ),
+    (
+        1,
+        1,
+        Ending::Bad(2, Fault::NotLive(5)),
+        "1 added, 1 deleted, bad line 2 (not live 5)",
+    ),
+    (
+        0,
+        0,
+        Ending::Bad(1, Fault::Differs(u64::MAX)),
+        "0 added, 0 deleted, bad line 1 (differs 18446744073709551615)",
+    ),
+];
+
+/// The line stands in a report with each verdict.
+fn writes_line(rt: &impl Abort, alloc: Global, said: Report, line: &str) -> Result<(), Fail> {
+    for &(verdict, word) in &VERDICT_WORDS {
+        let text = format!(in alloc; "c stream 1: {line}\ns {word}\n")?;
+        writes_text(rt, alloc, &[said], verdict, text.as_str())?;
+    }
+    Ok(())
+}
+
 #[test]
 fn reports_of_one_stream(rt: HostRuntime) -> Result<(), Fail> {
-    let most = u64::MAX;
-    for (report, line) in [
-        (report(0, 0, Ending::Ended), "0 added, 0 deleted, ended"),
-        (report(2, 1, Ending::Ended), "2 added, 1 deleted, ended"),
-        (
-            report(most, 0, Ending::ReadFailed(most)),
-            "18446744073709551615 added, 0 deleted, read failed at line 18446744073709551615",
-        ),
-        (
-            report(0, most, Ending::Memory(1)),
-            "0 added, 18446744073709551615 deleted, out of memory at line 1",
-        ),
-        (
-            bad_line(1, Fault::Text(LineFault::Spelling)),
-            "0 added, 0 deleted, bad line 1 (spelling)",
-        ),
-        (
-            bad_line(1, Fault::Text(LineFault::TooLong)),
-            "0 added, 0 deleted, bad line 1 (too long)",
-        ),
-        (
-            bad_line(1, Fault::Text(LineFault::Truncated)),
-            "0 added, 0 deleted, bad line 1 (truncated)",
-        ),
-        (
-            bad_line(1, Fault::Text(LineFault::RatHint)),
-            "0 added, 0 deleted, bad line 1 (rat hint)",
-        ),
-        (
-            report(1, 0, Ending::Bad(2, Fault::Identity)),
-            "1 added, 0 deleted, bad line 2 (identity)",
-        ),
-        (
-            bad_line(1, Fault::Literal),
-            "0 added, 0 deleted, bad line 1 (literal)",
-        ),
-        (
-            bad_line(1, Fault::Tautology),
-            "0 added, 0 deleted, bad line 1 (tautology)",
-        ),
-        (
-            bad_line(1, Fault::NoRoom),
-            "0 added, 0 deleted, bad line 1 (no room)",
-        ),
-        (
-            report(0, 1, Ending::Bad(2, Fault::Dropped(1))),
-            "0 added, 1 deleted, bad line 2 (dropped 1)",
-        ),
-        (
-            bad_line(1, Fault::Missing(most)),
-            "0 added, 0 deleted, bad line 1 (missing 18446744073709551615)",
-        ),
-        (
-            report(1, 1, Ending::Bad(3, Fault::Retired(5))),
-            "1 added, 1 deleted, bad line 3 (retired 5)",
-        ),
-        (
-            bad_line(1, Fault::NotUnit(3)),
-            "0 added, 0 deleted, bad line 1 (not unit 3)",
-        ),
-        (
-            bad_line(1, Fault::Excess(3)),
-            "0 added, 0 deleted, bad line 1 (excess 3)",
-        ),
-        (
-            bad_line(most, Fault::NoConflict),
-            "0 added, 0 deleted, bad line 18446744073709551615 (no conflict)",
-        ),
-        (
-            report(1, 1, Ending::Bad(2, Fault::NotLive(5))),
-            "1 added, 1 deleted, bad line 2 (not live 5)",
-        ),
-        (
-            bad_line(1, Fault::Differs(most)),
-            "0 added, 0 deleted, bad line 1 (differs 18446744073709551615)",
-        ),
-    ] {
-        for (verdict, word) in VERDICTS {
-            let text = format!(in rt.alloc(); "c stream 1: {line}\ns {word}\n")?;
-            writes_text(&rt, rt.alloc(), &[report], verdict, text.as_str())?;
-        }
+    for &(added, deleted, ending, line) in &LINES {
+        writes_line(&rt, rt.alloc(), report(added, deleted, ending), line)?;
     }
     Ok(())
 }
@@ -397,30 +475,51 @@ fn reports_of_two_streams(rt: HostRuntime) -> Result<(), Fail> {
     writes_text(&rt, rt.alloc(), &[], Verdict::Unknown, "s UNKNOWN\n")
 }
 
-#[test]
-fn sinks_that_fail(rt: HostRuntime) -> Result<(), Fail> {
-    let reports = two_reports();
-    let text = TWO.as_bytes();
-    for most in [1usize, 7, 600] {
-        for fails_at in 1..=text.len().div_ceil(most) {
-            let mut paper = Paper::new(rt.alloc(), most, fails_at);
-            let wrote = write_report(&reports, Verdict::Unsatisfiable, &mut paper);
-            same(&rt, wrote, Err(WriteFault));
-            holds(&rt, paper.failed());
-            same(&rt, paper.writes, fails_at);
-            let went = (fails_at - 1) * most;
-            same(&rt, paper.bytes.as_slice(), &text[..went.min(text.len())]);
-        }
-    }
-    Ok(())
+/// The report, whose text is this, goes to paper that takes so many bytes a write, of which one fails.
+fn fails_at_write(
+    rt: &impl Abort,
+    alloc: Global,
+    reports: &[Report],
+    verdict: Verdict,
+    text: &[u8],
+    most: usize,
+    fails_at: usize,
+) {
+    let mut paper = Paper::new(alloc, most, fails_at);
+    let wrote = write_report(reports, verdict, &mut paper);
+    let ended = (wrote, paper.failed(), paper.writes);
+    same(rt, (most, ended), (most, (Err(WriteFault), true, fails_at)));
+    let went = fails_at.saturating_sub(1).saturating_mul(most);
+    same(rt, paper.bytes.as_slice(), &text[..went.min(text.len())]);
 }
 
-/// 64 lines of 75 or 76 bytes fill the buffer, and break at any write.
+/// The same of each write of it.
+fn fails_at_each_write(
+    rt: &impl Abort,
+    alloc: Global,
+    reports: &[Report],
+    verdict: Verdict,
+    text: &[u8],
+    most: usize,
+) {
+    for fails_at in 1..=text.len().div_ceil(most.max(1)) {
+        fails_at_write(rt, alloc, reports, verdict, text, most, fails_at);
+    }
+}
+
 #[test]
-fn long_reports(rt: HostRuntime) -> Result<(), Fail> {
+fn sinks_that_fail(rt: HostRuntime) {
+    let reports = two_reports();
+    for most in [1usize, 7, 600] {
+        let verdict = Verdict::Unsatisfiable;
+        fails_at_each_write(&rt, rt.alloc(), &reports, verdict, TWO.as_bytes(), most);
+    }
+}
+
+/// The text of 64 streams with the most lines.
+fn long_text(alloc: Global) -> Result<String, Fail> {
     let most = u64::MAX;
-    let reports = [report(most, most, Ending::Ended); 64];
-    let mut text = String::new(rt.alloc());
+    let mut text = String::new(alloc);
     for stream in 1..=64u64 {
         write!(
             text,
@@ -428,52 +527,58 @@ fn long_reports(rt: HostRuntime) -> Result<(), Fail> {
         )?;
     }
     text.push_str("s UNKNOWN\n")?;
+    Ok(text)
+}
+
+/// 64 lines of 75 or 76 bytes fill the buffer, and break at any write.
+#[test]
+fn long_reports(rt: HostRuntime) -> Result<(), Fail> {
+    let reports = [report(u64::MAX, u64::MAX, Ending::Ended); 64];
+    let text = long_text(rt.alloc())?;
     writes_text(&rt, rt.alloc(), &reports, Verdict::Unknown, text.as_str())?;
-    for fails_at in 1..=text.len().div_ceil(512) {
-        let mut paper = Paper::new(rt.alloc(), 512, fails_at);
-        let wrote = write_report(&reports, Verdict::Unknown, &mut paper);
-        same(&rt, (wrote, paper.failed()), (Err(WriteFault), true));
-        same(&rt, paper.writes, fails_at);
-        let went = ((fails_at - 1) * 512).min(text.len());
-        same(&rt, paper.bytes.as_slice(), &text.as_bytes()[..went]);
-    }
+    let text = text.as_bytes();
+    fails_at_each_write(&rt, rt.alloc(), &reports, Verdict::Unknown, text, 512);
     Ok(())
 }
 
+static TRIES: [(u64, bool); 5] = [
+    (0, true),
+    (1_000, true),
+    (1_000_000, true),
+    (1_000_001, false),
+    (u64::MAX, false),
+];
+
 #[test]
 fn options_have_a_limit(rt: HostRuntime) {
-    for (tries, some) in [
-        (0, true),
-        (1_000, true),
-        (1_000_000, true),
-        (1_000_001, false),
-        (u64::MAX, false),
-    ] {
+    for &(tries, some) in &TRIES {
         let taken = Options::new(tries, 65_536, u64::MAX).is_some();
         same(&rt, (tries, taken), (tries, some));
     }
 }
 
+static FAULT_TEXTS: [(RunFault, &str); 7] = [
+    (
+        RunFault::Layout(LayoutFault::TooManyVariables),
+        "formula refused: limit",
+    ),
+    (
+        RunFault::Layout(LayoutFault::TooManyClauses),
+        "formula refused: limit",
+    ),
+    (
+        RunFault::Layout(LayoutFault::BadStreamCount),
+        "stream count",
+    ),
+    (RunFault::Layout(LayoutFault::RowTooLong), "row too long"),
+    (RunFault::Memory, "out of memory"),
+    (RunFault::Spawn(64), "worker 64 not started"),
+    (RunFault::Ring(64), "ring of stream 64"),
+];
+
 #[test]
 fn run_fault_texts(rt: HostRuntime) -> Result<(), Fail> {
-    for (fault, text) in [
-        (
-            RunFault::Layout(LayoutFault::TooManyVariables),
-            "formula refused: limit",
-        ),
-        (
-            RunFault::Layout(LayoutFault::TooManyClauses),
-            "formula refused: limit",
-        ),
-        (
-            RunFault::Layout(LayoutFault::BadStreamCount),
-            "stream count",
-        ),
-        (RunFault::Layout(LayoutFault::RowTooLong), "row too long"),
-        (RunFault::Memory, "out of memory"),
-        (RunFault::Spawn(64), "worker 64 not started"),
-        (RunFault::Ring(64), "ring of stream 64"),
-    ] {
+    for &(fault, text) in &FAULT_TEXTS {
         same(&rt, fault.to_string(rt.alloc())?.as_str(), text);
     }
     Ok(())

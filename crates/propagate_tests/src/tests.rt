@@ -10,6 +10,7 @@ use std::alloc::Global;
 use std::fmt;
 use std::process::Abort;
 use std::test::Fail;
+use test_support::lit;
 
 /// Stops the test where two values differ: an assertion that is proved once for all tests.
 fn same<T: PartialEq + fmt::Debug + Drop>(rt: &impl Abort, value: T, wanted: T) {
@@ -23,53 +24,71 @@ fn holds(rt: &impl Abort, fact: bool)
     assert!(rt; fact);
 }
 
-fn lit(value: i64) -> Result<Lit, Fail>
+/// The literal of this number.
+fn literal(value: i64) -> Result<Lit, Fail>
     ensures { IfOk result (λ l. l ≡ value) }
 {
-    let lit = Lit::new(value).ok_or("no literal")?;
-    Ok(lit)
+    let literal = Lit::new(value).ok_or("no literal")?;
+    Ok(literal)
+}
+
+/// Takes up a clause with repeats, and then the empty one.
+fn take_up(rt: &impl Abort, marks: &mut Marks) -> Result<(), Fail>
+    requires { marks.old.vars ≡ 9 }
+{
+    let (one, three, not_nine) = (lit(1), lit(3), lit(-9));
+    marks.begin(&[three, not_nine, three, one, not_nine])?;
+    same(rt, marks.clause(), [three, not_nine, one].as_slice());
+    holds(rt, marks.ready());
+    marks.begin(&[])?;
+    same(rt, (marks.clause().is_empty(), marks.ready()), (true, true));
+    Ok(())
 }
 
 #[test]
 fn a_clause_has_each_literal_once(rt: HostRuntime) -> Result<(), Fail> {
     let mut marks = Marks::new(rt.alloc(), 9)?;
     holds(&rt, !marks.ready());
-    let (one, three, not_nine) = (lit(1)?, lit(3)?, lit(-9)?);
-    marks.begin(&[three, not_nine, three, one, not_nine])?;
-    same(&rt, marks.clause(), [three, not_nine, one].as_slice());
-    holds(&rt, marks.ready());
-    marks.begin(&[])?;
-    holds(&rt, marks.clause().is_empty());
-    holds(&rt, marks.ready());
+    take_up(&rt, &mut marks)
+}
+
+/// Takes up a clause of the last variable, and then a tautology of it.
+fn take_up_last(rt: &impl Abort, marks: &mut Marks) -> Result<(), Fail>
+    requires { marks.old.vars ≡ 16777215 }
+{
+    let (last, not_last) = (lit(16_777_215), lit(-16_777_215));
+    marks.begin(&[not_last])?;
+    same(rt, marks.clause(), [not_last].as_slice());
+    same(rt, marks.begin(&[last, not_last]), Err(Tautology));
     Ok(())
 }
 
 #[test]
 fn the_most_variables_fit(rt: HostRuntime) -> Result<(), Fail> {
     let mut marks = Marks::new(rt.alloc(), Lit::MAX_VARIABLE)?;
-    let (last, not_last) = (lit(16_777_215)?, lit(-16_777_215)?);
-    marks.begin(&[not_last])?;
-    same(&rt, marks.clause(), [not_last].as_slice());
-    same(&rt, marks.begin(&[last, not_last]), Err(Tautology));
+    take_up_last(&rt, &mut marks)
+}
+
+/// Takes up a tautology, and then a clause.
+fn take_up_tautology(rt: &impl Abort, marks: &mut Marks) -> Result<(), Fail>
+    requires { marks.old.vars ≡ 2 }
+{
+    let (one, two, not_two) = (lit(1), lit(2), lit(-2));
+    let fault = marks.begin(&[two, one, not_two]);
+    same(rt, fault, Err(Tautology));
+    let left = (marks.clause().is_empty(), marks.ready());
+    same(rt, left, (true, false));
+    marks.begin(&[not_two])?;
+    same(rt, marks.clause(), [not_two].as_slice());
     Ok(())
 }
 
 #[test]
 fn a_tautology_leaves_no_clause(rt: HostRuntime) -> Result<(), Fail> {
+    let text = Tautology.to_string(rt.alloc())?;
+    same(&rt, text.as_str(), "tautology");
     let mut marks = Marks::new(rt.alloc(), 2)?;
-    let (one, two, not_two) = (lit(1)?, lit(2)?, lit(-2)?);
-    let fault = marks.begin(&[two, one, not_two]);
-    same(&rt, fault, Err(Tautology));
-    same(
-        &rt,
-        format!(in rt.alloc(); "{Tautology}")?.as_str(),
-        "tautology",
-    );
-    holds(&rt, marks.clause().is_empty());
-    holds(&rt, !marks.ready());
-    marks.begin(&[not_two])?;
-    same(&rt, marks.clause(), [not_two].as_slice());
-    Ok(())
+    take_up_tautology(&rt, &mut marks)
 }
 
 /// The map of a formula of clauses of two literals each, and the empty one after them, over three variables.
@@ -79,7 +98,7 @@ fn map_of_pairs(alloc: Global, pairs: &[(i64, i64)]) -> Result<PlainMap, Fail>
 {
     let mut formula = Formula::new(alloc, 3);
     for &(one, other) in pairs {
-        push_pair(&mut formula, lit(one)?, lit(other)?)?;
+        push_pair(&mut formula, literal(one)?, literal(other)?)?;
     }
     if formula.len() > 9 {
         return Err("no clause".into());
@@ -140,32 +159,47 @@ fn try_hints<M: ClauseMap>(marks: &mut Marks, map: &mut M, ids: &[u64]) -> Optio
     Some((step?, marks.ready()))
 }
 
-#[test]
-fn hints_are_unit_until_the_conflict(rt: HostRuntime) -> Result<(), Fail> {
-    let mut map = map_of_pairs(rt.alloc(), &[(1, 2), (-2, 3), (-3, 1), (2, 3)])?;
+/// Hints, what the last of them does, and whether another may follow.
+type HintRow = (&'static [u64], Step, bool);
+
+/// Tries the hints of each row at the map of these pairs.
+fn check_hints(
+    rt: &(impl Abort + AllocGlobal),
+    pairs: &[(i64, i64)],
+    rows: &[HintRow],
+) -> Result<(), Fail> {
+    let mut map = map_of_pairs(rt.alloc(), pairs)?;
     let mut desk = map.desk(1);
     let mut marks = Marks::new(rt.alloc(), 3)?;
-    let found = try_hints(&mut marks, &mut desk, &[1]);
-    same(&rt, found, Some((Step::Unit, true)));
-    let found = try_hints(&mut marks, &mut desk, &[1, 2]);
-    same(&rt, found, Some((Step::Unit, true)));
-    let found = try_hints(&mut marks, &mut desk, &[1, 2, 3]);
-    same(&rt, found, Some((Step::Conflict, false)));
+    for &(ids, step, more) in rows {
+        let found = try_hints(&mut marks, &mut desk, ids);
+        same(rt, (ids, found), (ids, Some((step, more))));
+    }
     Ok(())
 }
 
+/// Hints at the clauses 1 2, -2 3, -3 1 and 2 3.
+static UNTIL_CONFLICT: [HintRow; 3] = [
+    (&[1], Step::Unit, true),
+    (&[1, 2], Step::Unit, true),
+    (&[1, 2, 3], Step::Conflict, false),
+];
+
+#[test]
+fn hints_are_unit_until_the_conflict(rt: HostRuntime) -> Result<(), Fail> {
+    check_hints(&rt, &[(1, 2), (-2, 3), (-3, 1), (2, 3)], &UNTIL_CONFLICT)
+}
+
+/// Hints at the clauses 1 2 and 2 3, of which one is unit.
+static TWO_CLAUSES: [HintRow; 3] = [
+    (&[2], Step::NotUnit, false),
+    (&[1], Step::Unit, true),
+    (&[1, 2], Step::NotUnit, false),
+];
+
 #[test]
 fn a_true_literal_or_two_left_are_not_unit(rt: HostRuntime) -> Result<(), Fail> {
-    let mut map = map_of_pairs(rt.alloc(), &[(1, 2), (2, 3)])?;
-    let mut desk = map.desk(1);
-    let mut marks = Marks::new(rt.alloc(), 3)?;
-    let found = try_hints(&mut marks, &mut desk, &[2]);
-    same(&rt, found, Some((Step::NotUnit, false)));
-    let found = try_hints(&mut marks, &mut desk, &[1]);
-    same(&rt, found, Some((Step::Unit, true)));
-    let found = try_hints(&mut marks, &mut desk, &[1, 2]);
-    same(&rt, found, Some((Step::NotUnit, false)));
-    Ok(())
+    check_hints(&rt, &[(1, 2), (2, 3)], &TWO_CLAUSES)
 }
 
 /// Literals over three variables.
@@ -174,11 +208,11 @@ fn lits_of(alloc: Global, values: &[i64]) -> Result<Vec<Lit>, Fail>
 {
     let mut lits = Vec::new(alloc);
     for &value in values {
-        let lit = lit(value)?;
-        if lit.var() > 3 {
+        let literal = literal(value)?;
+        if literal.var() > 3 {
             return Err("no literal".into());
         }
-        lits.push(lit)?;
+        lits.push(literal)?;
     }
     Ok(lits)
 }
@@ -200,30 +234,49 @@ fn is_clause<M: ClauseMap>(marks: &mut Marks, map: &mut M, id: u64, lits: &[Lit]
     }
 }
 
+/// An identity, numbers of literals, and whether these are the clause.
+static COMPARED: [(u64, &[i64], bool); 12] = [
+    (1, &[1, 2], true),
+    (1, &[2, 1, 2, 2], true),
+    (1, &[1], false),
+    (1, &[1, 1], false),
+    (1, &[3, 2, 1], false),
+    (1, &[1, 3], false),
+    (1, &[1, -2], false),
+    (1, &[], false),
+    (2, &[-2, 2], true),
+    (2, &[2, 2], false),
+    (3, &[], true),
+    (3, &[-3], false),
+];
+
+/// Compares a row's literals with the clause under its identity.
+fn compare<M: ClauseMap>(
+    rt: &(impl Abort + AllocGlobal),
+    marks: &mut Marks,
+    map: &mut M,
+    row: (u64, &[i64], bool),
+) -> Result<(), Fail>
+    requires marks { marks.old.vars ≡ 3 }
+    requires map { (M.place map.old).caller.formula.vars ≡ 3 }
+    ensures marks { marks.new.vars ≡ 3 }
+    ensures map { (M.place map.new).caller.formula.vars ≡ 3 }
+{
+    let (id, values, wanted) = row;
+    let lits = lits_of(rt.alloc(), values)?;
+    let found = is_clause(marks, map, id, lits.as_slice());
+    same(rt, (id, values, found), (id, values, Some(wanted)));
+    holds(rt, marks.clause().is_empty() && !marks.ready());
+    Ok(())
+}
+
 #[test]
 fn a_clause_is_compared_as_a_set(rt: HostRuntime) -> Result<(), Fail> {
-    let rows: [(u64, &[i64], bool); 12] = [
-        (1, &[1, 2], true),
-        (1, &[2, 1, 2, 2], true),
-        (1, &[1], false),
-        (1, &[1, 1], false),
-        (1, &[3, 2, 1], false),
-        (1, &[1, 3], false),
-        (1, &[1, -2], false),
-        (1, &[], false),
-        (2, &[-2, 2], true),
-        (2, &[2, 2], false),
-        (3, &[], true),
-        (3, &[-3], false),
-    ];
     let mut map = map_of_pairs(rt.alloc(), &[(1, 2), (2, -2)])?;
     let mut desk = map.desk(1);
     let mut marks = Marks::new(rt.alloc(), 3)?;
-    for (id, values, wanted) in rows {
-        let lits = lits_of(rt.alloc(), values)?;
-        let found = is_clause(&mut marks, &mut desk, id, lits.as_slice());
-        same(&rt, (id, values, found), (id, values, Some(wanted)));
-        holds(&rt, marks.clause().is_empty() && !marks.ready());
+    for &row in &COMPARED {
+        compare(&rt, &mut marks, &mut desk, row)?;
     }
     Ok(())
 }

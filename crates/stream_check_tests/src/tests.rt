@@ -138,11 +138,6 @@ fn one_report(alloc: Global, options: Options, bytes: &[u8]) -> Result<(Report, 
     Ok(whole)
 }
 
-/// The report of a stream whose first line is bad.
-fn first_bad(fault: Fault) -> Report {
-    said_of(0, 0, false, Ending::Bad(1, fault))
-}
-
 /// The second of two streams isn't read before the first.
 const FIRST_OF_TWO: Options = Options {
     streams: 2,
@@ -152,365 +147,490 @@ const FIRST_OF_TWO: Options = Options {
     tries: 0,
 };
 
-/// Each of these streams, checked so, has this report; where it stands there, its gate is told this.
-fn have_reports(
-    rt: &impl Abort,
-    alloc: Global,
-    rows: &[(Options, &str, Report, Option<Told>)],
-) -> Result<(), Fail> {
-    for &(options, lines, said, told) in rows {
-        let (report, gate) = one_report(alloc, options, lines.as_bytes())?;
-        let heard = if told.is_some() { Some(gate) } else { None };
-        same(rt, (lines, report, heard), (lines, said, told));
+/// The same, where a vacant identity is fetched once more, and three times more.
+const ONE_MORE: Options = Options {
+    tries: 1,
+    ..FIRST_OF_TWO
+};
+
+const THREE_MORE: Options = Options {
+    tries: 3,
+    ..FIRST_OF_TWO
+};
+
+/// What is said of a stream: its additions and deletions, whether one's clause is empty, and its ending.
+type Said = (u64, u64, bool, Ending);
+
+fn report_of(said: Said) -> Report {
+    let (added, deleted, empty, ending) = said;
+    said_of(added, deleted, empty, ending)
+}
+
+/// What a stream is judged under, its lines, what is said of it, and, where it stands there, what its gate is told.
+type Row = (Options, &'static str, Said, Option<(u64, u64, u64)>);
+
+/// The row's stream has its report; where it stands there, its gate is told this.
+fn has_report(rt: &impl Abort, alloc: Global, row: Row) -> Result<(), Fail> {
+    let (options, lines, said, told) = row;
+    let (report, gate) = one_report(alloc, options, lines.as_bytes())?;
+    let wanted = match told {
+        Some((fetches, most_attempts, publishes)) => told_of(fetches, most_attempts, publishes),
+        None => gate,
+    };
+    let given = (options.streams, options.stream, options.room, lines);
+    same(rt, (given, report, gate), (given, report_of(said), wanted));
+    Ok(())
+}
+
+/// The same of each row.
+fn have_reports(rt: &impl Abort, alloc: Global, rows: &[Row]) -> Result<(), Fail> {
+    for row in rows {
+        has_report(rt, alloc, *row)?;
     }
     Ok(())
 }
 
+const LITTLE_ROOM: Options = Options {
+    room: 1,
+    ..DEFAULTS
+};
+
+static GOOD_LINES: [Row; 3] = [
+    (
+        DEFAULTS,
+        "5 2 0 1 2 0\n6 0 5 3 4 0\n",
+        (2, 0, true, Ending::Ended),
+        Some((5, 1, 2)),
+    ),
+    (DEFAULTS, "", (0, 0, false, Ending::Ended), None),
+    (
+        LITTLE_ROOM,
+        "5 2 2 0 1 2 0\n",
+        (1, 0, false, Ending::Ended),
+        None,
+    ),
+];
+
 #[test]
 fn good_lines_are_counted(rt: HostRuntime) -> Result<(), Fail> {
-    let little_room = Options {
-        room: 1,
-        ..DEFAULTS
-    };
-    have_reports(
-        &rt,
-        rt.alloc(),
-        &[
-            (
-                DEFAULTS,
-                "5 2 0 1 2 0\n6 0 5 3 4 0\n",
-                said_of(2, 0, true, Ending::Ended),
-                Some(told_of(5, 1, 2)),
-            ),
-            (DEFAULTS, "", said_of(0, 0, false, Ending::Ended), None),
-            (
-                little_room,
-                "5 2 2 0 1 2 0\n",
-                said_of(1, 0, false, Ending::Ended),
-                None,
-            ),
-        ],
-    )
+    have_reports(&rt, rt.alloc(), &GOOD_LINES)
 }
 
 #[test]
 fn an_empty_clause_stays_counted(rt: HostRuntime) -> Result<(), Fail> {
-    let lines = b"5 2 0 1 2 0\n6 0 5 3 4 0\n7 2 0 1 0\n";
-    let (said, _) = one_report(rt.alloc(), DEFAULTS, lines)?;
-    same(
-        &rt,
-        said,
-        said_of(2, 0, true, Ending::Bad(3, Fault::NoConflict)),
-    );
-    Ok(())
+    let lines = "5 2 0 1 2 0\n6 0 5 3 4 0\n7 2 0 1 0\n";
+    let said = (2, 0, true, Ending::Bad(3, Fault::NoConflict));
+    has_report(&rt, rt.alloc(), (DEFAULTS, lines, said, None))
 }
+
+static HINTS: [Row; 5] = [
+    (
+        DEFAULTS,
+        "5 2 0 2 3 0\n",
+        (0, 0, false, Ending::Bad(1, Fault::NotUnit(3))),
+        Some((2, 1, 0)),
+    ),
+    (
+        DEFAULTS,
+        "5 2 0 1 2 3 0\n",
+        (0, 0, false, Ending::Bad(1, Fault::Excess(3))),
+        Some((2, 1, 0)),
+    ),
+    (
+        DEFAULTS,
+        "5 2 0 1 0\n",
+        (0, 0, false, Ending::Bad(1, Fault::NoConflict)),
+        None,
+    ),
+    (
+        DEFAULTS,
+        "5 2 0 0\n",
+        (0, 0, false, Ending::Bad(1, Fault::NoConflict)),
+        Some((0, 0, 0)),
+    ),
+    (
+        DEFAULTS,
+        "5 2 0 5 0\n",
+        (0, 0, false, Ending::Bad(1, Fault::Missing(5))),
+        Some((1, 1, 0)),
+    ),
+];
 
 #[test]
 fn hints_are_judged_one_after_the_other(rt: HostRuntime) -> Result<(), Fail> {
-    have_reports(
-        &rt,
-        rt.alloc(),
-        &[
-            (
-                DEFAULTS,
-                "5 2 0 2 3 0\n",
-                first_bad(Fault::NotUnit(3)),
-                Some(told_of(2, 1, 0)),
-            ),
-            (
-                DEFAULTS,
-                "5 2 0 1 2 3 0\n",
-                first_bad(Fault::Excess(3)),
-                Some(told_of(2, 1, 0)),
-            ),
-            (DEFAULTS, "5 2 0 1 0\n", first_bad(Fault::NoConflict), None),
-            (
-                DEFAULTS,
-                "5 2 0 0\n",
-                first_bad(Fault::NoConflict),
-                Some(told_of(0, 0, 0)),
-            ),
-            (
-                DEFAULTS,
-                "5 2 0 5 0\n",
-                first_bad(Fault::Missing(5)),
-                Some(told_of(1, 1, 0)),
-            ),
-        ],
-    )
+    have_reports(&rt, rt.alloc(), &HINTS)
 }
+
+static TWO_FAULTS: [Row; 4] = [
+    (
+        DEFAULTS,
+        "5 d 3 0\n5 2 0 1 2 3 0\n",
+        (0, 1, false, Ending::Bad(2, Fault::Excess(3))),
+        None,
+    ),
+    (
+        DEFAULTS,
+        "5 2 0 1 2 5 0\n",
+        (0, 0, false, Ending::Bad(1, Fault::Excess(5))),
+        None,
+    ),
+    (
+        FIRST_OF_TWO,
+        "5 d 6 0\n5 2 0 6 0\n",
+        (0, 1, false, Ending::Bad(2, Fault::Dropped(6))),
+        Some((0, 0, 0)),
+    ),
+    (
+        DEFAULTS,
+        "9999999 3 -3 0 1 0\n",
+        (0, 0, false, Ending::Bad(1, Fault::Identity)),
+        None,
+    ),
+];
 
 #[test]
 fn the_first_test_that_fails_decides(rt: HostRuntime) -> Result<(), Fail> {
-    have_reports(
-        &rt,
-        rt.alloc(),
-        &[
-            (
-                DEFAULTS,
-                "5 d 3 0\n5 2 0 1 2 3 0\n",
-                said_of(0, 1, false, Ending::Bad(2, Fault::Excess(3))),
-                None,
-            ),
-            (
-                DEFAULTS,
-                "5 2 0 1 2 5 0\n",
-                first_bad(Fault::Excess(5)),
-                None,
-            ),
-            (
-                FIRST_OF_TWO,
-                "5 d 6 0\n5 2 0 6 0\n",
-                said_of(0, 1, false, Ending::Bad(2, Fault::Dropped(6))),
-                Some(told_of(0, 0, 0)),
-            ),
-            (
-                DEFAULTS,
-                "9999999 3 -3 0 1 0\n",
-                first_bad(Fault::Identity),
-                None,
-            ),
-        ],
-    )
+    have_reports(&rt, rt.alloc(), &TWO_FAULTS)
 }
+
+static VACANT_HINTS: [Row; 4] = [
+    (
+        FIRST_OF_TWO,
+        "5 0 6 0\n",
+        (0, 0, false, Ending::Bad(1, Fault::Missing(6))),
+        Some((1, 1, 0)),
+    ),
+    (
+        ONE_MORE,
+        "5 0 6 0\n",
+        (0, 0, false, Ending::Bad(1, Fault::Missing(6))),
+        Some((2, 2, 0)),
+    ),
+    (
+        THREE_MORE,
+        "5 0 6 0\n",
+        (0, 0, false, Ending::Bad(1, Fault::Missing(6))),
+        Some((4, 4, 0)),
+    ),
+    (
+        THREE_MORE,
+        "5 0 9999999 0\n",
+        (0, 0, false, Ending::Bad(1, Fault::Missing(9_999_999))),
+        Some((0, 0, 0)),
+    ),
+];
 
 #[test]
 fn a_vacant_hint_is_fetched_again(rt: HostRuntime) -> Result<(), Fail> {
-    let line = "5 0 6 0\n";
-    let missing = first_bad(Fault::Missing(6));
-    let tries = |tries| Options {
-        tries,
-        ..FIRST_OF_TWO
-    };
-    have_reports(
-        &rt,
-        rt.alloc(),
-        &[
-            (FIRST_OF_TWO, line, missing, Some(told_of(1, 1, 0))),
-            (tries(1), line, missing, Some(told_of(2, 2, 0))),
-            (tries(3), line, missing, Some(told_of(4, 4, 0))),
-            (
-                tries(3),
-                "5 0 9999999 0\n",
-                first_bad(Fault::Missing(9_999_999)),
-                Some(told_of(0, 0, 0)),
-            ),
-        ],
-    )
+    have_reports(&rt, rt.alloc(), &VACANT_HINTS)
 }
+
+static DELETIONS: [Row; 4] = [
+    (
+        DEFAULTS,
+        "5 2 0 1 2 0\n5 d 5 0\n6 0 5 3 4 0\n",
+        (1, 1, false, Ending::Bad(3, Fault::Retired(5))),
+        Some((3, 1, 1)),
+    ),
+    (
+        DEFAULTS,
+        "5 2 0 1 2 0\n5 d 5 5 0\n",
+        (1, 1, false, Ending::Bad(2, Fault::NotLive(5))),
+        None,
+    ),
+    (
+        DEFAULTS,
+        "5 d 1 1 0\n",
+        (0, 1, false, Ending::Bad(1, Fault::NotLive(1))),
+        None,
+    ),
+    (
+        DEFAULTS,
+        "5 d 1 0\n5 2 0 1 2 0\n",
+        (0, 1, false, Ending::Bad(2, Fault::Dropped(1))),
+        None,
+    ),
+];
 
 #[test]
 fn identities_are_deleted_from_the_left(rt: HostRuntime) -> Result<(), Fail> {
-    have_reports(
-        &rt,
-        rt.alloc(),
-        &[
-            (
-                DEFAULTS,
-                "5 2 0 1 2 0\n5 d 5 0\n6 0 5 3 4 0\n",
-                said_of(1, 1, false, Ending::Bad(3, Fault::Retired(5))),
-                Some(told_of(3, 1, 1)),
-            ),
-            (
-                DEFAULTS,
-                "5 2 0 1 2 0\n5 d 5 5 0\n",
-                said_of(1, 1, false, Ending::Bad(2, Fault::NotLive(5))),
-                None,
-            ),
-            (
-                DEFAULTS,
-                "5 d 1 1 0\n",
-                said_of(0, 1, false, Ending::Bad(1, Fault::NotLive(1))),
-                None,
-            ),
-            (
-                DEFAULTS,
-                "5 d 1 0\n5 2 0 1 2 0\n",
-                said_of(0, 1, false, Ending::Bad(2, Fault::Dropped(1))),
-                None,
-            ),
-        ],
-    )
+    have_reports(&rt, rt.alloc(), &DELETIONS)
 }
+
+/// Room, lines, and what is said of them.
+static ROOMS: [(u64, &str, Said); 8] = [
+    (
+        0,
+        "5 0 1 0\n",
+        (0, 0, false, Ending::Bad(1, Fault::NotUnit(1))),
+    ),
+    (
+        0,
+        "5 2 0 1 2 0\n",
+        (0, 0, false, Ending::Bad(1, Fault::NoRoom)),
+    ),
+    (1, "5 2 2 0 1 2 0\n", (1, 0, false, Ending::Ended)),
+    (
+        1,
+        "5 1 2 0 1 0\n",
+        (0, 0, false, Ending::Bad(1, Fault::NoRoom)),
+    ),
+    (2, "5 1 2 0 1 0\n", (1, 0, false, Ending::Ended)),
+    (
+        2,
+        "5 1 2 0 1 0\n6 2 0 1 2 0\n",
+        (1, 0, false, Ending::Bad(2, Fault::NoRoom)),
+    ),
+    // The empty clause takes none.
+    (
+        3,
+        "5 1 2 0 1 0\n6 2 0 1 2 0\n7 0 6 3 4 0\n",
+        (3, 0, true, Ending::Ended),
+    ),
+    // A retired clause gives none back.
+    (
+        1,
+        "5 2 0 1 2 0\n5 d 5 0\n6 2 0 1 2 0\n",
+        (1, 1, false, Ending::Bad(3, Fault::NoRoom)),
+    ),
+];
 
 #[test]
 fn the_room_ends(rt: HostRuntime) -> Result<(), Fail> {
-    for (room, lines, said) in [
-        (0, "5 0 1 0\n", first_bad(Fault::NotUnit(1))),
-        (0, "5 2 0 1 2 0\n", first_bad(Fault::NoRoom)),
-        (1, "5 2 2 0 1 2 0\n", said_of(1, 0, false, Ending::Ended)),
-        (1, "5 1 2 0 1 0\n", first_bad(Fault::NoRoom)),
-        (2, "5 1 2 0 1 0\n", said_of(1, 0, false, Ending::Ended)),
-        (
-            2,
-            "5 1 2 0 1 0\n6 2 0 1 2 0\n",
-            said_of(1, 0, false, Ending::Bad(2, Fault::NoRoom)),
-        ),
-        // The empty clause takes none.
-        (
-            3,
-            "5 1 2 0 1 0\n6 2 0 1 2 0\n7 0 6 3 4 0\n",
-            said_of(3, 0, true, Ending::Ended),
-        ),
-        // A retired clause gives none back.
-        (
-            1,
-            "5 2 0 1 2 0\n5 d 5 0\n6 2 0 1 2 0\n",
-            said_of(1, 1, false, Ending::Bad(3, Fault::NoRoom)),
-        ),
-    ] {
+    for &(room, lines, said) in &ROOMS {
         let options = Options { room, ..DEFAULTS };
-        let (found, _) = one_report(rt.alloc(), options, lines.as_bytes())?;
-        same(&rt, (room, lines, found), (room, lines, said));
+        has_report(&rt, rt.alloc(), (options, lines, said, None))?;
     }
     Ok(())
 }
 
+/// How many streams, which one, its lines, and what is said of them.
+static IDENTITIES: [(u64, u64, &str, Said); 14] = [
+    (
+        1,
+        1,
+        "4 2 0 1 2 0\n",
+        (0, 0, false, Ending::Bad(1, Fault::Identity)),
+    ),
+    (1, 1, "5 2 0 1 2 0\n", (1, 0, false, Ending::Ended)),
+    (1, 1, "6 2 0 1 2 0\n", (1, 0, false, Ending::Ended)),
+    (
+        1,
+        1,
+        "7 2 0 1 2 0\n",
+        (0, 0, false, Ending::Bad(1, Fault::Identity)),
+    ),
+    (2, 1, "7 2 0 1 2 0\n", (1, 0, false, Ending::Ended)),
+    (
+        2,
+        1,
+        "8 2 0 1 2 0\n",
+        (0, 0, false, Ending::Bad(1, Fault::Identity)),
+    ),
+    (
+        2,
+        1,
+        "9 2 0 1 2 0\n",
+        (0, 0, false, Ending::Bad(1, Fault::Identity)),
+    ),
+    (
+        2,
+        2,
+        "5 2 0 1 2 0\n",
+        (0, 0, false, Ending::Bad(1, Fault::Identity)),
+    ),
+    (2, 2, "8 2 0 1 2 0\n", (1, 0, false, Ending::Ended)),
+    (
+        2,
+        2,
+        "10 2 0 1 2 0\n",
+        (0, 0, false, Ending::Bad(1, Fault::Identity)),
+    ),
+    (2, 1, "5 d 4 8 0\n", (0, 2, false, Ending::Ended)),
+    (
+        2,
+        1,
+        "5 d 9 0\n",
+        (0, 0, false, Ending::Bad(1, Fault::NotLive(9))),
+    ),
+    (2, 2, "5 d 7 0\n", (0, 1, false, Ending::Ended)),
+    (
+        2,
+        2,
+        "5 d 9 0\n",
+        (0, 0, false, Ending::Bad(1, Fault::NotLive(9))),
+    ),
+];
+
 /// With two identities a stream: 5 and 6 for one stream; for two streams 5 and 7, and 6 and 8.
 #[test]
 fn the_identities_end(rt: HostRuntime) -> Result<(), Fail> {
-    let good = said_of(1, 0, false, Ending::Ended);
-    let not_live = |id| first_bad(Fault::NotLive(id));
-    for (streams, stream, lines, said) in [
-        (1, 1, "4 2 0 1 2 0\n", first_bad(Fault::Identity)),
-        (1, 1, "5 2 0 1 2 0\n", good),
-        (1, 1, "6 2 0 1 2 0\n", good),
-        (1, 1, "7 2 0 1 2 0\n", first_bad(Fault::Identity)),
-        (2, 1, "7 2 0 1 2 0\n", good),
-        (2, 1, "8 2 0 1 2 0\n", first_bad(Fault::Identity)),
-        (2, 1, "9 2 0 1 2 0\n", first_bad(Fault::Identity)),
-        (2, 2, "5 2 0 1 2 0\n", first_bad(Fault::Identity)),
-        (2, 2, "8 2 0 1 2 0\n", good),
-        (2, 2, "10 2 0 1 2 0\n", first_bad(Fault::Identity)),
-        (2, 1, "5 d 4 8 0\n", said_of(0, 2, false, Ending::Ended)),
-        (2, 1, "5 d 9 0\n", not_live(9)),
-        (2, 2, "5 d 7 0\n", said_of(0, 1, false, Ending::Ended)),
-        (2, 2, "5 d 9 0\n", not_live(9)),
-    ] {
+    for &(streams, stream, lines, said) in &IDENTITIES {
         let options = Options {
             streams,
             stream,
             lines: 2,
             ..DEFAULTS
         };
-        let (found, _) = one_report(rt.alloc(), options, lines.as_bytes())?;
-        same(
-            &rt,
-            (stream, streams, lines, found),
-            (stream, streams, lines, said),
-        );
+        has_report(&rt, rt.alloc(), (options, lines, said, None))?;
     }
     Ok(())
 }
+
+static RISING: [Row; 3] = [
+    (
+        DEFAULTS,
+        "7 2 0 1 2 0\n9 0 7 3 4 0\n",
+        (2, 0, true, Ending::Ended),
+        None,
+    ),
+    (
+        DEFAULTS,
+        "7 2 0 1 2 0\n7 0 7 3 4 0\n",
+        (1, 0, false, Ending::Bad(2, Fault::Identity)),
+        None,
+    ),
+    (
+        DEFAULTS,
+        "7 2 0 1 2 0\n6 0 7 3 4 0\n",
+        (1, 0, false, Ending::Bad(2, Fault::Identity)),
+        None,
+    ),
+];
 
 /// An identity is above each one that the stream published; gaps are allowed.
 #[test]
 fn identities_rise(rt: HostRuntime) -> Result<(), Fail> {
-    for (lines, said) in [
-        (
-            "7 2 0 1 2 0\n9 0 7 3 4 0\n",
-            said_of(2, 0, true, Ending::Ended),
-        ),
-        (
-            "7 2 0 1 2 0\n7 0 7 3 4 0\n",
-            said_of(1, 0, false, Ending::Bad(2, Fault::Identity)),
-        ),
-        (
-            "7 2 0 1 2 0\n6 0 7 3 4 0\n",
-            said_of(1, 0, false, Ending::Bad(2, Fault::Identity)),
-        ),
-    ] {
-        let (found, _) = one_report(rt.alloc(), DEFAULTS, lines.as_bytes())?;
-        same(&rt, (lines, found), (lines, said));
-    }
-    Ok(())
+    have_reports(&rt, rt.alloc(), &RISING)
 }
+
+const ONE_LINE: Options = Options {
+    lines: 1,
+    ..DEFAULTS
+};
+
+static BAD_IDENTITIES: [Row; 2] = [
+    (
+        FIRST_OF_TWO,
+        "6 2 0 1 2 0\n",
+        (0, 0, false, Ending::Bad(1, Fault::Identity)),
+        Some((0, 0, 0)),
+    ),
+    (
+        ONE_LINE,
+        "5 2 0 1 2 0\n6 0 5 3 4 0\n",
+        (1, 0, false, Ending::Bad(2, Fault::Identity)),
+        Some((2, 1, 1)),
+    ),
+];
 
 #[test]
 fn a_bad_identity_fetches_nothing(rt: HostRuntime) -> Result<(), Fail> {
-    let one_line = Options {
-        lines: 1,
-        ..DEFAULTS
-    };
-    have_reports(
-        &rt,
-        rt.alloc(),
-        &[
-            (
-                FIRST_OF_TWO,
-                "6 2 0 1 2 0\n",
-                first_bad(Fault::Identity),
-                Some(told_of(0, 0, 0)),
-            ),
-            (
-                one_line,
-                "5 2 0 1 2 0\n6 0 5 3 4 0\n",
-                said_of(1, 0, false, Ending::Bad(2, Fault::Identity)),
-                Some(told_of(2, 1, 1)),
-            ),
-        ],
-    )
+    have_reports(&rt, rt.alloc(), &BAD_IDENTITIES)
 }
+
+static BAD_CLAUSES: [Row; 3] = [
+    (
+        DEFAULTS,
+        "5 1 -1 0 1 0\n",
+        (0, 0, false, Ending::Bad(1, Fault::Tautology)),
+        Some((0, 0, 0)),
+    ),
+    (
+        DEFAULTS,
+        "5 3 -3 0 1 0\n",
+        (0, 0, false, Ending::Bad(1, Fault::Literal)),
+        None,
+    ),
+    (
+        DEFAULTS,
+        "999999999999999999 2 0 1 2 0\n",
+        (0, 0, false, Ending::Bad(1, Fault::Identity)),
+        None,
+    ),
+];
 
 #[test]
 fn bad_clauses_are_refused_before_their_hints(rt: HostRuntime) -> Result<(), Fail> {
-    have_reports(
-        &rt,
-        rt.alloc(),
-        &[
-            (
-                DEFAULTS,
-                "5 1 -1 0 1 0\n",
-                first_bad(Fault::Tautology),
-                Some(told_of(0, 0, 0)),
-            ),
-            (DEFAULTS, "5 3 -3 0 1 0\n", first_bad(Fault::Literal), None),
-            (
-                DEFAULTS,
-                "999999999999999999 2 0 1 2 0\n",
-                first_bad(Fault::Identity),
-                None,
-            ),
-        ],
-    )
+    have_reports(&rt, rt.alloc(), &BAD_CLAUSES)
 }
+
+static BAD_TEXTS: [Row; 5] = [
+    (
+        DEFAULTS,
+        "5 1 0 -2 0\n",
+        (0, 0, false, Ending::Bad(1, Fault::Text(LineFault::RatHint))),
+        None,
+    ),
+    (
+        DEFAULTS,
+        "5  2 0 1 2 0\n6 0 5 3 4 0\n",
+        (
+            0,
+            0,
+            false,
+            Ending::Bad(1, Fault::Text(LineFault::Spelling)),
+        ),
+        None,
+    ),
+    (
+        DEFAULTS,
+        "1000000000000000000 2 0 1 2 0\n",
+        (0, 0, false, Ending::Bad(1, Fault::Text(LineFault::TooLong))),
+        None,
+    ),
+    (
+        DEFAULTS,
+        "5 2 0 1 2 0",
+        (
+            0,
+            0,
+            false,
+            Ending::Bad(1, Fault::Text(LineFault::Truncated)),
+        ),
+        None,
+    ),
+    (
+        DEFAULTS,
+        "5 2 0 1 2 0\n6",
+        (
+            1,
+            0,
+            false,
+            Ending::Bad(2, Fault::Text(LineFault::Truncated)),
+        ),
+        None,
+    ),
+];
 
 #[test]
 fn bad_texts_end_the_reading(rt: HostRuntime) -> Result<(), Fail> {
-    let unfinished = Fault::Text(LineFault::Truncated);
-    for (lines, said) in [
-        ("5 1 0 -2 0\n", first_bad(Fault::Text(LineFault::RatHint))),
-        (
-            "5  2 0 1 2 0\n6 0 5 3 4 0\n",
-            first_bad(Fault::Text(LineFault::Spelling)),
-        ),
-        (
-            "1000000000000000000 2 0 1 2 0\n",
-            first_bad(Fault::Text(LineFault::TooLong)),
-        ),
-        ("5 2 0 1 2 0", first_bad(unfinished)),
-        (
-            "5 2 0 1 2 0\n6",
-            said_of(1, 0, false, Ending::Bad(2, unfinished)),
-        ),
-    ] {
-        let (found, _) = one_report(rt.alloc(), DEFAULTS, lines.as_bytes())?;
-        same(&rt, (lines, found), (lines, said));
-    }
-    Ok(())
+    have_reports(&rt, rt.alloc(), &BAD_TEXTS)
+}
+
+/// The checker is over, and tells of a failed read.
+fn tells_of_read(rt: &impl Abort, checker: &Checker) {
+    assert!(rt; checker.is_over());
+    same(
+        rt,
+        checker.report(),
+        said_of(0, 0, false, Ending::ReadFailed(1)),
+    );
+}
+
+/// The read of a checker fails before its first byte.
+fn fails_reading(rt: &impl Abort, checker: &mut Checker) {
+    same(rt, checker.is_over(), false);
+    checker.read_failed();
+    tells_of_read(rt, checker);
+    checker.end();
+    tells_of_read(rt, checker);
 }
 
 #[test]
 fn a_failed_read_is_told(rt: HostRuntime) -> Result<(), Fail> {
     let layout = Layout::new(2, 4, 8, 1, 9, 9)?;
     let mut checker = Checker::new(rt.alloc(), 1, &layout, &Cube::empty(rt.alloc()), 0)?;
-    same(&rt, checker.is_over(), false);
-    let told = said_of(0, 0, false, Ending::ReadFailed(1));
-    checker.read_failed();
-    assert!(rt; checker.is_over());
-    same(&rt, checker.report(), told);
-    checker.end();
-    assert!(rt; checker.is_over());
-    same(&rt, checker.report(), told);
+    fails_reading(&rt, &mut checker);
     Ok(())
 }

@@ -167,18 +167,21 @@ fn says<T: Threads + Wait + Sync + Abort>(
 /// The refutation of the four clauses.
 const REFUTATION: &str = "5 2 0 1 2 0\n6 0 5 3 4 0\n";
 
+/// The most bytes a read, the read that fails, and what is said: additions, whether one is empty, and the ending.
+static READS: [(usize, usize, u64, bool, Ending); 7] = [
+    (1, 0, 2, true, Ending::Ended),
+    (2, 0, 2, true, Ending::Ended),
+    (65_536, 0, 2, true, Ending::Ended),
+    (12, 2, 1, false, Ending::ReadFailed(2)),
+    (1, 13, 1, false, Ending::ReadFailed(2)),
+    (24, 2, 2, true, Ending::ReadFailed(3)),
+    (1, 1, 0, false, Ending::ReadFailed(1)),
+];
+
 /// Whole, at its end, and where a read fails after the first line or after the last.
 #[test]
 fn a_refutation(rt: HostRuntime) -> Result<(), Fail> {
-    for (most, fails_at, added, empty, ending) in [
-        (1, 0, 2, true, Ending::Ended),
-        (2, 0, 2, true, Ending::Ended),
-        (65_536, 0, 2, true, Ending::Ended),
-        (12, 2, 1, false, Ending::ReadFailed(2)),
-        (1, 13, 1, false, Ending::ReadFailed(2)),
-        (24, 2, 2, true, Ending::ReadFailed(3)),
-        (1, 1, 0, false, Ending::ReadFailed(1)),
-    ] {
+    for &(most, fails_at, added, empty, ending) in &READS {
         // The empty clause, and no other, lies within a cube of no literals.
         let wanted = Report {
             empty,
@@ -195,17 +198,29 @@ fn bad_line(fault: LineFault) -> Report {
     report(0, 0, Ending::Bad(1, Fault::Text(fault)))
 }
 
+/// The most bytes a read, around the size of a ring.
+static SIZES: [usize; 5] = [1, 2, 65_535, 65_536, 65_537];
+
+/// The pair says this of the text, however its bytes come.
+fn says_at_each_size<T: Threads + Wait + Sync + Abort>(
+    rt: &T,
+    alloc: Global,
+    text: &str,
+    wanted: Report,
+) -> Result<(), Fail> {
+    for most in &SIZES {
+        says(rt, alloc, text, *most, 0, wanted)?;
+    }
+    Ok(())
+}
+
 #[test]
 fn long_bytes(rt: HostRuntime) -> Result<(), Fail> {
     let mut text = String::new(rt.alloc());
     for _ in 0..200_000 {
         text.push_str("\n")?;
     }
-    let wanted = bad_line(LineFault::Spelling);
-    for most in [1, 2, 65_535, 65_536, 65_537] {
-        says(&rt, rt.alloc(), text.as_str(), most, 0, wanted)?;
-    }
-    Ok(())
+    says_at_each_size(&rt, rt.alloc(), &text, bad_line(LineFault::Spelling))
 }
 
 #[test]
@@ -214,11 +229,7 @@ fn many_lines(rt: HostRuntime) -> Result<(), Fail> {
     for id in 5..20_005u64 {
         write!(text, "{id} 2 0 1 2 0\n")?;
     }
-    let wanted = report(20_000, 0, Ending::Ended);
-    for most in [1, 2, 65_535, 65_536, 65_537] {
-        says(&rt, rt.alloc(), text.as_str(), most, 0, wanted)?;
-    }
-    Ok(())
+    says_at_each_size(&rt, rt.alloc(), &text, report(20_000, 0, Ending::Ended))
 }
 
 /// How often a thread looks for what another does, before it gives up.
@@ -435,19 +446,21 @@ fn step_through<T: Threads + Wait + Clock + Sync>(
     Ok((said, counters.late.load(Ordering::SeqCst)))
 }
 
+/// Ten thousand additions of one clause.
+fn ten_thousand_lines(alloc: Global) -> Result<Vec<String>, Fail> {
+    let mut lines = Vec::new(alloc);
+    for id in 5..10_005u64 {
+        lines.push(format!(in alloc; "{id} 2 0 1 2 0\n")?)?;
+    }
+    Ok(lines)
+}
+
 /// No line waits for the next one to be checked.
 #[test]
 fn each_line_is_checked_before_the_next_comes(rt: HostRuntime) -> Result<(), Fail> {
-    let mut lines = Vec::new(rt.alloc());
-    for id in 5..10_005u64 {
-        lines.push(format!(in rt.alloc(); "{id} 2 0 1 2 0\n")?)?;
-    }
-    let wanted = (Some(report(10_000, 0, Ending::Ended)), 0);
-    same(
-        &rt,
-        step_through(&rt, rt.alloc(), lines.as_slice(), 300)?,
-        wanted,
-    );
+    let lines = ten_thousand_lines(rt.alloc())?;
+    let found = step_through(&rt, rt.alloc(), lines.as_slice(), 300)?;
+    same(&rt, found, (Some(report(10_000, 0, Ending::Ended)), 0));
     Ok(())
 }
 
@@ -504,20 +517,28 @@ fn leave<C: Clock, R: Source + Drop>(clock: &C, reading: ReadingJob<R>) {
     drop(reading);
 }
 
+/// What is said of a stream whose reading job goes.
+fn said_of_one_that_goes<T: Threads + Wait + Clock + Sync>(
+    rt: &T,
+    alloc: Global,
+) -> Result<Option<Report>, Fail> {
+    let (reading, checking) = open_pair(alloc, Pieces::new(REFUTATION, 12, 0), Open, 2)?;
+    let signal = OnceLock::new();
+    let (_, checked) = join(
+        rt,
+        || leave(rt, reading),
+        || check(rt, &signal, true, checking),
+    );
+    let checked = checked.ok_or("told to leave")?;
+    Ok(checked.report)
+}
+
 /// The checking thread sleeps at an empty ring, and is woken by the other end as it goes. Nothing is said of the stream.
 #[test]
 fn a_reading_job_that_goes(rt: HostRuntime) -> Result<(), Fail> {
     for _ in 0..100 {
-        let reader = Pieces::new(REFUTATION, 12, 0);
-        let (reading, checking) = open_pair(rt.alloc(), reader, Open, 2)?;
-        let signal = OnceLock::new();
-        let (_, checked) = join(
-            &rt,
-            || leave(&rt, reading),
-            || check(&rt, &signal, true, checking),
-        );
-        let checked = checked.ok_or("told to leave")?;
-        same(&rt, checked.report, None);
+        let said = said_of_one_that_goes(&rt, rt.alloc())?;
+        same(&rt, said, None);
     }
     Ok(())
 }

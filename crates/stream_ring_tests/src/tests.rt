@@ -268,28 +268,54 @@ const STANDARD: Sizes = Sizes {
     popped: 65_536,
 };
 
+static COUNTS: [usize; 6] = [0, 1, 2, 65_535, 65_536, 65_537];
+
+/// How many bytes come a read, at most.
+static MOST_A_READ: [usize; 4] = [1, 2, 65_535, 65_536];
+
 /// Of these lengths, with an end or a read that fails after the last byte.
 #[test]
 fn streams_come_through(rt: HostRuntime) -> Result<(), Fail> {
-    for count in [0, 1, 2, 65_535, 65_536, 65_537] {
-        for most in [1, 2, 65_535, 65_536] {
-            comes_through(&rt, rt.alloc(), STANDARD, count, most)?;
+    for count in &COUNTS {
+        for most in &MOST_A_READ {
+            comes_through(&rt, rt.alloc(), STANDARD, *count, *most)?;
         }
     }
     comes_through(&rt, rt.alloc(), STANDARD, 3_000_000, 60_000)
 }
 
-/// Rings that are full at each push.
+/// Rings with room for few items, and one with room for many where each push and pop is of one.
+static FEW_ITEMS: [Sizes; 4] = [
+    Sizes {
+        ring: 1,
+        pushed: 1,
+        popped: 1,
+    },
+    Sizes {
+        ring: 1,
+        pushed: 4_096,
+        popped: 65_536,
+    },
+    Sizes {
+        ring: 3,
+        pushed: 2,
+        popped: 5,
+    },
+    Sizes {
+        ring: 65_536,
+        pushed: 1,
+        popped: 1,
+    },
+];
+
+/// How many bytes are sent through each of them.
+static FEW_BYTES_AND_MANY: [usize; 7] = [0, 1, 2, 3, 4, 5, 10_000];
+
 #[test]
 fn streams_come_through_small_rings(rt: HostRuntime) -> Result<(), Fail> {
-    for (ring, pushed, popped) in [(1, 1, 1), (1, 4_096, 65_536), (3, 2, 5), (65_536, 1, 1)] {
-        let sizes = Sizes {
-            ring,
-            pushed,
-            popped,
-        };
-        for count in [0, 1, 2, 3, 4, 5, 10_000] {
-            comes_through(&rt, rt.alloc(), sizes, count, 65_536)?;
+    for sizes in &FEW_ITEMS {
+        for count in &FEW_BYTES_AND_MANY {
+            comes_through(&rt, rt.alloc(), *sizes, *count, 65_536)?;
         }
     }
     Ok(())
@@ -396,10 +422,13 @@ fn step_through<T: Threads + Wait + Clock + Sync>(
     Ok((late, (counts.heard, mark)))
 }
 
+/// The size of a ring, how many bytes are sent, and at how many of them the sender pauses.
+static WOKEN: [(usize, u64, u64); 3] = [(65_536, 300, 300), (1, 300, 300), (65_536, 100_000, 0)];
+
 /// A wake-up that is lost at an empty ring is mended by the next byte, so the next one comes only when this one was received.
 #[test]
 fn a_receiver_that_sleeps_is_woken(rt: HostRuntime) -> Result<(), Fail> {
-    for (ring, count, pauses) in [(65_536, 300, 300), (1, 300, 300), (65_536, 100_000, 0)] {
+    for &(ring, count, pauses) in &WOKEN {
         let came = step_through(&rt, rt.alloc(), ring, count, pauses)?;
         let heard = Heard { count, wrong: 0 };
         same(
@@ -436,25 +465,41 @@ impl<C: Clock> Ear for Late<'_, C> {
     }
 }
 
+/// The sizes of a ring and of a pop, and how many bytes are sent.
+static RINGS_THAT_FILL: [(usize, usize, usize); 4] = [
+    (1, 1, 300),
+    (2, 1, 300),
+    (64, 64, 20_000),
+    (64, 1, 300),
+];
+
+/// How a stream of so many bytes ended for the sender and for the receiver, who is late.
+fn late_through<T: Threads + Wait + Clock + Sync>(
+    rt: &T,
+    alloc: Global,
+    sizes: Sizes,
+    count: usize,
+) -> Result<(StreamEnd, (Heard, Option<StreamEnd>)), AllocError> {
+    let (sending, hearing) = ends_of(alloc, Stream::new(count, 65_536, true), sizes)?;
+    let ((_, end), came) = join(rt, || sending.send(rt), || hear_late(rt, hearing));
+    Ok((end, came))
+}
+
 #[test]
 fn a_sender_that_sleeps_is_woken(rt: HostRuntime) -> Result<(), Fail> {
-    for (ring, popped, count) in [(1, 1, 300), (2, 1, 300), (64, 64, 20_000), (64, 1, 300)] {
+    for &(ring, popped, count) in &RINGS_THAT_FILL {
         let sizes = Sizes {
             ring,
             pushed: 4_096,
             popped,
         };
-        let (sending, hearing) = ends_of(rt.alloc(), Stream::new(count, 65_536, true), sizes)?;
-        let ((_, end), came) = join(&rt, || sending.send(&rt), || hear_late(&rt, hearing));
+        let came = late_through(&rt, rt.alloc(), sizes, count)?;
         let heard = Heard {
             count: count as u64,
             wrong: 0,
         };
-        same(
-            &rt,
-            (sizes, end, came),
-            (sizes, StreamEnd::Failed, (heard, Some(StreamEnd::Failed))),
-        );
+        let wanted = (StreamEnd::Failed, (heard, Some(StreamEnd::Failed)));
+        same(&rt, (sizes, came), (sizes, wanted));
     }
     Ok(())
 }
@@ -469,18 +514,28 @@ fn go<C: Clock>(clock: &C, mut sender: Sender, count: u64) {
     pause(clock);
 }
 
+/// What comes of a sender that puts so many bytes into the ring and goes.
+fn heard_of_one_that_goes<T: Threads + Wait + Clock + Sync>(
+    rt: &T,
+    alloc: Global,
+    count: u64,
+) -> Result<(Heard, Option<StreamEnd>), AllocError> {
+    let (sender, receiver) = ring(alloc, 8)?;
+    let hearing = Hearing {
+        receiver,
+        items: vec![in alloc; 0u16; 8]?,
+        bytes: vec![in alloc; 0u8; 8]?,
+    };
+    let (_, came) = join(rt, || go(rt, sender, count), || hear(rt, hearing));
+    Ok(came)
+}
+
 /// The receiver sleeps, and is woken by a sender that goes.
 #[test]
 fn a_sender_that_goes_wakes_the_receiver(rt: HostRuntime) -> Result<(), Fail> {
     for round in 0..200u64 {
         let count = round % 4;
-        let (sender, receiver) = ring(rt.alloc(), 8)?;
-        let hearing = Hearing {
-            receiver,
-            items: vec![in rt.alloc(); 0u16; 8]?,
-            bytes: vec![in rt.alloc(); 0u8; 8]?,
-        };
-        let (_, came) = join(&rt, || go(&rt, sender, count), || hear(&rt, hearing));
+        let came = heard_of_one_that_goes(&rt, rt.alloc(), count)?;
         same(&rt, came, (Heard { count, wrong: 0 }, None));
     }
     Ok(())

@@ -2,12 +2,11 @@
 ghost use Rattle.std.specs.Prelude.{◌≡◌, false};
 ghost use Rattle.lrup_model.specs.Layout.{IsStream};
 
-use super::{same, save_formula};
+use super::{same, saves};
 use checkpoint::{SaveFault, save_clips};
 use dimacs::parse;
 use lrup_model::{ClauseMap, Fetched, Formula, Layout, PlainMap};
-use lrup_text::Sink;
-use std::alloc::Global;
+use std::alloc::{AllocError, Global};
 use std::fmt::Write;
 use std::test::Fail;
 use test_support::Paper;
@@ -48,42 +47,47 @@ fn save_copies_at_first(
     save_copies(alloc, &mut map.desk(1), layout, count, paper)
 }
 
+/// The same, of a formula of one clause, where the first write fails: what that gives, the writes, and the bytes.
+fn save_one_clause(
+    alloc: Global,
+    count: usize,
+) -> Result<(Result<(), SaveFault>, usize, usize), Fail> {
+    let formula = parse(alloc, b"p cnf 1 1\n1 0\n")?;
+    let layout = Layout::new(1, 1, 1, 1, 0, 0)?;
+    if !layout.fits(&formula) {
+        return Err("no layout".into());
+    }
+    let mut map = PlainMap::open(alloc, &formula, &layout)?;
+    let _ = layout.streams();
+    let mut paper = Paper::new(alloc, 1_000, 1);
+    let saved = save_copies_at_first(alloc, &mut map, &layout, count, &mut paper)?;
+    Ok((saved, paper.writes, paper.bytes.len()))
+}
+
 /// As many clauses as a formula may have come to the first write, which fails here; one more doesn't.
 #[test]
 fn clauses_have_a_limit(rt: HostRuntime) -> Result<(), Fail> {
     let most = Formula::MAX_CLAUSES as usize;
-    for (count, wanted, writes) in [
-        (most, SaveFault::Unwritten, 1usize),
-        (most + 1, SaveFault::TooLarge, 0),
-    ] {
-        let formula = parse(rt.alloc(), b"p cnf 1 1\n1 0\n")?;
-        let layout = Layout::new(1, 1, 1, 1, 0, 0)?;
-        if !layout.fits(&formula) {
-            return Err("no layout".into());
-        }
-        let mut map = PlainMap::open(rt.alloc(), &formula, &layout)?;
-        let _ = layout.streams();
-        let mut paper = Paper::new(rt.alloc(), 1_000, 1);
-        let saved = save_copies_at_first(rt.alloc(), &mut map, &layout, count, &mut paper)?;
-        same(&rt, (saved, paper.writes), (Err(wanted), writes));
-        same(&rt, paper.bytes.len(), 0);
-    }
+    let found = save_one_clause(rt.alloc(), most)?;
+    same(&rt, found, (Err(SaveFault::Unwritten), 1, 0));
+    let found = save_one_clause(rt.alloc(), most + 1)?;
+    same(&rt, found, (Err(SaveFault::TooLarge), 0, 0));
     Ok(())
 }
 
 /// A clause of as many literals as a formula's may have.
-#[test]
-fn the_longest_clause_is_saved(rt: HostRuntime) -> Result<(), Fail> {
-    let mut text = String::new(rt.alloc());
-    text.push_str("p cnf 1048575 1\n")?;
+fn longest_clause(alloc: Global) -> Result<String, AllocError> {
+    let mut text = String::from_str(alloc, "p cnf 1048575 1\n")?;
     for variable in 1..=Formula::MAX_CLAUSE_LITERALS {
         write!(text, "{variable} ")?;
     }
     text.push_str("0\n")?;
+    Ok(text)
+}
+
+#[test]
+fn the_longest_clause_is_saved(rt: HostRuntime) -> Result<(), Fail> {
+    let text = longest_clause(rt.alloc())?;
     let formula = parse(rt.alloc(), text.as_bytes())?;
-    let mut paper = Paper::new(rt.alloc(), usize::MAX, 0);
-    let saved = save_formula(rt.alloc(), &formula, &mut paper)?;
-    same(&rt, (saved, paper.failed()), (Ok(()), false));
-    same(&rt, paper.bytes.as_slice(), text.as_bytes());
-    Ok(())
+    saves(&rt, &formula, usize::MAX, 0, Ok(()), text.as_bytes())
 }

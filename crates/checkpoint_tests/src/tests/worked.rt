@@ -10,6 +10,7 @@ use dimacs::parse;
 use lrup_model::{ClauseMap, Id, Layout, PlainMap};
 use lrup_text::Sink;
 use std::alloc::{AllocError, Global};
+use std::process::Abort;
 use std::test::Fail;
 use test_support::{Paper, four_clauses, lit};
 
@@ -83,7 +84,8 @@ fn save_worked(alloc: Global, case: &Case, paper: &mut Paper) -> Result<Result<(
     Ok(save_after(alloc, &mut map, &layout, case, paper))
 }
 
-const CASES: [(Case, &str); 9] = [
+/// Cases, and what is saved in them.
+static CASES: [(Case, &str); 9] = [
     (
         Case {
             publishes: None,
@@ -159,51 +161,65 @@ const CASES: [(Case, &str); 9] = [
     ),
 ];
 
-#[test]
-fn what_is_live_and_wanted_is_written(rt: HostRuntime) -> Result<(), Fail> {
-    for (case, text) in CASES {
-        let mut paper = Paper::new(rt.alloc(), 7, 0);
-        let saved = save_worked(rt.alloc(), &case, &mut paper)?;
-        same(
-            &rt,
-            (saved, paper.bytes.as_slice()),
-            (Ok(()), text.as_bytes()),
-        );
-    }
+/// Saves the worked formula's map by writes of so many bytes, of which this one fails, and none
+/// where that is 0.
+fn saves_worked(
+    rt: &(impl Abort + AllocGlobal),
+    case: &Case,
+    most: usize,
+    fails_at: usize,
+    wanted: (Result<(), SaveFault>, bool, &[u8]),
+) -> Result<(), Fail> {
+    let mut paper = Paper::new(rt.alloc(), most, fails_at);
+    let saved = save_worked(rt.alloc(), case, &mut paper)?;
+    let found = (saved, paper.failed(), paper.bytes.as_slice());
+    same(rt, found, wanted);
     Ok(())
 }
 
 #[test]
-fn a_write_that_fails_leaves_a_beginning(rt: HostRuntime) -> Result<(), Fail> {
-    for (case, text) in CASES {
-        let writes = text.len().div_ceil(7);
-        for fails_at in 1..=writes + 1 {
-            let mut paper = Paper::new(rt.alloc(), 7, fails_at);
-            let saved = save_worked(rt.alloc(), &case, &mut paper)?;
-            let wanted = if fails_at <= writes {
-                Err(SaveFault::Unwritten)
-            } else {
-                Ok(())
-            };
-            same(&rt, (saved, paper.failed()), (wanted, fails_at <= writes));
-            let went = (7 * (fails_at - 1)).min(text.len());
-            same(&rt, paper.bytes.as_slice(), &text.as_bytes()[..went]);
-        }
+fn what_is_live_and_wanted_is_written(rt: HostRuntime) -> Result<(), Fail> {
+    for &(case, text) in &CASES {
+        saves_worked(&rt, &case, 7, 0, (Ok(()), false, text.as_bytes()))?;
     }
     Ok(())
+}
+
+/// Saves a case by writes of 7 bytes, of which each fails in turn, and at last none.
+fn breaks_anywhere(rt: &(impl Abort + AllocGlobal), case: &Case, text: &[u8]) -> Result<(), Fail> {
+    let writes = text.len().div_ceil(7);
+    for before in 0..writes {
+        let went = before.saturating_mul(7).min(text.len());
+        let wanted = (Err(SaveFault::Unwritten), true, &text[..went]);
+        saves_worked(rt, case, 7, before + 1, wanted)?;
+    }
+    saves_worked(rt, case, 7, writes + 1, (Ok(()), false, text))
+}
+
+#[test]
+fn a_write_that_fails_leaves_a_beginning(rt: HostRuntime) -> Result<(), Fail> {
+    for &(case, text) in &CASES {
+        breaks_anywhere(&rt, &case, text.as_bytes())?;
+    }
+    Ok(())
+}
+
+/// Each beginning of these bytes is refused, but those of so many bytes and more are read.
+fn beginnings_are_refused(rt: &(impl Abort + AllocGlobal), bytes: &[u8], least: usize) {
+    for end in 0..=bytes.len() {
+        let reads = parse(rt.alloc(), &bytes[..end]).is_ok();
+        same(rt, (end, reads), (end, least <= end));
+    }
 }
 
 /// What was saved is read again, without its last end of a line too, and no shorter beginning is.
 #[test]
 fn a_beginning_is_refused(rt: HostRuntime) -> Result<(), Fail> {
-    for (case, text) in CASES {
+    for &(case, text) in &CASES {
         let mut paper = Paper::new(rt.alloc(), 1_000, 0);
         let saved = save_worked(rt.alloc(), &case, &mut paper)?;
         same(&rt, (text, saved), (text, Ok(())));
-        for end in 0..=paper.bytes.len() {
-            let reads = parse(rt.alloc(), &paper.bytes[..end]).is_ok();
-            same(&rt, (end, reads), (end, end + 1 >= text.len()));
-        }
+        beginnings_are_refused(&rt, paper.bytes.as_slice(), text.len().saturating_sub(1));
     }
     Ok(())
 }
@@ -267,23 +283,31 @@ fn ids_after(
     live_ids(alloc, &mut desk, last, &case.wanted)
 }
 
+/// Under which identity stream 1 publishes, what is wanted then and up to which identity, and what that is.
+static LIVE: [(Id, Except, Id, Option<&[u64]>); 5] = [
+    (5, ALL, 6, Some(&[1, 2, 3, 4, 5])),
+    (6, ALL, 6, Some(&[1, 2, 3, 4, 6])),
+    (5, Except(2, 3), 6, Some(&[1, 4, 5])),
+    (5, ALL, 3, Some(&[1, 2, 3])),
+    (5, ALL, 7, None),
+];
+
+/// The identities of what is live and wanted in the worked formula's map.
+fn worked_ids(alloc: Global, case: &Case, last: Id) -> Result<Option<Vec<Id>>, Fail> {
+    let (mut map, layout) = open_worked(alloc)?;
+    let _ = layout.streams();
+    Ok(ids_after(alloc, &mut map, case, last)?)
+}
+
 #[test]
 fn live_clauses_come_in_order(rt: HostRuntime) -> Result<(), Fail> {
-    for (publishes, wanted, last, ids) in [
-        (Some(5), ALL, 6, Some(&[1u64, 2, 3, 4, 5] as &[u64])),
-        (Some(6), ALL, 6, Some(&[1, 2, 3, 4, 6])),
-        (Some(5), Except(2, 3), 6, Some(&[1, 4, 5])),
-        (Some(5), ALL, 3, Some(&[1, 2, 3])),
-        (Some(5), ALL, 7, None),
-    ] {
-        let (mut map, layout) = open_worked(rt.alloc())?;
-        let _ = layout.streams();
+    for &(publishes, wanted, last, ids) in &LIVE {
         let case = Case {
-            publishes,
+            publishes: Some(publishes),
             retires: false,
             wanted,
         };
-        let found = ids_after(rt.alloc(), &mut map, &case, last)?;
+        let found = worked_ids(rt.alloc(), &case, last)?;
         same(&rt, found.as_ref().map(|ids| ids.as_slice()), ids);
     }
     Ok(())

@@ -9,7 +9,7 @@ ghost use Rattle.clause_store_tests.specs.Worked.{IsPassAt, raced};
 
 use super::{
     Found, TURNS, arrives, finds_raced, holds, is_kept, is_raced, live, look, open_race, open_two,
-    publish, publish_raced, published, reads_back, retire, retire_raced, same, waits_for,
+    publish, publish_raced, published, reads_back, retire, same, waits_for,
 };
 use clause_store::{Pass, Store};
 use lrup_model::{Clip, Fetched, Id, Lit, Published, Retired};
@@ -21,7 +21,16 @@ use std::thread::{Threads, for_each_mut, join, yield_now};
 use std::time::{Clock, Duration};
 use test_support::lit;
 
-/// Retires 6 and publishes 8, and then stays until the other thread has read its clip. Was that in time?
+/// Retires 6 and publishes 8.
+fn replace(store: &Store, pass: &mut Pass) -> (Option<Retired>, Option<Published>)
+    requires { IsPassAt four store.now pass.old }
+    ensures { IsPassAt four store.now pass.new }
+{
+    let retired = retire(store, pass, 6);
+    (retired, publish(store, pass, 8, &[lit(1)]))
+}
+
+/// Replaces 6 by 8, and then stays until the other thread has read its clip. Was that in time?
 fn replace_six(
     store: &Store,
     mut pass: Pass,
@@ -31,8 +40,7 @@ fn replace_six(
     requires { IsPassAt four store.now pass }
     ensures { IsPassAt four store.now result.0 }
 {
-    let retired = retire(store, &mut pass, 6);
-    let published = publish(store, &mut pass, 8, &[lit(1)]);
+    let (retired, published) = replace(store, &mut pass);
     replaced.fetch_add(1, Ordering::SeqCst);
     let in_time = waits_for(read, 1);
     (pass, (retired, published, in_time))
@@ -195,7 +203,7 @@ fn retire_together<R: Abort>(rt: &R, store: &Store, pass: &mut Pass, there: &Ato
         let answer = publish_raced(store, pass, id);
         assert_eq!(rt; answer, Some(Published::Done), "line {line}");
         assert!(rt; arrives(there, 4 * line + 4), "line {line}");
-        let answer = retire_raced(store, pass, id);
+        let answer = retire(store, pass, id);
         assert_eq!(rt; answer, Some(Retired::Done), "line {line}");
     }
     there.fetch_add(1, Ordering::SeqCst);

@@ -3,7 +3,7 @@ ghost use Rattle.std.specs.Prelude.{◌≡◌, ◌∷◌, []};
 ghost use Rattle.std.specs.List.{AllByRecursion};
 ghost use Rattle.lrup_model.specs.Pass.{IsFair, MeetsInTurn};
 ghost use Rattle.clause_store.specs.Passes.{store_of, AreOf, HaveMet, views};
-ghost use Rattle.clause_store_tests.specs.Worked.{IsPassAt, raced};
+ghost use Rattle.clause_store_tests.specs.Worked.{IsPassAt, ArePassesAt, raced};
 
 use super::{finds_raced, open_race, publish_raced, same};
 use clause_store::laws::{meeting_keeps, meets_twice};
@@ -46,19 +46,40 @@ fn finds_three<R: Abort>(rt: &R, store: &Store, pass: &mut Pass)
     same(rt, finds_raced(store, pass, 4), Some(true));
 }
 
+/// Each of three streams publishes a clause.
+fn publish_three<R: Abort>(
+    rt: &R,
+    store: &Store,
+    first: &mut Pass,
+    second: &mut Pass,
+    third: &mut Pass,
+)
+    requires { ArePassesAt raced store.now (first.old ∷ second.old ∷ third.old ∷ []) }
+    ensures { AreOf store.now (first.new ∷ second.new ∷ third.new ∷ []) }
+{
+    same(rt, publish_raced(store, first, 2), Some(Published::Done));
+    same(rt, publish_raced(store, second, 3), Some(Published::Done));
+    same(rt, publish_raced(store, third, 4), Some(Published::Done));
+}
+
+/// They do so, and the first meets both others twice. Each then finds all three.
+fn meet_as_three<R: Abort>(rt: &R, store: &Store, passes: &mut [Pass]) -> Result<(), Fail>
+    requires { ArePassesAt raced store.now passes.old }
+{
+    let (first, others) = passes.split_first_mut().ok_or("no pass")?;
+    let (second, others) = others.split_first_mut().ok_or("one pass")?;
+    let (third, _) = others.split_first_mut().ok_or("two passes")?;
+    publish_three(rt, store, first, second, third);
+    meet_both_twice(store, first, second, third);
+    finds_three(rt, store, first);
+    finds_three(rt, store, second);
+    finds_three(rt, store, third);
+    Ok(())
+}
+
 /// Each of three streams publishes a clause. Once the first has met both others twice, each finds all three.
 #[test]
 fn three_passes_meet_twice(rt: HostRuntime) -> Result<(), Fail> {
     let (store, mut passes) = open_race(rt.alloc(), 3, 1, 2)?;
-    let (first, others) = passes.split_first_mut().ok_or("no pass")?;
-    let (second, others) = others.split_first_mut().ok_or("one pass")?;
-    let (third, _) = others.split_first_mut().ok_or("two passes")?;
-    same(&rt, publish_raced(&store, first, 2), Some(Published::Done));
-    same(&rt, publish_raced(&store, second, 3), Some(Published::Done));
-    same(&rt, publish_raced(&store, third, 4), Some(Published::Done));
-    meet_both_twice(&store, first, second, third);
-    finds_three(&rt, &store, first);
-    finds_three(&rt, &store, second);
-    finds_three(&rt, &store, third);
-    Ok(())
+    meet_as_three(&rt, &store, passes.as_mut_slice())
 }

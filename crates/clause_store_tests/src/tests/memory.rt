@@ -1,12 +1,13 @@
 //! What the calls of a store take of memory, which is nothing; and an opening that is refused.
 ghost use Rattle.std.specs.Prelude.{◌≡◌, IfOk};
+ghost use Rattle.lrup_model.specs.Layout.{Fits};
 ghost use Rattle.clause_store.specs.Passes.{store_of, AreOf};
-ghost use Rattle.clause_store_tests.specs.Worked.{IsPassAt, raced};
+ghost use Rattle.clause_store_tests.specs.Worked.{IsPassAt, ArePassesAt, raced};
 
-use super::{Found, finds_raced, holds, look, open_race, publish_raced, retire_raced, same};
+use super::{Found, finds_raced, holds, look, open_race, publish_raced, retire, same};
 use clause_store::{Pass, Store};
 use lrup_model::{Fetched, Formula, Id, Layout, Published, Retired};
-use std::alloc::Global;
+use std::alloc::{AllocError, Global};
 use std::process::Abort;
 use std::test::Fail;
 
@@ -38,21 +39,23 @@ fn call_each<R: Abort>(rt: &R, store: &Store, first: &mut Pass, second: &mut Pas
     store.meet(first, second);
     same(rt, finds_raced(store, second, id), Some(true));
     holds(rt, has_pair(store, second, id));
-    same(rt, retire_raced(store, first, id), Some(Retired::Done));
+    same(rt, retire(store, first, id), Some(Retired::Done));
     same(rt, publish_raced(store, first, id), Some(Published::Taken));
-    same(rt, retire_raced(store, first, id), Some(Retired::NotLive));
+    same(rt, retire(store, first, id), Some(Retired::NotLive));
     store.meet(first, second);
     same(rt, look(store, second, id), Some(Found::Retired));
 }
 
 /// The same, a thousand times.
-fn call_often<R: Abort>(rt: &R, store: &Store, first: &mut Pass, second: &mut Pass)
-    requires first { IsPassAt raced store.now first.old }
-    requires second { IsPassAt raced store.now second.old }
+fn call_often<R: Abort>(rt: &R, store: &Store, passes: &mut [Pass]) -> Result<(), Fail>
+    requires { ArePassesAt raced store.now passes.old }
 {
+    let (first, others) = passes.split_first_mut().ok_or("no pass")?;
+    let (second, _) = others.split_first_mut().ok_or("one pass")?;
     for line in 0..1_000 {
         call_each(rt, store, first, second, 2 * line + 2);
     }
+    Ok(())
 }
 
 /// No call of a pass takes memory: some allocations make the formula, the store and the passes, and the next one is the test's
@@ -60,15 +63,28 @@ fn call_often<R: Abort>(rt: &R, store: &Store, first: &mut Pass, second: &mut Pa
 #[test]
 fn the_last_allocation_comes_after_all_calls(rt: HostRuntime) -> Result<(), Fail> {
     let (store, mut passes) = open_race(rt.alloc(), 2, 1_000, 2_000)?;
-    let mut second = passes.pop().ok_or("no pass")?;
-    let mut first = passes.pop().ok_or("one pass")?;
-    call_often(&rt, &store, &mut first, &mut second);
+    call_often(&rt, &store, passes.as_mut_slice())?;
     let _last: Vec<u8> = Vec::with_capacity(rt.alloc(), 1)?;
     Ok(())
 }
 
-/// A store without clauses for two streams with one identity each, and their passes; a refused one is asked for once more.
-fn open_again(alloc: Global) -> Result<(Store, Vec<Pass>), Fail>
+/// A store and its passes; a refused one is asked for once more.
+fn open_again(
+    alloc: Global,
+    formula: &Formula,
+    layout: Layout,
+) -> Result<(Store, Vec<Pass>), AllocError>
+    requires { Fits layout formula.now }
+    ensures { IfOk result (λ opened. AreOf opened.0 opened.1.items) }
+{
+    match Store::open(alloc, formula, layout) {
+        Ok(opened) => Ok(opened),
+        Err(_) => Store::open(alloc, formula, layout),
+    }
+}
+
+/// The same, without clauses and for two streams with one identity each.
+fn open_empty(alloc: Global) -> Result<(Store, Vec<Pass>), Fail>
     ensures { IfOk result (λ opened. AreOf opened.0 opened.1.items) }
 {
     let formula = Formula::new(alloc, 2);
@@ -76,16 +92,13 @@ fn open_again(alloc: Global) -> Result<(Store, Vec<Pass>), Fail>
     if !layout.fits(&formula) {
         return Err("no layout".into());
     }
-    match Store::open(alloc, &formula, layout) {
-        Ok(opened) => Ok(opened),
-        Err(_) => Ok(Store::open(alloc, &formula, layout)?),
-    }
+    Ok(open_again(alloc, &formula, layout)?)
 }
 
 /// The gate runs this test with each of its allocations refused, one after the other; the second opening then has memory.
 #[test]
 fn a_refused_store_can_be_opened_again(rt: HostRuntime) -> Result<(), Fail> {
-    let (store, mut passes) = open_again(rt.alloc())?;
+    let (store, mut passes) = open_empty(rt.alloc())?;
     same(&rt, passes.len(), 2);
     let mut second = passes.pop().ok_or("no pass")?;
     same(&rt, look(&store, &mut second, 1), Some(Found::Vacant));

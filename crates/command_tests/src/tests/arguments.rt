@@ -31,18 +31,21 @@ fn assert_exits<T: Threads + Wait + Sync + Clock + Abort>(
     Ok(())
 }
 
+const UNKNOWN_OF_EMPTY: &str = "c stream 1: 0 added, 0 deleted, ended\ns UNKNOWN\n";
+
+/// The arguments, the report and the status.
+static ARGUMENTS: [([&str; 3], &str, u8); 4] = [
+    (["lrupd", "f", "1"], REFUTED, 0),
+    (["lrupd", "f", "2"], UNKNOWN_OF_EMPTY, 3),
+    (["--room", "f", "1"], REFUTED, 0),
+    (["", "f", "1"], REFUTED, 0),
+];
+
 #[test]
 fn a_run_with_arguments(rt: HostRuntime) -> Result<(), Fail> {
-    let refuted = "c stream 1: 2 added, 0 deleted, ended\ns UNSATISFIABLE\n";
-    let unknown = "c stream 1: 0 added, 0 deleted, ended\ns UNKNOWN\n";
-    for (texts, report, status) in [
-        (["lrupd", "f", "1"], refuted, 0),
-        (["lrupd", "f", "2"], unknown, 3),
-        (["--room", "f", "1"], refuted, 0),
-        (["", "f", "1"], refuted, 0),
-    ] {
-        let arguments = Ok(arguments_of(rt.alloc(), &texts)?);
-        assert_exits(&rt, rt.alloc(), arguments, (report, "", status))?;
+    for (texts, report, status) in &ARGUMENTS {
+        let arguments = Ok(arguments_of(rt.alloc(), texts)?);
+        assert_exits(&rt, rt.alloc(), arguments, (report, "", *status))?;
     }
     let arguments = Ok(arguments_of(rt.alloc(), &["lrupd", "g", "1"])?);
     let cause = "lrupd: cannot read formula\n";

@@ -42,79 +42,93 @@ fn ends_under<'a, T: Threads + Wait + Sync + Clock + Abort>(
 
 const UNDER: &str = "c stream 1: 1 added, 0 deleted, ended\ns UNSATISFIABLE UNDER ASSUMPTIONS\n";
 
-const UNKNOWN: &str = "c stream 1: 1 added, 0 deleted, ended\ns UNKNOWN\n";
+const UNKNOWN_OF_UNIT: &str = "c stream 1: 1 added, 0 deleted, ended\ns UNKNOWN\n";
+
+const RANGE: &str = "lrupd: assumptions refused: variable out of range\n";
+
+const SPELLING: &str = "lrupd: assumptions refused: spelling\n";
+
+/// The assumed literals, and the report, the line on standard error and the status.
+static ASSUMED: [(&str, (&str, &str, u8)); 8] = [
+    ("-2 0\n", (UNDER, "", 8)),
+    ("-2 1 -2 0\n", (UNDER, "", 8)),
+    ("2 0\n", (UNKNOWN_OF_UNIT, "", 3)),
+    ("0\n", (UNKNOWN_OF_UNIT, "", 3)),
+    ("1 -1 0\n", (UNKNOWN_OF_UNIT, "", 3)),
+    ("3 0\n", ("", RANGE, 4)),
+    ("-2 0", ("", SPELLING, 4)),
+    ("+2 0\n", ("", SPELLING, 4)),
+];
 
 #[test]
 fn worked_rows_under_assumptions(rt: HostRuntime) -> Result<(), Fail> {
-    let range = "lrupd: assumptions refused: variable out of range\n";
-    let spelling = "lrupd: assumptions refused: spelling\n";
-    for (assumed, want) in [
-        ("-2 0\n", (UNDER, "", 8)),
-        ("-2 1 -2 0\n", (UNDER, "", 8)),
-        ("2 0\n", (UNKNOWN, "", 3)),
-        ("0\n", (UNKNOWN, "", 3)),
-        ("1 -1 0\n", (UNKNOWN, "", 3)),
-        ("3 0\n", ("", range, 4)),
-        ("-2 0", ("", spelling, 4)),
-        ("+2 0\n", ("", spelling, 4)),
-    ] {
+    for &(assumed, want) in &ASSUMED {
         ends_under(&rt, rt.alloc(), TWO, &[UNIT], assumed, want)?;
     }
     Ok(())
 }
 
-/// The empty clause decides before a clause within the cube, in whichever stream; and any stream's clause does.
-#[test]
-fn any_stream_decides(rt: HostRuntime) -> Result<(), Fail> {
-    let refuted = "c stream 1: 2 added, 0 deleted, ended\ns UNSATISFIABLE\n";
-    let two = "c stream 1: 1 added, 0 deleted, ended
-c stream 2: 2 added, 0 deleted, ended
-s UNSATISFIABLE
-";
-    let second = "c stream 1: 0 added, 0 deleted, bad line 1 (no conflict)
+const SECOND_IS_WITHIN: &str = "c stream 1: 0 added, 0 deleted, bad line 1 (no conflict)
 c stream 2: 1 added, 0 deleted, ended
 s UNSATISFIABLE UNDER ASSUMPTIONS
 ";
-    let later = "c stream 1: 1 added, 0 deleted, bad line 2 (no conflict)
+
+const BAD_AFTER: &str = "c stream 1: 1 added, 0 deleted, bad line 2 (no conflict)
 s UNSATISFIABLE UNDER ASSUMPTIONS
 ";
-    let rows: [(&[&str], &str, u8); 4] = [
-        (&["5 2 0 1 2 0\n6 0 5 3 4 0\n"], refuted, 0),
-        (&["5 2 0 1 2 0\n", "6 2 0 1 2 0\n8 0 6 3 4 0\n"], two, 0),
-        (&["5 2 0 1 0\n", "6 2 0 1 2 0\n"], second, 8),
-        (&["5 2 0 1 2 0\n6 1 0 1 0\n"], later, 8),
-    ];
-    for (streams, out, status) in rows {
+
+/// Streams under `-2`, the report and the status.
+static DECIDED: [(&[&str], &str, u8); 4] = [
+    (&["5 2 0 1 2 0\n6 0 5 3 4 0\n"], REFUTED, 0),
+    (
+        &["5 2 0 1 2 0\n", "6 2 0 1 2 0\n8 0 6 3 4 0\n"],
+        ONE_AND_TWO_ADDED,
+        0,
+    ),
+    (&["5 2 0 1 0\n", "6 2 0 1 2 0\n"], SECOND_IS_WITHIN, 8),
+    (&["5 2 0 1 2 0\n6 1 0 1 0\n"], BAD_AFTER, 8),
+];
+
+/// The empty clause decides before a clause within the cube, in whichever stream; and any stream's clause does.
+#[test]
+fn any_stream_decides(rt: HostRuntime) -> Result<(), Fail> {
+    for &(streams, out, status) in &DECIDED {
         ends_under(&rt, rt.alloc(), FOUR, streams, "-2 0\n", (out, "", status))?;
     }
     Ok(())
 }
 
+/// Texts, and why they are refused.
+static REFUSED_ASSUMPTIONS: [(&str, &str); 12] = [
+    ("", "spelling"),
+    ("\n", "spelling"),
+    ("-2 0\n\n", "spelling"),
+    ("-2 0\n1 0\n", "spelling"),
+    ("-2 0\r\n", "spelling"),
+    ("-2  0\n", "spelling"),
+    ("02 0\n", "spelling"),
+    ("-0 0\n", "spelling"),
+    ("3 0", "spelling"),
+    ("3 +2 0\n", "spelling"),
+    ("999999999999999999 0\n", "variable out of range"),
+    ("1000000000000000000 0\n", "too long"),
+];
+
+/// The text of the assumed literals is refused for this cause.
+fn refuses<T: Threads + Wait + Sync + Clock + Abort>(
+    rt: &T,
+    alloc: Global,
+    assumed: &str,
+    cause: &str,
+) -> Result<(), Fail> {
+    let text = format!(in alloc; "lrupd: assumptions refused: {cause}\n")?;
+    ends_under(rt, alloc, TWO, &[UNIT], assumed, ("", text.as_str(), 4))
+}
+
 #[test]
 fn texts_of_assumptions_that_are_refused(rt: HostRuntime) -> Result<(), Fail> {
-    for (assumed, cause) in [
-        ("", "spelling"),
-        ("\n", "spelling"),
-        ("-2 0\n\n", "spelling"),
-        ("-2 0\n1 0\n", "spelling"),
-        ("-2 0\r\n", "spelling"),
-        ("-2  0\n", "spelling"),
-        ("02 0\n", "spelling"),
-        ("-0 0\n", "spelling"),
-        ("3 0", "spelling"),
-        ("3 +2 0\n", "spelling"),
-        ("999999999999999999 0\n", "variable out of range"),
-        ("1000000000000000000 0\n", "too long"),
-    ] {
-        let text = format!(in rt.alloc(); "lrupd: assumptions refused: {cause}\n")?;
-        ends_under(
-            &rt,
-            rt.alloc(),
-            TWO,
-            &[UNIT],
-            assumed,
-            ("", text.as_str(), 4),
-        )?;
+    for &(assumed, cause) in &REFUSED_ASSUMPTIONS {
+        refuses(&rt, rt.alloc(), assumed, cause)?;
     }
     Ok(())
 }

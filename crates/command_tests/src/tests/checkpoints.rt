@@ -182,7 +182,7 @@ const ALL: &str = "p cnf 2 5\n1 2 0\n-1 2 0\n1 -2 0\n-1 -2 0\n2 0\n";
 /// Adds a clause, and drops the first.
 const DROPS: &str = "5 2 0 1 2 0\n7 d 1 0\n";
 
-const UNKNOWN: &str = "c stream 1: 1 added, 1 deleted, ended\ns UNKNOWN\n";
+const UNKNOWN_OF_DROPS: &str = "c stream 1: 1 added, 1 deleted, ended\ns UNKNOWN\n";
 
 /// A run over the four clauses, where all goes well: its words but for the option of turns, its streams, and what is wanted.
 #[derive(Clone, Copy)]
@@ -223,51 +223,52 @@ c stream 2: 0 added, 1 deleted, ended
 s UNKNOWN
 ";
 
-const UNDER: &str = "c stream 1: 1 added, 1 deleted, ended\ns UNSATISFIABLE UNDER ASSUMPTIONS\n";
+const UNDER_OF_DROPS: &str =
+    "c stream 1: 1 added, 1 deleted, ended\ns UNSATISFIABLE UNDER ASSUMPTIONS\n";
 
-const REFUTED: &str = "c stream 1: 2 added, 0 deleted, ended\ns UNSATISFIABLE\n";
+static CHECKPOINTS: [Row; 6] = [
+    Row {
+        words: &["f", "1"],
+        streams: &[DROPS],
+        ends: (3, UNKNOWN_OF_DROPS, ""),
+        left: ("f 1 ", "", 0),
+    },
+    Row {
+        words: &["--checkpoint", "ck", "f", "1"],
+        streams: &[DROPS],
+        ends: (3, UNKNOWN_OF_DROPS, ""),
+        left: ("f 1 +ck =ck ", LESS, 64),
+    },
+    Row {
+        words: &["f", "1", "2", "--checkpoint=ck"],
+        streams: &[DROPS, ""],
+        ends: (3, TWO_STREAMS, ""),
+        left: ("f 1 2 +ck =ck ", ALL, 42),
+    },
+    Row {
+        words: &["f", "1", "2", "--checkpoint", "ck"],
+        streams: &[DROPS, "6 d 1 0\n"],
+        ends: (3, BOTH_DROP, ""),
+        left: ("f 1 2 +ck =ck ", LESS, 64),
+    },
+    Row {
+        words: &["--checkpoint", "ck", "--assume", "a", "f", "1"],
+        streams: &[DROPS],
+        ends: (8, UNDER_OF_DROPS, ""),
+        left: ("f a 1 +ck =ck ", LESS, 64),
+    },
+    Row {
+        words: &["--checkpoint", "ck", "f", "1"],
+        streams: &["5 2 0 1 2 0\n6 0 5 3 4 0\n"],
+        ends: (0, REFUTED, ""),
+        left: ("f 1 +ck ", "", 0),
+    },
+];
 
 #[test]
 fn checkpoints_of_runs(rt: HostRuntime) -> Result<(), Fail> {
-    for row in [
-        Row {
-            words: &["f", "1"],
-            streams: &[DROPS],
-            ends: (3, UNKNOWN, ""),
-            left: ("f 1 ", "", 0),
-        },
-        Row {
-            words: &["--checkpoint", "ck", "f", "1"],
-            streams: &[DROPS],
-            ends: (3, UNKNOWN, ""),
-            left: ("f 1 +ck =ck ", LESS, 64),
-        },
-        Row {
-            words: &["f", "1", "2", "--checkpoint=ck"],
-            streams: &[DROPS, ""],
-            ends: (3, TWO_STREAMS, ""),
-            left: ("f 1 2 +ck =ck ", ALL, 42),
-        },
-        Row {
-            words: &["f", "1", "2", "--checkpoint", "ck"],
-            streams: &[DROPS, "6 d 1 0\n"],
-            ends: (3, BOTH_DROP, ""),
-            left: ("f 1 2 +ck =ck ", LESS, 64),
-        },
-        Row {
-            words: &["--checkpoint", "ck", "--assume", "a", "f", "1"],
-            streams: &[DROPS],
-            ends: (8, UNDER, ""),
-            left: ("f a 1 +ck =ck ", LESS, 64),
-        },
-        Row {
-            words: &["--checkpoint", "ck", "f", "1"],
-            streams: &["5 2 0 1 2 0\n6 0 5 3 4 0\n"],
-            ends: (0, REFUTED, ""),
-            left: ("f 1 +ck ", "", 0),
-        },
-    ] {
-        assert_row(&rt, rt.alloc(), &row)?;
+    for row in &CHECKPOINTS {
+        assert_row(&rt, rt.alloc(), row)?;
     }
     Ok(())
 }
@@ -325,14 +326,28 @@ fn checkpoints_that_are_not_written(rt: HostRuntime) -> Result<(), Fail> {
     for fails_at in 1..=LESS.len().div_ceil(7) {
         let manner = Manner { fails_at, ..WELL };
         let left = ("f 1 +ck ", "", (fails_at as u64 - 1) * 7);
-        assert_unsaved(&rt, rt.alloc(), manner, 0, (9, UNKNOWN, UNWRITTEN), left)?;
+        assert_unsaved(
+            &rt,
+            rt.alloc(),
+            manner,
+            0,
+            (9, UNKNOWN_OF_DROPS, UNWRITTEN),
+            left,
+        )?;
     }
     let lost = Manner {
         is_lost: true,
         ..WELL
     };
     let left = ("f 1 +ck =ck ", "", 64);
-    assert_unsaved(&rt, rt.alloc(), lost, 0, (9, UNKNOWN, UNWRITTEN), left)
+    assert_unsaved(
+        &rt,
+        rt.alloc(),
+        lost,
+        0,
+        (9, UNKNOWN_OF_DROPS, UNWRITTEN),
+        left,
+    )
 }
 
 /// The checkpoint is kept, or not; the status tells of the report, and standard error of both.

@@ -56,9 +56,9 @@ impl io::Write for Device {
     }
 }
 
-const SIZES: [usize; 3] = [1, 2, 65_536];
+static SIZES: [usize; 3] = [1, 2, 65_536];
 
-const KINDS: [io::ErrorKind; 8] = [
+static KINDS: [io::ErrorKind; 8] = [
     io::ErrorKind::WouldBlock,
     io::ErrorKind::Interrupted,
     io::ErrorKind::TimedOut,
@@ -105,8 +105,8 @@ fn assert_written(
 
 #[test]
 fn a_failed_read_made_again(rt: HostRuntime) -> Result<(), Fail> {
-    for kind in KINDS {
-        for size in SIZES {
+    for &kind in &KINDS {
+        for &size in &SIZES {
             let wanted = Err(ReadFault);
             assert_read(&rt, rt.alloc(), First::Fails(kind), size, wanted)?;
         }
@@ -116,7 +116,7 @@ fn a_failed_read_made_again(rt: HostRuntime) -> Result<(), Fail> {
 
 #[test]
 fn a_read_made_again_at_the_end(rt: HostRuntime) -> Result<(), Fail> {
-    for size in SIZES {
+    for &size in &SIZES {
         assert_read(&rt, rt.alloc(), First::MovesNothing, size, Ok(0))?;
     }
     Ok(())
@@ -124,7 +124,7 @@ fn a_read_made_again_at_the_end(rt: HostRuntime) -> Result<(), Fail> {
 
 #[test]
 fn a_read_of_one_byte_that_is_refused(rt: HostRuntime) -> Result<(), Fail> {
-    for size in SIZES {
+    for &size in &SIZES {
         assert_read(&rt, rt.alloc(), First::MovesAll, size, Ok(size))?;
     }
     Ok(())
@@ -132,8 +132,8 @@ fn a_read_of_one_byte_that_is_refused(rt: HostRuntime) -> Result<(), Fail> {
 
 #[test]
 fn a_failed_write_made_again(rt: HostRuntime) -> Result<(), Fail> {
-    for kind in KINDS {
-        for size in SIZES {
+    for &kind in &KINDS {
+        for &size in &SIZES {
             let wanted = Err(WriteFault);
             assert_written(&rt, rt.alloc(), First::Fails(kind), size, wanted)?;
         }
@@ -143,7 +143,7 @@ fn a_failed_write_made_again(rt: HostRuntime) -> Result<(), Fail> {
 
 #[test]
 fn a_write_made_again_after_one_of_nothing(rt: HostRuntime) -> Result<(), Fail> {
-    for size in SIZES {
+    for &size in &SIZES {
         let wanted = Err(WriteFault);
         assert_written(&rt, rt.alloc(), First::MovesNothing, size, wanted)?;
     }
@@ -152,7 +152,7 @@ fn a_write_made_again_after_one_of_nothing(rt: HostRuntime) -> Result<(), Fail> 
 
 #[test]
 fn a_write_of_one_byte_that_is_refused(rt: HostRuntime) -> Result<(), Fail> {
-    for size in SIZES {
+    for &size in &SIZES {
         assert_written(&rt, rt.alloc(), First::MovesAll, size, Ok(size))?;
     }
     Ok(())

@@ -32,39 +32,45 @@ fn assert_opened<T: Threads + Wait + Sync + Clock + Abort>(
     Ok(())
 }
 
+/// Formulas, and what is said of them.
+static REFUSED_FORMULAS: [(&str, &str); 8] = [
+    ("", "formula refused: no header"),
+    ("p cnf 1\n", "formula refused: bad header"),
+    ("p cnf 1 1\n+1 0\n", "formula refused: bad number in line 2"),
+    (
+        "p cnf 1 1\n2 0\n",
+        "formula refused: variable out of range in line 2",
+    ),
+    ("p cnf 1 1\n1\n", "formula refused: open clause"),
+    ("p cnf 1 2\n1 0\n", "formula refused: too few clauses"),
+    (
+        "p cnf 1 0\n0\n",
+        "formula refused: too many clauses in line 2",
+    ),
+    ("p cnf 16777216 0\n", "formula refused: limit"),
+];
+
 /// The stream isn't looked for.
 #[test]
 fn formulas_that_are_refused(rt: HostRuntime) -> Result<(), Fail> {
-    for (formula, line) in [
-        ("", "formula refused: no header"),
-        ("p cnf 1\n", "formula refused: bad header"),
-        ("p cnf 1 1\n+1 0\n", "formula refused: bad number in line 2"),
-        (
-            "p cnf 1 1\n2 0\n",
-            "formula refused: variable out of range in line 2",
-        ),
-        ("p cnf 1 1\n1\n", "formula refused: open clause"),
-        ("p cnf 1 2\n1 0\n", "formula refused: too few clauses"),
-        (
-            "p cnf 1 0\n0\n",
-            "formula refused: too many clauses in line 2",
-        ),
-        ("p cnf 16777216 0\n", "formula refused: limit"),
-    ] {
+    for &(formula, line) in &REFUSED_FORMULAS {
         assert_opened(&rt, rt.alloc(), &["f", "no"], formula, (line, 4, "f "))?;
     }
     Ok(())
 }
 
+/// The words, what is said, and the files that were opened or asked for.
+static MISSING: [([&str; 3], &str, &str); 4] = [
+    (["no", "1", "2"], "cannot read formula", "no "),
+    (["no", "no", "2"], "cannot read formula", "no "),
+    (["f", "no", "no"], "cannot open stream 1", "f no "),
+    (["f", "1", "no"], "cannot open stream 2", "f 1 no "),
+];
+
 #[test]
 fn files_that_are_missing(rt: HostRuntime) -> Result<(), Fail> {
-    for (words, line, opened) in [
-        (["no", "1", "2"], "cannot read formula", "no "),
-        (["no", "no", "2"], "cannot read formula", "no "),
-        (["f", "no", "no"], "cannot open stream 1", "f no "),
-        (["f", "1", "no"], "cannot open stream 2", "f 1 no "),
-    ] {
-        assert_opened(&rt, rt.alloc(), &words, FOUR, (line, 5, opened))?;
+    for (words, line, opened) in &MISSING {
+        assert_opened(&rt, rt.alloc(), words, FOUR, (line, 5, opened))?;
     }
     Ok(())
 }
@@ -154,19 +160,20 @@ fn assert_usage<T: Threads + Wait + Sync + Clock + Abort>(
     Ok(())
 }
 
+static FAULTY: [(&[&str], &str); 5] = [
+    (&[], "<FORMULA>"),
+    (&["f"], "<STREAM>"),
+    (&["--tries", "1000001", "f", "1"], "--tries"),
+    (&["--fast", "f", "1"], "--fast"),
+    (
+        &["--help"],
+        "Usage: lrupd [OPTIONS] <FORMULA> <STREAM>...\n",
+    ),
+];
+
 #[test]
 fn words_with_a_fault(rt: HostRuntime) -> Result<(), Fail> {
-    let none: &[&str] = &[];
-    for (words, part) in [
-        (none, "<FORMULA>"),
-        (["f"].as_slice(), "<STREAM>"),
-        (["--tries", "1000001", "f", "1"].as_slice(), "--tries"),
-        (["--fast", "f", "1"].as_slice(), "--fast"),
-        (
-            ["--help"].as_slice(),
-            "Usage: lrupd [OPTIONS] <FORMULA> <STREAM>...\n",
-        ),
-    ] {
+    for &(words, part) in &FAULTY {
         assert_usage(&rt, rt.alloc(), words, part)?;
     }
     Ok(())

@@ -143,17 +143,20 @@ fn a_formula_read_in_smaller_pieces(rt: HostRuntime) -> Result<(), Fail> {
     Ok(())
 }
 
+/// The formula's bytes, the most that come a read, and how many reads there are.
+static READS: [(usize, usize, u64); 6] = [
+    (39, 1, 40),
+    (39, 2, 21),
+    (39, usize::MAX, 2),
+    (65_536, usize::MAX, 2),
+    (65_537, usize::MAX, 3),
+    (200_000, usize::MAX, 5),
+];
+
 /// A terminal wants its end twice, if it is read again after it.
 #[test]
 fn a_formula_read_after_its_end(rt: HostRuntime) -> Result<(), Fail> {
-    for (bytes, most, reads) in [
-        (39, 1, 40),
-        (39, 2, 21),
-        (39, usize::MAX, 2),
-        (65_536, usize::MAX, 2),
-        (65_537, usize::MAX, 3),
-        (200_000, usize::MAX, 5),
-    ] {
+    for &(bytes, most, reads) in &READS {
         let text = formula_of(rt.alloc(), bytes)?;
         let (pieces, others) = reads_of(&rt, rt.alloc(), text.as_str(), most);
         let found = pieces.saturating_add(others);

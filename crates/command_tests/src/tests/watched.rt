@@ -80,7 +80,7 @@ s UNKNOWN
 ";
 
 /// The words that are tried, and how many streams are watched.
-const WORDS: [(&[&str], u64); 4] = [
+static WORDS: [(&[&str], u64); 4] = [
     (&["f", "1", "2"], 0),
     (&["--serial", "f", "1", "2"], 0),
     (&["--watch", "f", "1", "2"], 2),
@@ -124,7 +124,7 @@ fn assert_told<T: Threads + Wait + Sync + Clock + Abort>(
 
 #[test]
 fn with_the_flag_each_stream_is_told_of(rt: HostRuntime) -> Result<(), Fail> {
-    for (words, watched) in WORDS {
+    for &(words, watched) in &WORDS {
         let shelf = shelf_of(rt.alloc(), FOUR, &STREAMS)?;
         assert_told(&rt, rt.alloc(), words, shelf, watched);
     }

@@ -212,13 +212,16 @@ fn reports_of_an_import(rt: HostRuntime) -> Result<(), Fail> {
     Ok(())
 }
 
+/// The first of two streams, and the verdict.
+static VERDICTS: [(&str, Verdict); 2] = [
+    (FIRST, Verdict::Unsatisfiable),
+    ("5 2 0 1 2 0\n", Verdict::Unknown),
+];
+
 /// A refutation, and a beginning of it.
 #[test]
 fn the_verdict_is_that_of_an_order(rt: HostRuntime) -> Result<(), Fail> {
-    for (first, wanted) in [
-        (FIRST, Verdict::Unsatisfiable),
-        ("5 2 0 1 2 0\n", Verdict::Unknown),
-    ] {
+    for &(first, wanted) in &VERDICTS {
         let outcome = run_in_threads(&rt, rt.alloc(), first, "6 -2 0 3 4 0\n")?;
         same(&rt, (first, outcome.verdict), (first, wanted));
     }

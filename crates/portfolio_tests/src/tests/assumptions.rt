@@ -1,5 +1,5 @@
 //! Runs under a cube of assumed literals, with a thread for each stream and by turns.
-use super::{BOTH, bad_line, defaults, ended, found_under, readers_of, report, same};
+use super::{BOTH, defaults, found_under, readers_of, report, same};
 use lrup_model::{Cube, Lit};
 use portfolio::Verdict;
 use std::alloc::Global;
@@ -50,36 +50,61 @@ fn within(added: u64, ending: Ending) -> Report {
 
 const UNIT: &str = "5 2 0 1 2 0\n";
 
+/// What is said of a stream: its additions, whether one is empty, whether one is within the cube, and its ending.
+type SaidUnder = (u64, bool, bool, Ending);
+
+fn report_under(said: SaidUnder) -> Report {
+    let (added, empty, within, ending) = said;
+    Report {
+        empty,
+        within,
+        ..report(added, 0, ending)
+    }
+}
+
+const FOUND: SaidUnder = (1, false, true, Ending::Ended);
+
+const NOT_FOUND: SaidUnder = (1, false, false, Ending::Ended);
+
+const REFUTED: SaidUnder = (2, true, true, Ending::Ended);
+
+/// The assumed literals, a stream, what is said of it, and the verdict.
+static CUBES: [(&[i64], &str, SaidUnder, Verdict); 8] = [
+    (&[-2], UNIT, FOUND, Verdict::UnsatisfiableUnder),
+    (&[-2, 1, -2], UNIT, FOUND, Verdict::UnsatisfiableUnder),
+    (&[2], UNIT, NOT_FOUND, Verdict::Unknown),
+    (&[], UNIT, NOT_FOUND, Verdict::Unknown),
+    (&[1, -1], UNIT, NOT_FOUND, Verdict::Unknown),
+    (
+        &[1, -1],
+        "5 1 0 1 3 0\n",
+        FOUND,
+        Verdict::UnsatisfiableUnder,
+    ),
+    (
+        &[1, -1],
+        "5 -1 0 2 4 0\n",
+        FOUND,
+        Verdict::UnsatisfiableUnder,
+    ),
+    (
+        &[-2],
+        "5 2 0 1 2 0\n6 0 5 3 4 0\n",
+        REFUTED,
+        Verdict::Unsatisfiable,
+    ),
+];
+
 #[test]
 fn one_stream_under_a_cube(rt: HostRuntime) -> Result<(), Fail> {
-    let found = within(1, Ending::Ended);
-    let rows: [(&[i64], &str, Report, Verdict); 8] = [
-        (&[-2], UNIT, found, Verdict::UnsatisfiableUnder),
-        (&[-2, 1, -2], UNIT, found, Verdict::UnsatisfiableUnder),
-        (&[2], UNIT, ended(1, false), Verdict::Unknown),
-        (&[], UNIT, ended(1, false), Verdict::Unknown),
-        (&[1, -1], UNIT, ended(1, false), Verdict::Unknown),
-        (
-            &[1, -1],
-            "5 1 0 1 3 0\n",
-            found,
-            Verdict::UnsatisfiableUnder,
-        ),
-        (
-            &[1, -1],
-            "5 -1 0 2 4 0\n",
-            found,
-            Verdict::UnsatisfiableUnder,
-        ),
-        (
-            &[-2],
-            "5 2 0 1 2 0\n6 0 5 3 4 0\n",
-            ended(2, true),
-            Verdict::Unsatisfiable,
-        ),
-    ];
-    for (cube, lines, said, verdict) in rows {
-        run_says(&rt, rt.alloc(), cube, &[lines], (&[said], verdict))?;
+    for &(cube, lines, said, verdict) in &CUBES {
+        run_says(
+            &rt,
+            rt.alloc(),
+            cube,
+            &[lines],
+            (&[report_under(said)], verdict),
+        )?;
     }
     Ok(())
 }
@@ -96,26 +121,29 @@ fn a_bad_line_takes_nothing_back(rt: HostRuntime) -> Result<(), Fail> {
     )
 }
 
+const FAULT: SaidUnder = (0, false, false, Ending::Bad(1, Fault::NoConflict));
+
+const NOTHING: SaidUnder = (0, false, false, Ending::Ended);
+
+const BAD: &str = "5 2 0 1 0\n";
+
+const SECOND: &str = "6 2 0 1 2 0\n";
+
+const REFUTING: &str = "6 2 0 1 2 0\n8 0 6 3 4 0\n";
+
+/// Two streams, their reports, and the verdict.
+static PAIRS: [([&str; 2], SaidUnder, SaidUnder, Verdict); 4] = [
+    ([UNIT, SECOND], FOUND, FOUND, Verdict::UnsatisfiableUnder),
+    ([BAD, SECOND], FAULT, FOUND, Verdict::UnsatisfiableUnder),
+    ([UNIT, REFUTING], FOUND, REFUTED, Verdict::Unsatisfiable),
+    ([BAD, ""], FAULT, NOTHING, Verdict::Unknown),
+];
+
 /// The clause within the cube and the empty clause may be of different streams, and of any.
 #[test]
 fn any_stream_decides(rt: HostRuntime) -> Result<(), Fail> {
-    let first = "5 2 0 1 2 0\n";
-    let bad = "5 2 0 1 0\n";
-    let second = "6 2 0 1 2 0\n";
-    let refuted = "6 2 0 1 2 0\n8 0 6 3 4 0\n";
-    let found = within(1, Ending::Ended);
-    let fault = bad_line(1, Fault::NoConflict);
-    let rows: [([&str; 2], [Report; 2], Verdict); 4] = [
-        ([first, second], [found, found], Verdict::UnsatisfiableUnder),
-        ([bad, second], [fault, found], Verdict::UnsatisfiableUnder),
-        (
-            [first, refuted],
-            [found, ended(2, true)],
-            Verdict::Unsatisfiable,
-        ),
-        ([bad, ""], [fault, ended(0, false)], Verdict::Unknown),
-    ];
-    for (streams, said, verdict) in rows {
+    for &(streams, first, second, verdict) in &PAIRS {
+        let said = [report_under(first), report_under(second)];
         run_says(&rt, rt.alloc(), &[-2], &streams, (&said, verdict))?;
     }
     Ok(())

@@ -2,17 +2,16 @@
 ghost use Rattle.std.specs.Prelude.{◌≡◌, false, IfOk, None};
 ghost use Rattle.std.specs.List.{AllByRecursion};
 
-use super::{BOTH, By, Open, bad_line, defaults, ended, holds, same};
+use super::{BOTH, By, Open, bad_line, defaults, ended, holds, run_by_threads, run_by_turns, same};
 use lrup_model::Cube;
 use lrup_text::{LineFault, ReadFault, Source};
-use portfolio::{Outcome, SerialOutcome, Verdict, run, run_serial};
+use portfolio::{Outcome, SerialOutcome, Verdict};
 use std::alloc::{AllocError, Global};
 use std::process::Abort;
 use std::sync::Wait;
 use std::test::Fail;
 use std::thread::Threads;
 use stream_check::{Fault, Report};
-use test_support::four_clauses;
 
 /// A text that comes so many bytes a read, then one end, and then what comes later, as of a file that grows or of a terminal.
 #[derive(Drop)]
@@ -49,7 +48,7 @@ impl Source for Growing<'_> {
 
 /// Four streams: what comes before the first end of each, and what comes later, which would change its report. A refutation
 /// goes on; a line that is none follows; a line is cut by the end; nothing comes before it.
-const STREAMS: [(&str, &str); 4] = [
+static STREAMS: [(&str, &str); 4] = [
     ("5 2 0 1 2 0\n", "9 0 5 3 4 0\n"),
     ("6 -2 0 3 4 0\n", "6 6\n"),
     ("7 2 0 1 2 0", "\n"),
@@ -61,7 +60,7 @@ fn readers_that_grow(alloc: Global, most: usize) -> Result<Vec<Growing<'static>>
     ensures { IfOk result (λ readers. AllByRecursion (λ _. false ≡ false) readers.items) }
 {
     let mut readers = Vec::new(alloc);
-    for (before, later) in STREAMS {
+    for &(before, later) in &STREAMS {
         readers.push(Growing {
             left: before.as_bytes(),
             later: later.as_bytes(),
@@ -89,12 +88,11 @@ fn run_growing<'a, T: Threads + Wait + Sync>(
 ) -> Result<Came<'a>, Fail>
     requires { AllByRecursion (λ _. false ≡ false) readers.items }
 {
-    let formula = four_clauses(alloc)?;
     let none = Cube::empty(alloc);
     let gates = vec![in alloc; Open; readers.len()]?;
     match by {
         By::Threads => {
-            let outcome = run(rt, alloc, &formula, &none, defaults(), readers, gates)?;
+            let outcome = run_by_threads(rt, alloc, &none, defaults(), readers, gates)?;
             let Outcome {
                 reports,
                 verdict,
@@ -108,7 +106,7 @@ fn run_growing<'a, T: Threads + Wait + Sync>(
             })
         }
         By::Turns => {
-            let outcome = run_serial(rt, alloc, &formula, &none, defaults(), readers, gates)?;
+            let outcome = run_by_turns(rt, alloc, &none, defaults(), readers, gates)?;
             let SerialOutcome {
                 reports,
                 verdict,
@@ -125,7 +123,7 @@ fn run_growing<'a, T: Threads + Wait + Sync>(
 }
 
 /// How often each of the four is asked, where a read gives so many bytes: the last time for its first end.
-const READS: [(usize, [usize; 4]); 3] = [
+static READS: [(usize, [usize; 4]); 3] = [
     (1, [13, 14, 12, 1]),
     (5, [4, 4, 4, 1]),
     (usize::MAX, [2, 2, 2, 1]),
@@ -134,7 +132,7 @@ const READS: [(usize, [usize; 4]); 3] = [
 /// Each reader was asked so often, and still has what comes later.
 fn stopped_there(rt: &impl Abort, by: By, readers: &[Growing<'_>], reads: [usize; 4]) {
     holds(rt, readers.len() == 4);
-    for ((reader, count), (before, later)) in readers.iter().zip(reads).zip(STREAMS) {
+    for ((reader, count), &(before, later)) in readers.iter().zip(reads).zip(&STREAMS) {
         same(
             rt,
             (by, before, reader.reads, reader.left),
@@ -168,7 +166,7 @@ fn says_of_first_ends<T: Threads + Wait + Sync + Abort>(
 #[test]
 fn no_read_after_the_first_end(rt: HostRuntime) -> Result<(), Fail> {
     for by in BOTH {
-        for (most, reads) in READS {
+        for &(most, reads) in &READS {
             says_of_first_ends(&rt, rt.alloc(), by, most, reads)?;
         }
     }

@@ -6,11 +6,11 @@ ghost use Rattle.lrup_model.specs.Layout.{IsStream};
 ghost use Rattle.lrup_model.specs.Plain.{PlainMoves, plain_place};
 ghost use Rattle.stream_check.specs.Checker.{IsReadyAt};
 
-use super::threads::waits_for;
+use super::threads::{run_with, waits_for};
 use super::{By, CITING, Open, bad_line, ended, options, readers_of, report, reports_of, same};
 use checker_support::{checker_at, open_map};
-use lrup_model::{ClauseMap, Cube, Id, PlainMap};
-use portfolio::{Outcome, Verdict, run};
+use lrup_model::{ClauseMap, Id, PlainMap};
+use portfolio::{Outcome, Verdict};
 use std::alloc::Global;
 use std::process::Abort;
 use std::sync::Wait;
@@ -19,7 +19,6 @@ use std::test::Fail;
 use std::thread::Threads;
 use stream_check::laws::ready_beside;
 use stream_check::{Checker, Ending, Fault, Gate, Report};
-use test_support::four_clauses;
 
 /// Feeds bytes through the end of a line, or all of them, and says how many.
 fn take_line<M: ClauseMap>(checker: &mut Checker, map: &mut M, bytes: &[u8]) -> usize
@@ -77,6 +76,21 @@ impl Two {
         take_at(&mut self.map, 2, &mut self.second, bytes)
     }
 
+    /// Takes lines in this order, and says whether each stream was then read whole.
+    fn take_in(&mut self, streams: [&str; 2], order: &[u64]) -> (bool, bool) {
+        let (mut first, mut second) = (streams[0].as_bytes(), streams[1].as_bytes());
+        for stream in order {
+            if *stream == 1 {
+                let used = self.take_first(first);
+                first = &first[used..];
+            } else {
+                let used = self.take_second(second);
+                second = &second[used..];
+            }
+        }
+        (first.is_empty(), second.is_empty())
+    }
+
     /// What is said of both, where each was read whole or is over.
     fn end(&mut self, first_whole: bool, second_whole: bool) -> Option<[Report; 2]> {
         if !first_whole && !self.first.is_over() || !second_whole && !self.second.is_over() {
@@ -100,39 +114,59 @@ fn said_in(
     order: &[u64],
 ) -> Result<Option<[Report; 2]>, Fail> {
     let mut two = Two::open(alloc, lines, tries)?;
-    let (mut first, mut second) = (streams[0].as_bytes(), streams[1].as_bytes());
-    for stream in order {
-        if *stream == 1 {
-            let used = two.take_first(first);
-            first = &first[used..];
-        } else {
-            let used = two.take_second(second);
-            second = &second[used..];
-        }
+    let (first_whole, second_whole) = two.take_in(streams, order);
+    Ok(two.end(first_whole, second_whole))
+}
+
+/// What is said of a stream: its additions, whether one is empty, and its ending.
+type Said = (u64, bool, Ending);
+
+fn report_of(said: Said) -> Report {
+    let (added, empty, ending) = said;
+    Report {
+        empty,
+        within: empty,
+        ..report(added, 0, ending)
     }
-    Ok(two.end(first.is_empty(), second.is_empty()))
+}
+
+const REFUTES: Said = (2, true, Ending::Ended);
+
+const ADDS: Said = (1, false, Ending::Ended);
+
+const MISSES_FIVE: Said = (1, false, Ending::Bad(2, Fault::Missing(5)));
+
+const MISSES_SIX: Said = (1, false, Ending::Bad(2, Fault::Missing(6)));
+
+/// What is said of two streams where all comes in time, where 6 comes too late, and where 5 does.
+const IN_TIME: (Said, Said) = (REFUTES, ADDS);
+
+const SIX_LATE: (Said, Said) = (MISSES_SIX, ADDS);
+
+const FIVE_LATE: (Said, Said) = (REFUTES, MISSES_FIVE);
+
+fn reports_of_two(said: (Said, Said)) -> [Report; 2] {
+    [report_of(said.0), report_of(said.1)]
 }
 
 /// What is said of CITING where the second stream's line comes in time, and where it comes too late.
 fn said_of_citing() -> [[Report; 2]; 2] {
-    let missing = report(1, 0, Ending::Bad(2, Fault::Missing(6)));
-    [
-        [ended(2, true), ended(1, false)],
-        [missing, ended(1, false)],
-    ]
+    [reports_of_two(IN_TIME), reports_of_two(SIX_LATE)]
 }
+
+/// Whose line is next, and what is said then.
+static ORDERS_OF_CITING: [([u64; 3], (Said, Said)); 3] = [
+    ([2, 1, 1], IN_TIME),
+    ([1, 2, 1], IN_TIME),
+    ([1, 1, 2], SIX_LATE),
+];
 
 /// The reports of the three orders of its lines.
 #[test]
 fn orders_of_citing(rt: HostRuntime) -> Result<(), Fail> {
-    let [in_time, late] = said_of_citing();
-    for (order, wanted) in [
-        ([2, 1, 1], in_time),
-        ([1, 2, 1], in_time),
-        ([1, 1, 2], late),
-    ] {
+    for &(order, wanted) in &ORDERS_OF_CITING {
         let said = said_in(rt.alloc(), 2, 0, CITING, &order)?;
-        same(&rt, (order, said), (order, Some(wanted)));
+        same(&rt, (order, said), (order, Some(reports_of_two(wanted))));
     }
     Ok(())
 }
@@ -180,33 +214,33 @@ const IMPORTING: [&str; 2] = [
 
 /// What is said of IMPORTING where both clauses come in time, where 6 comes too late, and where 5 does.
 fn said_of_importing() -> [[Report; 2]; 3] {
-    let missing_six = report(1, 0, Ending::Bad(2, Fault::Missing(6)));
-    let missing_five = report(1, 0, Ending::Bad(2, Fault::Missing(5)));
     [
-        [ended(2, true), ended(1, false)],
-        [missing_six, ended(1, false)],
-        [ended(2, true), missing_five],
+        reports_of_two(IN_TIME),
+        reports_of_two(SIX_LATE),
+        reports_of_two(FIVE_LATE),
     ]
 }
+
+/// The columns are those of `ORDERS_OF_CITING`.
+static ORDERS_OF_IMPORTING: [([u64; 5], (Said, Said)); 10] = [
+    ([1, 1, 1, 2, 2], SIX_LATE),
+    ([1, 1, 2, 1, 2], SIX_LATE),
+    ([1, 1, 2, 2, 1], SIX_LATE),
+    ([1, 2, 1, 1, 2], IN_TIME),
+    ([1, 2, 1, 2, 1], IN_TIME),
+    ([1, 2, 2, 1, 1], IN_TIME),
+    ([2, 1, 1, 1, 2], IN_TIME),
+    ([2, 1, 1, 2, 1], IN_TIME),
+    ([2, 1, 2, 1, 1], IN_TIME),
+    ([2, 2, 1, 1, 1], FIVE_LATE),
+];
 
 /// The reports of the ten orders of its lines.
 #[test]
 fn orders_of_importing(rt: HostRuntime) -> Result<(), Fail> {
-    let [in_time, six_late, five_late] = said_of_importing();
-    for (order, wanted) in [
-        ([1, 1, 1, 2, 2], six_late),
-        ([1, 1, 2, 1, 2], six_late),
-        ([1, 1, 2, 2, 1], six_late),
-        ([1, 2, 1, 1, 2], in_time),
-        ([1, 2, 1, 2, 1], in_time),
-        ([1, 2, 2, 1, 1], in_time),
-        ([2, 1, 1, 1, 2], in_time),
-        ([2, 1, 1, 2, 1], in_time),
-        ([2, 1, 2, 1, 1], in_time),
-        ([2, 2, 1, 1, 1], five_late),
-    ] {
+    for &(order, wanted) in &ORDERS_OF_IMPORTING {
         let said = said_in(rt.alloc(), 2, 0, IMPORTING, &order)?;
-        same(&rt, (order, said), (order, Some(wanted)));
+        same(&rt, (order, said), (order, Some(reports_of_two(wanted))));
     }
     Ok(())
 }
@@ -282,18 +316,8 @@ fn run_deleting<T: Threads + Wait + Sync>(
         seven: &seven,
         late: &late,
     };
-    let formula = four_clauses(alloc)?;
     let readers = readers_of(alloc, &streams, 5)?;
-    let gates = vec![in alloc; gate; readers.len()]?;
-    let outcome = run(
-        rt,
-        alloc,
-        &formula,
-        &Cube::empty(alloc),
-        options(0, 2, 16),
-        readers,
-        gates,
-    )?;
+    let outcome = run_with(rt, alloc, options(0, 2, 16), gate, readers)?;
     let Outcome {
         reports,
         verdict,
@@ -318,16 +342,19 @@ fn finds_both<T: Threads + Wait + Sync + Abort>(
     Ok(())
 }
 
+/// Whose line is next, and the fault of the second stream's line 1.
+static ORDERS_OF_DELETING: [([u64; 4], Fault); 4] = [
+    ([2, 1, 1, 1], Fault::Missing(5)),
+    ([1, 2, 1, 1], Fault::Missing(7)),
+    ([1, 1, 2, 1], Fault::Retired(5)),
+    ([1, 1, 1, 2], Fault::Retired(5)),
+];
+
 /// No order of whole lines has these reports.
 #[test]
 fn a_deleted_clause_that_was_found(rt: HostRuntime) -> Result<(), Fail> {
     finds_both(&rt, rt.alloc(), DELETING)?;
-    for (order, fault) in [
-        ([2, 1, 1, 1], Fault::Missing(5)),
-        ([1, 2, 1, 1], Fault::Missing(7)),
-        ([1, 1, 2, 1], Fault::Retired(5)),
-        ([1, 1, 1, 2], Fault::Retired(5)),
-    ] {
+    for &(order, fault) in &ORDERS_OF_DELETING {
         let said = said_in(rt.alloc(), 2, 0, DELETING, &order)?;
         let other = [report(2, 1, Ending::Ended), bad_line(1, fault)];
         same(&rt, (order, said), (order, Some(other)));
@@ -335,22 +362,25 @@ fn a_deleted_clause_that_was_found(rt: HostRuntime) -> Result<(), Fail> {
     Ok(())
 }
 
+/// Whose line is next, the second stream's line that is bad, and its fault.
+static ORDERS_OF_DELETING_IMPORTED: [([u64; 5], u64, Fault); 10] = [
+    ([1, 1, 1, 2, 2], 1, Fault::Retired(5)),
+    ([1, 1, 2, 1, 2], 1, Fault::Retired(5)),
+    ([1, 1, 2, 2, 1], 1, Fault::Retired(5)),
+    ([1, 2, 1, 1, 2], 2, Fault::Retired(5)),
+    ([1, 2, 1, 2, 1], 2, Fault::Retired(5)),
+    ([1, 2, 2, 1, 1], 2, Fault::Missing(7)),
+    ([2, 1, 1, 1, 2], 1, Fault::Missing(5)),
+    ([2, 1, 1, 2, 1], 1, Fault::Missing(5)),
+    ([2, 1, 2, 1, 1], 1, Fault::Missing(5)),
+    ([2, 2, 1, 1, 1], 1, Fault::Missing(5)),
+];
+
 /// The second stream's first fetch of 5 is its import's; no order of whole lines has these reports.
 #[test]
 fn a_deleted_clause_that_was_imported(rt: HostRuntime) -> Result<(), Fail> {
     finds_both(&rt, rt.alloc(), DELETING_IMPORTED)?;
-    for (order, line, fault) in [
-        ([1, 1, 1, 2, 2], 1, Fault::Retired(5)),
-        ([1, 1, 2, 1, 2], 1, Fault::Retired(5)),
-        ([1, 1, 2, 2, 1], 1, Fault::Retired(5)),
-        ([1, 2, 1, 1, 2], 2, Fault::Retired(5)),
-        ([1, 2, 1, 2, 1], 2, Fault::Retired(5)),
-        ([1, 2, 2, 1, 1], 2, Fault::Missing(7)),
-        ([2, 1, 1, 1, 2], 1, Fault::Missing(5)),
-        ([2, 1, 1, 2, 1], 1, Fault::Missing(5)),
-        ([2, 1, 2, 1, 1], 1, Fault::Missing(5)),
-        ([2, 2, 1, 1, 1], 1, Fault::Missing(5)),
-    ] {
+    for &(order, line, fault) in &ORDERS_OF_DELETING_IMPORTED {
         let said = said_in(rt.alloc(), 2, 0, DELETING_IMPORTED, &order)?;
         let other = [report(2, 1, Ending::Ended), bad_line(line, fault)];
         same(&rt, (order, said), (order, Some(other)));

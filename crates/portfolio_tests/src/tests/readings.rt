@@ -3,11 +3,11 @@ ghost use Rattle.std.specs.Prelude.{◌≡◌, false, length, IfOk, None};
 ghost use Rattle.std.specs.List.{AllByRecursion};
 
 use super::rows::{both_say, repeated};
-use super::threads::{run_citing, waits_for};
-use super::{CITING, Open, bad_line, defaults, ended, holds, options, readers_of, report, same};
+use super::threads::{run_citing, run_with, waits_for};
+use super::{Open, bad_line, defaults, ended, report, run_by_threads, same};
 use lrup_model::{Cube, Id};
 use lrup_text::{LineFault, ReadFault, Source};
-use portfolio::{Verdict, run};
+use portfolio::Verdict;
 use std::alloc::{AllocError, Global};
 use std::process::Abort;
 use std::sync::Wait;
@@ -15,7 +15,6 @@ use std::sync::atomic::{AtomicBool, Ordering};
 use std::test::Fail;
 use std::thread::Threads;
 use stream_check::{Ending, Fault, Gate, Report};
-use test_support::four_clauses;
 
 /// How many bytes a read gives, around the size of a ring.
 const SIZES: [usize; 6] = [1, 2, 65_535, 65_536, 65_537, usize::MAX];
@@ -212,9 +211,8 @@ fn a_blocked_reader_holds_up_no_other(rt: HostRuntime) -> Result<(), Fail> {
     let late = AtomicBool::new(false);
     let readers = one_waits(rt.alloc(), &flags, &late)?;
     let gates = telling(rt.alloc(), &flags[0], &flags[1])?;
-    let formula = four_clauses(rt.alloc())?;
     let none = Cube::empty(rt.alloc());
-    let outcome = run(&rt, rt.alloc(), &formula, &none, defaults(), readers, gates)?;
+    let outcome = run_by_threads(&rt, rt.alloc(), &none, defaults(), readers, gates)?;
     same(&rt, late.load(Ordering::SeqCst), false);
     let wanted = [ended(2, true), ended(2, false), ended(2, false)];
     same(&rt, outcome.reports.as_slice(), wanted.as_slice());
@@ -283,20 +281,9 @@ fn reads_and_checks_on_one_thread(rt: HostRuntime) -> Result<(), Fail> {
         flag: &second,
         late: &late,
     };
-    let formula = four_clauses(rt.alloc())?;
     let mut readers = Vec::new(rt.alloc());
     readers.push(reader)?;
-    let mut gates = Vec::new(rt.alloc());
-    gates.push(gate)?;
-    let outcome = run(
-        &rt,
-        rt.alloc(),
-        &formula,
-        &Cube::empty(rt.alloc()),
-        defaults(),
-        readers,
-        gates,
-    )?;
+    let outcome = run_with(&rt, rt.alloc(), defaults(), gate, readers)?;
     assert!(rt;
         !late.load(Ordering::SeqCst),
         "the second read came while the first line waited"
@@ -337,34 +324,32 @@ impl Source for Floods {
     }
 }
 
+/// What is said of such a stream, what its reader had left, and whether it failed.
+fn flooded<T: Threads + Wait + Sync>(
+    rt: &T,
+    alloc: Global,
+    fails: bool,
+) -> Result<Option<(Report, u64, bool)>, Fail> {
+    let mut readers = Vec::new(alloc);
+    readers.push(Floods {
+        left: 100_000_000,
+        fails,
+        failed: false,
+    })?;
+    let outcome = run_with(rt, alloc, defaults(), Open, readers)?;
+    match (outcome.reports.as_slice(), outcome.readers.as_slice()) {
+        ([report], [reader]) => Ok(Some((*report, reader.left, reader.failed))),
+        _ => Ok(None),
+    }
+}
+
 /// After its bad line a stream is read to its end, or to the read that fails, and nothing more is said of it.
 #[test]
 fn the_rest_is_read_after_a_bad_line(rt: HostRuntime) -> Result<(), Fail> {
+    let bad = bad_line(1, Fault::Text(LineFault::Spelling));
     for fails in [false, true] {
-        let reader = Floods {
-            left: 100_000_000,
-            fails,
-            failed: false,
-        };
-        let formula = four_clauses(rt.alloc())?;
-        let mut readers = Vec::new(rt.alloc());
-        readers.push(reader)?;
-        let mut gates = Vec::new(rt.alloc());
-        gates.push(Open)?;
-        let outcome = run(
-            &rt,
-            rt.alloc(),
-            &formula,
-            &Cube::empty(rt.alloc()),
-            defaults(),
-            readers,
-            gates,
-        )?;
-        let wanted = bad_line(1, Fault::Text(LineFault::Spelling));
-        same(&rt, outcome.reports.as_slice(), [wanted].as_slice());
-        for reader in &outcome.readers {
-            same(&rt, (reader.left, reader.failed), (0, fails));
-        }
+        let found = flooded(&rt, rt.alloc(), fails)?;
+        same(&rt, found, Some((bad, 0, fails)));
     }
     Ok(())
 }

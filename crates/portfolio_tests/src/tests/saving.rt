@@ -75,61 +75,67 @@ fn saves<T: Threads + Wait + Sync + Abort>(
     Ok(())
 }
 
+static LIVE: [([&str; 2], &str); 3] = [
+    (
+        ["5 2 0 1 2 0\n7 0 5 6 0\n", "6 -2 0 3 4 0\n"],
+        "p cnf 2 7\n1 2 0\n-1 2 0\n1 -2 0\n-1 -2 0\n2 0\n-2 0\n0\n",
+    ),
+    (
+        ["5 2 0 1 2 0\n5 d 5 0\n", "6 -2 0 3 4 0\n"],
+        "p cnf 2 5\n1 2 0\n-1 2 0\n1 -2 0\n-1 -2 0\nc id 6\n-2 0\n",
+    ),
+    (
+        ["", "5 2 0 1 2 0\n"],
+        "p cnf 2 4\n1 2 0\n-1 2 0\n1 -2 0\n-1 -2 0\n",
+    ),
+];
+
 #[test]
 fn what_is_live_is_saved(rt: HostRuntime) -> Result<(), Fail> {
-    for (streams, text) in [
-        (
-            ["5 2 0 1 2 0\n7 0 5 6 0\n", "6 -2 0 3 4 0\n"],
-            "p cnf 2 7\n1 2 0\n-1 2 0\n1 -2 0\n-1 -2 0\n2 0\n-2 0\n0\n",
-        ),
-        (
-            ["5 2 0 1 2 0\n5 d 5 0\n", "6 -2 0 3 4 0\n"],
-            "p cnf 2 5\n1 2 0\n-1 2 0\n1 -2 0\n-1 -2 0\nc id 6\n-2 0\n",
-        ),
-        (
-            ["", "5 2 0 1 2 0\n"],
-            "p cnf 2 4\n1 2 0\n-1 2 0\n1 -2 0\n-1 -2 0\n",
-        ),
-    ] {
-        saves(&rt, rt.alloc(), &streams, text)?;
+    for (streams, text) in &LIVE {
+        saves(&rt, rt.alloc(), streams, text)?;
     }
     Ok(())
 }
+
+static DROPPED: [[&str; 2]; 2] = [
+    ["5 2 0 1 2 0\n5 d 1 0\n", "6 d 1 0\n"],
+    // A bad line takes back nothing of what was dropped before it.
+    ["5 2 0 1 2 0\n5 d 1 0\n", "6 d 1 0\n6 d 1 0\n"],
+];
 
 #[test]
 fn what_all_streams_dropped_is_left_out(rt: HostRuntime) -> Result<(), Fail> {
     let text = "p cnf 2 4\nc id 2\n-1 2 0\nc id 3\n1 -2 0\nc id 4\n-1 -2 0\nc id 5\n2 0\n";
     saves(&rt, rt.alloc(), &["5 2 0 1 2 0\n7 d 1 0\n"], text)?;
-    for streams in [
-        ["5 2 0 1 2 0\n5 d 1 0\n", "6 d 1 0\n"],
-        // A bad line takes back nothing of what was dropped before it.
-        ["5 2 0 1 2 0\n5 d 1 0\n", "6 d 1 0\n6 d 1 0\n"],
-    ] {
-        saves(&rt, rt.alloc(), &streams, text)?;
+    for streams in &DROPPED {
+        saves(&rt, rt.alloc(), streams, text)?;
     }
     Ok(())
 }
 
+static KEPT: [([&str; 2], &str); 3] = [
+    // The second keeps what the first drops.
+    (
+        ["5 2 0 1 2 0\n5 d 1 0\n", ""],
+        "p cnf 2 5\n1 2 0\n-1 2 0\n1 -2 0\n-1 -2 0\n2 0\n",
+    ),
+    // Each drops another clause.
+    (
+        ["5 d 1 0\n", "6 d 2 0\n"],
+        "p cnf 2 4\n1 2 0\n-1 2 0\n1 -2 0\n-1 -2 0\n",
+    ),
+    // The second drops a clause of the first.
+    (
+        ["5 2 0 1 2 0\n", "6 -2 0 3 4 0\n6 d 5 0\n"],
+        "p cnf 2 6\n1 2 0\n-1 2 0\n1 -2 0\n-1 -2 0\n2 0\n-2 0\n",
+    ),
+];
+
 #[test]
 fn what_a_stream_keeps_stays(rt: HostRuntime) -> Result<(), Fail> {
-    for (streams, text) in [
-        // The second keeps what the first drops.
-        (
-            ["5 2 0 1 2 0\n5 d 1 0\n", ""],
-            "p cnf 2 5\n1 2 0\n-1 2 0\n1 -2 0\n-1 -2 0\n2 0\n",
-        ),
-        // Each drops another clause.
-        (
-            ["5 d 1 0\n", "6 d 2 0\n"],
-            "p cnf 2 4\n1 2 0\n-1 2 0\n1 -2 0\n-1 -2 0\n",
-        ),
-        // The second drops a clause of the first.
-        (
-            ["5 2 0 1 2 0\n", "6 -2 0 3 4 0\n6 d 5 0\n"],
-            "p cnf 2 6\n1 2 0\n-1 2 0\n1 -2 0\n-1 -2 0\n2 0\n-2 0\n",
-        ),
-    ] {
-        saves(&rt, rt.alloc(), &streams, text)?;
+    for (streams, text) in &KEPT {
+        saves(&rt, rt.alloc(), streams, text)?;
     }
     Ok(())
 }

@@ -2,7 +2,9 @@
 ghost use Rattle.std.specs.Prelude.{◌≡◌, Some, None, false};
 ghost use Rattle.std.specs.List.{AllByRecursion};
 
-use super::{CITING, Calls, Open, defaults, holds, notes_of, options, readers_of, same};
+use super::{
+    CITING, Calls, Open, defaults, holds, notes_of, options, readers_of, run_by_turns, same,
+};
 use lrup_model::{Cube, Formula, LayoutFault};
 use lrup_text::{ReadFault, Source};
 use portfolio::{Options, RunFault, SerialOutcome, run_serial, write_report};
@@ -21,18 +23,8 @@ fn run_pieces<'a, W: Wait>(
 ) -> Result<SerialOutcome<Pieces<'a>>, Fail>
     requires { AllByRecursion (λ r. r.failed ≡ false) readers.items }
 {
-    let formula = four_clauses(alloc)?;
     let gates = vec![in alloc; Open; readers.len()]?;
-    let outcome = run_serial(
-        wait,
-        alloc,
-        &formula,
-        &Cube::empty(alloc),
-        defaults(),
-        readers,
-        gates,
-    )?;
-    Ok(outcome)
+    run_by_turns(wait, alloc, &Cube::empty(alloc), defaults(), readers, gates)
 }
 
 /// The report is this text, and no reader was asked for more than a piece.
@@ -116,61 +108,63 @@ const USES_DROPPED: &str = "5 d 1 0\n5 2 0 1 2 0\n";
 
 const SAYS_DROPPED: &str = "c stream 1: 0 added, 1 deleted, bad line 2 (dropped 1)\ns UNKNOWN\n";
 
+static LINES_OF_ONE: [(&str, &str); 16] = [
+    // hints
+    (
+        "5 2 0 2 3 0\n",
+        "0 added, 0 deleted, bad line 1 (not unit 3)",
+    ),
+    (
+        "5 2 0 1 2 3 0\n",
+        "0 added, 0 deleted, bad line 1 (excess 3)",
+    ),
+    (
+        "5 2 0 1 0\n",
+        "0 added, 0 deleted, bad line 1 (no conflict)",
+    ),
+    ("5 2 0 0\n", "0 added, 0 deleted, bad line 1 (no conflict)"),
+    ("5 1 0 -2 0\n", "0 added, 0 deleted, bad line 1 (rat hint)"),
+    // deletions, and an end within a line
+    (
+        "5 2 0 1 2 0\n5 d 5 0\n6 0 5 3 4 0\n",
+        "1 added, 1 deleted, bad line 3 (retired 5)",
+    ),
+    (
+        "5 2 0 1 2 0\n5 d 5 5 0\n",
+        "1 added, 1 deleted, bad line 2 (not live 5)",
+    ),
+    ("5 d 1 1 0\n", "0 added, 1 deleted, bad line 1 (not live 1)"),
+    ("5 2 0 1 2 0", "0 added, 0 deleted, bad line 1 (truncated)"),
+    // spelling, and an identity below the last
+    (
+        "5  2 0 1 2 0\n",
+        "0 added, 0 deleted, bad line 1 (spelling)",
+    ),
+    (
+        "7 2 0 1 2 0\n6 0 7 3 4 0\n",
+        "1 added, 0 deleted, bad line 2 (identity)",
+    ),
+    // literals, and numbers
+    (
+        "5 1 -1 0 1 0\n",
+        "0 added, 0 deleted, bad line 1 (tautology)",
+    ),
+    ("5 3 -3 0 1 0\n", "0 added, 0 deleted, bad line 1 (literal)"),
+    (
+        "1000000000000000000 2 0 1 2 0\n",
+        "0 added, 0 deleted, bad line 1 (too long)",
+    ),
+    (
+        "999999999999999999 2 0 1 2 0\n",
+        "0 added, 0 deleted, bad line 1 (identity)",
+    ),
+    ("5 2 0 5 0\n", "0 added, 0 deleted, bad line 1 (missing 5)"),
+];
+
 /// The rows of one stream and the default options.
 #[test]
 fn rows_of_one_stream(rt: HostRuntime) -> Result<(), Fail> {
-    for (stream, line) in [
-        // hints
-        (
-            "5 2 0 2 3 0\n",
-            "0 added, 0 deleted, bad line 1 (not unit 3)",
-        ),
-        (
-            "5 2 0 1 2 3 0\n",
-            "0 added, 0 deleted, bad line 1 (excess 3)",
-        ),
-        (
-            "5 2 0 1 0\n",
-            "0 added, 0 deleted, bad line 1 (no conflict)",
-        ),
-        ("5 2 0 0\n", "0 added, 0 deleted, bad line 1 (no conflict)"),
-        ("5 1 0 -2 0\n", "0 added, 0 deleted, bad line 1 (rat hint)"),
-        // deletions, and an end within a line
-        (
-            "5 2 0 1 2 0\n5 d 5 0\n6 0 5 3 4 0\n",
-            "1 added, 1 deleted, bad line 3 (retired 5)",
-        ),
-        (
-            "5 2 0 1 2 0\n5 d 5 5 0\n",
-            "1 added, 1 deleted, bad line 2 (not live 5)",
-        ),
-        ("5 d 1 1 0\n", "0 added, 1 deleted, bad line 1 (not live 1)"),
-        ("5 2 0 1 2 0", "0 added, 0 deleted, bad line 1 (truncated)"),
-        // spelling, and an identity below the last
-        (
-            "5  2 0 1 2 0\n",
-            "0 added, 0 deleted, bad line 1 (spelling)",
-        ),
-        (
-            "7 2 0 1 2 0\n6 0 7 3 4 0\n",
-            "1 added, 0 deleted, bad line 2 (identity)",
-        ),
-        // literals, and numbers
-        (
-            "5 1 -1 0 1 0\n",
-            "0 added, 0 deleted, bad line 1 (tautology)",
-        ),
-        ("5 3 -3 0 1 0\n", "0 added, 0 deleted, bad line 1 (literal)"),
-        (
-            "1000000000000000000 2 0 1 2 0\n",
-            "0 added, 0 deleted, bad line 1 (too long)",
-        ),
-        (
-            "999999999999999999 2 0 1 2 0\n",
-            "0 added, 0 deleted, bad line 1 (identity)",
-        ),
-        ("5 2 0 5 0\n", "0 added, 0 deleted, bad line 1 (missing 5)"),
-    ] {
+    for &(stream, line) in &LINES_OF_ONE {
         line_of_one(&rt, rt.alloc(), defaults(), stream, line)?;
     }
     // a bad line after the empty clause
@@ -183,30 +177,33 @@ fn rows_of_one_stream(rt: HostRuntime) -> Result<(), Fail> {
     )
 }
 
+/// The options of lines and of room, the stream, and what is said of it.
+static LINES_WITH_OPTIONS: [(u64, u64, &str, &str); 4] = [
+    (
+        65_536,
+        0,
+        "5 0 1 0\n",
+        "0 added, 0 deleted, bad line 1 (not unit 1)",
+    ),
+    (
+        65_536,
+        0,
+        "5 2 0 1 2 0\n",
+        "0 added, 0 deleted, bad line 1 (no room)",
+    ),
+    (
+        1,
+        1_048_576,
+        REFUTATION,
+        "1 added, 0 deleted, bad line 2 (identity)",
+    ),
+    (65_536, 1, "5 2 2 0 1 2 0\n", "1 added, 0 deleted, ended"),
+];
+
 /// No room, one line, and room for one literal that is repeated: one stream each.
 #[test]
 fn rows_with_options(rt: HostRuntime) -> Result<(), Fail> {
-    for (lines, room, stream, line) in [
-        (
-            65_536,
-            0,
-            "5 0 1 0\n",
-            "0 added, 0 deleted, bad line 1 (not unit 1)",
-        ),
-        (
-            65_536,
-            0,
-            "5 2 0 1 2 0\n",
-            "0 added, 0 deleted, bad line 1 (no room)",
-        ),
-        (
-            1,
-            1_048_576,
-            REFUTATION,
-            "1 added, 0 deleted, bad line 2 (identity)",
-        ),
-        (65_536, 1, "5 2 2 0 1 2 0\n", "1 added, 0 deleted, ended"),
-    ] {
+    for &(lines, room, stream, line) in &LINES_WITH_OPTIONS {
         let options = options(1_000, lines, room);
         line_of_one(&rt, rt.alloc(), options, stream, line)?;
     }
@@ -232,49 +229,54 @@ fn rows_of_two_streams(rt: HostRuntime) -> Result<(), Fail> {
     )
 }
 
-/// Imports: of the formula, of an own clause, of one of the other stream, of another clause than that, and of one that never comes.
-#[test]
-fn rows_of_imports(rt: HostRuntime) -> Result<(), Fail> {
-    for (stream, line) in [
-        ("1 i 2 1 0\n", "0 added, 0 deleted, ended"),
-        ("5 i 2 0\n", "0 added, 0 deleted, bad line 1 (identity)"),
-        ("1 i 2 0\n", "0 added, 0 deleted, bad line 1 (differs 1)"),
-        (
-            "1 i 1 2 0\n5 2 0 1 2 0\n2 i 2 0\n",
-            "1 added, 0 deleted, bad line 3 (differs 2)",
-        ),
-    ] {
-        line_of_one(&rt, rt.alloc(), defaults(), stream, line)?;
-    }
-    for (tries, first, second, text) in [
-        (
-            1_000,
-            "5 2 0 1 2 0\n",
-            "5 i 2 2 0\n6 -2 0 3 4 0\n8 0 5 6 0\n",
-            "c stream 1: 1 added, 0 deleted, ended
+static IMPORTS_OF_ONE: [(&str, &str); 4] = [
+    ("1 i 2 1 0\n", "0 added, 0 deleted, ended"),
+    ("5 i 2 0\n", "0 added, 0 deleted, bad line 1 (identity)"),
+    ("1 i 2 0\n", "0 added, 0 deleted, bad line 1 (differs 1)"),
+    (
+        "1 i 1 2 0\n5 2 0 1 2 0\n2 i 2 0\n",
+        "1 added, 0 deleted, bad line 3 (differs 2)",
+    ),
+];
+
+/// How often a vacant identity is looked up again, both streams, and the report.
+static IMPORTS_OF_TWO: [(u64, &str, &str, &str); 3] = [
+    (
+        1_000,
+        "5 2 0 1 2 0\n",
+        "5 i 2 2 0\n6 -2 0 3 4 0\n8 0 5 6 0\n",
+        "c stream 1: 1 added, 0 deleted, ended
 c stream 2: 2 added, 0 deleted, ended
 s UNSATISFIABLE
 ",
-        ),
-        (
-            1_000,
-            "5 2 0 1 2 0\n",
-            "5 i -2 0\n6 -2 0 3 4 0\n8 0 5 6 0\n",
-            "c stream 1: 1 added, 0 deleted, ended
+    ),
+    (
+        1_000,
+        "5 2 0 1 2 0\n",
+        "5 i -2 0\n6 -2 0 3 4 0\n8 0 5 6 0\n",
+        "c stream 1: 1 added, 0 deleted, ended
 c stream 2: 0 added, 0 deleted, bad line 1 (differs 5)
 s UNKNOWN
 ",
-        ),
-        (
-            0,
-            "6 i -2 0\n",
-            "6 -2 0 3 4 0\n",
-            "c stream 1: 0 added, 0 deleted, bad line 1 (missing 6)
+    ),
+    (
+        0,
+        "6 i -2 0\n",
+        "6 -2 0 3 4 0\n",
+        "c stream 1: 0 added, 0 deleted, bad line 1 (missing 6)
 c stream 2: 1 added, 0 deleted, ended
 s UNKNOWN
 ",
-        ),
-    ] {
+    ),
+];
+
+/// Imports: of the formula, of an own clause, of one of the other stream, of another clause than that, and of one that never comes.
+#[test]
+fn rows_of_imports(rt: HostRuntime) -> Result<(), Fail> {
+    for &(stream, line) in &IMPORTS_OF_ONE {
+        line_of_one(&rt, rt.alloc(), defaults(), stream, line)?;
+    }
+    for &(tries, first, second, text) in &IMPORTS_OF_TWO {
         let options = options(tries, 65_536, 1_048_576);
         row_of_four(&rt, rt.alloc(), options, &[first, second], text)?;
     }
@@ -329,47 +331,48 @@ fn calls_of<R: Abort + Wait>(
     most: usize,
     text: &str,
 ) -> Result<Vec<[u64; 4]>, Fail> {
-    let formula = four_clauses(alloc)?;
     let calls = Calls::new(alloc, 20)?;
     let readers = readers_of(alloc, streams, most)?;
     let gates = notes_of(alloc, &calls, readers.len())?;
     holds(rt, gates.len() == readers.len());
-    let outcome = run_serial(
-        rt,
-        alloc,
-        &formula,
-        &Cube::empty(alloc),
-        options,
-        readers,
-        gates,
-    )?;
+    let outcome = run_by_turns(rt, alloc, &Cube::empty(alloc), options, readers, gates)?;
     says(rt, alloc, &outcome, text)?;
     Ok(calls.all(alloc)?)
 }
+
+static CALLS_BY_TURNS: [[u64; 4]; 11] = [
+    [1, 1, 1, 1],
+    [1, 1, 2, 1],
+    [1, 1, 5, 0],
+    [2, 2, 3, 1],
+    [2, 2, 4, 1],
+    [2, 2, 6, 0],
+    [1, 1, 5, 1],
+    [1, 1, 6, 1],
+    [1, 1, 7, 0],
+    [2, 2, 0, 0],
+    [1, 1, 0, 0],
+];
 
 /// CITING, whose line 7 cites the other stream's line. Each stream has its own gate, and turns go round, stream 1 first, and take
 /// one line each.
 #[test]
 fn serial_takes_lines_by_turns(rt: HostRuntime) -> Result<(), Fail> {
-    let wanted = [
-        [1, 1, 1, 1],
-        [1, 1, 2, 1],
-        [1, 1, 5, 0],
-        [2, 2, 3, 1],
-        [2, 2, 4, 1],
-        [2, 2, 6, 0],
-        [1, 1, 5, 1],
-        [1, 1, 6, 1],
-        [1, 1, 7, 0],
-        [2, 2, 0, 0],
-        [1, 1, 0, 0],
-    ];
     for most in [1, 2, usize::MAX] {
         let calls = calls_of(&rt, rt.alloc(), defaults(), &CITING, most, SAYS_CITING)?;
-        same(&rt, calls.as_slice(), wanted.as_slice());
+        same(&rt, calls.as_slice(), CALLS_BY_TURNS.as_slice());
     }
     Ok(())
 }
+
+static CALLS_OF_IMPORT: [[u64; 4]; 6] = [
+    [1, 1, 6, 1],
+    [1, 1, 6, 2],
+    [1, 1, 6, 3],
+    [1, 1, 6, 4],
+    [1, 1, 0, 0],
+    [2, 2, 0, 0],
+];
 
 /// An import of what nobody derives: with three tries more it is fetched four times, and each attempt has its number.
 #[test]
@@ -385,15 +388,7 @@ c stream 2: 0 added, 0 deleted, ended
 s UNKNOWN
 ",
     )?;
-    let wanted = [
-        [1, 1, 6, 1],
-        [1, 1, 6, 2],
-        [1, 1, 6, 3],
-        [1, 1, 6, 4],
-        [1, 1, 0, 0],
-        [2, 2, 0, 0],
-    ];
-    same(&rt, calls.as_slice(), wanted.as_slice());
+    same(&rt, calls.as_slice(), CALLS_OF_IMPORT.as_slice());
     Ok(())
 }
 
@@ -458,16 +453,19 @@ fn second_reader_fails<R: Abort + Wait>(
     Ok(())
 }
 
+/// The most bytes a read, which read fails, and what is said of the second stream.
+static FAILING: [(usize, usize, &str); 5] = [
+    (5, 1, "0 added, 0 deleted, read failed at line 1"),
+    (5, 2, "0 added, 0 deleted, read failed at line 1"),
+    (5, 3, "0 added, 0 deleted, read failed at line 1"),
+    (5, 4, "1 added, 0 deleted, read failed at line 2"),
+    (13, 2, "1 added, 0 deleted, read failed at line 2"),
+];
+
 /// Another stream's reader fails, at once, in the middle of its line, or after it.
 #[test]
 fn readers_that_fail(rt: HostRuntime) -> Result<(), Fail> {
-    for (most, fails_at, line) in [
-        (5, 1, "0 added, 0 deleted, read failed at line 1"),
-        (5, 2, "0 added, 0 deleted, read failed at line 1"),
-        (5, 3, "0 added, 0 deleted, read failed at line 1"),
-        (5, 4, "1 added, 0 deleted, read failed at line 2"),
-        (13, 2, "1 added, 0 deleted, read failed at line 2"),
-    ] {
+    for &(most, fails_at, line) in &FAILING {
         let text = format!(in rt.alloc();
             "c stream 1: 2 added, 0 deleted, ended\nc stream 2: {line}\ns UNSATISFIABLE\n"
         )?;
@@ -484,16 +482,19 @@ fn reads_of<W: Wait>(wait: &W, alloc: Global, stream: &str, most: usize) -> Resu
     Ok(reader.reads)
 }
 
+/// A stream, and how many of its bytes are read; one more stands for its end.
+static NEEDED: [(&str, usize); 5] = [
+    ("5 2 0 1 0\n5 2 0 1 2 0\n", 10),
+    ("5 2 0 1 2 0\n7 0 5 3 0\n9 2 0 1 2 0\n", 22),
+    ("5  2 0 1 2 0\n", 3),
+    ("5 2 0 1 2 0\n5 1 0 -2 0\n", 19),
+    (REFUTATION, 25),
+];
+
 /// A stream is read through the byte that ended it, and a whole one once more.
 #[test]
 fn nothing_is_read_after_a_bad_line(rt: HostRuntime) -> Result<(), Fail> {
-    for (stream, needed) in [
-        ("5 2 0 1 0\n5 2 0 1 2 0\n", 10),
-        ("5 2 0 1 2 0\n7 0 5 3 0\n9 2 0 1 2 0\n", 22),
-        ("5  2 0 1 2 0\n", 3),
-        ("5 2 0 1 2 0\n5 1 0 -2 0\n", 19),
-        (REFUTATION, 25),
-    ] {
+    for &(stream, needed) in &NEEDED {
         for most in [1, 4, 64] {
             let reads = if needed > stream.len() {
                 stream.len().div_ceil(most) + 1

@@ -7,7 +7,7 @@ ghost use Rattle.test_support.specs.Worked.{four};
 
 use super::{
     CITING, Calls, Open, bad_line, defaults, ended, holds, notes_of, options, readers_of, report,
-    same,
+    run_by_threads, same,
 };
 use lrup_model::{Cube, Id, LayoutFault};
 use lrup_text::Source;
@@ -64,27 +64,15 @@ impl Gate for Holds<'_> {
 }
 
 /// A run over the four clauses, with this gate for each stream.
-pub(super) fn run_with<'a, T: Threads + Wait + Sync, G: Gate + Copy + Send + Drop>(
-    rt: &T,
-    alloc: Global,
-    options: Options,
-    gate: G,
-    readers: Vec<Pieces<'a>>,
-) -> Result<Outcome<Pieces<'a>>, Fail>
-    requires { AllByRecursion (λ r. r.failed ≡ false) readers.items }
+pub(super) fn run_with<
+    T: Threads + Wait + Sync,
+    R: Source + Send + Drop,
+    G: Gate + Copy + Send + Drop,
+>(rt: &T, alloc: Global, options: Options, gate: G, readers: Vec<R>) -> Result<Outcome<R>, Fail>
+    requires { AllByRecursion (λ r. R.has_failed r ≡ false) readers.items }
 {
-    let formula = four_clauses(alloc)?;
     let gates = gates_of(alloc, gate, readers.len())?;
-    let outcome = run(
-        rt,
-        alloc,
-        &formula,
-        &Cube::empty(alloc),
-        options,
-        readers,
-        gates,
-    )?;
-    Ok(outcome)
+    run_by_threads(rt, alloc, &Cube::empty(alloc), options, readers, gates)
 }
 
 /// The citing streams' run, in which stream 2 publishes before stream 1 asks; and whether a gate waited in vain.
@@ -281,20 +269,12 @@ fn run_missing<T: Threads + Wait + Sync + Abort, G: Gate + Send + Drop>(
     alloc: Global,
     gates: Vec<G>,
 ) -> Result<(), Fail> {
-    let formula = four_clauses(alloc)?;
     let readers = readers_of(alloc, &MISSING, 5)?;
     if gates.len() != readers.len() {
         return Err("not a gate for each stream".into());
     }
-    let outcome = run(
-        rt,
-        alloc,
-        &formula,
-        &Cube::empty(alloc),
-        options(3, 65_536, 1_048_576),
-        readers,
-        gates,
-    )?;
+    let options = options(3, 65_536, 1_048_576);
+    let outcome = run_by_threads(rt, alloc, &Cube::empty(alloc), options, readers, gates)?;
     let missing = bad_line(1, Fault::Missing(6));
     same(
         rt,
@@ -305,18 +285,23 @@ fn run_missing<T: Threads + Wait + Sync + Abort, G: Gate + Send + Drop>(
     Ok(())
 }
 
+static CALLS_OF_MISSING: [[u64; 4]; 5] = [
+    [1, 1, 6, 1],
+    [1, 1, 6, 2],
+    [1, 1, 6, 3],
+    [1, 1, 6, 4],
+    [1, 1, 0, 0],
+];
+
 #[test]
 fn a_vacant_hint_is_tried_again(rt: HostRuntime) -> Result<(), Fail> {
     let calls = Calls::new(rt.alloc(), 20)?;
     run_missing(&rt, rt.alloc(), notes_of(rt.alloc(), &calls, 2)?)?;
-    let wanted = [
-        [1, 1, 6, 1],
-        [1, 1, 6, 2],
-        [1, 1, 6, 3],
-        [1, 1, 6, 4],
-        [1, 1, 0, 0],
-    ];
-    same(&rt, calls.of(rt.alloc(), 1)?.as_slice(), wanted.as_slice());
+    same(
+        &rt,
+        calls.of(rt.alloc(), 1)?.as_slice(),
+        CALLS_OF_MISSING.as_slice(),
+    );
     let over = [[2, 2, 0, 0]];
     same(&rt, calls.of(rt.alloc(), 2)?.as_slice(), over.as_slice());
     Ok(())
@@ -331,43 +316,45 @@ fn calls_apart<T: Threads + Wait + Sync + Abort>(
     alloc: Global,
     calls: &Calls,
 ) -> Result<(), Fail> {
-    let formula = four_clauses(alloc)?;
     let readers = readers_of(alloc, &APART, 5)?;
     let gates = notes_of(alloc, calls, readers.len())?;
     holds(rt, gates.len() == readers.len());
-    let outcome = run(
-        rt,
-        alloc,
-        &formula,
-        &Cube::empty(alloc),
-        defaults(),
-        readers,
-        gates,
-    )?;
+    let none = Cube::empty(alloc);
+    let outcome = run_by_threads(rt, alloc, &none, defaults(), readers, gates)?;
     let wanted = [ended(2, true), ended(1, false)];
     same(rt, outcome.reports.as_slice(), wanted.as_slice());
     Ok(())
 }
+
+static CALLS_OF_FIRST: [[u64; 4]; 8] = [
+    [1, 1, 1, 1],
+    [1, 1, 2, 1],
+    [1, 1, 5, 0],
+    [1, 1, 5, 1],
+    [1, 1, 3, 1],
+    [1, 1, 4, 1],
+    [1, 1, 7, 0],
+    [1, 1, 0, 0],
+];
+
+static CALLS_OF_SECOND: [[u64; 4]; 4] = [[2, 2, 3, 1], [2, 2, 4, 1], [2, 2, 6, 0], [2, 2, 0, 0]];
 
 /// Each stream has its own gate, which is told of each fetch and each publish of that stream, in order, and once that it is over.
 #[test]
 fn gates_are_told_of_their_streams(rt: HostRuntime) -> Result<(), Fail> {
     let calls = Calls::new(rt.alloc(), 20)?;
     calls_apart(&rt, rt.alloc(), &calls)?;
-    let first = [
-        [1, 1, 1, 1],
-        [1, 1, 2, 1],
-        [1, 1, 5, 0],
-        [1, 1, 5, 1],
-        [1, 1, 3, 1],
-        [1, 1, 4, 1],
-        [1, 1, 7, 0],
-        [1, 1, 0, 0],
-    ];
-    let second = [[2, 2, 3, 1], [2, 2, 4, 1], [2, 2, 6, 0], [2, 2, 0, 0]];
     same(&rt, calls.all(rt.alloc())?.len(), 12);
-    same(&rt, calls.of(rt.alloc(), 1)?.as_slice(), first.as_slice());
-    same(&rt, calls.of(rt.alloc(), 2)?.as_slice(), second.as_slice());
+    same(
+        &rt,
+        calls.of(rt.alloc(), 1)?.as_slice(),
+        CALLS_OF_FIRST.as_slice(),
+    );
+    same(
+        &rt,
+        calls.of(rt.alloc(), 2)?.as_slice(),
+        CALLS_OF_SECOND.as_slice(),
+    );
     Ok(())
 }
 

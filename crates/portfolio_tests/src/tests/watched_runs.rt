@@ -4,10 +4,13 @@ ghost use Rattle.std.specs.List.{AllByRecursion};
 
 use super::threads::{TURNS, readers_of_lines, second_fails, sixty_four_lines};
 use super::watching::{Hand, Pen, Tape};
-use super::{BOTH, By, bad_line, defaults, ended, holds, options, readers_of, report, same};
+use super::{
+    BOTH, By, bad_line, defaults, ended, holds, options, readers_of, report, run_by_threads,
+    run_by_turns, same,
+};
 use lrup_model::Cube;
 use lrup_text::{LineFault, ReadFault, Source};
-use portfolio::{Options, Outcome, Pause, SerialOutcome, TurnWatch, Watch, run, run_serial};
+use portfolio::{Options, Outcome, Pause, SerialOutcome, TurnWatch, Watch};
 use std::alloc::{AllocError, Global};
 use std::process::Abort;
 use std::sync::Wait;
@@ -15,7 +18,6 @@ use std::sync::atomic::{AtomicBool, Ordering};
 use std::test::Fail;
 use std::thread::{self, Threads};
 use stream_check::{Ending, Fault, Report};
-use test_support::four_clauses;
 
 /// Gates of streams that wait for each other, each telling on its tape.
 fn pauses_on<'c, 't>(
@@ -55,7 +57,6 @@ fn watched<T: Threads + Wait + Sync + Abort, R: Source + Send + Drop>(
 ) -> Result<Vec<Report>, Fail>
     requires { AllByRecursion (λ r. R.has_failed r ≡ false) readers.items }
 {
-    let formula = four_clauses(alloc)?;
     let none = Cube::empty(alloc);
     let clock = Hand::new(2);
     holds(rt, tapes.len() == readers.len());
@@ -63,14 +64,14 @@ fn watched<T: Threads + Wait + Sync + Abort, R: Source + Send + Drop>(
         By::Threads => {
             let gates = pauses_on(alloc, &clock, tapes)?;
             holds(rt, gates.len() == readers.len());
-            let outcome = run(rt, alloc, &formula, &none, options, readers, gates)?;
+            let outcome = run_by_threads(rt, alloc, &none, options, readers, gates)?;
             let Outcome { reports, .. } = outcome;
             Ok(reports)
         }
         By::Turns => {
             let gates = turns_on(alloc, &clock, tapes)?;
             holds(rt, gates.len() == readers.len());
-            let outcome = run_serial(rt, alloc, &formula, &none, options, readers, gates)?;
+            let outcome = run_by_turns(rt, alloc, &none, options, readers, gates)?;
             let SerialOutcome { reports, .. } = outcome;
             Ok(reports)
         }

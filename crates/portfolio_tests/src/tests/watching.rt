@@ -206,7 +206,7 @@ const OVER: &str = "lrupd: stream 3: 27 added, 0 deleted, bad line 28 (missing 5
 const COUNTED: &str = "lrupd: stream 3: 128 added\n";
 
 /// Steps, and what is told of them.
-const ROWS: &[(&[Step], &str)] = &[
+static ROWS: [(&[Step], &str); 14] = [
     (&[Step::Over], OVER),
     // A hint that has been looked up again for a second, or for less.
     (
@@ -337,11 +337,11 @@ const ROWS: &[(&[Step], &str)] = &[
 
 #[test]
 fn a_watch_tells_what_goes_on(rt: HostRuntime) -> Result<(), Fail> {
-    for (steps, wanted) in ROWS {
+    for &(steps, wanted) in &ROWS {
         let (text, writes) = told(rt.alloc(), true, 0, steps)?;
-        same(&rt, (*steps, text.as_str()), (*steps, *wanted));
+        same(&rt, (steps, text.as_str()), (steps, wanted));
         let lines = wanted.bytes().filter(|byte| *byte == b'\n').count();
-        same(&rt, (*steps, writes), (*steps, lines as u64));
+        same(&rt, (steps, writes), (steps, lines as u64));
     }
     Ok(())
 }

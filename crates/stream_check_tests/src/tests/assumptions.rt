@@ -3,15 +3,24 @@ use super::{feed_cut, same, told_of};
 use checker_support::{checker_under, open_map};
 use lrup_model::{Cube, Lit};
 use std::alloc::Global;
+use std::process::Abort;
 use std::test::Fail;
 use stream_check::{Ending, Fault, Report};
 
-/// The cube of these literals.
-fn cube_of(alloc: Global, values: &[i64]) -> Result<Cube, Fail> {
+fn literals_of(alloc: Global, values: &[i64]) -> Result<Vec<Lit>, Fail> {
     let mut literals = Vec::new(alloc);
     for value in values {
-        literals.push(Lit::new(*value).ok_or("no literal")?)?;
+        match Lit::new(*value) {
+            Some(literal) => literals.push(literal)?,
+            None => return Err("no literal".into()),
+        }
     }
+    Ok(literals)
+}
+
+/// The cube of these literals.
+fn cube_of(alloc: Global, values: &[i64]) -> Result<Cube, Fail> {
+    let literals = literals_of(alloc, values)?;
     let cube = Cube::of(alloc, literals.as_slice())?;
     Ok(cube)
 }
@@ -32,8 +41,11 @@ fn said_under(alloc: Global, cube: &[i64], lines: &str) -> Result<Report, Fail> 
     Ok(checker.report())
 }
 
-/// So many additions, whether one's clause is empty, and whether one's is within the cube.
-fn added(added: u64, empty: bool, within: bool, ending: Ending) -> Report {
+/// How many additions, whether one's clause is empty, whether one's is within the cube, and the ending.
+type SaidUnder = (u64, bool, bool, Ending);
+
+fn report_under(said: SaidUnder) -> Report {
+    let (added, empty, within, ending) = said;
     Report {
         added,
         deleted: 0,
@@ -43,70 +55,92 @@ fn added(added: u64, empty: bool, within: bool, ending: Ending) -> Report {
     }
 }
 
+/// This is said of the stream under the cube.
+fn is_said(
+    rt: &impl Abort,
+    alloc: Global,
+    cube: &[i64],
+    lines: &str,
+    wanted: Report,
+) -> Result<(), Fail> {
+    let said = said_under(alloc, cube, lines)?;
+    same(rt, (cube, lines, said), (cube, lines, wanted));
+    Ok(())
+}
+
 const UNIT: &str = "5 2 0 1 2 0\n";
 
 const TWICE: &str = "5 2 2 0 1 2 0\n";
 
+/// The stream adds one clause, which is within the cube.
+const FOUND: SaidUnder = (1, false, true, Ending::Ended);
+
+/// It adds one, which isn't.
+const NOT_FOUND: SaidUnder = (1, false, false, Ending::Ended);
+
+/// The assumed literals, the lines of a stream, and what is said of it.
+static WITHIN: [(&[i64], &str, SaidUnder); 12] = [
+    (&[-2], UNIT, FOUND),
+    (&[-2, 1, -2], UNIT, FOUND),
+    (&[-2], TWICE, FOUND),
+    (&[2], UNIT, NOT_FOUND),
+    (&[], UNIT, NOT_FOUND),
+    (&[1, -1], UNIT, NOT_FOUND),
+    (&[1], UNIT, NOT_FOUND),
+    (&[1, -1], "5 1 0 1 3 0\n", FOUND),
+    (&[1, -1], "5 -1 0 2 4 0\n", FOUND),
+    (&[-2, -1], "5 1 2 0 1 0\n", FOUND),
+    (&[-2], "5 1 2 0 1 0\n", NOT_FOUND),
+    (&[], "", (0, false, false, Ending::Ended)),
+];
+
 #[test]
 fn clauses_within_the_cube_are_told(rt: HostRuntime) -> Result<(), Fail> {
-    let found = added(1, false, true, Ending::Ended);
-    let not = added(1, false, false, Ending::Ended);
-    let rows: [(&[i64], &str, Report); 12] = [
-        (&[-2], UNIT, found),
-        (&[-2, 1, -2], UNIT, found),
-        (&[-2], TWICE, found),
-        (&[2], UNIT, not),
-        (&[], UNIT, not),
-        (&[1, -1], UNIT, not),
-        (&[1], UNIT, not),
-        (&[1, -1], "5 1 0 1 3 0\n", found),
-        (&[1, -1], "5 -1 0 2 4 0\n", found),
-        (&[-2, -1], "5 1 2 0 1 0\n", found),
-        (&[-2], "5 1 2 0 1 0\n", not),
-        (&[], "", added(0, false, false, Ending::Ended)),
-    ];
-    for (cube, lines, wanted) in rows {
-        let said = said_under(rt.alloc(), cube, lines)?;
-        same(&rt, (cube, lines, said), (cube, lines, wanted));
+    for &(cube, lines, wanted) in &WITHIN {
+        is_said(&rt, rt.alloc(), cube, lines, report_under(wanted))?;
     }
     Ok(())
 }
 
+/// The columns are those of `WITHIN`.
+static LATER_LINES: [(&[i64], &str, SaidUnder); 6] = [
+    (
+        &[-2],
+        "5 2 0 1 2 0\n6 1 0 1 3 0\n",
+        (2, false, true, Ending::Ended),
+    ),
+    (
+        &[-2],
+        "5 2 0 1 2 0\n6 1 0 1 0\n",
+        (1, false, true, Ending::Bad(2, Fault::NoConflict)),
+    ),
+    (
+        &[-2],
+        "5 2 0 1 0\n",
+        (0, false, false, Ending::Bad(1, Fault::NoConflict)),
+    ),
+    (
+        &[-1],
+        "5 2 0 1 2 0\n6 1 0 1 0\n",
+        (1, false, false, Ending::Bad(2, Fault::NoConflict)),
+    ),
+    (
+        &[2],
+        "5 2 0 1 2 0\n6 0 5 3 4 0\n",
+        (2, true, true, Ending::Ended),
+    ),
+    (
+        &[],
+        "5 2 0 1 2 0\n6 0 5 3 4 0\n",
+        (2, true, true, Ending::Ended),
+    ),
+];
+
 /// What a good line added stays said, whatever follows; a bad line adds nothing.
 #[test]
 fn later_lines_take_nothing_back(rt: HostRuntime) -> Result<(), Fail> {
-    let no_conflict = |line| Ending::Bad(line, Fault::NoConflict);
-    let rows: [(&[i64], &str, Report); 6] = [
-        (
-            &[-2],
-            "5 2 0 1 2 0\n6 1 0 1 3 0\n",
-            added(2, false, true, Ending::Ended),
-        ),
-        (
-            &[-2],
-            "5 2 0 1 2 0\n6 1 0 1 0\n",
-            added(1, false, true, no_conflict(2)),
-        ),
-        (&[-2], "5 2 0 1 0\n", added(0, false, false, no_conflict(1))),
-        (
-            &[-1],
-            "5 2 0 1 2 0\n6 1 0 1 0\n",
-            added(1, false, false, no_conflict(2)),
-        ),
-        (
-            &[2],
-            "5 2 0 1 2 0\n6 0 5 3 4 0\n",
-            added(2, true, true, Ending::Ended),
-        ),
-        (
-            &[],
-            "5 2 0 1 2 0\n6 0 5 3 4 0\n",
-            added(2, true, true, Ending::Ended),
-        ),
-    ];
-    for (cube, lines, wanted) in rows {
-        let said = said_under(rt.alloc(), cube, lines)?;
-        same(&rt, (cube, lines, said), (cube, lines, wanted));
+    for &(cube, lines, wanted) in &LATER_LINES {
+        is_said(&rt, rt.alloc(), cube, lines, report_under(wanted))?;
     }
     Ok(())
 }

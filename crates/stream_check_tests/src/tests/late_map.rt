@@ -202,26 +202,39 @@ const NOTHING: Events = Events {
     retires: 0,
 };
 
-/// What a stream's lines come to where it has room for two literals. Its own identities are 5 and 7, the other's 6 and 8.
+/// How a stream of these lines ends where it has room for two literals, and what events it made. Its own identities are 5 and 7,
+/// the other's 6 and 8.
+fn feed_late<G: Gate>(
+    alloc: Global,
+    tries: u64,
+    late: Late,
+    lines: &str,
+    log: &Log,
+    gate: &mut G,
+) -> Result<(Ending, Events), Fail> {
+    let map = open_map(alloc, 2, 2, 2)?;
+    let mut checker = checker_at(alloc, &map, 1, tries)?;
+    let mut map = LateMap {
+        log,
+        map,
+        room: 2,
+        late,
+        events: NOTHING,
+    };
+    feed_cut(&mut checker, &mut map, gate, lines.as_bytes(), 65_536);
+    Ok((checker.report().ending, map.events))
+}
+
+/// The same, and what the gate is told.
 fn events_of(
     alloc: Global,
     tries: u64,
     late: Late,
     lines: &str,
 ) -> Result<(Ending, Events, Told), Fail> {
-    let log = Log::new();
-    let map = open_map(alloc, 2, 2, 2)?;
-    let mut checker = checker_at(alloc, &map, 1, tries)?;
-    let mut map = LateMap {
-        log: &log,
-        map,
-        room: 2,
-        late,
-        events: NOTHING,
-    };
     let mut gate = told_of(0, 0, 0);
-    feed_cut(&mut checker, &mut map, &mut gate, lines.as_bytes(), 65_536);
-    Ok((checker.report().ending, map.events, gate))
+    let (ending, events) = feed_late(alloc, tries, late, lines, &Log::new(), &mut gate)?;
+    Ok((ending, events, gate))
 }
 
 /// Where stream 2 publishes nothing, the lines make so many fetches, publishes and retires, and end so. No hint is fetched again.
@@ -243,113 +256,128 @@ fn makes<R: AllocGlobal + Abort>(
     Ok(())
 }
 
+/// Lines, how many fetches, publishes and retires they make, and the ending.
+static OTHER_HINTS: [(&str, (u64, u64, u64), Ending); 8] = [
+    ("5 2 0 9 0\n", (0, 0, 0), Ending::Bad(1, Fault::Missing(9))),
+    ("5 1 2 0 1 0\n", (1, 1, 0), Ending::Ended),
+    ("5 2 0 7 0\n", (1, 0, 0), Ending::Bad(1, Fault::Missing(7))),
+    ("5 2 0 5 0\n", (1, 0, 0), Ending::Bad(1, Fault::Missing(5))),
+    ("5 2 0 1 2 0\n7 2 0 5 0\n", (3, 2, 0), Ending::Ended),
+    (
+        "5 2 0 1 2 0\n5 d 5 0\n7 2 0 5 0\n",
+        (3, 1, 1),
+        Ending::Bad(3, Fault::Retired(5)),
+    ),
+    (
+        "5 2 0 1 2 6 0\n",
+        (2, 0, 0),
+        Ending::Bad(1, Fault::Excess(6)),
+    ),
+    (
+        "5 d 6 0\n5 2 0 6 0\n",
+        (0, 0, 0),
+        Ending::Bad(2, Fault::Dropped(6)),
+    ),
+];
+
 /// Hints that are outside, the formula's, or own ones: vacant, the line's own, live and retired. A hint that isn't reached,
 /// and one that was dropped.
 #[test]
 fn hints_that_are_not_foreign_are_fetched_once(rt: HostRuntime) -> Result<(), Fail> {
-    let missing = |hint| Ending::Bad(1, Fault::Missing(hint));
-    for (lines, events, ending) in [
-        ("5 2 0 9 0\n", (0, 0, 0), missing(9)),
-        ("5 1 2 0 1 0\n", (1, 1, 0), Ending::Ended),
-        ("5 2 0 7 0\n", (1, 0, 0), missing(7)),
-        ("5 2 0 5 0\n", (1, 0, 0), missing(5)),
-        ("5 2 0 1 2 0\n7 2 0 5 0\n", (3, 2, 0), Ending::Ended),
-        (
-            "5 2 0 1 2 0\n5 d 5 0\n7 2 0 5 0\n",
-            (3, 1, 1),
-            Ending::Bad(3, Fault::Retired(5)),
-        ),
-        (
-            "5 2 0 1 2 6 0\n",
-            (2, 0, 0),
-            Ending::Bad(1, Fault::Excess(6)),
-        ),
-        (
-            "5 d 6 0\n5 2 0 6 0\n",
-            (0, 0, 0),
-            Ending::Bad(2, Fault::Dropped(6)),
-        ),
-    ] {
+    for &(lines, events, ending) in &OTHER_HINTS {
         makes(&rt, lines, events, ending)?;
     }
     Ok(())
 }
+
+/// The columns are those of `OTHER_HINTS`.
+static OWN_DELETIONS: [(&str, (u64, u64, u64), Ending); 7] = [
+    ("5 d 0\n", (0, 0, 0), Ending::Ended),
+    ("5 d 1 6 0\n", (0, 0, 0), Ending::Ended),
+    ("5 2 0 1 2 0\n5 d 1 5 6 0\n", (2, 1, 1), Ending::Ended),
+    (
+        "5 2 0 1 2 0\n7 2 0 5 0\n5 d 5 7 0\n",
+        (3, 2, 2),
+        Ending::Ended,
+    ),
+    ("5 d 7 5 0\n", (0, 0, 1), Ending::Bad(1, Fault::NotLive(7))),
+    ("5 d 9 5 0\n", (0, 0, 0), Ending::Bad(1, Fault::NotLive(9))),
+    (
+        "5 d 1 1 5 0\n",
+        (0, 0, 0),
+        Ending::Bad(1, Fault::NotLive(1)),
+    ),
+];
 
 /// One retire for each own identity that is reached, and nothing for others.
 #[test]
 fn deletions_retire_own_identities_alone(rt: HostRuntime) -> Result<(), Fail> {
-    let not_live = |id| Ending::Bad(1, Fault::NotLive(id));
-    for (lines, events, ending) in [
-        ("5 d 0\n", (0, 0, 0), Ending::Ended),
-        ("5 d 1 6 0\n", (0, 0, 0), Ending::Ended),
-        ("5 2 0 1 2 0\n5 d 1 5 6 0\n", (2, 1, 1), Ending::Ended),
-        (
-            "5 2 0 1 2 0\n7 2 0 5 0\n5 d 5 7 0\n",
-            (3, 2, 2),
-            Ending::Ended,
-        ),
-        ("5 d 7 5 0\n", (0, 0, 1), not_live(7)),
-        ("5 d 9 5 0\n", (0, 0, 0), not_live(9)),
-        ("5 d 1 1 5 0\n", (0, 0, 0), not_live(1)),
-    ] {
+    for &(lines, events, ending) in &OWN_DELETIONS {
         makes(&rt, lines, events, ending)?;
     }
     Ok(())
 }
 
+static EARLY_FAULTS: [(&str, Fault); 7] = [
+    ("5  2 0 1 2 0\n", Fault::Text(LineFault::Spelling)),
+    (
+        "1000000000000000000 2 0 1 2 0\n",
+        Fault::Text(LineFault::TooLong),
+    ),
+    ("5 2 0 1 2 0", Fault::Text(LineFault::Truncated)),
+    ("5 1 0 -2 0\n", Fault::Text(LineFault::RatHint)),
+    ("6 2 0 1 2 0\n", Fault::Identity),
+    ("5 3 0 1 2 0\n", Fault::Literal),
+    ("5 1 -1 0 1 0\n", Fault::Tautology),
+];
+
 /// The faults of the text and those of an addition before its hints.
 #[test]
 fn early_faults_make_no_event(rt: HostRuntime) -> Result<(), Fail> {
-    for (line, fault) in [
-        ("5  2 0 1 2 0\n", Fault::Text(LineFault::Spelling)),
-        (
-            "1000000000000000000 2 0 1 2 0\n",
-            Fault::Text(LineFault::TooLong),
-        ),
-        ("5 2 0 1 2 0", Fault::Text(LineFault::Truncated)),
-        ("5 1 0 -2 0\n", Fault::Text(LineFault::RatHint)),
-        ("6 2 0 1 2 0\n", Fault::Identity),
-        ("5 3 0 1 2 0\n", Fault::Literal),
-        ("5 1 -1 0 1 0\n", Fault::Tautology),
-    ] {
+    for &(line, fault) in &EARLY_FAULTS {
         makes(&rt, line, (0, 0, 0), Ending::Bad(1, fault))?;
     }
     let lines = "5 1 2 0 1 0\n7 2 0 1 2 0\n";
     makes(&rt, lines, (1, 1, 0), Ending::Bad(2, Fault::NoRoom))
 }
 
+static FOREIGN_HINTS: [(u64, Late, u64, Ending); 19] = [
+    (0, Late::Never, 1, Ending::Bad(1, Fault::Missing(6))),
+    (0, Late::Published(1), 1, Ending::Ended),
+    (0, Late::Retired(1), 1, Ending::Bad(1, Fault::Retired(6))),
+    (0, Late::Published(2), 1, Ending::Bad(1, Fault::Missing(6))),
+    (1, Late::Never, 2, Ending::Bad(1, Fault::Missing(6))),
+    (1, Late::Published(1), 1, Ending::Ended),
+    (1, Late::Published(2), 2, Ending::Ended),
+    (1, Late::Retired(2), 2, Ending::Bad(1, Fault::Retired(6))),
+    (1, Late::Published(3), 2, Ending::Bad(1, Fault::Missing(6))),
+    (3, Late::Never, 4, Ending::Bad(1, Fault::Missing(6))),
+    (3, Late::Published(1), 1, Ending::Ended),
+    (3, Late::Published(2), 2, Ending::Ended),
+    (3, Late::Published(4), 4, Ending::Ended),
+    (3, Late::Retired(1), 1, Ending::Bad(1, Fault::Retired(6))),
+    (3, Late::Retired(2), 2, Ending::Bad(1, Fault::Retired(6))),
+    (3, Late::Retired(4), 4, Ending::Bad(1, Fault::Retired(6))),
+    (3, Late::Published(5), 4, Ending::Bad(1, Fault::Missing(6))),
+    (
+        1_000_000,
+        Late::Never,
+        1_000_001,
+        Ending::Bad(1, Fault::Missing(6)),
+    ),
+    (
+        1_000_000,
+        Late::Published(1_000_001),
+        1_000_001,
+        Ending::Ended,
+    ),
+];
+
 /// The row of a foreign hint: how often it may be fetched again, when it comes, how often it is fetched, and the ending. An
 /// accepted addition makes one publish.
 #[test]
 fn a_foreign_hint_is_fetched_until_it_comes(rt: HostRuntime) -> Result<(), Fail> {
-    let missing = Ending::Bad(1, Fault::Missing(6));
-    let retired = Ending::Bad(1, Fault::Retired(6));
-    for (tries, late, fetches, ending) in [
-        (0, Late::Never, 1, missing),
-        (0, Late::Published(1), 1, Ending::Ended),
-        (0, Late::Retired(1), 1, retired),
-        (0, Late::Published(2), 1, missing),
-        (1, Late::Never, 2, missing),
-        (1, Late::Published(1), 1, Ending::Ended),
-        (1, Late::Published(2), 2, Ending::Ended),
-        (1, Late::Retired(2), 2, retired),
-        (1, Late::Published(3), 2, missing),
-        (3, Late::Never, 4, missing),
-        (3, Late::Published(1), 1, Ending::Ended),
-        (3, Late::Published(2), 2, Ending::Ended),
-        (3, Late::Published(4), 4, Ending::Ended),
-        (3, Late::Retired(1), 1, retired),
-        (3, Late::Retired(2), 2, retired),
-        (3, Late::Retired(4), 4, retired),
-        (3, Late::Published(5), 4, missing),
-        (1_000_000, Late::Never, 1_000_001, missing),
-        (
-            1_000_000,
-            Late::Published(1_000_001),
-            1_000_001,
-            Ending::Ended,
-        ),
-    ] {
+    for &(tries, late, fetches, ending) in &FOREIGN_HINTS {
         let found = events_of(rt.alloc(), tries, late, "5 -2 0 6 0\n")?;
         let publishes = u64::from(ending == Ending::Ended);
         let made = Events {
@@ -366,33 +394,27 @@ fn a_foreign_hint_is_fetched_until_it_comes(rt: HostRuntime) -> Result<(), Fail>
 /// The calls of the map and of the gate while these lines are checked.
 fn calls_of(alloc: Global, tries: u64, late: Late, lines: &str) -> Result<u64, Fail> {
     let log = Log::new();
-    let map = open_map(alloc, 2, 2, 2)?;
-    let mut checker = checker_at(alloc, &map, 1, tries)?;
-    let mut map = LateMap {
-        log: &log,
-        map,
-        room: 2,
-        late,
-        events: NOTHING,
-    };
     let mut gate = NotingGate { log: &log };
-    feed_cut(&mut checker, &mut map, &mut gate, lines.as_bytes(), 65_536);
+    feed_late(alloc, tries, late, lines, &log, &mut gate)?;
     Ok(log.calls())
 }
+
+/// How often 6 may be fetched again, when it comes, the lines, and the calls as a `Log` has them.
+static CALLS: [(u64, Late, &str, u64); 3] = [
+    (
+        0,
+        Late::Never,
+        "5 2 0 1 2 0\n5 d 5 0\n",
+        11_51_12_52_65_75_85,
+    ),
+    (3, Late::Never, "5 -2 0 6 0\n", 16_56_26_56_36_56_46_56),
+    (3, Late::Published(2), "5 -2 0 6 0\n", 16_56_26_56_65_75),
+];
 
 /// The gate is called right before each fetch, and right after each publish.
 #[test]
 fn the_gate_stands_between_the_calls_of_the_map(rt: HostRuntime) -> Result<(), Fail> {
-    for (tries, late, lines, calls) in [
-        (
-            0,
-            Late::Never,
-            "5 2 0 1 2 0\n5 d 5 0\n",
-            11_51_12_52_65_75_85,
-        ),
-        (3, Late::Never, "5 -2 0 6 0\n", 16_56_26_56_36_56_46_56),
-        (3, Late::Published(2), "5 -2 0 6 0\n", 16_56_26_56_65_75),
-    ] {
+    for &(tries, late, lines, calls) in &CALLS {
         let found = calls_of(rt.alloc(), tries, late, lines)?;
         same(&rt, (lines, late, found), (lines, late, calls));
     }

@@ -61,9 +61,18 @@ fn stays_over<R: Abort, M: ClauseMap>(rt: &R, checker: &mut Checker, map: &mut M
     requires over { IsSome checker.old.ending }
 {
     let said = checker.report();
+    let more = fed_more(checker, map);
+    same(rt, (more, checker.report()), ((0, CheckTurn::Over), said));
+}
+
+/// How much of a further line is used, and whose turn it is then.
+fn fed_more<M: ClauseMap>(checker: &mut Checker, map: &mut M) -> (usize, CheckTurn)
+    requires ready { IsReadyAt checker.old (M.place map.old) }
+    requires over { IsSome checker.old.ending }
+    ensures { IsSome checker.new.ending }
+{
     let more = checker.feed(map, &mut told_of(0, 0, 0), b"7 2 0 1 2 0\n");
-    same(rt, (more.used, more.turn), (0, CheckTurn::Over));
-    same(rt, checker.report(), said);
+    (more.used, more.turn)
 }
 
 /// What is said of a stream of these lines.

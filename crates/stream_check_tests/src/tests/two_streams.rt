@@ -1,5 +1,6 @@
 //! Two streams at one map, by turns.
-ghost use Rattle.std.specs.Prelude.{◌≡◌, ◌≤◌};
+ghost use Rattle.std.specs.Prelude.{◌≡◌, ◌≤◌, IfOk};
+ghost use Rattle.checker_support.specs.Opened.{IsPlainOpened};
 ghost use Rattle.lrup_model.specs.Event.{History};
 ghost use Rattle.lrup_model.specs.Layout.{IsStream};
 ghost use Rattle.lrup_model.specs.Plain.{PlainMoves, plain_place};
@@ -37,12 +38,23 @@ fn feed_at(map: &mut PlainMap, s: u64, checker: &mut Checker, gate: &mut Told, p
     feed_whole(checker, &mut map.desk(s), gate, piece);
 }
 
+/// The checkers of streams 1 and 2 at a map that was just opened.
+fn two_checkers(alloc: Global, map: &PlainMap, tries: u64) -> Result<(Checker, Checker), Fail>
+    requires { IsPlainOpened map.now }
+    ensures streams { IfOk result (λ _. 2 ≤ map.now.layout.streams) }
+    ensures first { IfOk result (λ both. IsReadyAt both.0 (plain_place map.now 1)) }
+    ensures second { IfOk result (λ both. IsReadyAt both.1 (plain_place map.now 2)) }
+{
+    let first = checker_at(alloc, map, 1, tries)?;
+    let second = checker_at(alloc, map, 2, tries)?;
+    Ok((first, second))
+}
+
 impl Two {
     /// The first has identities 5 and 7, and the second 6 and 8; each has room for two literals.
     fn open(alloc: Global, tries: u64) -> Result<Two, Fail> {
         let map = open_map(alloc, 2, 2, 2)?;
-        let first = checker_at(alloc, &map, 1, tries)?;
-        let second = checker_at(alloc, &map, 2, tries)?;
+        let (first, second) = two_checkers(alloc, &map, tries)?;
         Ok(Two {
             map,
             first,

@@ -3,8 +3,8 @@ use Rattle.std.proofs.lemmas.Option.{slice_get_within}
 use Rattle.lrup_model.specs.Formula.{Cnf}
 use Rattle.lrup_model.specs.Place.{Caller}
 use Rattle.clause_store.specs.Passes.{StoreValue, PassValue}
-use Rattle.clause_store_tests.specs.Worked.{IsPassAt, ArePassesAt, raced}
-use Rattle.clause_store_tests.proofs.tests.open_race.Goals as goal
+use Rattle.clause_store_tests.specs.Worked.{IsPassAt, ArePassesAt}
+use Rattle.clause_store_tests.proofs.tests.open.Goals as goal
 
 -- where the pass at each place is of the store and formula, all are
 are_at : (f : Cnf) (store : StoreValue) (ps : List PassValue) → ((k : ℕ) (p : PassValue) → slice_get ps k ≡ Some p → IsPassAt f store p)
@@ -14,11 +14,12 @@ are_at f store (p ∷ ps) each = (each 0 p refl, are_at f store ps (λ k q here.
 
 pub returns : goal.returns
 returns c =
+    λ f same.
     let passes = c.in_ok-store.passes in
-    are_at raced c.in_ok-store.store passes.items
+    are_at f c.in_ok-store.store passes.items
     (λ k p here.
     let below : k < length passes.items = slice_get_within passes.items k p here in
     let place : k + 1 - 1 ≡ k = omega arith in
     let opened = c.in_ok-store.ensures.passes (k + 1) p (omega arith, omega (arith, c.in_ok-store.ensures.count, passes.ok.0))
     (ap (λ (n : ℕ). slice_get passes.items n) place ∙ here) in
-    (opened.store, ap (λ (u : Caller). u.formula) opened.caller ∙ c.in_ok-formula.ensures))
+    (opened.store, ap (λ (u : Caller). u.formula) opened.caller ∙ same))

@@ -1,0 +1,21 @@
+#!/bin/sh
+# Tries the edits that the gate leaves out, since it has another one that turns the same clause:
+#
+#     sh gate/edits.sh RT [CRATE]
+#
+# They are tried as `rt must-fail` tries the gate's, in a copy of the crates that has these in place of those.
+if [ $# -gt 2 ] || [ -z "$1" ] || [ ! -d "$(dirname "$0")/edits/$2" ]; then
+    echo "usage: make edits [CRATE=name], with the name of a folder in gate/edits" >&2
+    exit 2
+fi
+cd "$(dirname "$0")/.." || exit 2
+copy=$(mktemp -d) || exit 2
+trap 'rm -rf "$copy"' EXIT
+cp crates.txt HANDLES "$copy" || exit 2
+for part in crates/*/src crates/*/specs crates/*/proofs; do
+    mkdir -p "$copy/${part%/*}" && cp -R "$part" "$copy/$part" || exit 2
+done
+for edits in gate/edits/*; do
+    cp -R "$edits" "$copy/crates/${edits##*/}/must-fail" || exit 2
+done
+cd "$copy" && "$1" must-fail ${2:+"$2"}
