@@ -104,17 +104,22 @@ solve-mpi: solve-objects mpicxx ## build: lrup-solve-mpi, the same in several pr
 solver-test: $(BUILT) solver ## check: the example solver's streams, of one to eight solvers, and of some that are killed
 	@python3 tests/example_solver.py $(PROGRAM) $(SOLVER)
 
-filter-test: $(BUILT) exact ## check: the filter, in rounds too, with the solvers that are on the PATH, and 10,000 mutated proofs
-	@python3 tests/filter_streams.py $(PROGRAM) && python3 tests/filter_rounds.py $(PROGRAM)
-	@python3 tests/filter_mutants.py $(PROGRAM)
+FILTER_TESTS := filter_rounds filter_mutants filter_streams
+.PHONY: $(FILTER_TESTS)
+filter-test: $(FILTER_TESTS) ## check: the filter, in rounds too, with the solvers that are on the PATH, and 10,000 mutated proofs
+
+$(FILTER_TESTS): $(BUILT) exact
+	@python3 tests/$@.py $(PROGRAM)
 
 # Without CaDiCaL's library nothing is run, and without MPI nothing of lrup-solve-mpi. With MPI= only what takes seconds there, as in
 # the gate.
 MPI ?= yes
-solve-test: $(BUILT) c-and-python ## check: lrup-solve, and what may happen to it, with 300 random formulas
-	@python3 tests/lrup_solve.py $(PROGRAM) && python3 tests/lrup_solve_rounds.py $(PROGRAM)
-	@python3 tests/lrup_solve_solvers.py $(PROGRAM)
-	@python3 tests/lrup_solve_mpi.py $(PROGRAM) $(if $(MPI),,-O2 small)
+SOLVE_TESTS := lrup_solve_rounds lrup_solve lrup_solve_solvers lrup_solve_mpi
+.PHONY: $(SOLVE_TESTS)
+solve-test: $(SOLVE_TESTS) ## check: lrup-solve, and what may happen to it, with 300 random formulas
+
+$(SOLVE_TESTS): $(BUILT) c-and-python
+	@python3 tests/$@.py $(PROGRAM) $(if $(MPI),,$(if $(filter %_mpi,$@),-O2 small))
 
 neighbours: $(BUILT) c-and-python ## check: what is said of a good proof beside hostile streams, which never changes
 	@python3 tests/program_neighbours.py $(PROGRAM)
@@ -169,7 +174,7 @@ edits: toolchain ## check: the edits that the gate leaves out, of CRATE=name or 
 # the program and of tests, memory given back, and the instructions that lines take. The last line is rt's own, 'N passed, M
 # failed'.
 # Side by side, those that take longest first; what each one prints comes when it has ended.
-TESTS := solve-test filter-test sweep checkpoints examples neighbours solver-test leaks live instructions
+TESTS := $(SOLVE_TESTS) $(FILTER_TESTS) sweep checkpoints examples neighbours solver-test leaks live instructions
 SIDE_BY_SIDE := --output-sync=target -j $(shell nproc)
 test: SHELL := /bin/bash
 test: toolchain pages solver exact ## check: the gate, 25 to 90 minutes: every proof, edit and test; has to pass before a push

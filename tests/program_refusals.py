@@ -120,7 +120,7 @@ class Machine:
         if checkpoint and checkpoint.is_file():
             answer = answer._replace(saved=checkpoint.read_text())
         if "--watch" in words:
-            answer = without_watched_ends(answer, refuse)
+            answer = without_watched_ends(answer, refuse, "--serial" not in words)
         return answer, self.mark.exists(), time.monotonic() - began
 
     def threads(self) -> str:
@@ -145,13 +145,32 @@ class Machine:
         return self.ends[given, number, line]
 
 
-def without_watched_ends(answer: Answer, refuse: str) -> Answer:
+def mixtures(lines: Sequence[str], how: str) -> Iterator[str]:
+    """Lines of threads, one of which the system took a part of at first, so that others went out before its rest."""
+    for cut, line in enumerate(lines):
+        length = 1 if how == "short" else len(line) // 2
+        for last in range(cut + 1, len(lines)):
+            yield "".join([*lines[:cut], line[:length], *lines[cut + 1:last + 1], line[length:], *lines[last + 1:]])
+
+
+def unmixed(err: str, watched: Set[str], how: str) -> str:
+    for lines in itertools.permutations(watched):
+        for mixture in mixtures(lines, how):
+            if err.startswith(mixture):
+                return "".join(lines) + err[len(mixture):]
+    return err
+
+
+def without_watched_ends(answer: Answer, refuse: str, mixes: bool) -> Answer:
     """Without the lines of --watch on how each stream ended, where they say what the report does; else no answer. A report that is
-    cut may say less, and so may these lines where a write fails."""
-    lines = answer.err.splitlines(keepends=True)
-    watched = {line for line in lines if line.startswith("lrupd: stream ")}
+    cut may say less, and so may these lines where a write fails. Those of several threads may mix where the system takes a part of
+    a write, and only there."""
+    kind, _, how = (refuse.split(":") + ["", ""])[:3]
+    is_short, fails = kind == "write" and how in SHORT, kind == "write" and how not in SHORT
     reported = {re.sub("^c", "lrupd:", line) for line in answer.out.splitlines(keepends=True) if line.startswith("c stream ")}
-    if watched == reported or answer.status == 7 and watched > reported or refuse.startswith("write") and watched < reported:
+    lines = (unmixed(answer.err, reported, how) if is_short and mixes else answer.err).splitlines(keepends=True)
+    watched = {line for line in lines if line.startswith("lrupd: stream ")}
+    if watched == reported or answer.status == 7 and watched > reported or fails and watched < reported:
         return answer._replace(err="".join(line for line in lines if line not in watched))
     return Answer(answer.out, f"watched {sorted(watched)}", None)
 
