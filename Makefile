@@ -164,7 +164,7 @@ LIMIT ?= 90
 quick: toolchain c-and-python ## check: after a change of CRATE=name: layout, proofs, its tests before they are proved, the pages
 	@sh gate/quick.sh $(RT) $(CRATE) $(LIMIT)
 
-# They turn the same clauses as others that the gate tries, of which each costs a check of its crate.
+# Each costs a check of its crate, and the gate has another one of its function.
 edits: toolchain ## check: the edits that the gate leaves out, of CRATE=name or of all crates; each has to be refused
 	@sh gate/edits.sh $(RT) $(CRATE)
 
@@ -174,7 +174,8 @@ edits: toolchain ## check: the edits that the gate leaves out, of CRATE=name or 
 # the program and of tests, memory given back, and the instructions that lines take. The last line is rt's own, 'N passed, M
 # failed'.
 # Side by side, those that take longest first; what each one prints comes when it has ended.
-TESTS := $(SOLVE_TESTS) $(FILTER_TESTS) sweep checkpoints examples neighbours solver-test leaks live instructions
+TESTS := lrup_solve_rounds sweep filter_mutants lrup_solve filter_rounds lrup_solve_solvers checkpoints lrup_solve_mpi leaks \
+	filter_streams examples neighbours solver-test live instructions
 SIDE_BY_SIDE := --output-sync=target -j $(shell nproc)
 test: SHELL := /bin/bash
 test: toolchain pages solver exact ## check: the gate, 25 to 90 minutes: every proof, edit and test; has to pass before a push

@@ -1,5 +1,5 @@
 #!/bin/sh
-# Tries the edits that the gate leaves out, since it has another one that turns the same clause:
+# Tries the edits that the gate leaves out, since it has another one of the same function:
 #
 #     sh gate/edits.sh RT [CRATE]
 #
