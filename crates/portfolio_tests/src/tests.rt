@@ -59,21 +59,17 @@ impl Gate for Open {
 /// told, where attempt 0 stands for a publish, and identity 0 for the end of the stream.
 #[derive(Drop)]
 struct Calls {
+    /// How many numbers were told, four for each call.
     count: AtomicU64,
-    told: Vec<[AtomicU64; 4]>,
+    told: Vec<AtomicU64>,
 }
 
 impl Calls {
     /// A list with room for so many calls.
     fn new(alloc: Global, most: usize) -> Result<Calls, AllocError> {
         let mut told = Vec::new(alloc);
-        for _ in 0..most {
-            told.push([
-                AtomicU64::new(0),
-                AtomicU64::new(0),
-                AtomicU64::new(0),
-                AtomicU64::new(0),
-            ])?;
+        for _ in 0..most.saturating_mul(4) {
+            told.push(AtomicU64::new(0))?;
         }
         Ok(Calls {
             count: AtomicU64::new(0),
@@ -82,20 +78,52 @@ impl Calls {
     }
 
     fn note(&self, call: [u64; 4]) {
-        let place = self.count.fetch_add(1, Ordering::SeqCst);
-        if let Some(cells) = self.told.get(place as usize) {
-            for (cell, value) in cells.iter().zip(call) {
-                cell.store(value, Ordering::SeqCst);
-            }
+        let from = self.count.fetch_add(4, Ordering::SeqCst);
+        let [gate, stream, id, attempt] = call;
+        self.put(from, gate);
+        self.put(from.saturating_add(1), stream);
+        self.put(from.saturating_add(2), id);
+        self.put(from.saturating_add(3), attempt);
+    }
+
+    /// Keeps a number, where there is room for it.
+    fn put(&self, place: u64, value: u64) {
+        if let Some(cell) = self.told.get(place as usize) {
+            cell.store(value, Ordering::SeqCst);
         }
+    }
+
+    /// The number at this place, or 0 where there was no room for it.
+    fn number(&self, place: u64) -> u64 {
+        match self.told.get(place as usize) {
+            Some(cell) => cell.load(Ordering::SeqCst),
+            None => 0,
+        }
+    }
+
+    /// How many calls there were.
+    fn count(&self) -> u64 {
+        self.count.load(Ordering::SeqCst) / 4
+    }
+
+    /// The call at this place, from 0 on.
+    fn call(&self, place: u64) -> [u64; 4] {
+        let from = place.saturating_mul(4);
+        [
+            self.number(from),
+            self.number(from.saturating_add(1)),
+            self.number(from.saturating_add(2)),
+            self.number(from.saturating_add(3)),
+        ]
     }
 
     /// The calls of one gate.
     fn of(&self, alloc: Global, gate: u64) -> Result<Vec<[u64; 4]>, AllocError> {
         let mut calls = Vec::new(alloc);
-        for call in &self.all(alloc)? {
+        for place in 0..self.count() {
+            let call = self.call(place);
             if call[0] == gate {
-                calls.push(*call)?;
+                calls.push(call)?;
             }
         }
         Ok(calls)
@@ -104,12 +132,8 @@ impl Calls {
     /// All calls.
     fn all(&self, alloc: Global) -> Result<Vec<[u64; 4]>, AllocError> {
         let mut calls = Vec::new(alloc);
-        for (_, cells) in (0..self.count.load(Ordering::SeqCst)).zip(&self.told) {
-            let mut call = [0; 4];
-            for (cell, value) in cells.iter().zip(&mut call) {
-                *value = cell.load(Ordering::SeqCst);
-            }
-            calls.push(call)?;
+        for place in 0..self.count() {
+            calls.push(self.call(place))?;
         }
         Ok(calls)
     }
@@ -266,25 +290,51 @@ fn found_under<'a, T: Threads + Wait + Sync>(
 {
     let gates = vec![in alloc; Open; readers.len()]?;
     match by {
-        By::Threads => {
-            let outcome = run_by_threads(rt, alloc, cube, options, readers, gates)?;
-            let Outcome {
-                reports,
-                verdict,
-                ..
-            } = outcome;
-            Ok((reports, verdict))
-        }
-        By::Turns => {
-            let outcome = run_by_turns(rt, alloc, cube, options, readers, gates)?;
-            let SerialOutcome {
-                reports,
-                verdict,
-                ..
-            } = outcome;
-            Ok((reports, verdict))
-        }
+        By::Threads => found_by_threads(rt, alloc, cube, options, readers, gates),
+        By::Turns => found_by_turns(rt, alloc, cube, options, readers, gates),
     }
+}
+
+/// The reports and the verdict of a run with a thread for each stream.
+fn found_by_threads<T: Threads + Wait + Sync, R: Source + Send + Drop, G: Gate + Send + Drop>(
+    rt: &T,
+    alloc: Global,
+    cube: &Cube,
+    options: Options,
+    readers: Vec<R>,
+    gates: Vec<G>,
+) -> Result<(Vec<Report>, Verdict), Fail>
+    requires gates { vec_len gates ≡ vec_len readers }
+    requires running { AllByRecursion (λ r. R.has_failed r ≡ false) readers.items }
+{
+    let outcome = run_by_threads(rt, alloc, cube, options, readers, gates)?;
+    let Outcome {
+        reports,
+        verdict,
+        ..
+    } = outcome;
+    Ok((reports, verdict))
+}
+
+/// The same on one thread.
+fn found_by_turns<W: Wait, R: Source + Drop, G: Gate + Drop>(
+    wait: &W,
+    alloc: Global,
+    cube: &Cube,
+    options: Options,
+    readers: Vec<R>,
+    gates: Vec<G>,
+) -> Result<(Vec<Report>, Verdict), Fail>
+    requires gates { vec_len gates ≡ vec_len readers }
+    requires running { AllByRecursion (λ r. R.has_failed r ≡ false) readers.items }
+{
+    let outcome = run_by_turns(wait, alloc, cube, options, readers, gates)?;
+    let SerialOutcome {
+        reports,
+        verdict,
+        ..
+    } = outcome;
+    Ok((reports, verdict))
 }
 
 /// The wanted text goes to paper that takes 512 bytes of it at once, and byte by byte.

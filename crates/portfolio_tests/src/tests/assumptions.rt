@@ -1,5 +1,5 @@
 //! Runs under a cube of assumed literals, with a thread for each stream and by turns.
-use super::{BOTH, defaults, found_under, readers_of, report, same};
+use super::{BOTH, By, defaults, found_under, readers_of, report, same};
 use lrup_model::{Cube, Lit};
 use portfolio::Verdict;
 use std::alloc::Global;
@@ -19,7 +19,20 @@ fn cube_of(alloc: Global, values: &[i64]) -> Result<Cube, Fail> {
     Ok(cube)
 }
 
-/// A run of these streams over the four clauses, under this cube, has these reports and this verdict, in either way.
+/// The reports and the verdict of a run of these streams over the four clauses, under this cube.
+fn found_in<T: Threads + Wait + Sync>(
+    rt: &T,
+    alloc: Global,
+    by: By,
+    cube: &[i64],
+    streams: &[&str],
+) -> Result<(Vec<Report>, Verdict), Fail> {
+    let cube = cube_of(alloc, cube)?;
+    let readers = readers_of(alloc, streams, 3)?;
+    found_under(rt, alloc, by, &cube, defaults(), readers)
+}
+
+/// Such a run has these reports and this verdict, in either way.
 fn run_says<T: Threads + Wait + Sync + Abort>(
     rt: &T,
     alloc: Global,
@@ -27,10 +40,8 @@ fn run_says<T: Threads + Wait + Sync + Abort>(
     streams: &[&str],
     wanted: (&[Report], Verdict),
 ) -> Result<(), Fail> {
-    let cube = cube_of(alloc, cube)?;
     for by in BOTH {
-        let readers = readers_of(alloc, streams, 3)?;
-        let (reports, verdict) = found_under(rt, alloc, by, &cube, defaults(), readers)?;
+        let (reports, verdict) = found_in(rt, alloc, by, cube, streams)?;
         same(
             rt,
             (by, streams, reports.as_slice(), verdict),

@@ -2,7 +2,7 @@
 ghost use Rattle.std.specs.Prelude.{◌≡◌, false, IfOk, None};
 ghost use Rattle.std.specs.List.{AllByRecursion};
 
-use super::{BOTH, By, Open, bad_line, defaults, ended, holds, run_by_threads, run_by_turns, same};
+use super::{BOTH, By, Open, bad_line, defaults, ended, run_by_threads, run_by_turns, same};
 use lrup_model::Cube;
 use lrup_text::{LineFault, ReadFault, Source};
 use portfolio::{Outcome, SerialOutcome, Verdict};
@@ -129,15 +129,26 @@ static READS: [(usize, [usize; 4]); 3] = [
     (usize::MAX, [2, 2, 2, 1]),
 ];
 
-/// Each reader was asked so often, and still has what comes later.
+/// This reader of a row was asked so often, and still has what comes later.
+fn stopped(rt: &impl Abort, by: By, reader: &Growing<'_>, reads: usize, row: (&str, &str)) {
+    let (before, later) = row;
+    same(
+        rt,
+        (by, before, reader.reads, reader.left),
+        (by, before, reads, later.as_bytes()),
+    );
+}
+
+/// The same of each reader.
 fn stopped_there(rt: &impl Abort, by: By, readers: &[Growing<'_>], reads: [usize; 4]) {
-    holds(rt, readers.len() == 4);
-    for ((reader, count), &(before, later)) in readers.iter().zip(reads).zip(&STREAMS) {
-        same(
-            rt,
-            (by, before, reader.reads, reader.left),
-            (by, before, count, later.as_bytes()),
-        );
+    match readers {
+        [first, second, third, fourth] => {
+            stopped(rt, by, first, reads[0], STREAMS[0]);
+            stopped(rt, by, second, reads[1], STREAMS[1]);
+            stopped(rt, by, third, reads[2], STREAMS[2]);
+            stopped(rt, by, fourth, reads[3], STREAMS[3]);
+        }
+        _ => same(rt, (by, readers.len()), (by, 4)),
     }
 }
 

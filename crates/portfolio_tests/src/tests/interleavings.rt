@@ -1,8 +1,8 @@
 //! Interleavings that gates force, each a hundred times: a thread at one call stays there until another call was made.
-use super::threads::run_with;
-use super::{CITING, bad_line, ended, options, readers_of, report, same};
+use super::threads::found_with;
+use super::{CITING, bad_line, ended, options, report, same};
 use lrup_model::Id;
-use portfolio::{Options, Outcome, Verdict};
+use portfolio::{Options, Verdict};
 use std::alloc::{AllocError, Global};
 use std::process::Abort;
 use std::sync::Wait;
@@ -109,13 +109,7 @@ fn forced<T: Threads + Wait + Sync>(
         holds,
         counts: &counts,
     };
-    let readers = readers_of(alloc, streams, 5)?;
-    let outcome = run_with(rt, alloc, options, gate, readers)?;
-    let Outcome {
-        reports,
-        verdict,
-        ..
-    } = outcome;
+    let (reports, verdict) = found_with(rt, alloc, options, gate, streams)?;
     Ok((reports, verdict, counts.late.load(Ordering::SeqCst)))
 }
 

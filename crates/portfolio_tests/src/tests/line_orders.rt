@@ -6,11 +6,11 @@ ghost use Rattle.lrup_model.specs.Layout.{IsStream};
 ghost use Rattle.lrup_model.specs.Plain.{PlainMoves, plain_place};
 ghost use Rattle.stream_check.specs.Checker.{IsReadyAt};
 
-use super::threads::{run_with, waits_for};
+use super::threads::{found_with, waits_for};
 use super::{By, CITING, Open, bad_line, ended, options, readers_of, report, reports_of, same};
 use checker_support::{checker_at, open_map};
 use lrup_model::{ClauseMap, Id, PlainMap};
-use portfolio::{Outcome, Verdict};
+use portfolio::Verdict;
 use std::alloc::Global;
 use std::process::Abort;
 use std::sync::Wait;
@@ -316,13 +316,7 @@ fn run_deleting<T: Threads + Wait + Sync>(
         seven: &seven,
         late: &late,
     };
-    let readers = readers_of(alloc, &streams, 5)?;
-    let outcome = run_with(rt, alloc, options(0, 2, 16), gate, readers)?;
-    let Outcome {
-        reports,
-        verdict,
-        ..
-    } = outcome;
+    let (reports, verdict) = found_with(rt, alloc, options(0, 2, 16), gate, &streams)?;
     Ok((reports, verdict, late.load(Ordering::SeqCst)))
 }
 

@@ -173,11 +173,7 @@ fn one_waits<'a>(
         waits: false,
         ..first
     };
-    let mut readers = Vec::new(alloc);
-    readers.push(first)?;
-    readers.push(second)?;
-    readers.push(third)?;
-    Ok(readers)
+    Ok(vec![in alloc; first, second, third]?)
 }
 
 /// Gates that set the flags at the last clauses of streams 2 and 3.
@@ -188,20 +184,19 @@ fn telling<'a>(
 ) -> Result<Vec<Tells<'a>>, AllocError>
     ensures { IfOk result (λ gates. length gates.items ≡ 3) }
 {
-    let mut gates = Vec::new(alloc);
-    gates.push(Tells {
+    let of_first = Tells {
         last: 0,
         flag: first,
-    })?;
-    gates.push(Tells {
+    };
+    let of_second = Tells {
         last: 9,
         flag: first,
-    })?;
-    gates.push(Tells {
+    };
+    let of_third = Tells {
         last: 10,
         flag: second,
-    })?;
-    Ok(gates)
+    };
+    Ok(vec![in alloc; of_first, of_second, of_third]?)
 }
 
 /// Stream 1 says nothing more until the last lines of streams 2 and 3 were checked: a reader that blocks holds up none.

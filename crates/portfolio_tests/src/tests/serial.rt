@@ -23,8 +23,24 @@ fn run_pieces<'a, W: Wait>(
 ) -> Result<SerialOutcome<Pieces<'a>>, Fail>
     requires { AllByRecursion (λ r. r.failed ≡ false) readers.items }
 {
+    let formula = four_clauses(alloc)?;
+    run_over(wait, alloc, &formula, defaults(), readers)
+}
+
+/// The same over this formula, with these options.
+fn run_over<'a, W: Wait>(
+    wait: &W,
+    alloc: Global,
+    formula: &Formula,
+    options: Options,
+    readers: Vec<Pieces<'a>>,
+) -> Result<SerialOutcome<Pieces<'a>>, Fail>
+    requires { AllByRecursion (λ r. r.failed ≡ false) readers.items }
+{
     let gates = vec![in alloc; Open; readers.len()]?;
-    run_by_turns(wait, alloc, &Cube::empty(alloc), defaults(), readers, gates)
+    let none = Cube::empty(alloc);
+    let outcome = run_serial(wait, alloc, formula, &none, options, readers, gates)?;
+    Ok(outcome)
 }
 
 /// The report is this text, and no reader was asked for more than a piece.
@@ -43,7 +59,22 @@ fn says(
     Ok(())
 }
 
-/// A run of these streams reports so, in pieces of one byte, of two, and whole.
+/// A run of these streams, whose reads give so many bytes, reports so.
+fn says_in_pieces<R: Abort + Wait>(
+    rt: &R,
+    alloc: Global,
+    formula: &Formula,
+    options: Options,
+    streams: &[&str],
+    most: usize,
+    text: &str,
+) -> Result<(), Fail> {
+    let readers = readers_of(alloc, streams, most)?;
+    let outcome = run_over(rt, alloc, formula, options, readers)?;
+    says(rt, alloc, &outcome, text)
+}
+
+/// The same in pieces of one byte, of two, and whole.
 fn row<R: Abort + Wait>(
     rt: &R,
     alloc: Global,
@@ -53,18 +84,7 @@ fn row<R: Abort + Wait>(
     text: &str,
 ) -> Result<(), Fail> {
     for most in [1, 2, usize::MAX] {
-        let readers = readers_of(alloc, streams, most)?;
-        let gates = vec![in alloc; Open; readers.len()]?;
-        let outcome = run_serial(
-            rt,
-            alloc,
-            formula,
-            &Cube::empty(alloc),
-            options,
-            readers,
-            gates,
-        )?;
-        says(rt, alloc, &outcome, text)?;
+        says_in_pieces(rt, alloc, formula, options, streams, most, text)?;
     }
     Ok(())
 }
@@ -518,18 +538,27 @@ fn long_stream(alloc: Global) -> Result<String, Fail> {
     Ok(stream)
 }
 
+/// A run of this stream, whose reads give all that is asked for, reports a refutation.
+fn says_refuted<R: Abort + Wait>(rt: &R, alloc: Global, stream: &str) -> Result<(), Fail> {
+    let formula = four_clauses(alloc)?;
+    says_in_pieces(
+        rt,
+        alloc,
+        &formula,
+        defaults(),
+        &[stream],
+        usize::MAX,
+        SAYS_REFUTED,
+    )
+}
+
 /// A long stream comes in two pieces.
 #[test]
 fn a_read_asks_for_one_piece(rt: HostRuntime) -> Result<(), Fail> {
     let stream = long_stream(rt.alloc())?;
-    let readers = readers_of(rt.alloc(), &[stream.as_str()], usize::MAX)?;
-    let outcome = run_pieces(&rt, rt.alloc(), readers)?;
-    says(&rt, rt.alloc(), &outcome, SAYS_REFUTED)?;
-    same(
-        &rt,
-        reads_of(&rt, rt.alloc(), stream.as_str(), usize::MAX)?,
-        3,
-    );
+    says_refuted(&rt, rt.alloc(), stream.as_str())?;
+    let found = reads_of(&rt, rt.alloc(), stream.as_str(), usize::MAX)?;
+    same(&rt, found, 3);
     Ok(())
 }
 
@@ -554,47 +583,46 @@ impl Source for Watched<'_> {
     }
 }
 
+/// The fault of a run of these readers.
+fn fault_of<W: Wait, R: Source + Drop>(
+    wait: &W,
+    alloc: Global,
+    options: Options,
+    readers: Vec<R>,
+) -> Result<Option<RunFault>, Fail>
+    requires { AllByRecursion (λ r. R.has_failed r ≡ false) readers.items }
+{
+    let formula = four_clauses(alloc)?;
+    let gates = vec![in alloc; Open; readers.len()]?;
+    let none = Cube::empty(alloc);
+    let ran = run_serial(wait, alloc, &formula, &none, options, readers, gates);
+    Ok(ran.err())
+}
+
 /// The fault of a run of one stream with so many identities, and whether the stream was read.
 fn run_watched<W: Wait>(
     wait: &W,
     alloc: Global,
     lines: u64,
 ) -> Result<(Option<RunFault>, bool), Fail> {
-    let formula = four_clauses(alloc)?;
     let read = Cell::new(false);
-    let mut readers = Vec::new(alloc);
-    readers.push(Watched { read: &read })?;
-    let mut gates = Vec::new(alloc);
-    gates.push(Open)?;
-    let ran = run_serial(
-        wait,
-        alloc,
-        &formula,
-        &Cube::empty(alloc),
-        options(0, lines, 0),
-        readers,
-        gates,
-    );
-    Ok((ran.err(), read.get()))
+    let readers = vec![in alloc; Watched { read: &read }]?;
+    let fault = fault_of(wait, alloc, options(0, lines, 0), readers)?;
+    Ok((fault, read.get()))
 }
 
-/// The fault of a run of so many streams.
-fn fault_of<W: Wait>(wait: &W, alloc: Global, count: usize) -> Result<Option<RunFault>, Fail> {
-    let formula = four_clauses(alloc)?;
-    let streams = vec![in alloc; ""; count]?;
-    let readers = readers_of(alloc, &streams, 1)?;
-    let gates = vec![in alloc; Open; readers.len()]?;
-    let ran = run_serial(
-        wait,
-        alloc,
-        &formula,
-        &Cube::empty(alloc),
-        defaults(),
-        readers,
-        gates,
-    );
-    Ok(ran.err())
+/// The fault of a run of these streams.
+fn fault_of_streams<W: Wait>(
+    wait: &W,
+    alloc: Global,
+    streams: &[&str],
+) -> Result<Option<RunFault>, Fail> {
+    let readers = readers_of(alloc, streams, 1)?;
+    fault_of(wait, alloc, defaults(), readers)
 }
+
+/// No streams, and 65.
+static BAD_COUNTS: [&[&str]; 2] = [&[], &[""; 65]];
 
 #[test]
 fn no_layout_no_read(rt: HostRuntime) -> Result<(), Fail> {
@@ -605,8 +633,8 @@ fn no_layout_no_read(rt: HostRuntime) -> Result<(), Fail> {
         (fault, false),
     );
     same(&rt, run_watched(&rt, rt.alloc(), 65_536)?, (None, true));
-    for count in [0, 65] {
-        let fault = fault_of(&rt, rt.alloc(), count)?;
+    for streams in &BAD_COUNTS {
+        let fault = fault_of_streams(&rt, rt.alloc(), streams)?;
         let wanted = Some(RunFault::Layout(LayoutFault::BadStreamCount));
         same(&rt, fault, wanted);
     }

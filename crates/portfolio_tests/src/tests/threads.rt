@@ -6,8 +6,8 @@ ghost use Rattle.portfolio.specs.Outcomes.{terms_of};
 ghost use Rattle.test_support.specs.Worked.{four};
 
 use super::{
-    CITING, Calls, Open, bad_line, defaults, ended, holds, notes_of, options, readers_of, report,
-    run_by_threads, same,
+    CITING, Calls, Open, bad_line, defaults, ended, found_by_threads, holds, notes_of, options,
+    readers_of, report, run_by_threads, same,
 };
 use lrup_model::{Cube, Id, LayoutFault};
 use lrup_text::Source;
@@ -18,7 +18,7 @@ use std::sync::Wait;
 use std::sync::atomic::{AtomicBool, Ordering};
 use std::test::Fail;
 use std::thread::{self, Threads};
-use stream_check::{Ending, Fault, Gate};
+use stream_check::{Ending, Fault, Gate, Report};
 use test_support::{Pieces, Sleeps, four_clauses};
 
 /// A gate for each stream.
@@ -73,6 +73,19 @@ pub(super) fn run_with<
 {
     let gates = gates_of(alloc, gate, readers.len())?;
     run_by_threads(rt, alloc, &Cube::empty(alloc), options, readers, gates)
+}
+
+/// The reports and the verdict of such a run of these streams.
+pub(super) fn found_with<T: Threads + Wait + Sync, G: Gate + Copy + Send + Drop>(
+    rt: &T,
+    alloc: Global,
+    options: Options,
+    gate: G,
+    streams: &[&str],
+) -> Result<(Vec<Report>, Verdict), Fail> {
+    let readers = readers_of(alloc, streams, 5)?;
+    let gates = gates_of(alloc, gate, readers.len())?;
+    found_by_threads(rt, alloc, &Cube::empty(alloc), options, readers, gates)
 }
 
 /// The citing streams' run, in which stream 2 publishes before stream 1 asks; and whether a gate waited in vain.
@@ -263,25 +276,35 @@ fn one_reader_fails(rt: HostRuntime) -> Result<(), Fail> {
 /// The first stream wants a clause that nobody derives.
 const MISSING: [&str; 2] = ["5 0 6 0\n", ""];
 
+/// The reports and the verdict of a run with these gates.
+fn found_by_gates<T: Threads + Wait + Sync, G: Gate + Send + Drop>(
+    rt: &T,
+    alloc: Global,
+    options: Options,
+    streams: &[&str],
+    gates: Vec<G>,
+) -> Result<(Vec<Report>, Verdict), Fail> {
+    let readers = readers_of(alloc, streams, 5)?;
+    if gates.len() != readers.len() {
+        return Err("not a gate for each stream".into());
+    }
+    found_by_threads(rt, alloc, &Cube::empty(alloc), options, readers, gates)
+}
+
 /// Their run with these gates and three more tries.
 fn run_missing<T: Threads + Wait + Sync + Abort, G: Gate + Send + Drop>(
     rt: &T,
     alloc: Global,
     gates: Vec<G>,
 ) -> Result<(), Fail> {
-    let readers = readers_of(alloc, &MISSING, 5)?;
-    if gates.len() != readers.len() {
-        return Err("not a gate for each stream".into());
-    }
     let options = options(3, 65_536, 1_048_576);
-    let outcome = run_by_threads(rt, alloc, &Cube::empty(alloc), options, readers, gates)?;
+    let (reports, verdict) = found_by_gates(rt, alloc, options, &MISSING, gates)?;
     let missing = bad_line(1, Fault::Missing(6));
     same(
         rt,
-        outcome.reports.as_slice(),
-        [missing, ended(0, false)].as_slice(),
+        (reports.as_slice(), verdict),
+        ([missing, ended(0, false)].as_slice(), Verdict::Unknown),
     );
-    same(rt, outcome.verdict, Verdict::Unknown);
     Ok(())
 }
 
@@ -316,13 +339,10 @@ fn calls_apart<T: Threads + Wait + Sync + Abort>(
     alloc: Global,
     calls: &Calls,
 ) -> Result<(), Fail> {
-    let readers = readers_of(alloc, &APART, 5)?;
-    let gates = notes_of(alloc, calls, readers.len())?;
-    holds(rt, gates.len() == readers.len());
-    let none = Cube::empty(alloc);
-    let outcome = run_by_threads(rt, alloc, &none, defaults(), readers, gates)?;
+    let gates = notes_of(alloc, calls, 2)?;
+    let (reports, _) = found_by_gates(rt, alloc, defaults(), &APART, gates)?;
     let wanted = [ended(2, true), ended(1, false)];
-    same(rt, outcome.reports.as_slice(), wanted.as_slice());
+    same(rt, reports.as_slice(), wanted.as_slice());
     Ok(())
 }
 
