@@ -68,19 +68,17 @@ impl Sink for Nowhere {
     }
 }
 
-/// A file of the shelf.
-#[derive(Clone, Copy)]
-struct Entry<'a> {
-    path: &'a str,
-    text: &'a str,
-    /// Which read of it fails, from 1 on; 0 for none.
-    fails_at: usize,
-}
-
 /// Files, and the paths that were opened or asked for, in order, each followed by a space.
 #[derive(Drop)]
 struct Shelf<'a> {
-    entries: Vec<Entry<'a>>,
+    /// At `f`.
+    formula: &'a str,
+    /// At `1`, `2` and so on up to 9.
+    streams: &'a [&'a str],
+    /// At `a`.
+    assumed: &'a str,
+    /// The path of the file that fails, and at which read of it, from 1 on; 0 for none.
+    fails: (&'a str, usize),
     opened: String,
     /// How many bytes come a read, at most.
     most: usize,
@@ -90,14 +88,20 @@ struct Shelf<'a> {
     told: Option<&'a Told>,
 }
 
-impl Shelf<'_> {
-    /// Read number `read` of the file at this path fails, from 1 on.
-    fn fail_at(&mut self, path: &str, read: usize) {
-        for entry in self.entries.iter_mut() {
-            if entry.path == path {
-                entry.fails_at = read;
+impl<'a> Shelf<'a> {
+    fn text_at(&self, path: &str) -> Option<&'a str> {
+        if path == "f" {
+            return Some(self.formula);
+        }
+        if path == "a" {
+            return Some(self.assumed);
+        }
+        for (name, text) in PATHS.iter().zip(self.streams) {
+            if *name == path {
+                return Some(text);
             }
         }
+        None
     }
 }
 
@@ -118,10 +122,12 @@ impl<'a> Files for Shelf<'a> {
         if self.is_full || self.opened.push_str(path).is_err() || self.opened.push(' ').is_err() {
             return Err(OpenFault::Memory);
         }
-        match self.entries.iter().find(|entry| entry.path == path) {
-            Some(entry) => Ok(OpenFile(Pieces::new(entry.text, self.most, entry.fails_at))),
-            None => Err(OpenFault::NotOpened),
-        }
+        let Some(text) = self.text_at(path) else {
+            return Err(OpenFault::NotOpened);
+        };
+        let (failing, read) = self.fails;
+        let fails_at = if path == failing { read } else { 0 };
+        Ok(OpenFile(Pieces::new(text, self.most, fails_at)))
     }
 
     fn create(&mut self, _path: &str) -> Result<Nowhere, OpenFault> {
@@ -148,28 +154,29 @@ c stream 2: 2 added, 0 deleted, ended
 s UNSATISFIABLE
 ";
 
-/// The formula at `f`, and the streams at `1`, `2` and so on up to 9. They come three bytes a read.
-fn shelf_of<'a>(alloc: Global, formula: &'a str, streams: &[&'a str]) -> Result<Shelf<'a>, Fail> {
-    let mut entries = Vec::new(alloc);
-    entries.push(Entry {
-        path: "f",
-        text: formula,
-        fails_at: 0,
-    })?;
-    for (path, text) in PATHS.iter().zip(streams) {
-        entries.push(Entry {
-            path,
-            text,
-            fails_at: 0,
-        })?;
-    }
-    Ok(Shelf {
-        entries,
+/// The formula and the streams, which come three bytes a read.
+fn shelf_of<'a>(alloc: Global, formula: &'a str, streams: &'a [&'a str]) -> Shelf<'a> {
+    Shelf {
+        formula,
+        streams,
+        assumed: "",
+        fails: ("", 0),
         opened: String::new(alloc),
         most: 3,
         is_full: false,
         told: None,
-    })
+    }
+}
+
+/// An option, and the words after it.
+fn words_after<'a>(
+    alloc: Global,
+    option: &'a str,
+    words: &[&'a str],
+) -> Result<Vec<&'a str>, Fail> {
+    let mut all = vec![in alloc; option]?;
+    all.extend_from_slice(words)?;
+    Ok(all)
 }
 
 /// What a run wrote, and its status.
@@ -212,4 +219,37 @@ fn assert_ends<T: Threads + Wait + Sync + Clock + Abort>(
     let wrote = (ran.out.as_slice(), ran.err.as_slice(), ran.status);
     let wanted = (out.as_bytes(), err.as_bytes(), status);
     same(rt, (words, wrote), (words, wanted));
+}
+
+/// What the one line says that the program wrote of a fault.
+fn fault_in(err: &[u8]) -> Option<&[u8]> {
+    err.strip_prefix(b"lrupd: ")?.strip_suffix(b"\n")
+}
+
+/// The run ends with this fault's line and status, and no report.
+fn assert_fault<T: Threads + Wait + Sync + Clock + Abort>(
+    rt: &T,
+    alloc: Global,
+    words: &[&str],
+    files: &mut Shelf<'_>,
+    line: &str,
+    status: u8,
+) {
+    let ran = run_on(rt, alloc, words, files, 0, 0);
+    let found = (ran.out.len(), fault_in(&ran.err), ran.status);
+    let wanted = (0, Some(line.as_bytes()), status);
+    same(rt, (words, found), (words, wanted));
+}
+
+/// It does, and opened or asked for these files.
+fn assert_opened<T: Threads + Wait + Sync + Clock + Abort>(
+    rt: &T,
+    alloc: Global,
+    words: &[&str],
+    files: &mut Shelf<'_>,
+    want: (&str, u8, &str),
+) {
+    let (line, status, opened) = want;
+    assert_fault(rt, alloc, words, files, line, status);
+    same(rt, (words, files.opened.as_str()), (words, opened));
 }

@@ -13,14 +13,16 @@ fn arguments_of(alloc: Global, texts: &[&str]) -> Result<Args, Fail> {
     Ok(arguments.into_iter())
 }
 
+const PROOF_AND_EMPTY: &[&str] = &["5 2 0 1 2 0\n6 0 5 3 4 0\n", ""];
+
 /// The run over the worked formula and a proof of it ends so.
 fn assert_exits<T: Threads + Wait + Sync + Clock + Abort>(
     rt: &T,
     alloc: Global,
     arguments: io::Result<Args>,
     want: (&str, &str, u8),
-) -> Result<(), Fail> {
-    let mut files = shelf_of(alloc, FOUR, &["5 2 0 1 2 0\n6 0 5 3 4 0\n", ""])?;
+) {
+    let mut files = shelf_of(alloc, FOUR, PROOF_AND_EMPTY);
     let mut out = Paper::new(alloc, 7, 0);
     let mut err = Paper::new(alloc, 7, 0);
     let code = command_with_arguments(rt, rt, alloc, arguments, &mut files, &mut out, &mut err);
@@ -28,32 +30,30 @@ fn assert_exits<T: Threads + Wait + Sync + Clock + Abort>(
     let wrote = (out.bytes.as_slice(), err.bytes.as_slice(), code);
     let wanted = (report.as_bytes(), cause.as_bytes(), ExitCode::from(status));
     same(rt, wrote, wanted);
-    Ok(())
 }
 
 const UNKNOWN_OF_EMPTY: &str = "c stream 1: 0 added, 0 deleted, ended\ns UNKNOWN\n";
 
-/// The arguments, the report and the status.
-static ARGUMENTS: [([&str; 3], &str, u8); 4] = [
-    (["lrupd", "f", "1"], REFUTED, 0),
-    (["lrupd", "f", "2"], UNKNOWN_OF_EMPTY, 3),
-    (["--room", "f", "1"], REFUTED, 0),
-    (["", "f", "1"], REFUTED, 0),
+/// The arguments, and the report, the line on standard error and the status.
+static ARGUMENTS: [([&str; 3], (&str, &str, u8)); 5] = [
+    (["lrupd", "f", "1"], (REFUTED, "", 0)),
+    (["lrupd", "f", "2"], (UNKNOWN_OF_EMPTY, "", 3)),
+    (["--room", "f", "1"], (REFUTED, "", 0)),
+    (["", "f", "1"], (REFUTED, "", 0)),
+    (["lrupd", "g", "1"], ("", "lrupd: cannot read formula\n", 5)),
 ];
 
 #[test]
 fn a_run_with_arguments(rt: HostRuntime) -> Result<(), Fail> {
-    for (texts, report, status) in &ARGUMENTS {
-        let arguments = Ok(arguments_of(rt.alloc(), texts)?);
-        assert_exits(&rt, rt.alloc(), arguments, (report, "", *status))?;
+    for (texts, want) in &ARGUMENTS {
+        let arguments = arguments_of(rt.alloc(), texts)?;
+        assert_exits(&rt, rt.alloc(), Ok(arguments), *want);
     }
-    let arguments = Ok(arguments_of(rt.alloc(), &["lrupd", "g", "1"])?);
-    let cause = "lrupd: cannot read formula\n";
-    assert_exits(&rt, rt.alloc(), arguments, ("", cause, 5))
+    Ok(())
 }
 
 #[test]
-fn arguments_that_the_system_refuses(rt: HostRuntime) -> Result<(), Fail> {
+fn arguments_that_the_system_refuses(rt: HostRuntime) {
     for (kind, cause, status) in [
         (io::ErrorKind::OutOfMemory, "lrupd: out of memory\n", 6),
         (
@@ -63,9 +63,8 @@ fn arguments_that_the_system_refuses(rt: HostRuntime) -> Result<(), Fail> {
         ),
     ] {
         let arguments = Err(io::Error::from(kind));
-        assert_exits(&rt, rt.alloc(), arguments, ("", cause, status))?;
+        assert_exits(&rt, rt.alloc(), arguments, ("", cause, status));
     }
-    Ok(())
 }
 
 #[test]

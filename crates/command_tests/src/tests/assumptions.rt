@@ -10,34 +10,34 @@ const UNIT: &str = "3 2 0 1 2 0\n";
 fn shelf_under<'a>(
     alloc: Global,
     formula: &'a str,
-    streams: &[&'a str],
+    streams: &'a [&'a str],
     assumed: &'a str,
-) -> Result<Shelf<'a>, Fail> {
-    let mut files = shelf_of(alloc, formula, streams)?;
-    files.entries.push(Entry {
-        path: "a",
-        text: assumed,
-        fails_at: 0,
-    })?;
-    Ok(files)
+) -> Shelf<'a> {
+    let mut files = shelf_of(alloc, formula, streams);
+    files.assumed = assumed;
+    files
 }
+
+/// The words of a run over at most two streams: on one thread, and with two for each stream.
+static BOTH_WAYS: [[&str; 6]; 2] = [
+    ["--serial", "--assume", "a", "f", "1", "2"],
+    ["--tries=1000", "--assume", "a", "f", "1", "2"],
+];
 
 /// A run under assumed literals: with two threads for each stream, and on one thread.
 fn ends_under<'a, T: Threads + Wait + Sync + Clock + Abort>(
     rt: &T,
     alloc: Global,
     formula: &'a str,
-    streams: &[&'a str],
+    streams: &'a [&'a str],
     assumed: &'a str,
     want: (&str, &str, u8),
-) -> Result<(), Fail> {
-    for option in ["--serial", "--tries=1000"] {
-        let mut words = vec![in alloc; option, "--assume", "a", "f"]?;
-        words.extend_from_slice(&PATHS[..streams.len().min(9)])?;
-        let mut files = shelf_under(alloc, formula, streams, assumed)?;
-        assert_ends(rt, alloc, &words, &mut files, want);
+) {
+    for words in &BOTH_WAYS {
+        let mut files = shelf_under(alloc, formula, streams, assumed);
+        let words = &words[..streams.len().min(2) + 4];
+        assert_ends(rt, alloc, words, &mut files, want);
     }
-    Ok(())
 }
 
 const UNDER: &str = "c stream 1: 1 added, 0 deleted, ended\ns UNSATISFIABLE UNDER ASSUMPTIONS\n";
@@ -61,11 +61,10 @@ static ASSUMED: [(&str, (&str, &str, u8)); 8] = [
 ];
 
 #[test]
-fn worked_rows_under_assumptions(rt: HostRuntime) -> Result<(), Fail> {
+fn worked_rows_under_assumptions(rt: HostRuntime) {
     for &(assumed, want) in &ASSUMED {
-        ends_under(&rt, rt.alloc(), TWO, &[UNIT], assumed, want)?;
+        ends_under(&rt, rt.alloc(), TWO, &[UNIT], assumed, want);
     }
-    Ok(())
 }
 
 const SECOND_IS_WITHIN: &str = "c stream 1: 0 added, 0 deleted, bad line 1 (no conflict)
@@ -91,11 +90,10 @@ static DECIDED: [(&[&str], &str, u8); 4] = [
 
 /// The empty clause decides before a clause within the cube, in whichever stream; and any stream's clause does.
 #[test]
-fn any_stream_decides(rt: HostRuntime) -> Result<(), Fail> {
+fn any_stream_decides(rt: HostRuntime) {
     for &(streams, out, status) in &DECIDED {
-        ends_under(&rt, rt.alloc(), FOUR, streams, "-2 0\n", (out, "", status))?;
+        ends_under(&rt, rt.alloc(), FOUR, streams, "-2 0\n", (out, "", status));
     }
-    Ok(())
 }
 
 /// Texts, and why they are refused.
@@ -122,7 +120,8 @@ fn refuses<T: Threads + Wait + Sync + Clock + Abort>(
     cause: &str,
 ) -> Result<(), Fail> {
     let text = format!(in alloc; "lrupd: assumptions refused: {cause}\n")?;
-    ends_under(rt, alloc, TWO, &[UNIT], assumed, ("", text.as_str(), 4))
+    ends_under(rt, alloc, TWO, &[UNIT], assumed, ("", text.as_str(), 4));
+    Ok(())
 }
 
 #[test]
@@ -146,68 +145,60 @@ fn many(alloc: Global, count: usize) -> Result<String, Fail> {
 #[test]
 fn the_most_assumed_literals(rt: HostRuntime) -> Result<(), Fail> {
     let most = many(rt.alloc(), 65_535)?;
-    ends_under(&rt, rt.alloc(), TWO, &[UNIT], most.as_str(), (UNDER, "", 8))?;
+    ends_under(&rt, rt.alloc(), TWO, &[UNIT], most.as_str(), (UNDER, "", 8));
     let more = many(rt.alloc(), 65_536)?;
     let fault = "lrupd: assumptions refused: too long\n";
-    ends_under(&rt, rt.alloc(), TWO, &[UNIT], more.as_str(), ("", fault, 4))
-}
-
-/// The run ends with this fault, and opened or asked for these files.
-fn assert_opened<T: Threads + Wait + Sync + Clock + Abort>(
-    rt: &T,
-    alloc: Global,
-    words: &[&str],
-    files: &mut Shelf<'_>,
-    want: (&str, u8, &str),
-) -> Result<(), Fail> {
-    let (line, status, opened) = want;
-    let text = format!(in alloc; "lrupd: {line}\n")?;
-    assert_ends(rt, alloc, words, files, ("", text.as_str(), status));
-    same(rt, (words, files.opened.as_str()), (words, opened));
+    ends_under(&rt, rt.alloc(), TWO, &[UNIT], more.as_str(), ("", fault, 4));
     Ok(())
 }
+
+const SPELLED_WRONG: &str = "assumptions refused: spelling";
+
+/// The formula, the assumed literals, and the fault, its status and the files that were opened or asked for.
+static EARLIER: [(&str, &str, (&str, u8, &str)); 3] = [
+    (TWO, "2", (SPELLED_WRONG, 4, "f a ")),
+    (TWO, "2 0\n", ("cannot open stream 1", 5, "f a no ")),
+    ("p cnf 1\n", "2", (BAD_HEADER, 4, "f ")),
+];
+
+const BAD_HEADER: &str = "formula refused: bad header";
 
 /// Their file is read after the formula was parsed, and before a stream is opened: of two faults the earlier is told.
 #[test]
-fn cube_read_after_the_streams(rt: HostRuntime) -> Result<(), Fail> {
-    let words = ["--assume", "a", "f", "no"];
-    let spelling = "assumptions refused: spelling";
-    for (formula, assumed, want) in [
-        (TWO, "2", (spelling, 4, "f a ")),
-        (TWO, "2 0\n", ("cannot open stream 1", 5, "f a no ")),
-        ("p cnf 1\n", "2", ("formula refused: bad header", 4, "f ")),
-    ] {
-        let mut files = shelf_under(rt.alloc(), formula, &[], assumed)?;
-        assert_opened(&rt, rt.alloc(), &words, &mut files, want)?;
+fn cube_read_after_the_streams(rt: HostRuntime) {
+    for &(formula, assumed, want) in &EARLIER {
+        let mut files = shelf_under(rt.alloc(), formula, &[], assumed);
+        let words = ["--assume", "a", "f", "no"];
+        assert_opened(&rt, rt.alloc(), &words, &mut files, want);
     }
-    Ok(())
 }
 
+const CANNOT_READ: &str = "cannot read assumptions";
+
+/// The path of the assumed literals, which read of `a` fails, the formula and the streams, and what is wanted.
+static UNREAD: [(&str, usize, &str, &[&str], (&str, u8, &str)); 4] = [
+    ("no", 0, TWO, &[UNIT], (CANNOT_READ, 5, "f no ")),
+    ("a", 1, TWO, &[UNIT], (CANNOT_READ, 5, "f a ")),
+    ("a", 2, TWO, &[UNIT], (CANNOT_READ, 5, "f a ")),
+    ("no", 0, "p cnf", &[], (BAD_HEADER, 4, "f ")),
+];
+
 #[test]
-fn assumptions_that_are_not_read(rt: HostRuntime) -> Result<(), Fail> {
-    let unread = "cannot read assumptions";
-    let mut files = shelf_of(rt.alloc(), TWO, &[UNIT])?;
-    let words = ["--assume", "no", "f", "1"];
-    assert_opened(&rt, rt.alloc(), &words, &mut files, (unread, 5, "f no "))?;
-    let words = ["--assume", "a", "f", "1"];
-    for read in [1, 2] {
-        let mut files = shelf_under(rt.alloc(), TWO, &[UNIT], "-2 0\n")?;
-        files.fail_at("a", read);
-        assert_opened(&rt, rt.alloc(), &words, &mut files, (unread, 5, "f a "))?;
+fn assumptions_that_are_not_read(rt: HostRuntime) {
+    for &(path, read, formula, streams, want) in &UNREAD {
+        let mut files = shelf_under(rt.alloc(), formula, streams, "-2 0\n");
+        files.fails = ("a", read);
+        let words = ["--assume", path, "f", "1"];
+        assert_opened(&rt, rt.alloc(), &words, &mut files, want);
     }
-    let mut files = shelf_of(rt.alloc(), "p cnf", &[])?;
-    let words = ["--assume", "no", "f", "1"];
-    let refused = "formula refused: bad header";
-    assert_opened(&rt, rt.alloc(), &words, &mut files, (refused, 4, "f "))
 }
 
 /// The file of the formula, or of a stream, may be that of the assumed literals too: it is opened for each.
 #[test]
-fn each_word_opens_its_file(rt: HostRuntime) -> Result<(), Fail> {
-    let mut files = shelf_of(rt.alloc(), TWO, &["0\n"])?;
+fn each_word_opens_its_file(rt: HostRuntime) {
+    let mut files = shelf_of(rt.alloc(), TWO, &["0\n"]);
     let said = "c stream 1: 0 added, 0 deleted, bad line 1 (spelling)\ns UNKNOWN\n";
     let words = ["--assume", "1", "f", "1"];
     assert_ends(&rt, rt.alloc(), &words, &mut files, (said, "", 3));
     same(&rt, files.opened.as_str(), "f 1 1 ");
-    Ok(())
 }

@@ -129,39 +129,65 @@ type Ends<'a> = (u8, &'a str, &'a str);
 /// What became of the checkpoint: what was done to the files, the bytes that were kept, and how many were written.
 type Left<'a> = (&'a str, &'a str, u64);
 
-/// The run of these words over these files, whose report fails at such a write if any, ends so and leaves this.
+/// The four clauses, these streams and a cube, in a folder of this manner that counts what it takes.
+fn folder_of<'a>(
+    alloc: Global,
+    streams: &'a [&'a str],
+    manner: Manner,
+    taken: &'a AtomicU64,
+) -> Folder<'a> {
+    let mut shelf = shelf_of(alloc, FOUR, streams);
+    shelf.assumed = "-2 0\n";
+    Folder {
+        alloc,
+        shelf,
+        manner,
+        taken,
+        kept: Vec::new(alloc),
+    }
+}
+
+/// Runs the program in the folder. The sinks fail at these writes, from 1 on; 0 for none.
+fn run_in<T: Threads + Wait + Sync + Clock>(
+    rt: &T,
+    alloc: Global,
+    words: &[&str],
+    files: &mut Folder<'_>,
+    out_fails_at: usize,
+    err_fails_at: usize,
+) -> Ran {
+    let mut out = Paper::new(alloc, 7, out_fails_at);
+    let mut err = Paper::new(alloc, 7, err_fails_at);
+    let status = command(rt, rt, alloc, words, files, &mut out, &mut err);
+    Ran {
+        out: out.bytes,
+        err: err.bytes,
+        status,
+    }
+}
+
+/// The run of these words over these streams, whose report fails at such a write if any, ends so and leaves this.
 fn assert_leaves<T: Threads + Wait + Sync + Clock + Abort>(
     rt: &T,
     alloc: Global,
     words: &[&str],
-    shelf: Shelf<'_>,
+    streams: &[&str],
     manner: Manner,
     out_fails_at: usize,
     ends: Ends<'_>,
     left: Left<'_>,
 ) {
     let taken = AtomicU64::new(0);
-    let mut files = Folder {
-        alloc,
-        shelf,
-        manner,
-        taken: &taken,
-        kept: Vec::new(alloc),
-    };
-    let mut out = Paper::new(alloc, 7, out_fails_at);
-    let mut err = Paper::new(alloc, 7, 0);
-    let status = command(rt, rt, alloc, words, &mut files, &mut out, &mut err);
-    let (wanted, report, said) = ends;
-    let wrote = (status, out.bytes.as_slice(), err.bytes.as_slice());
-    same(
-        rt,
-        (words, wrote),
-        (words, (wanted, report.as_bytes(), said.as_bytes())),
-    );
+    let mut files = folder_of(alloc, streams, manner, &taken);
+    let ran = run_in(rt, alloc, words, &mut files, out_fails_at, 0);
+    let wrote = (ran.status, ran.out.as_slice(), ran.err.as_slice());
+    let count = taken.load(Ordering::SeqCst);
+    let found = (files.shelf.opened.as_str(), files.kept.as_slice(), count);
+    let (status, report, said) = ends;
     let (done, kept, count) = left;
-    let found = (files.shelf.opened.as_str(), files.kept.as_slice());
-    same(rt, (words, found), (words, (done, kept.as_bytes())));
-    same(rt, (words, taken.load(Ordering::SeqCst)), (words, count));
+    let wanted = (status, report.as_bytes(), said.as_bytes());
+    let left = (done, kept.as_bytes(), count);
+    same(rt, (words, wrote, found), (words, wanted, left));
 }
 
 /// The four clauses without the first, and the clause that the stream adds.
@@ -200,15 +226,8 @@ fn assert_row<T: Threads + Wait + Sync + Clock + Abort>(
     row: &Row<'_>,
 ) -> Result<(), Fail> {
     for option in ["--tries=1000", "--serial"] {
-        let mut words = vec![in alloc; option]?;
-        words.extend_from_slice(row.words)?;
-        let mut shelf = shelf_of(alloc, FOUR, row.streams)?;
-        shelf.entries.push(Entry {
-            path: "a",
-            text: "-2 0\n",
-            fails_at: 0,
-        })?;
-        assert_leaves(rt, alloc, &words, shelf, WELL, 0, row.ends, row.left);
+        let words = words_after(alloc, option, row.words)?;
+        assert_leaves(rt, alloc, &words, row.streams, WELL, 0, row.ends, row.left);
     }
     Ok(())
 }
@@ -273,6 +292,14 @@ fn checkpoints_of_runs(rt: HostRuntime) -> Result<(), Fail> {
     Ok(())
 }
 
+const DROPPING: &[&str] = &[DROPS];
+
+/// The words of two runs: with two threads for each stream, and on one.
+static BOTH_WAYS: [[&str; 5]; 2] = [
+    ["--tries=1000", "--checkpoint", "ck", "f", "1"],
+    ["--serial", "--checkpoint", "ck", "f", "1"],
+];
+
 /// The run over the four clauses and a stream that drops the first, where the folder has this manner.
 fn assert_unsaved<T: Threads + Wait + Sync + Clock + Abort>(
     rt: &T,
@@ -281,134 +308,118 @@ fn assert_unsaved<T: Threads + Wait + Sync + Clock + Abort>(
     out_fails_at: usize,
     ends: Ends<'_>,
     left: Left<'_>,
-) -> Result<(), Fail> {
-    for option in ["--tries=1000", "--serial"] {
-        let words = [option, "--checkpoint", "ck", "f", "1"];
-        let shelf = shelf_of(alloc, FOUR, &[DROPS])?;
-        assert_leaves(rt, alloc, &words, shelf, manner, out_fails_at, ends, left);
+) {
+    for words in &BOTH_WAYS {
+        assert_leaves(rt, alloc, words, DROPPING, manner, out_fails_at, ends, left);
     }
-    Ok(())
 }
+
+static TOO_LONG: Row = Row {
+    words: &["--room", "268435456", "--checkpoint", "ck", "f", "1"],
+    streams: DROPPING,
+    ends: (2, "", "lrupd: row too long\n"),
+    left: ("f 1 ", "", 0),
+};
+
+/// What a folder does, and the status and the line that the run ends with.
+static UNCREATED: [(Manner, u8, &str); 2] = [
+    (
+        Manner {
+            is_there: true,
+            ..WELL
+        },
+        5,
+        "lrupd: cannot create checkpoint\n",
+    ),
+    (
+        Manner {
+            is_full: true,
+            ..WELL
+        },
+        6,
+        "lrupd: out of memory\n",
+    ),
+];
 
 /// No stream is checked then. Where the row would be too long none is asked for.
 #[test]
 fn checkpoints_that_are_not_created(rt: HostRuntime) -> Result<(), Fail> {
-    let too_long = Row {
-        words: &["--room", "268435456", "--checkpoint", "ck", "f", "1"],
-        streams: &[DROPS],
-        ends: (2, "", "lrupd: row too long\n"),
-        left: ("f 1 ", "", 0),
-    };
-    assert_row(&rt, rt.alloc(), &too_long)?;
-    let there = Manner {
-        is_there: true,
-        ..WELL
-    };
-    let full = Manner {
-        is_full: true,
-        ..WELL
-    };
-    for (manner, status, said) in [
-        (there, 5, "lrupd: cannot create checkpoint\n"),
-        (full, 6, "lrupd: out of memory\n"),
-    ] {
+    assert_row(&rt, rt.alloc(), &TOO_LONG)?;
+    for &(manner, status, said) in &UNCREATED {
         let ends = (status, "", said);
-        assert_unsaved(&rt, rt.alloc(), manner, 0, ends, ("f 1 +ck ", "", 0))?;
+        assert_unsaved(&rt, rt.alloc(), manner, 0, ends, ("f 1 +ck ", "", 0));
     }
     Ok(())
 }
 
-const UNWRITTEN: &str = "lrupd: checkpoint not written\n";
+const NOT_WRITTEN: Ends = (9, UNKNOWN_OF_DROPS, "lrupd: checkpoint not written\n");
+
+const LOST: Manner = Manner {
+    is_lost: true,
+    ..WELL
+};
 
 /// The checkpoint fails at its first, second, .. and last write, and isn't kept; or at its keeping.
 #[test]
-fn checkpoints_that_are_not_written(rt: HostRuntime) -> Result<(), Fail> {
+fn checkpoints_that_are_not_written(rt: HostRuntime) {
     for fails_at in 1..=LESS.len().div_ceil(7) {
         let manner = Manner { fails_at, ..WELL };
         let left = ("f 1 +ck ", "", (fails_at as u64 - 1) * 7);
-        assert_unsaved(
-            &rt,
-            rt.alloc(),
-            manner,
-            0,
-            (9, UNKNOWN_OF_DROPS, UNWRITTEN),
-            left,
-        )?;
+        assert_unsaved(&rt, rt.alloc(), manner, 0, NOT_WRITTEN, left);
     }
-    let lost = Manner {
-        is_lost: true,
-        ..WELL
-    };
     let left = ("f 1 +ck =ck ", "", 64);
-    assert_unsaved(
-        &rt,
-        rt.alloc(),
-        lost,
-        0,
-        (9, UNKNOWN_OF_DROPS, UNWRITTEN),
-        left,
-    )
+    assert_unsaved(&rt, rt.alloc(), LOST, 0, NOT_WRITTEN, left);
 }
+
+/// Its first write fails.
+const BROKEN: Manner = Manner {
+    fails_at: 1,
+    ..WELL
+};
+
+/// What a folder does, what is said, and what is left.
+static UNREPORTED: [(Manner, &str, Left); 2] = [
+    (
+        WELL,
+        "lrupd: cannot write report\n",
+        ("f 1 +ck =ck ", LESS, 64),
+    ),
+    (
+        BROKEN,
+        "lrupd: checkpoint not written\nlrupd: cannot write report\n",
+        ("f 1 +ck ", "", 0),
+    ),
+];
 
 /// The checkpoint is kept, or not; the status tells of the report, and standard error of both.
 #[test]
-fn checkpoints_without_a_report(rt: HostRuntime) -> Result<(), Fail> {
-    let unreported = "lrupd: cannot write report\n";
-    let left = ("f 1 +ck =ck ", LESS, 64);
-    assert_unsaved(&rt, rt.alloc(), WELL, 1, (7, "", unreported), left)?;
-    let broken = Manner {
-        fails_at: 1,
-        ..WELL
-    };
-    let both = "lrupd: checkpoint not written\nlrupd: cannot write report\n";
-    assert_unsaved(
-        &rt,
-        rt.alloc(),
-        broken,
-        1,
-        (7, "", both),
-        ("f 1 +ck ", "", 0),
-    )
+fn checkpoints_without_a_report(rt: HostRuntime) {
+    for &(manner, said, left) in &UNREPORTED {
+        assert_unsaved(&rt, rt.alloc(), manner, 1, (7, "", said), left);
+    }
 }
 
 /// The first write of the checkpoint fails, and so does standard error, in what is said of that.
 fn assert_not_said<T: Threads + Wait + Sync + Clock + Abort>(
     rt: &T,
     alloc: Global,
-    shelf: Shelf<'_>,
     out_fails_at: usize,
     status: u8,
 ) {
     let taken = AtomicU64::new(0);
-    let mut files = Folder {
-        alloc,
-        shelf,
-        manner: Manner {
-            fails_at: 1,
-            ..WELL
-        },
-        taken: &taken,
-        kept: Vec::new(alloc),
-    };
-    let mut out = Paper::new(alloc, 7, out_fails_at);
-    let mut err = Paper::new(alloc, 7, 2);
+    let mut files = folder_of(alloc, DROPPING, BROKEN, &taken);
     let words = ["--checkpoint", "ck", "f", "1"];
-    let ended = command(rt, rt, alloc, &words, &mut files, &mut out, &mut err);
-    same(
-        rt,
-        (ended, err.bytes.as_slice()),
-        (status, b"lrupd: ".as_slice()),
-    );
+    let ran = run_in(rt, alloc, &words, &mut files, out_fails_at, 2);
+    let said = b"lrupd: ".as_slice();
+    same(rt, (ran.status, ran.err.as_slice()), (status, said));
 }
 
 /// A standard error that fails in the line on the checkpoint says no more, and changes no status.
 #[test]
-fn checkpoints_whose_fault_is_not_said(rt: HostRuntime) -> Result<(), Fail> {
+fn checkpoints_whose_fault_is_not_said(rt: HostRuntime) {
     for (out_fails_at, status) in [(0, 9), (1, 7)] {
-        let shelf = shelf_of(rt.alloc(), FOUR, &[DROPS])?;
-        assert_not_said(&rt, rt.alloc(), shelf, out_fails_at, status);
+        assert_not_said(&rt, rt.alloc(), out_fails_at, status);
     }
-    Ok(())
 }
 
 /// Whether a run that may have been refused memory ended so, and kept this: all of the checkpoint, or nothing, and said which.
@@ -424,39 +435,19 @@ fn may_end(ran: &Ran, kept: &[u8]) -> bool {
     }
 }
 
-/// A run with this option ends as one may that was refused memory.
-fn assert_may_end<T: Threads + Wait + Sync + Clock + Abort>(
-    rt: &T,
-    alloc: Global,
-    option: &str,
-    shelf: Shelf<'_>,
-) {
+/// A run of these words ends as one may that was refused memory.
+fn assert_may_end<T: Threads + Wait + Sync + Clock + Abort>(rt: &T, alloc: Global, words: &[&str]) {
     let taken = AtomicU64::new(0);
-    let mut files = Folder {
-        alloc,
-        shelf,
-        manner: WELL,
-        taken: &taken,
-        kept: Vec::new(alloc),
-    };
-    let mut out = Paper::new(alloc, 7, 0);
-    let mut err = Paper::new(alloc, 7, 0);
-    let words = [option, "--checkpoint", "ck", "f", "1"];
-    let status = command(rt, rt, alloc, &words, &mut files, &mut out, &mut err);
-    let ran = Ran {
-        out: out.bytes,
-        err: err.bytes,
-        status,
-    };
-    same(rt, (status, may_end(&ran, &files.kept)), (status, true));
+    let mut files = folder_of(alloc, DROPPING, WELL, &taken);
+    let ran = run_in(rt, alloc, words, &mut files, 0, 0);
+    let found = (ran.status, may_end(&ran, &files.kept));
+    same(rt, found, (ran.status, true));
 }
 
 /// To be run with each allocation failing in turn. Where a stream has no memory for what it drops, it stops, and the first clause stays.
 #[test]
-fn memory_that_runs_out(rt: HostRuntime) -> Result<(), Fail> {
-    for option in ["--tries=1000", "--serial"] {
-        let shelf = shelf_of(rt.alloc(), FOUR, &[DROPS])?;
-        assert_may_end(&rt, rt.alloc(), option, shelf);
+fn memory_that_runs_out(rt: HostRuntime) {
+    for words in &BOTH_WAYS {
+        assert_may_end(&rt, rt.alloc(), words);
     }
-    Ok(())
 }

@@ -44,18 +44,16 @@ const SERIAL_WITHOUT_TRIES: Row = Row {
 
 /// The row, with files that come in pieces of one byte, of two, and whole. No file of these rows is as long as one read asks for,
 /// so a longer piece would be the whole one.
-fn assert_row<T: Threads + Wait + Sync + Clock + Abort>(
-    rt: &T,
-    alloc: Global,
-    row: &Row<'_>,
-) -> Result<(), Fail> {
+fn assert_row<T: Threads + Wait + Sync + Clock + Abort>(rt: &T, alloc: Global, row: &Row<'_>) {
     for most in [1, 2, usize::MAX] {
-        let mut files = shelf_of(alloc, row.formula, row.streams)?;
+        let mut files = shelf_of(alloc, row.formula, row.streams);
         files.most = most;
         assert_ends(rt, alloc, row.words, &mut files, (row.out, "", row.status));
     }
-    Ok(())
 }
+
+/// The words of two runs over one stream: with two threads, and on one.
+static ONE_BOTH_WAYS: [[&str; 3]; 2] = [["f", "1", "--tries=0"], ["f", "1", "--serial"]];
 
 /// Read number `fails_at` of the one stream fails, where at most so many bytes come a read: with two threads and on one, this is
 /// said of it.
@@ -69,11 +67,12 @@ fn assert_fails<T: Threads + Wait + Sync + Clock + Abort>(
     status: u8,
 ) -> Result<(), Fail> {
     let out = format!(in alloc; "c stream 1: {said}")?;
-    for words in [["f", "1", "--tries=0"], ["f", "1", "--serial"]] {
-        let mut files = shelf_of(alloc, FOUR, &[stream])?;
+    let streams = [stream];
+    for words in &ONE_BOTH_WAYS {
+        let mut files = shelf_of(alloc, FOUR, &streams);
         files.most = most;
-        files.fail_at("1", fails_at);
-        assert_ends(rt, alloc, &words, &mut files, (out.as_str(), "", status));
+        files.fails = ("1", fails_at);
+        assert_ends(rt, alloc, words, &mut files, (out.as_str(), "", status));
     }
     Ok(())
 }
@@ -84,17 +83,14 @@ fn assert_both<T: Threads + Wait + Sync + Clock + Abort>(
     alloc: Global,
     row: &Row<'_>,
 ) -> Result<(), Fail> {
-    assert_row(rt, alloc, row)?;
-    let mut words = vec![in alloc; "--serial"]?;
-    words.extend_from_slice(row.words)?;
-    assert_row(
-        rt,
-        alloc,
-        &Row {
-            words: &words,
-            ..*row
-        },
-    )
+    assert_row(rt, alloc, row);
+    let words = words_after(alloc, "--serial", row.words)?;
+    let serial = Row {
+        words: &words,
+        ..*row
+    };
+    assert_row(rt, alloc, &serial);
+    Ok(())
 }
 
 /// Line 1 of the one stream is bad for this reason, with these words.
@@ -373,11 +369,10 @@ s UNKNOWN
 ];
 
 #[test]
-fn several_streams(rt: HostRuntime) -> Result<(), Fail> {
+fn several_streams(rt: HostRuntime) {
     for row in &SEVERAL {
-        assert_row(&rt, rt.alloc(), row)?;
+        assert_row(&rt, rt.alloc(), row);
     }
-    Ok(())
 }
 
 /// The second imports a clause of the first.
@@ -421,7 +416,7 @@ static IMPORT_OF_THE_FORMULA: Row = Row {
 fn imports(rt: HostRuntime) -> Result<(), Fail> {
     assert_both(&rt, rt.alloc(), &IMPORT_OF_THE_FORMULA)?;
     for row in &IMPORTS {
-        assert_row(&rt, rt.alloc(), row)?;
+        assert_row(&rt, rt.alloc(), row);
     }
     Ok(())
 }
@@ -446,14 +441,14 @@ s UNKNOWN
 }
 
 /// The run over two empty streams has a report, and opens the file at this path so often.
-fn assert_opened<T: Threads + Wait + Sync + Clock + Abort>(
+fn assert_opens<T: Threads + Wait + Sync + Clock + Abort>(
     rt: &T,
     alloc: Global,
     words: &[&str],
     path: &str,
     times: usize,
-) -> Result<(), Fail> {
-    let mut files = shelf_of(alloc, FOUR, &["", ""])?;
+) {
+    let mut files = shelf_of(alloc, FOUR, ROW_OF_TWO.streams);
     let ran = run_on(rt, alloc, words, &mut files, 0, 0);
     let found = files.opened.matches(path).count();
     same(
@@ -461,15 +456,13 @@ fn assert_opened<T: Threads + Wait + Sync + Clock + Abort>(
         (words, path, ran.status, found),
         (words, path, 3, times),
     );
-    Ok(())
 }
 
 #[test]
-fn a_formula_opened_twice(rt: HostRuntime) -> Result<(), Fail> {
+fn a_formula_opened_twice(rt: HostRuntime) {
     for words in [["f", "1", "2", "--serial"], ["f", "1", "2", "--tries=0"]] {
-        assert_opened(&rt, rt.alloc(), &words, "f ", 1)?;
+        assert_opens(&rt, rt.alloc(), &words, "f ", 1);
     }
-    Ok(())
 }
 
 /// The words, a path followed by a space, and how often it is opened.
@@ -483,11 +476,10 @@ static OPENED: [([&str; 4], &str, usize); 5] = [
 
 /// Each stream opens its file, so one that two words name is opened for each.
 #[test]
-fn a_stream_opened_twice(rt: HostRuntime) -> Result<(), Fail> {
+fn a_stream_opened_twice(rt: HostRuntime) {
     for (words, path, times) in &OPENED {
-        assert_opened(&rt, rt.alloc(), words, path, *times)?;
+        assert_opens(&rt, rt.alloc(), words, path, *times);
     }
-    Ok(())
 }
 
 /// Stream 1 cites two clauses of stream 2. With two threads for each it waits for them; on one thread its first line comes before them.
@@ -510,36 +502,36 @@ s UNKNOWN
 ];
 
 #[test]
-fn serial_alone_is_on_one_thread(rt: HostRuntime) -> Result<(), Fail> {
+fn serial_alone_is_on_one_thread(rt: HostRuntime) {
     for row in &CITED_EARLY {
-        assert_row(&rt, rt.alloc(), row)?;
+        assert_row(&rt, rt.alloc(), row);
     }
-    Ok(())
 }
+
+const CITES_6: &[&str] = &["5 0 6 0\n", ""];
 
 /// The status of a run that cites a clause which never comes, and how often it slept a microsecond, and another while.
 fn sleeps_of<T: Threads + Wait + Sync + Abort>(
     rt: &T,
     alloc: Global,
     tries: &str,
-) -> Result<(u8, (u64, u64)), Fail> {
-    let mut files = shelf_of(alloc, FOUR, &["5 0 6 0\n", ""])?;
+) -> (u8, (u64, u64)) {
+    let mut files = shelf_of(alloc, FOUR, CITES_6);
     let clock = Sleeps::new();
     let mut out = Paper::new(alloc, 7, 0);
     let mut err = Paper::new(alloc, 7, 0);
     let words = [tries, "f", "1", "2"];
     let status = command(rt, &clock, alloc, &words, &mut files, &mut out, &mut err);
-    Ok((status, clock.counts()))
+    (status, clock.counts())
 }
 
 static SLEEPS: [(&str, u64); 3] = [("--tries=0", 0), ("--tries=3", 3), ("--tries=17", 17)];
 
 /// A hint that never comes is looked up as often again as `--tries` says, a microsecond later each time.
 #[test]
-fn tries_are_those_of_the_words(rt: HostRuntime) -> Result<(), Fail> {
+fn tries_are_those_of_the_words(rt: HostRuntime) {
     for &(tries, sleeps) in &SLEEPS {
-        let found = sleeps_of(&rt, rt.alloc(), tries)?;
+        let found = sleeps_of(&rt, rt.alloc(), tries);
         same(&rt, (tries, found), (tries, (3, (sleeps, 0))));
     }
-    Ok(())
 }

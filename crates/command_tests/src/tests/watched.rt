@@ -1,17 +1,14 @@
 //! Runs that tell what goes on, on sinks of the tests' own.
 ghost use Rattle.std.specs.Prelude.{None, false};
 
-use super::{FOUR, Shelf, same, shelf_of};
-use command::command;
+use super::{FOUR, run_on, same, shelf_of};
 use lrup_text::{Sink, WriteFault};
 use std::alloc::Global;
 use std::process::Abort;
 use std::sync::Wait;
 use std::sync::atomic::{AtomicU64, Ordering};
-use std::test::Fail;
 use std::thread::Threads;
 use std::time::Clock;
-use test_support::Paper;
 
 /// How many sinks were made, and how many lines and writes they took.
 #[derive(Drop)]
@@ -72,7 +69,7 @@ impl Sink for Ear<'_> {
 }
 
 /// A stream that ends, and one with a bad line.
-const STREAMS: [&str; 2] = ["5 2 0 1 2 0\n", "6 6\n"];
+const STREAMS: &[&str] = &["5 2 0 1 2 0\n", "6 6\n"];
 
 const REPORT: &str = "c stream 1: 1 added, 0 deleted, ended
 c stream 2: 0 added, 0 deleted, bad line 1 (spelling)
@@ -92,41 +89,21 @@ fn assert_told<T: Threads + Wait + Sync + Clock + Abort>(
     rt: &T,
     alloc: Global,
     words: &[&str],
-    shelf: Shelf<'_>,
     watched: u64,
 ) {
     let told = Told::new();
-    let Shelf {
-        entries,
-        opened,
-        most,
-        is_full,
-        told: _,
-    } = shelf;
-    let mut files = Shelf {
-        entries,
-        opened,
-        most,
-        is_full,
-        told: Some(&told),
-    };
-    let mut out = Paper::new(alloc, 7, 0);
-    let mut err = Paper::new(alloc, 7, 0);
-    let status = command(rt, rt, alloc, words, &mut files, &mut out, &mut err);
-    let wrote = (out.bytes.as_slice(), err.bytes.len(), status);
-    same(rt, (words, wrote), (words, (REPORT.as_bytes(), 0, 3)));
-    same(
-        rt,
-        (words, told.counts()),
-        (words, (watched, watched, watched)),
-    );
+    let mut files = shelf_of(alloc, FOUR, STREAMS);
+    files.told = Some(&told);
+    let ran = run_on(rt, alloc, words, &mut files, 0, 0);
+    let wrote = (ran.out.as_slice(), ran.err.len(), ran.status);
+    let wanted = (REPORT.as_bytes(), 0, 3);
+    let counts = (watched, watched, watched);
+    same(rt, (words, wrote, told.counts()), (words, wanted, counts));
 }
 
 #[test]
-fn with_the_flag_each_stream_is_told_of(rt: HostRuntime) -> Result<(), Fail> {
+fn with_the_flag_each_stream_is_told_of(rt: HostRuntime) {
     for &(words, watched) in &WORDS {
-        let shelf = shelf_of(rt.alloc(), FOUR, &STREAMS)?;
-        assert_told(&rt, rt.alloc(), words, shelf, watched);
+        assert_told(&rt, rt.alloc(), words, watched);
     }
-    Ok(())
 }
