@@ -84,7 +84,7 @@ solver: c-and-python ## build: the solver of the demo, at examples/solver/out/so
 # Not verified, and not trusted.
 exact: c-and-python ## build: the filter that makes streams of other solvers' proofs, at tools/exact/out/exact
 	@mkdir -p $(dir $(EXACT))
-	@$(CC) -std=c11 -O2 -Wall -Wextra -o $(EXACT) tools/exact/*.c
+	@$(CC) -std=c11 -O2 -Wall -Wextra -o $(EXACT).new tools/exact/*.c && mv $(EXACT).new $(EXACT)
 
 # Neither verified nor trusted.
 solve: solve-objects ## build: lrup-solve, from a formula to a proved verdict, at tools/solve/out; wants CaDiCaL's library

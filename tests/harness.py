@@ -164,7 +164,10 @@ def compiler(*flags: str) -> List[str]:
 
 
 def compiled(program: Path, sources: Sequence[Path], *flags: str) -> Path:
-    subprocess.run([*compiler(*flags), "-o", str(program), *map(str, sources)], check=True)
+    """The program, which is there whole or not at all: other scripts may build it too, and run it, at the same time."""
+    new = program.with_name(f"{program.name}-{os.getpid()}")
+    subprocess.run([*compiler(*flags), "-o", str(new), *map(str, sources)], check=True)
+    new.replace(program)
     return program
 
 
