@@ -164,7 +164,7 @@ LIMIT ?= 90
 quick: toolchain c-and-python ## check: after a change of CRATE=name: layout, proofs, its tests before they are proved, the pages
 	@sh gate/quick.sh $(RT) $(CRATE) $(LIMIT)
 
-# Each costs a check of its crate, and the gate has another one of its function.
+# Each costs a check of its crate; the gate has those on which most stands.
 edits: toolchain ## check: the edits that the gate leaves out, of CRATE=name or of all crates; each has to be refused
 	@sh gate/edits.sh $(RT) $(CRATE)
 

@@ -1,5 +1,5 @@
 #!/bin/sh
-# Tries the edits that the gate leaves out, since it has another one of the same function:
+# Tries the edits that the gate leaves out:
 #
 #     sh gate/edits.sh RT [CRATE]
 #
