@@ -178,7 +178,7 @@ TESTS := lrup_solve_rounds sweep filter_mutants lrup_solve filter_rounds lrup_so
 	filter_streams examples neighbours solver-test live instructions
 SIDE_BY_SIDE := --output-sync=target -j $(shell nproc)
 test: SHELL := /bin/bash
-test: toolchain pages solver exact ## check: the gate, 25 to 90 minutes: every proof, edit and test; has to pass before a push
+test: toolchain pages solver exact ## check: the gate, 25 to 100 minutes: every proof, edit and test; has to pass before a push
 	@rm -f $(addprefix $(dir $(SOLVE)),lrupd lrup-chain); set -o pipefail; log=$$(mktemp); trap 'rm -f "$$log"' EXIT; SECONDS=0; \
 	$(RT) ci | tee "$$log" && proved=$$SECONDS && $(MAKE) --no-print-directory $(SIDE_BY_SIDE) BUILT= MPI= $(TESTS) && \
 	echo "rt ci took $$proved seconds, and the tests of programs $$((SECONDS - proved))" && tail -n 1 "$$log"

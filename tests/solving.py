@@ -20,8 +20,7 @@ from proof_forms import read_formula
 
 PROGRAM = os.path.abspath(sys.argv[1]) if len(sys.argv) > 1 else ""
 FLAGS = sys.argv[2] if len(sys.argv) > 2 else "-O2"
-PLACE = ROOT / "tools" / "solve" / "out"
-OUT = PLACE / re.sub(r"\W+", "", Path(sys.argv[0]).stem + FLAGS)
+OUT = ROOT / "tools" / "solve" / "out" / re.sub(r"\W+", "", Path(sys.argv[0]).stem + FLAGS)
 SOLVE, TESTED = OUT / "lrup-solve", OUT / "lrup-solve-tested"
 EARLY = "elimint=10 probeint=10 subsumeint=10 compactint=10 reduceint=20 rephaseint=20"
 ELIMINATING = "elimint=1 compact=0"
