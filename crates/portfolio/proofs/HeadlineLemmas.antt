@@ -1,11 +1,14 @@
 -- The one history of a run with threads, and what the reports say of it.
 use Rattle.std.proofs.Common.{◌≡◌, inl, inr, ℕ, zero, suc, ◌+◌, ◌-◌, ◌<◌, ◌≤◌, Bool, true, false, List, [], ◌∷◌, ◌++◌, length, map, take}
 use Rattle.std.proofs.Common.{Some, refl, sym, ap, ap₂, subst, ◌∙◌, arith, append-nil}
-use Rattle.std.specs.Result.{IsErrAnd}
+use Rattle.std.specs.Result.{IfErr, IsErrAnd}
 use Rattle.std.specs.Prelude.{IsSome, Result, Ok, Err, slice_get, if◌then◌else◌}
 use Rattle.std.specs.List.{AllByRecursion, list_any, AllZip}
+use Rattle.std.proofs.lemmas.List.{length-map}
+use Rattle.std.proofs.lemmas.Simd.{map-map}
 use Rattle.std.proofs.lemmas.Option.{slice_get_within}
 use Rattle.std.proofs.lemmas.Bool.{or_cases}
+use Rattle.lrup_model.specs.Cube.{CubeValue}
 use Rattle.lrup_model.specs.Entailment.{IsUnsatisfiable}
 use Rattle.lrup_model.specs.Event.{History, own, spent}
 use Rattle.lrup_model.specs.Formula.{Cnf}
@@ -19,23 +22,28 @@ use Rattle.lrup_model.specs.Place.{Caller}
 use Rattle.lrup_model.specs.State.{state}
 use Rattle.clause_store.specs.Passes.{StoreValue, PassValue, IsOpened, AreOf, HaveMet, views}
 use Rattle.stream_check.specs.declared.report.Report.{Report}
-use Rattle.stream_check.specs.Checker.{IsNew, checker_state}
+use Rattle.stream_check.specs.Checker.{checker_state}
 use Rattle.stream_check.specs.Judging.{joined}
 use Rattle.stream_check.specs.Leaving.{Leaves}
+use Rattle.stream_check.specs.DroppedValue.{DroppedValue}
 use Rattle.stream_check.specs.Setting.{Setting}
 use Rattle.portfolio.specs.declared.outcome.RunFault.{RunFault}
-use Rattle.portfolio.specs.declared.outcome.RunFault.TheVariants.{Layout, Memory}
+use Rattle.portfolio.specs.declared.outcome.RunFault.TheVariants.{Layout, Memory, Ring, Spawn}
 use Rattle.portfolio.specs.declared.outcome.Verdict.{Verdict}
 use Rattle.portfolio.specs.declared.outcome.Verdict.TheVariants.{Unsatisfiable, UnsatisfiableUnder, Unknown}
 use Rattle.portfolio.specs.Dropping.{HasDropped, HaveDropped}
-use Rattle.portfolio.specs.Outcomes.{verdict_of}
-use Rattle.runs.specs.StreamLemmas.{IsJudgedBy}
+use Rattle.portfolio.specs.Outcomes.{OptionsValue, layout_of, terms_of, verdict_of}
+use Rattle.portfolio.specs.Threads.{AreGathered, HaveReadyJobs, IsBegun, HasReadyJobs, WereGathered}
+use Rattle.runs.specs.StreamLemmas.{IsJudgedBy, told_as_many}
 use Rattle.runs.specs.Headline.{HaveOneHistory, AreJudgedIn, WereJudged, seen_by}
 use Rattle.stream_threads.specs.Jobs.{JobsValue, FoundValue, CanBegin, Finishes, AllFinish, AreJobs}
 use Rattle.lrup_text.specs.ReadOut.{SourceView}
 use Rattle.runs.specs.Readings.{AreRead, IsStreamOf}
 use Rattle.runs.specs.Streams.{Stream, tellings, IsTold, JudgesStream, StandsOnStreams, TermsValue, setting_of}
-use Rattle.run_laws.specs.GroupLaws.{EarlyIsDecided}
+use Rattle.run_laws.specs.GroupLaws.{EarlyIsDecided, RunIsolated}
+use Rattle.run_laws.specs.Groups.{AreIsolated}
+use Rattle.run_laws.specs.OrderLaws.{RunSerializable}
+use Rattle.run_laws.specs.Serializable.{IsSerializable}
 use Rattle.portfolio.proofs.DroppingLemmas.{job_drops}
 use Rattle.portfolio.proofs.EmptyLemmas.{sound}
 
@@ -49,11 +57,45 @@ no_fault p faults.BadStreamCount is (a, b, inl none) = omega (arith, is.some_str
 no_fault p faults.BadStreamCount is (a, b, inr many) = omega (arith, is.streams, many)
 no_fault p faults.RowTooLong is bad = omega (arith, is.row, bad.4)
 
--- out of memory is no fault of the layout
-pub not_layout : {T : Type 0} (result : Result T RunFault) (fault : LayoutFault) → IsErrAnd result (λ e. e ≡ Memory)
+-- the terms that a run makes are those of its formula, options and streams
+pub terms_made : (options : OptionsValue) (cube : CubeValue) (f : Cnf) (p : LayoutValue) (n streams tries : ℕ)
+    → p ≡ layout_of options f n → n ≡ streams → tries ≡ options.tries
+    → record { layout = p; cube = cube; tries = tries } ≡ terms_of options cube f streams
+terms_made options cube f p n streams tries same count often = cc
+
+-- a run that was opened has no fault of its layout
+pub none_of_layout : (options : OptionsValue) (f : Cnf) (p : LayoutValue) (n streams : ℕ) → p ≡ layout_of options f n → n ≡ streams
+    → IsLayout p → (fault : LayoutFault) → IsFault (layout_of options f streams) fault → ⊥
+none_of_layout options f p n streams same count is fault bad =
+    no_fault p fault is (subst (λ (l : LayoutValue). IsFault l fault) (sym (same ∙ ap (layout_of options f) count)) bad)
+
+-- what is there is no fault
+pub no_error : {T E : Type 0} {value : T} {e : E} → Ok value ≡ Err e → ⊥
+no_error is = cc
+
+pub ok_or_error : {T E : Type 0} {result : Result T E} {value : T} {e : E} → result ≡ Ok value → result ≡ Err e → ⊥
+ok_or_error is other = no_error (sym is ∙ other)
+
+-- out of memory is no other fault
+pub not_layout : {T : Type 0} (result : Result T RunFault) (fault : LayoutFault) → IfErr result (λ e. e ≡ Memory)
     → result ≡ Err (Layout fault) → ⊥
-not_layout (Ok value) fault memory is = cc
+not_layout (Ok value) fault memory is = no_error is
 not_layout (Err e) fault memory is = cc
+
+pub not_spawn : {T : Type 0} (result : Result T RunFault) (stream : ℕ) → IfErr result (λ e. e ≡ Memory)
+    → result ≡ Err (Spawn stream) → ⊥
+not_spawn (Ok value) stream memory is = no_error is
+not_spawn (Err e) stream memory is = cc
+
+pub not_ring : {T : Type 0} (result : Result T RunFault) (stream : ℕ) → IfErr result (λ e. e ≡ Memory)
+    → result ≡ Err (Ring stream) → ⊥
+not_ring (Ok value) stream memory is = no_error is
+not_ring (Err e) stream memory is = cc
+
+-- where the fault is there, so is none of what it lacks
+pub is_memory : {T : Type 0} (result : Result T RunFault) → IsErrAnd result (λ e. e ≡ Memory) → IfErr result (λ e. e ≡ Memory)
+is_memory (Ok value) is = tt
+is_memory (Err e) is = is
 
 -- ---- the opening
 
@@ -143,19 +185,8 @@ HasCalls f p h s v = (v.caller ≡ record { formula = f; layout = p; stream = s 
 -- ---- of readers of one kind
 
 module _ {S : Type 0} (view : SourceView S) where
-  -- the jobs of a stream before its first byte, at the pass that the store opened
-  pub record IsReady (store : StoreValue) (f : Cnf) (terms : TermsValue) (s : ℕ) (first : S) (jobs : JobsValue S) : Type 0 where
-    pub reader_is : jobs.reader ≡ first
-    pub checker : IsNew terms.layout terms.cube s terms.tries jobs.checker
-    pub opened : IsOpened store f s jobs.pass
-
-  abbrev pub AreReady : StoreValue → Cnf → TermsValue → ℕ → List S → List (JobsValue S) → Type 0
-  AreReady store f terms s [] [] = Unit {0}
-  AreReady store f terms s (e ∷ es) (j ∷ js) = IsReady store f terms s e j × AreReady store f terms (s + 1) es js
-  AreReady store f terms s _ _ = ⊥
-
   are_ready : (store : StoreValue) (f : Cnf) (terms : TermsValue) (s : ℕ) (firsts : List S) (ps : List PassValue) (js : List (JobsValue S))
-      → AreJobs terms s firsts ps js → AreOpened store f s ps → AreReady store f terms s firsts js
+      → AreJobs terms s firsts ps js → AreOpened store f s ps → HaveReadyJobs store f terms s firsts js
   are_ready store f terms s [] [] [] all opened = tt
   are_ready store f terms s [] [] (j ∷ js) all opened = absurd all
   are_ready store f terms s [] (q ∷ ps) js all opened = absurd all
@@ -171,14 +202,14 @@ module _ {S : Type 0} (view : SourceView S) where
       (js : List (JobsValue S))
       → n ≡ length passes → n ≡ terms.layout.streams
       → ((s : ℕ) (pass : PassValue) → IsStream terms.layout s → slice_get passes (s - 1) ≡ Some pass → IsOpened store f s pass)
-      → made ≡ terms → AreJobs made 1 firsts passes js → AreReady store f terms 1 firsts js
+      → made ≡ terms → AreJobs made 1 firsts passes js → HaveReadyJobs store f terms 1 firsts js
   run_ready {store = store} {f = f} {terms = terms} firsts passes js are count opened same jobs =
       are_ready store f terms 1 firsts passes js (subst (λ (t : TermsValue). AreJobs t 1 firsts passes js) same jobs)
       (are_opened store f terms.layout passes (sym are ∙ count) opened)
 
   -- the first byte may be taken where nothing was called yet
   ready_can : (f : Cnf) (terms : TermsValue) (store : StoreValue) (s : ℕ) (first : S) (j : JobsValue S)
-      → Fits terms.layout f → store.layout ≡ terms.layout → IsReady store f terms s first j → CanBegin store j
+      → Fits terms.layout f → store.layout ≡ terms.layout → HasReadyJobs store f terms s first j → CanBegin store j
   ready_can f terms store s first j fits same ready =
       let opened = ready.opened in
       let setting = ready.checker.setting in
@@ -200,7 +231,7 @@ module _ {S : Type 0} (view : SourceView S) where
       }
 
   pub all_can_begin : (f : Cnf) (terms : TermsValue) (store : StoreValue) → Fits terms.layout f → store.layout ≡ terms.layout
-      → (s : ℕ) (firsts : List S) (js : List (JobsValue S)) → AreReady store f terms s firsts js → AllByRecursion (CanBegin store) js
+      → (s : ℕ) (firsts : List S) (js : List (JobsValue S)) → HaveReadyJobs store f terms s firsts js → AllByRecursion (CanBegin store) js
   all_can_begin f terms store fits same s [] [] ready = tt
   all_can_begin f terms store fits same s [] (j ∷ js) ready = absurd ready
   all_can_begin f terms store fits same s (e ∷ es) [] ready = absurd ready
@@ -208,7 +239,7 @@ module _ {S : Type 0} (view : SourceView S) where
       (ready_can f terms store s e j fits same ready.0, all_can_begin f terms store fits same (s + 1) es js ready.1)
 
   pub ready_count : (store : StoreValue) (f : Cnf) (terms : TermsValue) (s : ℕ) (firsts : List S) (js : List (JobsValue S))
-      → AreReady store f terms s firsts js → length js ≡ length firsts
+      → HaveReadyJobs store f terms s firsts js → length js ≡ length firsts
   ready_count store f terms s [] [] ready = refl
   ready_count store f terms s [] (j ∷ js) ready = absurd ready
   ready_count store f terms s (e ∷ es) [] ready = absurd ready
@@ -216,7 +247,7 @@ module _ {S : Type 0} (view : SourceView S) where
 
   -- the jobs of the first streams
   pub ready_take : (store : StoreValue) (f : Cnf) (terms : TermsValue) (s n : ℕ) (firsts : List S) (js : List (JobsValue S))
-      → AreReady store f terms s firsts js → AreReady store f terms s (take n firsts) (take n js)
+      → HaveReadyJobs store f terms s firsts js → HaveReadyJobs store f terms s (take n firsts) (take n js)
   ready_take store f terms s zero [] [] ready = tt
   ready_take store f terms s (suc n) [] [] ready = tt
   ready_take store f terms s n [] (j ∷ js) ready = absurd ready
@@ -226,16 +257,19 @@ module _ {S : Type 0} (view : SourceView S) where
 
   -- ---- what was found, and the passes when all have met
 
-  pub finish_of : (store : StoreValue) (f : Cnf) (terms : TermsValue) (s : ℕ) (firsts : List S) (js : List (JobsValue S))
-      (fs : List (FoundValue S))
-      → AreReady store f terms s firsts js → AllFinish view js fs → AreOf store (map (λ x. x.pass) fs)
-  finish_of store f terms s [] [] [] ready all = tt
-  finish_of store f terms s [] [] (x ∷ fs) ready all = absurd all
-  finish_of store f terms s [] (j ∷ js) fs ready all = absurd ready
-  finish_of store f terms s (e ∷ es) [] fs ready all = absurd ready
-  finish_of store f terms s (e ∷ es) (j ∷ js) [] ready all = absurd all
-  finish_of store f terms s (e ∷ es) (j ∷ js) (x ∷ fs) ready all =
-      (all.0.store ∙ ready.0.opened.store, finish_of store f terms (s + 1) es js fs ready.1 all.1)
+  pub finish_of : (store : StoreValue) (js : List (JobsValue S)) (fs : List (FoundValue S))
+      → AllByRecursion (CanBegin store) js → AllFinish view js fs → AreOf store (map (λ x. x.pass) fs)
+  finish_of store [] [] begin all = tt
+  finish_of store [] (x ∷ fs) begin all = absurd all
+  finish_of store (j ∷ js) [] begin all = absurd all
+  finish_of store (j ∷ js) (x ∷ fs) begin all = (all.0.store ∙ begin.0.here, finish_of store js fs begin.1 all.1)
+
+  pub begin_take : (store : StoreValue) (n : ℕ) (js : List (JobsValue S)) → AllByRecursion (CanBegin store) js
+      → AllByRecursion (CanBegin store) (take n js)
+  begin_take store zero [] begin = tt
+  begin_take store zero (j ∷ js) begin = tt
+  begin_take store (suc n) [] begin = tt
+  begin_take store (suc n) (j ∷ js) begin = (begin.0, begin_take store n js begin.1)
 
   pub finish_count : (js : List (JobsValue S)) (fs : List (FoundValue S)) → AllFinish view js fs → length fs ≡ length js
   finish_count [] [] all = refl
@@ -260,7 +294,7 @@ module _ {S : Type 0} (view : SourceView S) where
 
   have_calls : (f : Cnf) (terms : TermsValue) (store : StoreValue) (h : History) → store.layout ≡ terms.layout
       → (s : ℕ) (firsts : List S) (js : List (JobsValue S)) (fs : List (FoundValue S)) (vs : List View)
-      → AreReady store f terms s firsts js → AllFinish view js fs → AreMet (views (map (λ x. x.pass) fs)) vs → AllSaw h vs
+      → HaveReadyJobs store f terms s firsts js → AllFinish view js fs → AreMet (views (map (λ x. x.pass) fs)) vs → AllSaw h vs
       → (k : ℕ) (w : View) → slice_get vs k ≡ Some w → HasCalls f terms.layout h (s + k) w
   have_calls f terms store h same s [] [] [] [] ready all met saw k w at = absurd (cc)
   have_calls f terms store h same s [] [] [] (v ∷ vs) ready all met saw k w at = absurd met
@@ -282,7 +316,8 @@ module _ {S : Type 0} (view : SourceView S) where
 
   have_legal : (f : Cnf) (terms : TermsValue) (store : StoreValue) (h : History) → store.layout ≡ terms.layout
       → (s : ℕ) (firsts : List S) (js : List (JobsValue S)) (fs : List (FoundValue S)) (vs : List View)
-      → AreReady store f terms s firsts js → AllFinish view js fs → AreMet (views (map (λ x. x.pass) fs)) vs → AllSaw h vs → 0 < length js
+      → HaveReadyJobs store f terms s firsts js → AllFinish view js fs → AreMet (views (map (λ x. x.pass) fs)) vs
+      → AllSaw h vs → 0 < length js
       → IsLegal f terms.layout h
   have_legal f terms store h same s firsts [] fs vs ready all met saw some = absurd (omega arith)
   have_legal f terms store h same s [] (j ∷ js) fs vs ready all met saw some = absurd ready
@@ -295,7 +330,7 @@ module _ {S : Type 0} (view : SourceView S) where
   pub one_history : (f : Cnf) (terms : TermsValue) (store : StoreValue) (firsts : List S) (js : List (JobsValue S))
       (fs : List (FoundValue S)) (vs : List View)
       → IsLayout terms.layout → store.layout ≡ terms.layout → length js ≡ terms.layout.streams
-      → AreReady store f terms 1 firsts js → AllFinish view js fs → AreMet (views (map (λ x. x.pass) fs)) vs → HaveMet vs
+      → HaveReadyJobs store f terms 1 firsts js → AllFinish view js fs → AreMet (views (map (λ x. x.pass) fs)) vs → HaveMet vs
       → HaveOneHistory f terms.layout (seen_by vs) vs
   one_history f terms store firsts js fs vs is same count ready all met one =
       let each : length vs ≡ terms.layout.streams = met_count fs vs met ∙ finish_count js fs all ∙ count in
@@ -331,7 +366,8 @@ module _ {S : Type 0} (view : SourceView S) where
 
   pub judged_by : EarlyIsDecided → (f : Cnf) (terms : TermsValue) (store : StoreValue) → store.layout ≡ terms.layout
       → (s : ℕ) (firsts : List S) (js : List (JobsValue S)) (fs : List (FoundValue S)) (vs : List View)
-      → AreReady store f terms s firsts js → AllFinish view js fs → AreMet (views (map (λ x. x.pass) fs)) vs → Judged terms s firsts fs vs
+      → HaveReadyJobs store f terms s firsts js → AllFinish view js fs → AreMet (views (map (λ x. x.pass) fs)) vs
+      → Judged terms s firsts fs vs
   judged_by law f terms store same s [] [] [] [] ready all met = record {
     streams = [];
     out = tt;
@@ -369,7 +405,7 @@ module _ {S : Type 0} (view : SourceView S) where
   -- Of the first streams alone, whose passes have met: one legal history has the events by which each is judged.
   pub were_judged : EarlyIsDecided → (f : Cnf) (terms : TermsValue) (store : StoreValue) → store.layout ≡ terms.layout
       → (firsts : List S) (js : List (JobsValue S)) (fs : List (FoundValue S)) (vs : List View)
-      → AreReady store f terms 1 firsts js → AllFinish view js fs → AreMet (views (map (λ x. x.pass) fs)) vs → HaveMet vs
+      → HaveReadyJobs store f terms 1 firsts js → AllFinish view js fs → AreMet (views (map (λ x. x.pass) fs)) vs → HaveMet vs
       → WereJudged view f terms firsts
   were_judged law f terms store same [] [] [] vs ready all met one = record {
     history = [];
@@ -396,29 +432,93 @@ module _ {S : Type 0} (view : SourceView S) where
         };
       }
 
-  -- the same in the words of the lists that are given back, and of the one history
-  pub judged_so : (f : Cnf) (terms wanted : TermsValue) (firsts lasts : List S) (reports : List Report) (dropped : List (List ℕ))
-      (fs : List (FoundValue S)) (vs : List View)
-      → Judged terms 1 firsts fs vs → terms ≡ wanted → HaveOneHistory f wanted.layout (seen_by vs) vs
-      → lasts ≡ map (λ x. x.reader) fs → reports ≡ map (λ x. x.report) fs → dropped ≡ map (λ x. x.dropped.ids) fs
+  -- ---- the run as a whole
+
+  begun_count : {f : Cnf} {terms : TermsValue} {store : StoreValue} {firsts : List S} {js : List (JobsValue S)}
+      → IsBegun f terms store firsts js → length js ≡ terms.layout.streams
+  begun_count begun = ready_count _ _ _ _ _ _ begun.ready ∙ begun.count
+
+  pub can_begin : {f : Cnf} {terms : TermsValue} {store : StoreValue} {firsts : List S} {js : List (JobsValue S)}
+      → IsBegun f terms store firsts js → AllByRecursion (CanBegin store) js
+  can_begin begun = all_can_begin _ _ _ begun.fits begun.store_is _ _ _ begun.ready
+
+  -- one of so many jobs is one of the streams
+  pub stream_within : {f : Cnf} {terms : TermsValue} {store : StoreValue} {firsts : List S} {js : List (JobsValue S)}
+      → IsBegun f terms store firsts js → (s : ℕ) → (0 < s) × (s ≤ length js) → IsStream terms.layout s
+  stream_within begun s within = (omega (arith, within.0), omega (arith, within.1, begun_count begun))
+
+  pub run_history : {f : Cnf} {terms : TermsValue} {store : StoreValue} {firsts : List S} {js : List (JobsValue S)}
+      → IsBegun f terms store firsts js
+      → (vs : List View) (reports : List Report) (lasts : List S) (dropped : List DroppedValue)
+      → AreGathered view js vs reports lasts dropped → HaveOneHistory f terms.layout (seen_by vs) vs
+  run_history {f} {terms} begun vs reports lasts dropped so =
+      one_history f terms _ _ _ so.found vs begun.is begun.store_is (begun_count begun) begun.ready so.finish so.met so.one
+
+  pub run_reports : {f : Cnf} {terms : TermsValue} {store : StoreValue} {firsts : List S} {js : List (JobsValue S)}
+      → IsBegun f terms store firsts js → EarlyIsDecided
+      → (vs : List View) (reports : List Report) (lasts : List S) (dropped : List DroppedValue)
+      → AreGathered view js vs reports lasts dropped
       → StandsOnStreams (tellings view firsts lasts)
-      (λ streams. AllByRecursion (λ stream. IsSome stream.end) streams × AreJudgedIn wanted (λ s. true) (seen_by vs) 1 streams reports
+      (λ streams. AllByRecursion (λ stream. IsSome stream.end) streams × AreJudgedIn terms (λ s. true) (seen_by vs) 1 streams reports
       × AreRead S view.reads firsts lasts streams
-      × HaveDropped wanted 1 streams reports dropped)
-  judged_so f terms wanted firsts lasts reports dropped fs vs j same one readers said gone =
-      let judged : AreJudgedBy wanted 1 j.streams vs (map (λ x. x.report) fs) =
-      subst (λ (t : TermsValue). AreJudgedBy t 1 j.streams vs (map (λ x. x.report) fs)) same j.judged in
+      × HaveDropped terms 1 streams reports (map (λ d. d.ids) dropped))
+  run_reports {f} {terms} {store} {firsts} begun law vs reports lasts dropped so =
+      let fs = so.found in
+      let j = judged_by law f terms _ begun.store_is _ _ _ fs vs begun.ready so.finish so.met in
+      let one = run_history begun vs reports lasts dropped so in
+      let gone : map (λ (d : DroppedValue). d.ids) dropped ≡ map (λ (x : FoundValue S). x.dropped.ids) fs =
+      ap (map (λ (d : DroppedValue). d.ids)) so.dropped_are ∙ map-map (λ (d : DroppedValue). d.ids) (λ (x : FoundValue S). x.dropped) fs in
       record {
         streams = j.streams;
-        are_told = subst (λ (ls : List S). AllZip IsTold (tellings view firsts ls) j.streams) (sym readers) j.told;
+        are_told = subst (λ (ls : List S). AllZip IsTold (tellings view firsts ls) j.streams) (sym so.readers_are) j.told;
         judged = (
           j.out,
-          rw said (judged_in wanted (seen_by vs) 1 j.streams vs (map (λ x. x.report) fs) judged (mine_at f wanted.layout vs one)),
-          subst (λ (ls : List S). AreRead S view.reads firsts ls j.streams) (sym readers) j.read,
-          rw gone (rw said (subst (λ (t : TermsValue). HaveDropped t 1 j.streams (map (λ x. x.report) fs) (map (λ x. x.dropped.ids) fs))
-              same j.dropped)),
+          rw so.reports_are (judged_in terms (seen_by vs) 1 j.streams vs (map (λ x. x.report) fs) j.judged (mine_at f terms.layout vs one)),
+          subst (λ (ls : List S). AreRead S view.reads firsts ls j.streams) (sym so.readers_are) j.read,
+          rw gone (rw so.reports_are j.dropped),
         );
       }
+
+  -- the streams before the one that a ring's fault names
+  pub run_before : {f : Cnf} {terms : TermsValue} {store : StoreValue} {firsts : List S} {js : List (JobsValue S)}
+      → IsBegun f terms store firsts js → EarlyIsDecided → (n : ℕ) → WereGathered view (take n js)
+      → WereJudged view f terms (take n firsts)
+  run_before {f} {terms} begun law n (vs, reports, lasts, dropped, so) =
+      were_judged law f terms _ begun.store_is _ _ so.found vs (ready_take _ _ _ _ n _ _ begun.ready) so.finish so.met so.one
+
+  told_count : {f : Cnf} {terms : TermsValue} {store : StoreValue} {firsts : List S} {js : List (JobsValue S)}
+      → IsBegun f terms store firsts js → EarlyIsDecided
+      → (vs : List View) (reports : List Report) (lasts : List S) (dropped : List DroppedValue)
+      → AreGathered view js vs reports lasts dropped → length (tellings view firsts lasts) ≡ terms.layout.streams
+  told_count {firsts = firsts} begun law vs reports lasts dropped so =
+      told_as_many view firsts lasts _ (run_reports begun law vs reports lasts dropped so).judged.2 ∙ begun.count
+
+  pub run_isolated : {f : Cnf} {terms : TermsValue} {store : StoreValue} {firsts : List S} {js : List (JobsValue S)}
+      → IsBegun f terms store firsts js → EarlyIsDecided → RunIsolated
+      → (vs : List View) (reports : List Report) (lasts : List S) (dropped : List DroppedValue)
+      → AreGathered view js vs reports lasts dropped
+      → AreIsolated f terms (tellings view firsts lasts)
+      (λ streams. AreJudgedIn terms (λ s. true) (seen_by vs) 1 streams reports) reports
+  run_isolated {f} {terms} begun decided law vs reports lasts dropped so =
+      law f terms (seen_by vs) vs _ reports begun.fits (told_count begun decided vs reports lasts dropped so)
+      (run_history begun vs reports lasts dropped so)
+
+  pub run_serializable : {f : Cnf} {terms : TermsValue} {store : StoreValue} {firsts : List S} {js : List (JobsValue S)}
+      → IsBegun f terms store firsts js → EarlyIsDecided → RunSerializable
+      → (vs : List View) (reports : List Report) (lasts : List S) (dropped : List DroppedValue)
+      → AreGathered view js vs reports lasts dropped → IsSerializable f terms (tellings view firsts lasts) (seen_by vs) reports
+  run_serializable {f} {terms} begun decided law vs reports lasts dropped so =
+      law f terms (seen_by vs) vs _ reports begun.fits (told_count begun decided vs reports lasts dropped so)
+      (run_history begun vs reports lasts dropped so)
+
+  -- each stream's dropped identities
+  pub run_dropped : {f : Cnf} {terms : TermsValue} {store : StoreValue} {firsts : List S} {js : List (JobsValue S)}
+      → IsBegun f terms store firsts js
+      → (vs : List View) (reports : List Report) (lasts : List S) (dropped : List DroppedValue)
+      → AreGathered view js vs reports lasts dropped → length dropped ≡ length firsts
+  run_dropped begun vs reports lasts dropped so =
+      ap length so.dropped_are ∙ length-map so.found (λ (x : FoundValue S). x.dropped)
+      ∙ finish_count _ _ so.finish ∙ ready_count _ _ _ _ _ _ begun.ready
 
 -- ---- 'unsatisfiable'
 

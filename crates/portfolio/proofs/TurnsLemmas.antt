@@ -22,6 +22,7 @@ use Rattle.stream_check.specs.declared.report.Ending.{Ending}
 use Rattle.stream_check.specs.declared.report.Report.{Report}
 use Rattle.stream_check.specs.Setting.{Setting}
 use Rattle.stream_check.specs.Judging.{joined}
+use Rattle.stream_check.specs.DroppedValue.{DroppedValue}
 use Rattle.stream_check.specs.CheckerValue.{Tally, report_of_tally}
 use Rattle.stream_check.specs.Checker.{IsReadyAt}
 use Rattle.stream_check.specs.Laws.{ReadyBeside}
@@ -40,7 +41,7 @@ use Rattle.runs.specs.Streams.{IsOrdered, StandsOnStreams, TermsValue}
 use Rattle.runs.specs.Turns.{IsOrderedByTurns, streams_of}
 use Rattle.portfolio.specs.Working.{AreBlocksOfTurn, WorkerValue, WorksBy, Works, WorksOn, IsStarted}
 use Rattle.portfolio.specs.Turns.{HasRun, IsWorking, AreWorking, Runs, IsRunning, GoesOn, IsOver, AreOver, IsOverAt, AreStarted}
-use Rattle.portfolio.specs.Turns.{HaveReports}
+use Rattle.portfolio.specs.Turns.{AreRun, HaveReports}
 
 -- ---- room
 
@@ -474,28 +475,22 @@ pub sound_over : (f : Cnf) (terms : TermsValue) (streams : List Stream) (reports
     → IsOrdered f terms (λ s. true) streams reports → IsTrue (list_any (λ report. report.empty) reports) → IsUnsatisfiable f
 sound_over f terms streams reports ordered some = sound_among f terms ordered.blocks 1 streams reports ordered.legal ordered.judged some
 
--- the whole run: opened, gone on with, and over
-pub run_ordered : {S : Type 0} (law : EarlyIsDecided) (view : SourceView S) (f : Cnf) (terms wanted : TermsValue) (firsts lasts : List S)
-    (m n : Plain) (us vs ws xs : List (WorkerValue S)) (reports : List Report) (dropped : List (List ℕ))
-    → IsOpened f terms.layout m → terms ≡ wanted → length firsts ≡ terms.layout.streams → AreStarted view terms 1 firsts us
-    → vs ≡ us → GoesOn view 0 m vs 0 n ws → xs ≡ ws → HaveReports xs reports → lasts ≡ map (λ w. w.reader) xs
-    → dropped ≡ map (λ w. w.checker.dropped) xs → StandsOnStreams (tellings view firsts lasts)
-    (λ streams. IsOrderedByTurns f wanted streams reports × AreRead S view.reads firsts lasts streams
-    × HaveDropped wanted 1 streams reports dropped)
-run_ordered {S} law view f terms wanted firsts lasts m n us vs ws xs reports dropped opened same count started same_start goes same_end
-    have readers gone =
-    let begun : Runs view f terms firsts 0 m vs =
-    subst (Runs view f terms firsts 0 m) (sym same_start) (runs_opened view f terms m opened firsts us count started) in
-    let ended : Runs view f terms firsts 0 n xs = subst (Runs view f terms firsts 0 n) (sym same_end) (goes f terms firsts begun) in
-    let ordered = ordered_over view law f terms firsts n xs reports ended have in
+-- the whole run: begun, gone on with, and over
+pub run_ordered : {S : Type 0} (view : SourceView S) (law : EarlyIsDecided) (f : Cnf) (terms : TermsValue) (firsts : List S) (m : Plain)
+    (ws : List (WorkerValue S)) → Runs view f terms firsts 0 m ws
+    → (n : Plain) (reports : List Report) (lasts : List S) (dropped : List DroppedValue) → AreRun view m ws n reports lasts dropped
+    → StandsOnStreams (tellings view firsts lasts)
+    (λ streams. IsOrderedByTurns f terms streams reports × AreRead S view.reads firsts lasts streams
+    × HaveDropped terms 1 streams reports (map (λ d. d.ids) dropped))
+run_ordered {S} view law f terms firsts m ws begun n reports lasts dropped so =
+    let ordered = ordered_over view law f terms firsts n so.ended reports (so.goes f terms firsts begun) so.reports_are in
     record {
       streams = ordered.0;
-      are_told = subst (λ (ls : List S). AllZip IsTold (tellings view firsts ls) ordered.0) (sym readers) ordered.1;
+      are_told = subst (λ (ls : List S). AllZip IsTold (tellings view firsts ls) ordered.0) (sym so.readers_are) ordered.1;
       judged = (
-        subst (λ (t : TermsValue). IsOrderedByTurns f t ordered.0 reports) same ordered.3,
-        subst (λ (ls : List S). AreRead S view.reads firsts ls ordered.0) (sym readers) ordered.2,
-        subst (λ (t : TermsValue). HaveDropped t 1 ordered.0 reports dropped) same
-            (subst (HaveDropped terms 1 ordered.0 reports) (sym gone) ordered.4),
+        ordered.3,
+        subst (λ (ls : List S). AreRead S view.reads firsts ls ordered.0) (sym so.readers_are) ordered.2,
+        subst (HaveDropped terms 1 ordered.0 reports) (sym so.dropped_are) ordered.4,
       );
     }
 

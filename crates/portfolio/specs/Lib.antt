@@ -4,3 +4,5 @@ pub mod Turns
 pub mod Working
 pub mod Saving
 pub mod Dropping
+pub mod Threads
+pub mod ResultLemmas

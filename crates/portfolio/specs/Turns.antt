@@ -1,5 +1,5 @@
 -- The streams of a run on one thread, between two turns (this project's own).
-use Rattle.std.specs.Prelude.{◌≡◌, ◌+◌, ◌≤◌, ◌<◌, ℕ, true, List, [], ◌∷◌, length, None, Some, IsSome, IfSome, slice_get}
+use Rattle.std.specs.Prelude.{◌≡◌, ◌+◌, ◌≤◌, ◌<◌, ℕ, true, List, [], ◌∷◌, length, map, None, Some, IsSome, IfSome, slice_get}
 use Rattle.std.specs.List.{AllByRecursion}
 use Rattle.lrup_model.specs.Formula.{Cnf}
 use Rattle.lrup_model.specs.Layout.{LayoutValue, IsStream}
@@ -11,6 +11,7 @@ use Rattle.stream_check.specs.declared.report.Ending.{Ending}
 use Rattle.stream_check.specs.declared.report.Report.{Report}
 use Rattle.stream_check.specs.CheckerValue.{report_of_tally}
 use Rattle.stream_check.specs.Checker.{IsReadyAt}
+use Rattle.stream_check.specs.DroppedValue.{DroppedValue}
 use Rattle.runs.specs.Closed.{IsOfStream}
 use Rattle.runs.specs.Streams.{Block, blocks_of, events_in, IsBlockWithin, TermsValue, setting_of}
 use Rattle.runs.specs.Turns.{IsByTurns, line_count, streams_of}
@@ -106,3 +107,14 @@ HaveReports (worker ∷ workers) (report ∷ reports) =
     ((ending : Ending) × (worker.checker.ending ≡ Some ending)
     × (report ≡ report_of_tally worker.checker.tally ending)) × HaveReports workers reports
 HaveReports _ _ = ⊥
+
+-- What a run that stood at the one map with these workers came to at the other: all its streams are over, and these are their
+-- reports, their readers, and the identities that they dropped.
+pub record AreRun {S : Type 0} (view : SourceView S) (opened : Plain)
+    (workers : List (WorkerValue S)) (later : Plain) (reports : List Report) (readers : List S)
+    (dropped : List DroppedValue) : Type 0 where
+  pub ended : List (WorkerValue S)
+  pub goes : GoesOn view 0 opened workers 0 later ended
+  pub reports_are : HaveReports ended reports
+  pub readers_are : readers ≡ map (λ worker. worker.reader) ended
+  pub dropped_are : map (λ one. one.ids) dropped ≡ map (λ worker. worker.checker.dropped) ended

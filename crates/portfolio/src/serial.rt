@@ -1,5 +1,5 @@
 //! A run on one thread.
-ghost use Rattle.std.specs.Prelude.{◌≡◌, ◌↔◌, ◌≢◌, ◌+◌, ◌<◌, ◌≤◌, true, false, ℕ, List, [], None, IfOk, Err, length, map, vec_len, vec_capacity};
+ghost use Rattle.std.specs.Prelude.{◌≡◌, ◌↔◌, ◌≢◌, ◌+◌, ◌<◌, ◌≤◌, true, false, ℕ, List, [], None, IfOk, IfErr, Err, length, map, vec_len, vec_capacity};
 ghost use Rattle.std.specs.List.{AllByRecursion};
 ghost use Rattle.lrup_model.specs.Cube.{IsUnsatisfiableUnder};
 ghost use Rattle.lrup_model.specs.Entailment.{IsUnsatisfiable};
@@ -16,7 +16,7 @@ ghost use Rattle.lrup_text.specs.ReadOut.{source_view};
 ghost use Rattle.runs.specs.Readings.{AreRead};
 ghost use Rattle.runs.specs.Streams.{IsOrdered, StandsOnStreams, tellings};
 ghost use Rattle.runs.specs.Turns.{IsOrderedByTurns};
-ghost use Rattle.portfolio.specs.Turns.{AreOver, AreStarted, GoesOn, HaveReports, IsOverAt, IsRunning};
+ghost use Rattle.portfolio.specs.Turns.{AreOver, AreRun, AreStarted, GoesOn, HaveReports, IsOverAt, IsRunning, Runs};
 ghost use Rattle.portfolio.specs.Working.{AreBlocksOfTurn, WorksOn};
 
 use crate::options::Options;
@@ -86,13 +86,54 @@ pub fn run_serial<W: Wait, R: Source + Drop, G: Gate + Drop>(
     ensures sound_under { IfOk result (λ outcome. outcome.verdict ≡ Verdict.UnsatisfiableUnder
         → IsUnsatisfiableUnder formula.now cube.now) }
 {
+    let (map, workers) = open(alloc, formula, cube, options, readers, gates)?;
     early_is_decided();
     serial_isolated();
     alone_has_one_report();
+    check(wait, alloc, map, workers)
+}
+
+/// The map of a run, and a worker for each stream.
+fn open<R: Source + Drop, G: Gate + Drop>(
+    alloc: Global,
+    formula: &Formula,
+    cube: &Cube,
+    options: Options,
+    readers: Vec<R>,
+    gates: Vec<G>,
+) -> Result<(PlainMap, Vec<Worker<R, G>>), RunFault>
+    requires gates { vec_len gates ≡ vec_len readers }
+    requires running { AllByRecursion (λ r. R.has_failed r ≡ false) readers.items }
+    ensures layout { (fault : LayoutFault) → (result ≡ Err (RunFault.Layout fault))
+        ↔ IsFault (layout_of options formula.now (length readers.items)) fault }
+    ensures no_spawn { (stream : ℕ) → result ≢ Err (RunFault.Spawn stream) }
+    ensures no_ring { (stream : ℕ) → result ≢ Err (RunFault.Ring stream) }
+    ensures runs { let terms = terms_of options cube.now formula.now (length readers.items) in
+        IfOk result (λ opened. Runs (source_view R.left R.has_failed R.reads) formula.now terms
+        readers.items 0 opened.0 opened.1.items) }
+{
     let layout = options.layout(formula, readers.len())?;
-    let mut map = PlainMap::open(alloc, formula, &layout)?;
     let terms = Terms::new(&layout, cube, options.tries());
-    let mut workers = workers_of(alloc, &terms, readers, gates)?;
+    let map = PlainMap::open(alloc, formula, &layout)?;
+    let workers = workers_of(alloc, &terms, readers, gates)?;
+    Ok((map, workers))
+}
+
+/// Takes turns until all streams are over, and gathers what was found of each. Memory for that is taken before the first turn.
+fn check<W: Wait, R: Source + Drop, G: Gate + Drop>(
+    wait: &W,
+    alloc: Global,
+    mut map: PlainMap,
+    mut workers: Vec<Worker<R, G>>,
+) -> Result<SerialOutcome<R>, RunFault>
+    requires running { IsRunning (source_view R.left R.has_failed R.reads) 0 map workers.items }
+    ensures memory { IfErr result (λ fault. fault ≡ RunFault.Memory) }
+    ensures ran { IfOk result (λ outcome. AreRun (source_view R.left R.has_failed R.reads) map
+        workers.items outcome.map outcome.reports.items outcome.readers.items
+        outcome.dropped.items) }
+    ensures verdict { IfOk result (λ outcome.
+        outcome.verdict ≡ verdict_of outcome.reports.items) }
+{
     let reports = Vec::with_capacity(alloc, workers.len())?;
     let readers = Vec::with_capacity(alloc, workers.len())?;
     let dropped = Vec::with_capacity(alloc, workers.len())?;

@@ -1,5 +1,5 @@
 //! A run with two threads for each stream.
-ghost use Rattle.std.specs.Prelude.{◌≡◌, ◌↔◌, ◌≤◌, ◌-◌, true, false, ℕ, [], Err, IfOk, IsSome, length, map, take, vec_capacity, vec_len};
+ghost use Rattle.std.specs.Prelude.{◌≡◌, ◌≢◌, ◌↔◌, ◌≤◌, ◌<◌, ◌-◌, true, false, ℕ, [], Err, IfOk, IsSome, length, map, take, vec_capacity, vec_len};
 ghost use Rattle.std.specs.List.{AllByRecursion};
 ghost use Rattle.lrup_model.specs.Cube.{IsUnsatisfiableUnder};
 ghost use Rattle.lrup_model.specs.Entailment.{IsUnsatisfiable};
@@ -12,9 +12,11 @@ ghost use Rattle.runs.specs.Readings.{AreRead};
 ghost use Rattle.runs.specs.Headline.{AreJudgedIn, HaveOneHistory, WereJudged, seen_by};
 ghost use Rattle.portfolio.specs.Dropping.{HaveDropped};
 ghost use Rattle.portfolio.specs.Outcomes.{layout_of, terms_of, verdict_of};
+ghost use Rattle.portfolio.specs.Threads.{AreGathered, IsBegun, WereGathered};
 ghost use Rattle.runs.specs.Streams.{StandsOnStreams, tellings};
 ghost use Rattle.run_laws.specs.Groups.{AreIsolated, HaveReportsAlone};
 ghost use Rattle.run_laws.specs.Serializable.{IsSerializable};
+ghost use Rattle.stream_threads.specs.Jobs.{CanBegin};
 
 use crate::options::Options;
 use crate::outcome::{Outcome, RunFault, Verdict};
@@ -28,7 +30,7 @@ use std::alloc::{AllocError, Global};
 use std::sync::Wait;
 use std::thread::Threads;
 use stream_check::{Dropped, Gate, Report};
-use stream_threads::{Room, StreamResult, ThreadFault, check_all, jobs_of};
+use stream_threads::{Room, StreamJobs, StreamResult, ThreadFault, check_all, jobs_of};
 
 /// Checks the streams that the readers give, each in two threads of its own, one that reads it to its end and one that checks what
 /// was read, against one store of clauses, and says whether one derived a clause that contradicts the cube. As many gates are
@@ -108,14 +110,70 @@ pub fn run<T: Threads + Wait + Sync, R: Source + Send + Drop, G: Gate + Send + D
     ensures sound_under { IfOk result (λ outcome. outcome.verdict ≡ Verdict.UnsatisfiableUnder
         → IsUnsatisfiableUnder formula.now cube.now) }
 {
+    let (store, layout, jobs) = open(alloc, formula, cube, options, readers, gates)?;
     early_is_decided();
     run_isolated();
     alone_has_one_report();
     run_serializable();
+    check(threads, alloc, store, layout, jobs)
+}
+
+/// What a run begins with: its store, the store's layout, and the jobs of its streams, each at its pass.
+type Opened<R, G> = (Store, Layout, Vec<StreamJobs<R, G>>);
+
+/// Opens the store of a run, and makes the jobs of its streams.
+fn open<R: Source + Drop, G: Gate + Drop>(
+    alloc: Global,
+    formula: &Formula,
+    cube: &Cube,
+    options: Options,
+    readers: Vec<R>,
+    gates: Vec<G>,
+) -> Result<Opened<R, G>, RunFault>
+    requires gates { vec_len gates ≡ vec_len readers }
+    requires running { AllByRecursion (λ r. R.has_failed r ≡ false) readers.items }
+    ensures layout { (fault : LayoutFault) → (result ≡ Err (RunFault.Layout fault))
+        ↔ IsFault (layout_of options formula.now (length readers.items)) fault }
+    ensures no_spawn { (stream : ℕ) → result ≢ Err (RunFault.Spawn stream) }
+    ensures no_ring { (stream : ℕ) → result ≢ Err (RunFault.Ring stream) }
+    ensures begun { IfOk result (λ opened. IsBegun formula.now
+        (terms_of options cube.now formula.now (length readers.items)) opened.0 readers.items
+        opened.2.items) }
+    ensures kept { IfOk result (λ opened.
+        opened.1 ≡ layout_of options formula.now (length readers.items)) }
+{
     let layout = options.layout(formula, readers.len())?;
-    let (store, passes) = Store::open(alloc, formula, layout)?;
     let terms = Terms::new(&layout, cube, options.tries());
+    let (store, passes) = Store::open(alloc, formula, layout)?;
     let jobs = jobs_of(alloc, &terms, readers, gates, passes)?;
+    Ok((store, layout, jobs))
+}
+
+/// Checks the streams of these jobs, and gathers what was found of each; at a fault of a ring, of the streams before its own.
+fn check<T: Threads + Wait + Sync, R: Source + Send + Drop, G: Gate + Send + Drop>(
+    threads: &T,
+    alloc: Global,
+    store: Store,
+    layout: Layout,
+    jobs: Vec<StreamJobs<R, G>>,
+) -> Result<Outcome<R>, RunFault>
+    requires begin { AllByRecursion (CanBegin store) jobs.items }
+    ensures no_layout { (fault : LayoutFault) → result ≢ Err (RunFault.Layout fault) }
+    ensures spawn { (stream : ℕ) → result ≡ Err (RunFault.Spawn stream)
+        → (0 < stream) × (stream ≤ length jobs.items) }
+    ensures ring { (stream : ℕ) → result ≡ Err (RunFault.Ring stream)
+        → (0 < stream) × (stream ≤ length jobs.items) }
+    ensures first { (stream : ℕ) → result ≡ Err (RunFault.Ring stream)
+        → WereGathered (source_view R.left R.has_failed R.reads) (take (stream - 1) jobs.items) }
+    ensures found { IfOk result (λ outcome. AreGathered (source_view R.left R.has_failed R.reads)
+        jobs.items (views outcome.passes.items) outcome.reports.items outcome.readers.items
+        outcome.dropped.items) }
+    ensures verdict { IfOk result (λ outcome.
+        outcome.verdict ≡ verdict_of outcome.reports.items) }
+    ensures of { IfOk result (λ outcome. AreOf store outcome.passes.items) }
+    ensures kept { IfOk result (λ outcome.
+        (outcome.store ≡ store) × (outcome.layout ≡ layout)) }
+{
     let Lists {
         room,
         reports,
