@@ -66,8 +66,8 @@ fn two_of(mut passes: Vec<Pass>) -> Result<(Pass, Pass), Fail>
 fn open_two(alloc: Global, identities: u64, room: u64) -> Result<(Store, Pass, Pass), Fail>
     ensures { IfOk result (λ opened. ArePassesAt four opened.0 (opened.1 ∷ opened.2 ∷ [])) }
 {
-    let formula = four_clauses(alloc)?;
     let layout = Layout::new(2, 4, 8, 2, identities, room)?;
+    let formula = four_clauses(alloc)?;
     let (store, passes) = open(alloc, &formula, layout)?;
     let (first, second) = two_of(passes)?;
     Ok((store, first, second))
@@ -204,53 +204,72 @@ fn publish_in_turn<R: Threads + Abort>(
     rt: &R,
     apart: bool,
     store: &Store,
-    mut a: Pass,
+    a: &mut Pass,
     b: Pass,
-) -> (Pass, Pass)
-    requires first { IsPassAt four store.now a }
+) -> Pass
+    requires first { IsPassAt four store.now a.old }
     requires second { IsPassAt four store.now b }
-    ensures first { IsPassAt four store.now result.0 }
-    ensures second { IsPassAt four store.now result.1 }
+    ensures first { IsPassAt four store.now a.new }
+    ensures second { IsPassAt four store.now result }
 {
-    same(rt, look(store, &mut a, 6), Some(Found::Vacant));
+    same(rt, look(store, a, 6), Some(Found::Vacant));
     let (mut b, answer) = publish_by(rt, apart, store, b, 6, &[lit(-2)]);
     same(rt, answer, Some(Published::Done));
-    store.meet(&mut a, &mut b);
-    same(rt, look(store, &mut a, 6), Some(Found::Live));
-    (a, b)
+    store.meet(a, &mut b);
+    same(rt, look(store, a, 6), Some(Found::Live));
+    b
 }
 
-/// The second pass retires it. The first reads it all the same, and finds it retired once they have met.
+/// The second pass retires it. The first reads its clip all the same, and finds it retired once they have met.
 fn retire_in_turn<R: Threads + Abort>(
     rt: &R,
     apart: bool,
     store: &Store,
-    mut a: Pass,
+    a: &mut Pass,
     b: Pass,
-) -> Result<Pass, Fail>
-    requires first { IsPassAt four store.now a }
+    clip: &Clip,
+) -> Pass
+    requires first { IsPassAt four store.now a.old }
     requires second { IsPassAt four store.now b }
-    ensures { IfOk result (λ pass. IsPassAt four store.now pass) }
+    requires known { IsKnown (pass_place a.old.view) clip.now }
+    ensures { IsPassAt four store.now result }
 {
-    let clip = live(store, &mut a, 6).ok_or("6 isn't live")?;
-    holds(rt, reads_back(store, &mut a, &clip, &[lit(-2)]));
+    holds(rt, reads_back(store, a, clip, &[lit(-2)]));
     let (mut b, answer) = retire_by(rt, apart, store, b, 6);
     same(rt, answer, Some(Retired::Done));
-    holds(rt, reads_back(store, &mut a, &clip, &[lit(-2)]));
-    store.meet(&mut a, &mut b);
-    same(rt, look(store, &mut a, 6), Some(Found::Retired));
-    Ok(b)
+    holds(rt, reads_back(store, a, clip, &[lit(-2)]));
+    store.meet(a, &mut b);
+    same(rt, look(store, a, 6), Some(Found::Retired));
+    b
+}
+
+/// The second pass can do neither again.
+fn repeat_in_turn<R: Threads + Abort>(rt: &R, apart: bool, store: &Store, b: Pass)
+    requires { IsPassAt four store.now b }
+{
+    let (b, answer) = publish_by(rt, apart, store, b, 6, &[lit(-2)]);
+    same(rt, answer, Some(Published::Taken));
+    let (_b, answer) = retire_by(rt, apart, store, b, 6);
+    same(rt, answer, Some(Retired::NotLive));
+}
+
+/// All of that, one after the other.
+fn call_in_turn<R: Threads + Abort>(rt: &R, apart: bool, store: &Store, a: &mut Pass, b: Pass)
+    requires first { IsPassAt four store.now a.old }
+    requires second { IsPassAt four store.now b }
+{
+    let b = publish_in_turn(rt, apart, store, a, b);
+    let Some(clip) = live(store, a, 6) else {
+        panic!(rt; "6 isn't live");
+    };
+    let b = retire_in_turn(rt, apart, store, a, b, &clip);
+    repeat_in_turn(rt, apart, store, b);
 }
 
 /// Each stream has one identity and room for two literals: 5 is the first's, and 6 the second's.
 fn take_turns<R: Threads + Abort>(rt: &R, alloc: Global, apart: bool) -> Result<(), Fail> {
-    let (store, a, b) = open_two(alloc, 1, 2)?;
-    let (a, b) = publish_in_turn(rt, apart, &store, a, b);
-    let b = retire_in_turn(rt, apart, &store, a, b)?;
-    let (b, answer) = publish_by(rt, apart, &store, b, 6, &[lit(-2)]);
-    same(rt, answer, Some(Published::Taken));
-    let (_b, answer) = retire_by(rt, apart, &store, b, 6);
-    same(rt, answer, Some(Retired::NotLive));
+    let (store, mut a, b) = open_two(alloc, 1, 2)?;
+    call_in_turn(rt, apart, &store, &mut a, b);
     Ok(())
 }
 
@@ -264,17 +283,23 @@ fn two_passes_take_turns_on_two_threads(rt: HostRuntime) -> Result<(), Fail> {
     take_turns(&rt, rt.alloc(), true)
 }
 
+/// A clause of one literal spends the room, and one of none needs no room.
+fn spend_room(rt: &impl Abort, store: &Store, pass: &mut Pass)
+    requires { IsPassAt four store.now pass.old }
+{
+    let answer = publish(store, pass, 6, &[lit(-2)]);
+    same(rt, (answer, store.room(pass)), (Some(Published::Done), 0));
+    same(rt, publish(store, pass, 8, &[]), Some(Published::Done));
+    holds(rt, is_kept(store, pass, 8, &[]));
+    let answer = publish(store, pass, 8, &[]);
+    same(rt, (answer, store.room(pass)), (Some(Published::Taken), 0));
+}
+
 /// Each stream has two identities and room for one literal.
 #[test]
 fn a_pass_spends_its_room(rt: HostRuntime) -> Result<(), Fail> {
     let (store, _a, mut b) = open_two(rt.alloc(), 2, 1)?;
-    let answer = publish(&store, &mut b, 6, &[lit(-2)]);
-    same(&rt, answer, Some(Published::Done));
-    same(&rt, store.room(&b), 0);
-    same(&rt, publish(&store, &mut b, 8, &[]), Some(Published::Done));
-    holds(&rt, is_kept(&store, &mut b, 8, &[]));
-    same(&rt, publish(&store, &mut b, 8, &[]), Some(Published::Taken));
-    same(&rt, store.room(&b), 0);
+    spend_room(&rt, &store, &mut b);
     Ok(())
 }
 
@@ -306,20 +331,33 @@ fn is_kept(store: &Store, pass: &mut Pass, id: Id, clause: &[Lit]) -> bool
     }
 }
 
-/// An odd clause, one of two literals after it, and the last one: each is read back, literal by literal.
+/// Publishes an odd clause, one of two literals after it, and the last one.
+fn publish_three(rt: &impl Abort, store: &Store, pass: &mut Pass)
+    requires { IsPassAt four store.now pass.old }
+    ensures { IsPassAt four store.now pass.new }
+{
+    let done = Some(Published::Done);
+    let answer = publish(store, pass, 5, &[lit(1), lit(-2), lit(2)]);
+    same(rt, answer, done);
+    let answer = publish(store, pass, 7, &[lit(-1), lit(2)]);
+    same(rt, (answer, store.room(pass)), (done, 1));
+    same(rt, publish(store, pass, 9, &[lit(2)]), done);
+}
+
+/// The first two of these, and a clause of the formula, are read back, literal by literal.
+fn read_three(rt: &impl Abort, store: &Store, pass: &mut Pass)
+    requires { IsPassAt four store.now pass.old }
+{
+    holds(rt, is_kept(store, pass, 5, &[lit(1), lit(-2), lit(2)]));
+    holds(rt, is_kept(store, pass, 7, &[lit(-1), lit(2)]));
+    holds(rt, is_kept(store, pass, 3, &[lit(1), lit(-2)]));
+}
+
 #[test]
 fn clauses_are_read_back(rt: HostRuntime) -> Result<(), Fail> {
     let (store, mut a, _b) = open_two(rt.alloc(), 3, 6)?;
-    let done = Some(Published::Done);
-    let three = [lit(1), lit(-2), lit(2)];
-    let two = [lit(-1), lit(2)];
-    same(&rt, publish(&store, &mut a, 5, &three), done);
-    same(&rt, publish(&store, &mut a, 7, &two), done);
-    same(&rt, store.room(&a), 1);
-    same(&rt, publish(&store, &mut a, 9, &[lit(2)]), done);
-    holds(&rt, is_kept(&store, &mut a, 5, &three));
-    holds(&rt, is_kept(&store, &mut a, 7, &two));
-    holds(&rt, is_kept(&store, &mut a, 3, &[lit(1), lit(-2)]));
+    publish_three(&rt, &store, &mut a);
+    read_three(&rt, &store, &mut a);
     Ok(())
 }
 
@@ -439,29 +477,34 @@ fn found_at_desks(alloc: Global) -> Result<ThreeFound, Fail> {
     Ok([first, second, third])
 }
 
-/// At the map of one thread and at a store, a stream finds nothing yet, the next one what that published, and then the first
-/// what the next one did.
-#[test]
-fn one_client_has_both_maps(rt: HostRuntime) -> Result<(), Fail> {
+/// A stream finds nothing yet, the next one what that published, and then the first what the next one did.
+fn finds_in_turn(rt: &impl Abort, found: ThreeFound) {
     let done = Some(Published::Done);
     let wanted = [(done, None), (done, Some(lit(2))), (None, Some(lit(2)))];
-    assert_eq!(rt; found_at_plain_desks(rt.alloc())?, wanted);
-    assert_eq!(rt; found_at_desks(rt.alloc())?, wanted);
+    same(rt, found, wanted);
+}
+
+/// The client finds that at the map of one thread and at a store.
+#[test]
+fn one_client_has_both_maps(rt: HostRuntime) -> Result<(), Fail> {
+    finds_in_turn(&rt, found_at_plain_desks(rt.alloc())?);
+    finds_in_turn(&rt, found_at_desks(rt.alloc())?);
     Ok(())
 }
 
-/// The client at two desks, each in a thread of its own, at the same time.
-fn at_two_desks<R: Threads>(
+/// The client at two desks, each in a thread of its own, at the same time. Both find the same.
+fn at_two_desks<R: Threads + Abort>(
     rt: &R,
     store: &Store,
     passes: (Pass, Pass),
     owned: (Id, Id),
     turns: u32,
-) -> ((Pass, Pass), [(Option<Published>, Option<Lit>); 2])
+    wanted: &(Option<Published>, Option<Lit>),
+) -> (Pass, Pass)
     requires first { IsPassAt four store.now passes.0 }
     requires second { IsPassAt four store.now passes.1 }
-    ensures first { IsPassAt four store.now result.0.0 }
-    ensures second { IsPassAt four store.now result.0.1 }
+    ensures first { IsPassAt four store.now result.0 }
+    ensures second { IsPassAt four store.now result.1 }
 {
     let (a, b) = passes;
     let (own, other) = owned;
@@ -476,22 +519,29 @@ fn at_two_desks<R: Threads>(
             ensures { IsPassAt four store.entry.now result.0 }
         { at_desk(store, b, other, own, turns) },
     );
-    ((a, b), [one, two])
+    same(rt, (&one, &two), (wanted, wanted));
+    (a, b)
 }
 
 /// Each publishes a clause, and reads the other's by a later fetch. Then each publishes once more, and reads the other's after
 /// they met.
+fn use_twice<R: Threads + Abort>(rt: &R, store: &Store, passes: (Pass, Pass))
+    requires first { IsPassAt four store.now passes.0 }
+    requires second { IsPassAt four store.now passes.1 }
+{
+    let wanted = (Some(Published::Done), Some(lit(2)));
+    let passes = at_two_desks(rt, store, passes, (5, 6), TURNS, &wanted);
+    let wanted = (Some(Published::Done), None);
+    let (mut a, mut b) = at_two_desks(rt, store, passes, (7, 8), 0, &wanted);
+    store.meet(&mut a, &mut b);
+    let wanted = (Some(Published::Taken), Some(lit(2)));
+    at_two_desks(rt, store, (a, b), (7, 8), 1, &wanted);
+}
+
 #[test]
 fn two_threads_have_one_client(rt: HostRuntime) -> Result<(), Fail> {
     let (store, a, b) = open_two(rt.alloc(), 2, 3)?;
-    let (passes, found) = at_two_desks(&rt, &store, (a, b), (5, 6), TURNS);
-    same(&rt, found, [(Some(Published::Done), Some(lit(2))); 2]);
-    let (passes, found) = at_two_desks(&rt, &store, passes, (7, 8), 0);
-    same(&rt, found, [(Some(Published::Done), None); 2]);
-    let (mut a, mut b) = passes;
-    store.meet(&mut a, &mut b);
-    let (_, found) = at_two_desks(&rt, &store, (a, b), (7, 8), 1);
-    same(&rt, found, [(Some(Published::Taken), Some(lit(2))); 2]);
+    use_twice(&rt, &store, (a, b));
     Ok(())
 }
 
@@ -513,8 +563,8 @@ fn open_race(
 ) -> Result<(Store, Vec<Pass>), Fail>
     ensures { IfOk result (λ opened. ArePassesAt raced opened.0 opened.1.items) }
 {
-    let formula = refuted(alloc)?;
     let layout = Layout::new(40_001, 1, 0, streams, identities, room)?;
+    let formula = refuted(alloc)?;
     open(alloc, &formula, layout)
 }
 
@@ -599,21 +649,31 @@ fn arrives(there: &AtomicU64, wanted: u64) -> bool {
     waits_for(there, wanted)
 }
 
+/// Looks at the clause of each stream at a line of the race: the stream's own is there, and another one is, or isn't yet.
+fn look_at_line<R: Abort>(rt: &R, store: &Store, pass: &mut Pass, own: u64, line: u64)
+    requires at { IsPassAt raced store.now pass.old }
+    requires line { line < 10000 }
+    ensures { IsPassAt raced store.now pass.new }
+{
+    for stream in 1..5u64 {
+        let found = finds_raced(store, pass, 4 * line + stream + 1);
+        let wanted = found == Some(true) || stream != own && found.is_none();
+        same(rt, (line, stream, own, wanted), (line, stream, own, true));
+    }
+}
+
 /// Publishes the clauses of a stream of the race, one after the other, and at each looks at the same one of all streams.
 fn race<R: Abort>(rt: &R, store: &Store, started: &AtomicU64, pass: &mut Pass)
     requires { IsPassAt raced store.now pass.old }
     ensures { IsPassAt raced store.now pass.new }
 {
-    assert!(rt; arrives(started, 4), "one thread only");
+    holds(rt, arrives(started, 4));
     let own = pass.stream();
     for line in 0..10_000u64 {
         let answer = publish_raced(store, pass, 4 * line + own + 1);
-        assert_eq!(rt; answer, Some(Published::Done), "line {line} of {own}");
-        for stream in 1..5u64 {
-            let found = finds_raced(store, pass, 4 * line + stream + 1);
-            let wanted = found == Some(true) || stream != own && found.is_none();
-            assert!(rt; wanted, "line {line} of {stream} at {own}");
-        }
+        let wanted = Some(Published::Done);
+        same(rt, (line, own, answer), (line, own, wanted));
+        look_at_line(rt, store, pass, own, line);
     }
 }
 
@@ -636,18 +696,30 @@ fn finds_all<R: Abort>(rt: &R, store: &Store, pass: &mut Pass)
     requires { store_of pass.old ≡ store.now }
 {
     for id in 2..40_002 {
-        assert_eq!(rt; finds_raced(store, pass, id), Some(true), "at {id}");
+        let found = finds_raced(store, pass, id);
+        same(rt, (id, found), (id, Some(true)));
     }
+}
+
+/// Four passes race, and meet. The first has then all clauses.
+fn race_and_meet<R: Threads + Abort + Sync>(
+    rt: &R,
+    store: &Store,
+    passes: &mut [Pass],
+) -> Result<(), Fail>
+    requires { ArePassesAt raced store.now passes.old }
+{
+    holds(rt, passes.len() == 4);
+    race_all(rt, store, passes);
+    store.meet_all(passes);
+    let (first, _) = passes.split_first_mut().ok_or("no pass")?;
+    finds_all(rt, store, first);
+    Ok(())
 }
 
 /// Four streams publish 10,000 clauses each at the same time, and look at each other's. Once all have met, a pass has them all.
 #[test]
 fn four_threads_race(rt: HostRuntime) -> Result<(), Fail> {
     let (store, mut passes) = open_race(rt.alloc(), 4, 10_000, 20_000)?;
-    holds(&rt, passes.len() == 4);
-    race_all(&rt, &store, passes.as_mut_slice());
-    store.meet_all(passes.as_mut_slice());
-    let (first, _) = passes.split_first_mut().ok_or("no pass")?;
-    finds_all(&rt, &store, first);
-    Ok(())
+    race_and_meet(&rt, &store, passes.as_mut_slice())
 }

@@ -5,11 +5,11 @@ ghost use Rattle.lrup_model.specs.Pass.{pass_place};
 ghost use Rattle.lrup_model.specs.Place.{IsKnown};
 ghost use Rattle.test_support.specs.Worked.{four};
 ghost use Rattle.clause_store.specs.Passes.{store_of};
-ghost use Rattle.clause_store_tests.specs.Worked.{IsPassAt, raced};
+ghost use Rattle.clause_store_tests.specs.Worked.{IsPassAt, ArePassesAt, raced};
 
 use super::{
     Found, TURNS, arrives, finds_raced, holds, is_kept, is_raced, live, look, open_race, open_two,
-    publish, publish_raced, published, reads_back, retire, same, waits_for,
+    publish, publish_raced, reads_back, retire, same, waits_for,
 };
 use clause_store::{Pass, Store};
 use lrup_model::{Clip, Fetched, Id, Lit, Published, Retired};
@@ -100,17 +100,47 @@ fn replace_and_read<R: Threads + Abort>(
     (a, b)
 }
 
-/// A clip that the first pass holds reads as before once the second has retired its clause and published the next.
-fn outlive<R: Threads + Abort>(rt: &R, alloc: Global) -> Result<(), Fail> {
-    let (store, mut a, b) = open_two(alloc, 2, 2)?;
-    let (mut b, answer) = published(&store, b, 6, &[lit(-2)]);
+/// The second pass publishes 6. Once they have met, the first has its clip.
+fn clip_of_six<R: Abort>(rt: &R, store: &Store, a: &mut Pass, b: &mut Pass) -> Clip
+    requires first { IsPassAt four store.now a.old }
+    requires second { IsPassAt four store.now b.old }
+    ensures first { IsPassAt four store.now a.new }
+    ensures second { IsPassAt four store.now b.new }
+    ensures known { IsKnown (pass_place a.new.view) result }
+{
+    let answer = publish(store, b, 6, &[lit(-2)]);
     same(rt, answer, Some(Published::Done));
-    store.meet(&mut a, &mut b);
-    let clip = live(&store, &mut a, 6).ok_or("6 isn't live")?;
-    let (mut a, mut b) = replace_and_read(rt, &store, a, b, &clip);
-    store.meet(&mut a, &mut b);
-    same(rt, look(&store, &mut a, 6), Some(Found::Retired));
-    holds(rt, is_kept(&store, &mut a, 8, &[lit(1)]));
+    store.meet(a, b);
+    match live(store, a, 6) {
+        Some(clip) => clip,
+        None => panic!(rt; "6 isn't live"),
+    }
+}
+
+/// Once they have met, the first pass finds 6 retired and 8 live.
+fn finds_replaced<R: Abort>(rt: &R, store: &Store, a: &mut Pass, b: &mut Pass)
+    requires first { IsPassAt four store.now a.old }
+    requires second { IsPassAt four store.now b.old }
+{
+    store.meet(a, b);
+    same(rt, look(store, a, 6), Some(Found::Retired));
+    holds(rt, is_kept(store, a, 8, &[lit(1)]));
+}
+
+/// A clip that the first pass holds reads as before once the second has retired its clause and published the next.
+fn clip_outlives<R: Threads + Abort>(rt: &R, store: &Store, mut a: Pass, mut b: Pass)
+    requires first { IsPassAt four store.now a }
+    requires second { IsPassAt four store.now b }
+{
+    let clip = clip_of_six(rt, store, &mut a, &mut b);
+    let (mut a, mut b) = replace_and_read(rt, store, a, b, &clip);
+    finds_replaced(rt, store, &mut a, &mut b);
+}
+
+/// Each stream has two identities and room for two literals.
+fn outlive<R: Threads + Abort>(rt: &R, alloc: Global) -> Result<(), Fail> {
+    let (store, a, b) = open_two(alloc, 2, 2)?;
+    clip_outlives(rt, &store, a, b);
     Ok(())
 }
 
@@ -138,10 +168,11 @@ fn publish_together<R: Abort>(
 {
     let own = pass.stream();
     for line in 0..LINES {
-        assert!(rt; arrives(there, 2 * line + 2), "line {line} of {own}");
+        let in_time = arrives(there, 2 * line + 2);
         let answer = publish_raced(store, pass, 4 * line + own + 1);
         published.fetch_add(1, Ordering::SeqCst);
-        assert_eq!(rt; answer, Some(Published::Done), "line {line} of {own}");
+        let wanted = (line, own, true, Some(Published::Done));
+        same(rt, (line, own, in_time, answer), wanted);
     }
 }
 
@@ -151,11 +182,11 @@ fn read_both<R: Abort>(rt: &R, store: &Store, pass: &mut Pass, published: &Atomi
     ensures { store_of pass.new ≡ store.now }
 {
     for line in 0..LINES {
-        assert!(rt; waits_for(published, 2 * line + 2), "line {line}");
-        for stream in 1..3u64 {
-            let found = finds_raced(store, pass, 4 * line + stream + 1);
-            assert_eq!(rt; found, Some(true), "line {line} of {stream}");
-        }
+        let in_time = waits_for(published, 2 * line + 2);
+        let first = finds_raced(store, pass, 4 * line + 2);
+        let second = finds_raced(store, pass, 4 * line + 3);
+        let found = (in_time, first, second);
+        same(rt, (line, found), (line, (true, Some(true), Some(true))));
     }
 }
 
@@ -177,22 +208,6 @@ fn publish_or_read<R: Abort>(
     }
 }
 
-/// Two streams publish at the same moment at neighbouring identities, a thousand times; two others read both clauses.
-#[test]
-fn neighbours_are_published_at_once(rt: HostRuntime) -> Result<(), Fail> {
-    let (store, mut passes) = open_race(rt.alloc(), 4, LINES, 2 * LINES)?;
-    holds(&rt, passes.len() == 4);
-    let (there, published) = (AtomicU64::new(0), AtomicU64::new(0));
-    for_each_mut(
-        &rt,
-        passes.as_mut_slice(),
-        4,
-        &|_, pass: &mut Pass| publish_or_read(&rt, &store, pass, &there, &published),
-    );
-    same(&rt, published.load(Ordering::SeqCst), 2 * LINES);
-    Ok(())
-}
-
 /// Publishes the clause of each line, and retires it once all others are there to fetch it.
 fn retire_together<R: Abort>(rt: &R, store: &Store, pass: &mut Pass, there: &AtomicU64)
     requires { IsPassAt raced store.now pass.old }
@@ -201,10 +216,10 @@ fn retire_together<R: Abort>(rt: &R, store: &Store, pass: &mut Pass, there: &Ato
     for line in 0..LINES {
         let id = 4 * line + 2;
         let answer = publish_raced(store, pass, id);
-        assert_eq!(rt; answer, Some(Published::Done), "line {line}");
-        assert!(rt; arrives(there, 4 * line + 4), "line {line}");
-        let answer = retire(store, pass, id);
-        assert_eq!(rt; answer, Some(Retired::Done), "line {line}");
+        let in_time = arrives(there, 4 * line + 4);
+        let found = (line, answer, in_time, retire(store, pass, id));
+        let wanted = (line, Some(Published::Done), true, Some(Retired::Done));
+        same(rt, found, wanted);
     }
     there.fetch_add(1, Ordering::SeqCst);
 }
@@ -231,7 +246,7 @@ fn finds_all_retired<R: Abort>(rt: &R, store: &Store, pass: &mut Pass)
 {
     for line in 0..LINES {
         let found = look(store, pass, 4 * line + 2);
-        assert_eq!(rt; found, Some(Found::Retired), "line {line}");
+        same(rt, (line, found), (line, Some(Found::Retired)));
     }
 }
 
@@ -241,13 +256,11 @@ fn fetch_together<R: Abort>(rt: &R, store: &Store, pass: &mut Pass, there: &Atom
     ensures { store_of pass.new ≡ store.now }
 {
     for line in 0..LINES {
-        assert!(rt; arrives(there, 4 * line + 4), "line {line}");
-        assert!(rt;
-            finds_whole_or_retired(store, pass, 4 * line + 2),
-            "line {line}"
-        );
+        let in_time = arrives(there, 4 * line + 4);
+        let found = finds_whole_or_retired(store, pass, 4 * line + 2);
+        same(rt, (line, in_time, found), (line, true, true));
     }
-    assert!(rt; waits_for(there, 4 * LINES + 1), "all are retired");
+    holds(rt, waits_for(there, 4 * LINES + 1));
     finds_all_retired(rt, store, pass);
 }
 
@@ -261,23 +274,6 @@ fn retire_or_fetch<R: Abort>(rt: &R, store: &Store, pass: &mut Pass, there: &Ato
     } else {
         fetch_together(rt, store, pass, there);
     }
-}
-
-/// A stream retires an identity and three others fetch it, at the same moment, a thousand times. What they find is live and
-/// whole, or retired. Later all is retired.
-#[test]
-fn a_retire_and_a_fetch_at_once(rt: HostRuntime) -> Result<(), Fail> {
-    let (store, mut passes) = open_race(rt.alloc(), 4, LINES, 2 * LINES)?;
-    holds(&rt, passes.len() == 4);
-    let there = AtomicU64::new(0);
-    for_each_mut(
-        &rt,
-        passes.as_mut_slice(),
-        4,
-        &|_, pass: &mut Pass| retire_or_fetch(&rt, &store, pass, &there),
-    );
-    same(&rt, there.load(Ordering::SeqCst), 4 * LINES + 1);
-    Ok(())
 }
 
 /// The clause of an identity that the others hammer, one of two by turns: its literals lie in three words.
@@ -348,13 +344,14 @@ fn publish_hammered<R: Abort + Clock>(
 {
     let began = rt.monotonic().ok();
     for line in 0..HAMMERED {
-        assert!(rt; waits_for(there, 8 * line + 8), "line {line}");
+        let in_time = waits_for(there, 8 * line + 8);
         let late = is_late(rt, began);
         if late {
             lines.store(line + 1, Ordering::SeqCst);
         }
         let answer = publish_six(store, pass, 9 * line + 2);
-        assert_eq!(rt; answer, Some(Published::Done), "line {line}");
+        let wanted = (line, true, Some(Published::Done));
+        same(rt, (line, in_time, answer), wanted);
         if late {
             return;
         }
@@ -377,11 +374,8 @@ fn hammer_all<R: Abort>(
             return;
         }
         there.fetch_add(1, Ordering::SeqCst);
-        assert_eq!(rt;
-            hammers(store, pass, 9 * line + 2),
-            Some(true),
-            "line {line}"
-        );
+        let found = hammers(store, pass, 9 * line + 2);
+        same(rt, (line, found), (line, Some(true)));
     }
 }
 
@@ -403,25 +397,92 @@ fn publish_or_hammer<R: Abort + Clock>(
     }
 }
 
+/// What the streams do at the same time.
+enum Play {
+    PublishOrRead,
+    RetireOrFetch,
+    PublishOrHammer,
+}
+
+/// A stream does its part of it.
+fn take_part<R: Abort + Clock>(
+    rt: &R,
+    play: &Play,
+    store: &Store,
+    pass: &mut Pass,
+    there: &AtomicU64,
+    other: &AtomicU64,
+)
+    requires { IsPassAt raced store.now pass.old }
+    ensures { store_of pass.new ≡ store.now }
+{
+    match play {
+        Play::PublishOrRead => publish_or_read(rt, store, pass, there, other),
+        Play::RetireOrFetch => retire_or_fetch(rt, store, pass, there),
+        Play::PublishOrHammer => publish_or_hammer(rt, store, pass, there, other),
+    }
+}
+
+/// Each stream does so in a thread of its own. What the two counters are at the end: the first begins at 0.
+fn play_together<R: Threads + Abort + Sync + Clock>(
+    rt: &R,
+    play: &Play,
+    store: &Store,
+    passes: &mut [Pass],
+    other: u64,
+) -> (u64, u64)
+    requires { ArePassesAt raced store.now passes.old }
+{
+    let (there, other) = (AtomicU64::new(0), AtomicU64::new(other));
+    for_each_mut(
+        rt,
+        passes,
+        9,
+        &|_, pass: &mut Pass| take_part(rt, play, store, pass, &there, &other),
+    );
+    (there.load(Ordering::SeqCst), other.load(Ordering::SeqCst))
+}
+
+/// The same at a new store, for so many streams with so many identities and so much room each.
+fn play_at<R: Threads + Abort + Sync + Clock>(
+    rt: &R,
+    alloc: Global,
+    play: &Play,
+    size: (u64, u64, u64),
+    other: u64,
+) -> Result<(u64, u64), Fail> {
+    let (streams, identities, room) = size;
+    let (store, mut passes) = open_race(alloc, streams, identities, room)?;
+    same(rt, passes.len() as u64, streams);
+    Ok(play_together(rt, play, &store, passes.as_mut_slice(), other))
+}
+
+/// Two streams publish at the same moment at neighbouring identities, a thousand times; two others read both clauses.
+#[test]
+fn neighbours_are_published_at_once(rt: HostRuntime) -> Result<(), Fail> {
+    let size = (4, LINES, 2 * LINES);
+    let (_, published) = play_at(&rt, rt.alloc(), &Play::PublishOrRead, size, 0)?;
+    same(&rt, published, 2 * LINES);
+    Ok(())
+}
+
+/// A stream retires an identity and three others fetch it, at the same moment, a thousand times. What they find is live and
+/// whole, or retired. Later all is retired.
+#[test]
+fn a_retire_and_a_fetch_at_once(rt: HostRuntime) -> Result<(), Fail> {
+    let size = (4, LINES, 2 * LINES);
+    let (there, _) = play_at(&rt, rt.alloc(), &Play::RetireOrFetch, size, 0)?;
+    same(&rt, there, 4 * LINES + 1);
+    Ok(())
+}
+
 /// Eight threads fetch as fast as they can while one publishes, for two to three seconds or until all is published. No gate can
 /// stand between the stores of a clause's literals and the exchange that makes it live; whoever finds it live reads the whole
 /// clause.
 #[test]
 fn eight_threads_hammer(rt: HostRuntime) -> Result<(), Fail> {
-    let (store, mut passes) = open_race(rt.alloc(), 9, HAMMERED, 6 * HAMMERED)?;
-    holds(&rt, passes.len() == 9);
-    let (there, lines) = (AtomicU64::new(0), AtomicU64::new(HAMMERED));
-    for_each_mut(
-        &rt,
-        passes.as_mut_slice(),
-        9,
-        &|_, pass: &mut Pass| publish_or_hammer(&rt, &store, pass, &there, &lines),
-    );
-    let hammered = lines.load(Ordering::SeqCst);
-    same(
-        &rt,
-        there.load(Ordering::SeqCst),
-        hammered.saturating_mul(8),
-    );
+    let size = (9, HAMMERED, 6 * HAMMERED);
+    let (there, lines) = play_at(&rt, rt.alloc(), &Play::PublishOrHammer, size, HAMMERED)?;
+    same(&rt, there, lines.saturating_mul(8));
     Ok(())
 }

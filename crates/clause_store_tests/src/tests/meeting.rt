@@ -66,9 +66,9 @@ fn publish_three<R: Abort>(
 fn meet_as_three<R: Abort>(rt: &R, store: &Store, passes: &mut [Pass]) -> Result<(), Fail>
     requires { ArePassesAt raced store.now passes.old }
 {
-    let (first, others) = passes.split_first_mut().ok_or("no pass")?;
-    let (second, others) = others.split_first_mut().ok_or("one pass")?;
-    let (third, _) = others.split_first_mut().ok_or("two passes")?;
+    let [first, second, third] = passes else {
+        return Err("not three passes".into());
+    };
     publish_three(rt, store, first, second, third);
     meet_both_twice(store, first, second, third);
     finds_three(rt, store, first);

@@ -50,20 +50,26 @@ fn call_each<R: Abort>(rt: &R, store: &Store, first: &mut Pass, second: &mut Pas
 fn call_often<R: Abort>(rt: &R, store: &Store, passes: &mut [Pass]) -> Result<(), Fail>
     requires { ArePassesAt raced store.now passes.old }
 {
-    let (first, others) = passes.split_first_mut().ok_or("no pass")?;
-    let (second, _) = others.split_first_mut().ok_or("one pass")?;
+    let [first, second] = passes else {
+        return Err("not two passes".into());
+    };
     for line in 0..1_000 {
         call_each(rt, store, first, second, 2 * line + 2);
     }
     Ok(())
 }
 
+/// A store is opened, and called so often.
+fn open_and_call<R: Abort>(rt: &R, alloc: Global) -> Result<(), Fail> {
+    let (store, mut passes) = open_race(alloc, 2, 1_000, 2_000)?;
+    call_often(rt, &store, passes.as_mut_slice())
+}
+
 /// No call of a pass takes memory: some allocations make the formula, the store and the passes, and the next one is the test's
 /// own, after the last call. The gate refuses that one, and this test has to fail then.
 #[test]
 fn the_last_allocation_comes_after_all_calls(rt: HostRuntime) -> Result<(), Fail> {
-    let (store, mut passes) = open_race(rt.alloc(), 2, 1_000, 2_000)?;
-    call_often(&rt, &store, passes.as_mut_slice())?;
+    open_and_call(&rt, rt.alloc())?;
     let _last: Vec<u8> = Vec::with_capacity(rt.alloc(), 1)?;
     Ok(())
 }
@@ -95,25 +101,42 @@ fn open_empty(alloc: Global) -> Result<(Store, Vec<Pass>), Fail>
     Ok(open_again(alloc, &formula, layout)?)
 }
 
+/// There are two passes, and nothing was done by the second.
+fn is_new<R: Abort>(rt: &R, store: &Store, passes: &mut [Pass]) -> Result<(), Fail>
+    requires { AreOf store.now passes.old }
+{
+    let [_, second] = passes else {
+        return Err("not two passes".into());
+    };
+    let found = (
+        look(store, second, 1),
+        store.owns(second, 2),
+        store.room(second),
+    );
+    same(rt, found, (Some(Found::Vacant), true, 2));
+    Ok(())
+}
+
 /// The gate runs this test with each of its allocations refused, one after the other; the second opening then has memory.
 #[test]
 fn a_refused_store_can_be_opened_again(rt: HostRuntime) -> Result<(), Fail> {
     let (store, mut passes) = open_empty(rt.alloc())?;
-    same(&rt, passes.len(), 2);
-    let mut second = passes.pop().ok_or("no pass")?;
-    same(&rt, look(&store, &mut second, 1), Some(Found::Vacant));
-    holds(&rt, store.owns(&second, 2));
-    same(&rt, store.room(&second), 2);
+    is_new(&rt, &store, passes.as_mut_slice())
+}
+
+/// A store of 16 million words is opened and dropped.
+fn open_large<R: Abort>(rt: &R, alloc: Global) -> Result<(), Fail> {
+    let (store, passes) = open_race(alloc, 1, 1, 16_000_000)?;
+    holds(rt, store.covers(2) && passes.len() == 1);
     Ok(())
 }
 
-/// A store of 16 million words is opened and dropped, four times. The gate gives this test memory for one and a half, so that
-/// what an opening took and nobody gives back would be missing at the next.
+/// Four such stores come one after the other. The gate gives this test memory for one and a half, so that what an opening took
+/// and nobody gives back would be missing at the next.
 #[test]
 fn a_large_store_is_given_back(rt: HostRuntime) -> Result<(), Fail> {
     for _ in 0..4 {
-        let (store, passes) = open_race(rt.alloc(), 1, 1, 16_000_000)?;
-        holds(&rt, store.covers(2) && passes.len() == 1);
+        open_large(&rt, rt.alloc())?;
     }
     Ok(())
 }
