@@ -1,7 +1,8 @@
 //! The row word by word, two streams in turn, and two threads at once.
-ghost use Rattle.std.specs.Prelude.{◌≡◌, [], IfOk, IsTrue};
+ghost use Rattle.std.specs.Prelude.{◌≡◌, ◌≤◌, [], length, IfOk, IsTrue};
 ghost use Rattle.lrup_model.specs.History.{IsPublishable};
 ghost use Rattle.lrup_model.specs.Layout.{Fits};
+ghost use Rattle.lrup_model.specs.Pass.{pass_place};
 ghost use Rattle.test_support.specs.Worked.{four};
 ghost use Rattle.idwords_tests.specs.Worked.{IsSeatAt};
 
@@ -26,46 +27,61 @@ fn holds(rt: &impl Abort, fact: bool)
     assert!(rt; fact);
 }
 
-/// The worked formula, and a layout of it for so many streams with so many identities and so much room each.
-fn worked(
-    rt: &(impl Abort + AllocGlobal),
-    streams: u64,
-    identities: u64,
-    room: u64,
-) -> Result<(Formula, Layout), Fail>
-    ensures formula { IfOk result (λ made. made.0 ≡ four) }
-    ensures fits { IfOk result (λ made. Fits made.1 made.0) }
-    ensures streams { IfOk result (λ made. made.1.streams ≡ streams) }
-{
-    let formula = four_clauses(rt.alloc())?;
-    let layout = Layout::new(2, 4, 8, streams, identities, room)?;
-    holds(rt, layout.fits(&formula));
-    Ok((formula, layout))
-}
-
 /// A row of one stream, and its seat.
-fn open_one(alloc: Global, formula: &Formula, layout: &Layout) -> Result<(Row, Seat), Fail>
+fn open_one(
+    rt: &(impl Abort + AllocGlobal),
+    formula: &Formula,
+    layout: &Layout,
+) -> Result<(Row, Seat), AllocError>
     requires fits { Fits layout.now formula.now }
     requires streams { layout.now.streams ≡ 1 }
     ensures { IfOk result (λ opened. IsSeatAt formula.now opened.0 layout.now 1 opened.1) }
 {
-    let (row, mut seats) = Row::open(alloc, formula, layout)?;
-    let seat = seats.pop().ok_or("no seat")?;
+    let (row, mut seats) = Row::open(rt.alloc(), formula, layout)?;
+    let seat = seats.pop().expect(rt, "no seat");
     Ok((row, seat))
 }
 
+/// The same of the worked formula.
+fn open_worked(rt: &(impl Abort + AllocGlobal), layout: &Layout) -> Result<(Row, Seat), AllocError>
+    requires { layout.now.streams ≡ 1 }
+    ensures { IfOk result (λ opened. IsSeatAt four opened.0 layout.now 1 opened.1) }
+{
+    let formula = four_clauses(rt.alloc())?;
+    holds(rt, layout.fits(&formula));
+    open_one(rt, &formula, layout)
+}
+
 /// A row of two streams, and their seats.
-fn open_two(alloc: Global, formula: &Formula, layout: &Layout) -> Result<(Row, Seat, Seat), Fail>
+fn open_two(
+    rt: &(impl Abort + AllocGlobal),
+    formula: &Formula,
+    layout: &Layout,
+) -> Result<(Row, Seat, Seat), AllocError>
     requires formula { formula.now ≡ four }
     requires fits { Fits layout.now formula.now }
     requires streams { layout.now.streams ≡ 2 }
-    ensures first { IfOk result (λ opened. IsSeatAt four opened.0 layout.now 1 opened.1) }
-    ensures second { IfOk result (λ opened. IsSeatAt four opened.0 layout.now 2 opened.2) }
+    ensures { IfOk result (λ opened. IsSeatAt four opened.0 layout.now 1 opened.1
+        × IsSeatAt four opened.0 layout.now 2 opened.2) }
 {
-    let (row, mut seats) = Row::open(alloc, formula, layout)?;
-    let second = seats.pop().ok_or("no seat")?;
-    let first = seats.pop().ok_or("one seat")?;
+    let (row, mut seats) = Row::open(rt.alloc(), formula, layout)?;
+    let second = seats.pop().expect(rt, "no seat");
+    let first = seats.pop().expect(rt, "one seat");
     Ok((row, first, second))
+}
+
+/// The same of the worked formula.
+fn open_worked_two(
+    rt: &(impl Abort + AllocGlobal),
+    layout: &Layout,
+) -> Result<(Row, Seat, Seat), AllocError>
+    requires { layout.now.streams ≡ 2 }
+    ensures { IfOk result (λ opened. IsSeatAt four opened.0 layout.now 1 opened.1
+        × IsSeatAt four opened.0 layout.now 2 opened.2) }
+{
+    let formula = four_clauses(rt.alloc())?;
+    holds(rt, layout.fits(&formula));
+    open_two(rt, &formula, layout)
 }
 
 /// Has the row these words?
@@ -96,7 +112,22 @@ fn look(row: &Row, layout: &Layout, seat: &mut Seat, stream: u64, id: u64) -> Op
     Some(row.look(seat, id))
 }
 
-/// Publishes a clause under an identity of the stream's own.
+/// Drafts a clause of at most two literals.
+fn draft(row: &Row, seat: &mut Seat, clause: &[Lit])
+    requires row { seat.old.table ≡ row.now }
+    requires draft { seat.old.draft ≡ [] }
+    requires length { length clause.now ≤ 2 }
+    requires room { length clause.now ≤ (pass_place seat.old.view).room }
+    ensures { seat.new ≡ record seat.old { draft = clause.now } }
+{
+    match clause {
+        [only] => row.write(seat, *only, None),
+        [first, second] => row.write(seat, *first, Some(*second)),
+        _ => {}
+    }
+}
+
+/// Publishes a clause of at most two literals under an identity of the stream's own.
 fn publish(
     row: &Row,
     layout: &Layout,
@@ -109,17 +140,11 @@ fn publish(
     requires clause { IsPublishable four clause.now }
     ensures { IsSeatAt four row.now layout.now stream seat.new }
 {
-    if layout.owner(id) != Owner::Stream(stream) || seat.room() < clause.len() as u64 {
+    let length = clause.len() as u64;
+    if layout.owner(id) != Owner::Stream(stream) || length > 2 || seat.room() < length {
         return None;
     }
-    let mut left = clause;
-    'pairs: while let [first, second, rest @ ..] = left {
-        row.write(seat, *first, Some(*second));
-        left = rest;
-    }
-    if let [last] = left {
-        row.write(seat, *last, None);
-    }
+    draft(row, seat, clause);
     Some(row.claim(seat, id))
 }
 
@@ -176,8 +201,8 @@ fn check_words(rt: &impl Abort, row: &Row, layout: &Layout, seat: &mut Seat)
 
 #[test]
 fn the_row_has_its_words(rt: HostRuntime) -> Result<(), Fail> {
-    let (formula, layout) = worked(&rt, 1, 1, 2)?;
-    let (row, mut seat) = open_one(rt.alloc(), &formula, &layout)?;
+    let layout = Layout::new(2, 4, 8, 1, 1, 2)?;
+    let (row, mut seat) = open_worked(&rt, &layout)?;
     check_words(&rt, &row, &layout, &mut seat);
     Ok(())
 }
@@ -207,22 +232,21 @@ static ONE_AND_TWO: [u64; 18] = [
 /// Publishes a clause of one literal, and then one of two.
 fn publish_one_and_two(rt: &impl Abort, row: &Row, layout: &Layout, seat: &mut Seat)
     requires { IsSeatAt four row.now layout.now 1 seat.old }
-    ensures { IsSeatAt four row.now layout.now 1 seat.new }
 {
     let answer = publish(row, layout, seat, 1, 5, &[lit(2)]);
     same(rt, answer, Some(Published::Done));
     let answer = publish(row, layout, seat, 1, 6, &[lit(1), lit(2)]);
     same(rt, answer, Some(Published::Done));
     same(rt, seat.room(), 0);
+    holds(rt, has_words(row, layout, seat, &ONE_AND_TWO));
 }
 
 /// The clause of two literals begins in a word of its own.
 #[test]
 fn a_clause_begins_in_a_word_of_its_own(rt: HostRuntime) -> Result<(), Fail> {
-    let (formula, layout) = worked(&rt, 1, 2, 3)?;
-    let (row, mut seat) = open_one(rt.alloc(), &formula, &layout)?;
+    let layout = Layout::new(2, 4, 8, 1, 2, 3)?;
+    let (row, mut seat) = open_worked(&rt, &layout)?;
     publish_one_and_two(&rt, &row, &layout, &mut seat);
-    holds(&rt, has_words(&row, &layout, &mut seat, &ONE_AND_TWO));
     Ok(())
 }
 
@@ -250,28 +274,43 @@ static UNEVEN: [u64; 11] = [
     0,
 ];
 
+/// Their row, and its seat.
+fn open_uneven(rt: &(impl Abort + AllocGlobal), layout: &Layout) -> Result<(Row, Seat), AllocError>
+    requires { layout.now.streams ≡ 1 }
+    ensures { IfOk result (λ opened. (opened.1.table ≡ opened.0)
+        × (opened.1.view.caller.layout ≡ layout.now)) }
+{
+    let formula = uneven_clauses(rt.alloc())?;
+    holds(rt, layout.fits(&formula));
+    open_one(rt, &formula, layout)
+}
+
 /// The row of a formula with an odd clause and an empty one, as it is opened.
 #[test]
 fn a_formulas_clause_begins_in_a_word_of_its_own(rt: HostRuntime) -> Result<(), Fail> {
-    let formula = uneven_clauses(rt.alloc())?;
     let layout = Layout::new(3, 3, 5, 1, 1, 1)?;
-    holds(&rt, layout.fits(&formula));
-    let (row, mut seat) = open_one(rt.alloc(), &formula, &layout)?;
+    let (row, mut seat) = open_uneven(&rt, &layout)?;
     holds(&rt, has_words(&row, &layout, &mut seat, &UNEVEN));
     Ok(())
+}
+
+/// Can a row be opened?
+fn opens(alloc: Global, formula: &Formula, layout: &Layout) -> bool
+    requires { Fits layout.now formula.now }
+{
+    Row::open(alloc, formula, layout).is_ok()
 }
 
 /// Where memory is refused it says so, and may be called again.
 #[test]
 fn an_open_may_be_refused(rt: HostRuntime) -> Result<(), Fail> {
+    let layout = Layout::new(2, 4, 8, 2, 2, 1)?;
     let Ok(formula) = four_clauses(rt.alloc()) else {
         return Ok(());
     };
-    let layout = Layout::new(2, 4, 8, 2, 2, 1)?;
     holds(&rt, layout.fits(&formula));
-    if Row::open(rt.alloc(), &formula, &layout).is_err() {
-        holds(&rt, Row::open(rt.alloc(), &formula, &layout).is_ok());
-    }
+    let opened = opens(rt.alloc(), &formula, &layout);
+    holds(&rt, opened || opens(rt.alloc(), &formula, &layout));
     Ok(())
 }
 
@@ -305,8 +344,8 @@ fn retire_six(rt: &impl Abort, row: &Row, layout: &Layout, seat: &mut Seat)
 /// Two streams, each with two identities and room for one literal.
 #[test]
 fn two_streams_take_turns(rt: HostRuntime) -> Result<(), Fail> {
-    let (formula, layout) = worked(&rt, 2, 2, 1)?;
-    let (row, _first, mut second) = open_two(rt.alloc(), &formula, &layout)?;
+    let layout = Layout::new(2, 4, 8, 2, 2, 1)?;
+    let (row, _first, mut second) = open_worked_two(&rt, &layout)?;
     spend_all(&rt, &row, &layout, &mut second);
     retire_six(&rt, &row, &layout, &mut second);
     Ok(())
@@ -390,17 +429,34 @@ fn meet_and_look(rt: &impl Abort, row: &Row, layout: &Layout, first: &mut Seat, 
     row.meet(first, second);
 }
 
+/// The first stream then finds a retired clause of one literal, and the formula's first clause.
+fn look_later(rt: &impl Abort, row: &Row, layout: &Layout, first: &mut Seat)
+    requires { IsSeatAt four row.now layout.now 1 first.old }
+{
+    let found = match look(row, layout, first, 1, 6) {
+        Some(word) => Some((state(word), len(word))),
+        None => None,
+    };
+    same(rt, found, Some((RETIRED, 1)));
+    let found = look(row, layout, first, 1, 1);
+    same(rt, found, Some(25165833 + 4194304));
+}
+
+/// Both streams publish at the same time, meet, and look.
+fn use_at_once<R: Threads + Abort>(rt: &R, row: &Row, layout: &Layout, first: Seat, second: Seat)
+    requires first { IsSeatAt four row.now layout.now 1 first }
+    requires second { IsSeatAt four row.now layout.now 2 second }
+{
+    let (mut first, mut second) = publish_at_once(rt, row, layout, first, second);
+    meet_and_look(rt, row, layout, &mut first, &mut second);
+    look_later(rt, row, layout, &mut first);
+}
+
 /// Two threads use two seats at the same time. Once they met, each sees what the other did.
 #[test]
 fn two_threads_use_one_row(rt: HostRuntime) -> Result<(), Fail> {
-    let (formula, layout) = worked(&rt, 2, 1, 1)?;
-    let (row, first, second) = open_two(rt.alloc(), &formula, &layout)?;
-    let (mut first, mut second) = publish_at_once(&rt, &row, &layout, first, second);
-    meet_and_look(&rt, &row, &layout, &mut first, &mut second);
-    let found = look(&row, &layout, &mut first, 1, 6);
-    let found = found.map(|word| (state(word), len(word)));
-    same(&rt, found, Some((RETIRED, 1)));
-    let found = look(&row, &layout, &mut first, 1, 1);
-    same(&rt, found, Some(25165833 + 4194304));
+    let layout = Layout::new(2, 4, 8, 2, 1, 1)?;
+    let (row, first, second) = open_worked_two(&rt, &layout)?;
+    use_at_once(&rt, &row, &layout, first, second);
     Ok(())
 }
