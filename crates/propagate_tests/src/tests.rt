@@ -1,12 +1,13 @@
 //! What is taken up, the text of the one fault, and hints at a plain map.
-ghost use Rattle.std.specs.Prelude.{◌≡◌, IfOk, OnOk, IsTrue};
+ghost use Rattle.std.specs.Prelude.{◌≡◌, IfOk, IfSome, OnOk, IsTrue};
 ghost use Rattle.std.specs.List.{AllByRecursion};
 ghost use Rattle.lrup_model.specs.Literal.{IsLiteral};
 ghost use Rattle.lrup_model.specs.Plain.{formula_of};
+ghost use Rattle.lrup_model.specs.Place.{IsKnown, AllFollow};
 
-use lrup_model::{ClauseMap, Fetched, Formula, Layout, Lit, PlainMap};
+use lrup_model::{ClauseMap, Clip, Fetched, Formula, Layout, Lit, PlainMap};
 use propagate::{Marks, Step, Tautology};
-use std::alloc::Global;
+use std::alloc::AllocError;
 use std::fmt;
 use std::process::Abort;
 use std::test::Fail;
@@ -24,12 +25,13 @@ fn holds(rt: &impl Abort, fact: bool)
     assert!(rt; fact);
 }
 
-/// The literal of this number.
-fn literal(value: i64) -> Result<Lit, Fail>
-    ensures { IfOk result (λ l. l ≡ value) }
+/// The literal of this number, which is of one of three variables.
+fn literal(rt: &impl Abort, value: i64) -> Lit
+    ensures { IsLiteral 3 result }
 {
-    let literal = Lit::new(value).ok_or("no literal")?;
-    Ok(literal)
+    let literal = Lit::new(value).expect(rt, "no literal");
+    holds(rt, literal.var() <= 3);
+    literal
 }
 
 /// Takes up a clause with repeats, and then the empty one.
@@ -91,37 +93,59 @@ fn a_tautology_leaves_no_clause(rt: HostRuntime) -> Result<(), Fail> {
     take_up_tautology(&rt, &mut marks)
 }
 
-/// The map of a formula of clauses of two literals each, and the empty one after them, over three variables.
-fn map_of_pairs(alloc: Global, pairs: &[(i64, i64)]) -> Result<PlainMap, Fail>
+/// Adds a clause of these two literals, over three variables.
+fn push_pair(rt: &impl Abort, formula: &mut Formula, one: i64, other: i64) -> Result<(), AllocError>
+    requires { formula.old.vars ≡ 3 }
+    ensures { OnOk result (formula.new.vars ≡ 3) }
+{
+    let (one, other) = (literal(rt, one), literal(rt, other));
+    holds(rt, one != other && formula.len() <= 9);
+    formula.push(&[one, other])
+}
+
+/// The formula of clauses of two literals each, and the empty one after them, over three variables.
+fn formula_of_pairs(
+    rt: &(impl Abort + AllocGlobal),
+    pairs: &[(i64, i64)],
+) -> Result<Formula, AllocError>
+    ensures { IfOk result (λ formula. formula.vars ≡ 3) }
+{
+    let mut formula = Formula::new(rt.alloc(), 3);
+    for &(one, other) in pairs {
+        push_pair(rt, &mut formula, one, other)?;
+    }
+    holds(rt, formula.len() <= 9);
+    formula.push(&[])?;
+    Ok(formula)
+}
+
+/// Its map.
+fn map_of_pairs(rt: &(impl Abort + AllocGlobal), pairs: &[(i64, i64)]) -> Result<PlainMap, Fail>
     ensures formula { IfOk result (λ map. (formula_of map).vars ≡ 3) }
     ensures streams { IfOk result (λ map. map.layout.streams ≡ 1) }
 {
-    let mut formula = Formula::new(alloc, 3);
-    for &(one, other) in pairs {
-        push_pair(&mut formula, literal(one)?, literal(other)?)?;
-    }
-    if formula.len() > 9 {
-        return Err("no clause".into());
-    }
-    formula.push(&[])?;
     let count = pairs.len() as u64;
     let layout = Layout::new(3, count + 1, 2 * count, 1, 1, 1)?;
-    if !layout.fits(&formula) {
-        return Err("no layout".into());
-    }
-    let map = PlainMap::open(alloc, &formula, &layout)?;
+    let formula = formula_of_pairs(rt, pairs)?;
+    holds(rt, layout.fits(&formula));
+    let map = PlainMap::open(rt.alloc(), &formula, &layout)?;
     Ok(map)
 }
 
-fn push_pair(formula: &mut Formula, one: Lit, other: Lit) -> Result<(), Fail>
-    ensures { OnOk result (formula.new.vars ≡ formula.old.vars) }
+/// The clip of the clause that the map has under the identity.
+fn live<M: ClauseMap>(map: &mut M, id: u64) -> Option<Clip>
+    requires { (M.place map.old).caller.formula.vars ≡ 3 }
+    ensures vars { (M.place map.new).caller.formula.vars ≡ 3 }
+    ensures known { IfSome result (λ clip. IsKnown (M.place map.new) clip) }
+    ensures follow { IfSome result (λ _. AllFollow (M.place map.new)) }
 {
-    let vars = formula.vars();
-    if one == other || one.var() > vars || other.var() > vars || formula.len() > 9 {
-        return Err("no pair".into());
+    if !map.covers(id) {
+        return None;
     }
-    formula.push(&[one, other])?;
-    Ok(())
+    match map.fetch(id) {
+        Fetched::Live(clip) => Some(clip),
+        _ => None,
+    }
 }
 
 /// Tries the clause that the map has under the identity.
@@ -131,49 +155,77 @@ fn try_hint<M: ClauseMap>(marks: &mut Marks, map: &mut M, id: u64) -> Option<Ste
     ensures marks { marks.new.vars ≡ 3 }
     ensures map { (M.place map.new).caller.formula.vars ≡ 3 }
 {
-    if !marks.ready() || !map.covers(id) {
+    let clip = live(map, id)?;
+    if !marks.ready() {
         return None;
     }
-    match map.fetch(id) {
-        Fetched::Live(clip) => Some(marks.hint(map, &clip)),
-        _ => None,
-    }
+    Some(marks.hint(map, &clip))
 }
 
-/// Takes up the clause of the literal 1 and tries these hints: the last one's step, and whether another may follow.
-fn try_hints<M: ClauseMap>(marks: &mut Marks, map: &mut M, ids: &[u64]) -> Option<(Step, bool)>
+/// Takes up the clause of the literal 1 and tries these hints: the last one's step, whether another may follow, and whether it
+/// is that clause still.
+fn try_hints<M: ClauseMap>(
+    marks: &mut Marks,
+    map: &mut M,
+    ids: &[u64],
+) -> Option<(Option<Step>, bool, bool)>
     requires marks { marks.old.vars ≡ 3 }
     requires map { (M.place map.old).caller.formula.vars ≡ 3 }
     ensures marks { marks.new.vars ≡ 3 }
     ensures map { (M.place map.new).caller.formula.vars ≡ 3 }
 {
-    let one = Lit::new(1)?;
-    marks.begin(&[one]).ok()?;
+    let clause = [lit(1)];
+    marks.begin(&clause).ok()?;
     let mut step = None;
     for &id in ids {
         step = Some(try_hint(marks, map, id)?);
     }
-    if marks.clause() != [one].as_slice() {
-        return None;
-    }
-    Some((step?, marks.ready()))
+    Some((step, marks.ready(), marks.clause() == clause.as_slice()))
 }
 
 /// Hints, what the last of them does, and whether another may follow.
 type HintRow = (&'static [u64], Step, bool);
 
-/// Tries the hints of each row at the map of these pairs.
-fn check_hints(
-    rt: &(impl Abort + AllocGlobal),
-    pairs: &[(i64, i64)],
-    rows: &[HintRow],
-) -> Result<(), Fail> {
-    let mut map = map_of_pairs(rt.alloc(), pairs)?;
-    let mut desk = map.desk(1);
-    let mut marks = Marks::new(rt.alloc(), 3)?;
+/// Tries the hints of each row.
+fn try_rows<M: ClauseMap>(rt: &impl Abort, marks: &mut Marks, map: &mut M, rows: &[HintRow])
+    requires marks { marks.old.vars ≡ 3 }
+    requires map { (M.place map.old).caller.formula.vars ≡ 3 }
+{
     for &(ids, step, more) in rows {
-        let found = try_hints(&mut marks, &mut desk, ids);
-        same(rt, (ids, found), (ids, Some((step, more))));
+        let found = try_hints(marks, map, ids);
+        same(rt, (ids, found), (ids, Some((Some(step), more, true))));
+    }
+}
+
+/// What is done with the marks at a map.
+#[derive(Drop)]
+enum Work {
+    Hints(&'static [HintRow]),
+    Compare,
+    CallOften,
+}
+
+/// Does so at the map of these pairs.
+fn work_at(rt: &(impl Abort + AllocGlobal), pairs: &[(i64, i64)], work: &Work) -> Result<(), Fail> {
+    let mut map = map_of_pairs(rt, pairs)?;
+    let mut marks = Marks::new(rt.alloc(), 3)?;
+    do_work(rt, &mut marks, &mut map.desk(1), work)
+}
+
+/// Does so with these marks.
+fn do_work<M: ClauseMap>(
+    rt: &(impl Abort + AllocGlobal),
+    marks: &mut Marks,
+    map: &mut M,
+    work: &Work,
+) -> Result<(), Fail>
+    requires marks { marks.old.vars ≡ 3 }
+    requires map { (M.place map.old).caller.formula.vars ≡ 3 }
+{
+    match work {
+        Work::Hints(rows) => try_rows(rt, marks, map, rows),
+        Work::Compare => return compare_all(rt, marks, map),
+        Work::CallOften => return call_with_list(rt, marks, map),
     }
     Ok(())
 }
@@ -187,7 +239,8 @@ static UNTIL_CONFLICT: [HintRow; 3] = [
 
 #[test]
 fn hints_are_unit_until_the_conflict(rt: HostRuntime) -> Result<(), Fail> {
-    check_hints(&rt, &[(1, 2), (-2, 3), (-3, 1), (2, 3)], &UNTIL_CONFLICT)
+    let pairs = [(1, 2), (-2, 3), (-3, 1), (2, 3)];
+    work_at(&rt, &pairs, &Work::Hints(&UNTIL_CONFLICT))
 }
 
 /// Hints at the clauses 1 2 and 2 3, of which one is unit.
@@ -199,20 +252,16 @@ static TWO_CLAUSES: [HintRow; 3] = [
 
 #[test]
 fn a_true_literal_or_two_left_are_not_unit(rt: HostRuntime) -> Result<(), Fail> {
-    check_hints(&rt, &[(1, 2), (2, 3)], &TWO_CLAUSES)
+    work_at(&rt, &[(1, 2), (2, 3)], &Work::Hints(&TWO_CLAUSES))
 }
 
 /// Literals over three variables.
-fn lits_of(alloc: Global, values: &[i64]) -> Result<Vec<Lit>, Fail>
+fn lits_of(rt: &(impl Abort + AllocGlobal), values: &[i64]) -> Result<Vec<Lit>, Fail>
     ensures { IfOk result (λ lits. AllByRecursion (IsLiteral 3) lits.items) }
 {
-    let mut lits = Vec::new(alloc);
+    let mut lits = Vec::new(rt.alloc());
     for &value in values {
-        let literal = literal(value)?;
-        if literal.var() > 3 {
-            return Err("no literal".into());
-        }
-        lits.push(literal)?;
+        lits.push(literal(rt, value))?;
     }
     Ok(lits)
 }
@@ -225,13 +274,8 @@ fn is_clause<M: ClauseMap>(marks: &mut Marks, map: &mut M, id: u64, lits: &[Lit]
     ensures marks { marks.new.vars ≡ 3 }
     ensures map { (M.place map.new).caller.formula.vars ≡ 3 }
 {
-    if !map.covers(id) {
-        return None;
-    }
-    match map.fetch(id) {
-        Fetched::Live(clip) => Some(marks.same(map, &clip, lits)),
-        _ => None,
-    }
+    let clip = live(map, id)?;
+    Some(marks.same(map, &clip, lits))
 }
 
 /// An identity, numbers of literals, and whether these are the clause.
@@ -263,22 +307,31 @@ fn compare<M: ClauseMap>(
     ensures map { (M.place map.new).caller.formula.vars ≡ 3 }
 {
     let (id, values, wanted) = row;
-    let lits = lits_of(rt.alloc(), values)?;
+    let lits = lits_of(rt, values)?;
     let found = is_clause(marks, map, id, lits.as_slice());
     same(rt, (id, values, found), (id, values, Some(wanted)));
     holds(rt, marks.clause().is_empty() && !marks.ready());
     Ok(())
 }
 
-#[test]
-fn a_clause_is_compared_as_a_set(rt: HostRuntime) -> Result<(), Fail> {
-    let mut map = map_of_pairs(rt.alloc(), &[(1, 2), (2, -2)])?;
-    let mut desk = map.desk(1);
-    let mut marks = Marks::new(rt.alloc(), 3)?;
+/// Compares those of each row.
+fn compare_all<M: ClauseMap>(
+    rt: &(impl Abort + AllocGlobal),
+    marks: &mut Marks,
+    map: &mut M,
+) -> Result<(), Fail>
+    requires marks { marks.old.vars ≡ 3 }
+    requires map { (M.place map.old).caller.formula.vars ≡ 3 }
+{
     for &row in &COMPARED {
-        compare(&rt, &mut marks, &mut desk, row)?;
+        compare(rt, marks, map, row)?;
     }
     Ok(())
+}
+
+#[test]
+fn a_clause_is_compared_as_a_set(rt: HostRuntime) -> Result<(), Fail> {
+    work_at(&rt, &[(1, 2), (2, -2)], &Work::Compare)
 }
 
 /// A clause is taken up, its hints are tried, and one is compared, a thousand times.
@@ -294,15 +347,25 @@ fn call_often<M: ClauseMap>(marks: &mut Marks, map: &mut M, lits: &[Lit]) -> Opt
     Some(())
 }
 
+/// The same with a list of literals.
+fn call_with_list<M: ClauseMap>(
+    rt: &(impl Abort + AllocGlobal),
+    marks: &mut Marks,
+    map: &mut M,
+) -> Result<(), Fail>
+    requires marks { marks.old.vars ≡ 3 }
+    requires map { (M.place map.old).caller.formula.vars ≡ 3 }
+{
+    let lits = lits_of(rt, &[3, -2, 3])?;
+    holds(rt, call_often(marks, map, lits.as_slice()).is_some());
+    Ok(())
+}
+
 /// No call of the marks takes memory: the formula, the map, the marks and the list take eight allocations, and the ninth is the
 /// one after the last call. The gate refuses that one, and this test has to fail then.
 #[test]
 fn the_ninth_allocation_comes_after_all_calls(rt: HostRuntime) -> Result<(), Fail> {
-    let mut map = map_of_pairs(rt.alloc(), &[(1, 2), (-2, 3)])?;
-    let mut desk = map.desk(1);
-    let mut marks = Marks::new(rt.alloc(), 3)?;
-    let lits = lits_of(rt.alloc(), &[3, -2, 3])?;
-    call_often(&mut marks, &mut desk, lits.as_slice()).ok_or("no clause")?;
+    work_at(&rt, &[(1, 2), (-2, 3)], &Work::CallOften)?;
     let _last: Vec<u8> = Vec::with_capacity(rt.alloc(), 1)?;
     Ok(())
 }
