@@ -1,15 +1,15 @@
 // Reading texts that were spelled by hand, in every cutting, and writing.
-ghost use Rattle.std.specs.Prelude.{◌≡◌, Some, false, IsTrue};
+ghost use Rattle.std.specs.Prelude.{◌≡◌, false, IsTrue};
 
 use lrup_text::{
-    End, Line, LineFault, LineReader, ReadFault, ReaderTurn, Reading, Sink, Source, WriteBuffer,
-    WriteFault, Writing, write_all, write_line,
+    End, Line, LineFault, LineReader, ReaderTurn, Reading, Sink, Source, WriteBuffer, WriteFault,
+    Writing, write_all, write_line,
 };
 use std::alloc::{AllocError, Global};
 use std::fmt;
 use std::process::Abort;
 use std::test::Fail;
-use test_support::Paper;
+use test_support::{Paper, Pieces};
 
 mod cube_texts;
 mod cubes;
@@ -44,32 +44,15 @@ fn feed_pieces(
     turn: ReaderTurn,
 ) {
     let (front, rest) = bytes.split_at(cut.min(bytes.len()));
-    let first = reader.feed(front);
-    if first.turn != ReaderTurn::NeedMore {
-        same(rt, (first.used, first.turn), (used, turn));
+    if used <= front.len() && turn != ReaderTurn::NeedMore {
+        feed(rt, reader, front, used, turn);
         return;
     }
-    same(rt, first.used, front.len());
+    feed(rt, reader, front, front.len(), ReaderTurn::NeedMore);
     feed(rt, reader, rest, used.saturating_sub(front.len()), turn);
 }
 
-/// The same with a new reader, and then the end.
-fn feed_cut(
-    rt: &impl Abort,
-    alloc: Global,
-    bytes: &[u8],
-    cut: usize,
-    used: usize,
-    turn: ReaderTurn,
-    end: End,
-) -> Result<(), Fail> {
-    let mut reader = LineReader::new(alloc)?;
-    feed_pieces(rt, &mut reader, bytes, cut, used, turn);
-    same(rt, reader.end(), end);
-    Ok(())
-}
-
-/// Feeds the bytes one by one.
+/// Feeds the bytes one by one, up to the last one used.
 fn feed_bytes(
     rt: &impl Abort,
     reader: &mut LineReader,
@@ -77,155 +60,169 @@ fn feed_bytes(
     used: usize,
     turn: ReaderTurn,
 ) {
-    for (i, byte) in bytes.iter().enumerate() {
-        let fed = reader.feed(&[*byte]);
-        same(rt, fed.used, 1);
-        if fed.turn != ReaderTurn::NeedMore {
-            same(rt, (i + 1, fed.turn), (used, turn));
-            return;
-        }
+    let (front, rest) = bytes.split_at(used.saturating_sub(1).min(bytes.len()));
+    for byte in front {
+        feed(rt, reader, &[*byte], 1, ReaderTurn::NeedMore);
     }
-    same(rt, (bytes.len(), turn), (used, ReaderTurn::NeedMore));
+    feed(rt, reader, &rest[..rest.len().min(1)], used.min(1), turn);
 }
 
-/// The same with a new reader, and then the end.
-fn feed_each(
-    rt: &impl Abort,
-    alloc: Global,
-    bytes: &[u8],
-    used: usize,
-    turn: ReaderTurn,
-    end: End,
-) -> Result<(), Fail> {
-    let mut reader = LineReader::new(alloc)?;
-    feed_bytes(rt, &mut reader, bytes, used, turn);
-    same(rt, reader.end(), end);
-    Ok(())
-}
-
-/// Feeds the bytes in each cutting into two pieces, and one by one, and then the end.
-fn feed_every_way(
-    rt: &impl Abort,
-    alloc: Global,
-    bytes: &[u8],
-    used: usize,
-    turn: ReaderTurn,
-) -> Result<(), Fail> {
-    let end = match turn {
+/// How a stream of these bytes ends, after what they gave.
+fn end_after(bytes: &[u8], turn: ReaderTurn) -> End {
+    match turn {
         ReaderTurn::Fault(fault) => End::Fault(fault),
         ReaderTurn::NeedMore if !bytes.is_empty() => End::Fault(LineFault::Truncated),
         _ => End::Clean,
-    };
-    for cut in 0..=bytes.len() {
-        feed_cut(rt, alloc, bytes, cut, used, turn, end)?;
     }
-    feed_each(rt, alloc, bytes, used, turn, end)
+}
+
+/// A text, how many bytes of it are used, and what these give.
+type Row = (&'static [u8], usize, ReaderTurn<'static>);
+
+/// Feeds a new reader the text in two pieces, or else byte by byte, and then the end.
+fn feed_one_way(
+    rt: &impl Abort,
+    alloc: Global,
+    text: &[u8],
+    used: usize,
+    turn: ReaderTurn,
+    cut: Option<usize>,
+) -> Result<(), AllocError> {
+    let mut reader = LineReader::new(alloc)?;
+    match cut {
+        Some(cut) => feed_pieces(rt, &mut reader, text, cut, used, turn),
+        None => feed_bytes(rt, &mut reader, text, used, turn),
+    }
+    same(rt, reader.end(), end_after(text, turn));
+    Ok(())
+}
+
+/// Feeds the text in each cutting into two pieces, and byte by byte, and then the end.
+fn feed_every_way(
+    rt: &impl Abort,
+    alloc: Global,
+    text: &[u8],
+    used: usize,
+    turn: ReaderTurn,
+) -> Result<(), AllocError> {
+    for cut in 0..=text.len() {
+        feed_one_way(rt, alloc, text, used, turn, Some(cut))?;
+    }
+    feed_one_way(rt, alloc, text, used, turn, None)
+}
+
+/// Feeds each text in every way.
+fn feed_texts(rt: &impl Abort, alloc: Global, rows: &[Row]) -> Result<(), AllocError> {
+    for &(text, used, turn) in rows {
+        feed_every_way(rt, alloc, text, used, turn)?;
+    }
+    Ok(())
 }
 
 /// Texts that begin with a line, how many bytes of them it takes, and the line.
-static LINES: [(&[u8], usize, Line); 7] = [
+static LINES: [Row; 7] = [
     (
         b"5 2 0 1 2 0\n",
         12,
-        Line::Add {
+        ReaderTurn::Line(Line::Add {
             id: 5,
             lits: &[2],
             hints: &[1, 2],
-        },
+        }),
     ),
     (
         b"5 2 0 1 2 0\n6 0",
         12,
-        Line::Add {
+        ReaderTurn::Line(Line::Add {
             id: 5,
             lits: &[2],
             hints: &[1, 2],
-        },
+        }),
     ),
     (
         b"6 0 5 3 4 0\n",
         12,
-        Line::Add {
+        ReaderTurn::Line(Line::Add {
             id: 6,
             lits: &[],
             hints: &[5, 3, 4],
-        },
+        }),
     ),
-    (b"5 d 0\n", 6, Line::Delete { lead: 5, ids: &[] }),
+    (
+        b"5 d 0\n",
+        6,
+        ReaderTurn::Line(Line::Delete { lead: 5, ids: &[] }),
+    ),
     (
         b"9 d 5 6 0\n",
         10,
-        Line::Delete {
+        ReaderTurn::Line(Line::Delete {
             lead: 9,
             ids: &[5, 6],
-        },
+        }),
     ),
     (
         b"5 2 0 0\n",
         8,
-        Line::Add {
+        ReaderTurn::Line(Line::Add {
             id: 5,
             lits: &[2],
             hints: &[],
-        },
+        }),
     ),
     (
         b"999999999999999999 -1 999999999999999999 -999999999999999999 0 10 0\n",
         68,
-        Line::Add {
+        ReaderTurn::Line(Line::Add {
             id: 999_999_999_999_999_999,
             lits: &[-1, 999_999_999_999_999_999, -999_999_999_999_999_999],
             hints: &[10],
-        },
+        }),
     ),
 ];
 
 #[test]
-fn lines(rt: HostRuntime) -> Result<(), Fail> {
-    for &(text, used, line) in &LINES {
-        feed_every_way(&rt, rt.alloc(), text, used, ReaderTurn::Line(line))?;
-    }
-    Ok(())
+fn lines(rt: HostRuntime) -> Result<(), AllocError> {
+    feed_texts(&rt, rt.alloc(), &LINES)
 }
 
+/// Texts in which no line ends.
+static UNFINISHED: [Row; 2] = [
+    (b"", 0, ReaderTurn::NeedMore),
+    (b"5 2 0", 5, ReaderTurn::NeedMore),
+];
+
 #[test]
-fn unfinished(rt: HostRuntime) -> Result<(), Fail> {
-    let alloc = rt.alloc();
-    feed_every_way(&rt, alloc, b"", 0, ReaderTurn::NeedMore)?;
-    feed_every_way(&rt, alloc, b"5 2 0", 5, ReaderTurn::NeedMore)
+fn unfinished(rt: HostRuntime) -> Result<(), AllocError> {
+    feed_texts(&rt, rt.alloc(), &UNFINISHED)
 }
+
+const SPELLING: ReaderTurn = ReaderTurn::Fault(LineFault::Spelling);
+
+const TOO_LONG: ReaderTurn = ReaderTurn::Fault(LineFault::TooLong);
+
+const RAT_HINT: ReaderTurn = ReaderTurn::Fault(LineFault::RatHint);
 
 /// Texts of no line, where that shows, and why.
-static FAULTY: [(&[u8], usize, LineFault); 13] = [
-    (b"\n", 1, LineFault::Spelling),
-    (b"05 2 0 0\n", 1, LineFault::Spelling),
-    (b"0 d 5 0\n", 1, LineFault::Spelling),
-    (b"5  2 0 1 2 0\n", 3, LineFault::Spelling),
-    (b"5 +2 0 0\n", 3, LineFault::Spelling),
-    (b"5 -0 0 0\n", 4, LineFault::Spelling),
-    (b"5 2 0 1 0\r\n", 10, LineFault::Spelling),
-    (b"5 2 0 1 0 \n", 10, LineFault::Spelling),
-    (b"5 d -1 0\n", 5, LineFault::Spelling),
-    (b"5 1 0 -2 0\n", 7, LineFault::RatHint),
-    (b"1000000000000000000 0 0\n", 19, LineFault::TooLong),
-    (
-        b"5 1111111111111111111111111111111111111111",
-        21,
-        LineFault::TooLong,
-    ),
-    (
-        b"5 -1111111111111111111111111111111111111111",
-        22,
-        LineFault::TooLong,
-    ),
+static FAULTY: [Row; 13] = [
+    (b"\n", 1, SPELLING),
+    (b"05 2 0 0\n", 1, SPELLING),
+    (b"0 d 5 0\n", 1, SPELLING),
+    (b"5  2 0 1 2 0\n", 3, SPELLING),
+    (b"5 +2 0 0\n", 3, SPELLING),
+    (b"5 -0 0 0\n", 4, SPELLING),
+    (b"5 2 0 1 0\r\n", 10, SPELLING),
+    (b"5 2 0 1 0 \n", 10, SPELLING),
+    (b"5 d -1 0\n", 5, SPELLING),
+    (b"5 1 0 -2 0\n", 7, RAT_HINT),
+    (b"1000000000000000000 0 0\n", 19, TOO_LONG),
+    (b"5 1111111111111111111111111111111111111111", 21, TOO_LONG),
+    (b"5 -1111111111111111111111111111111111111111", 22, TOO_LONG),
 ];
 
 #[test]
-fn faults(rt: HostRuntime) -> Result<(), Fail> {
-    for &(text, used, fault) in &FAULTY {
-        feed_every_way(&rt, rt.alloc(), text, used, ReaderTurn::Fault(fault))?;
-    }
-    Ok(())
+fn faults(rt: HostRuntime) -> Result<(), AllocError> {
+    feed_texts(&rt, rt.alloc(), &FAULTY)
 }
 
 /// So many times a part.
@@ -249,124 +246,146 @@ fn repeated(
     Ok(text)
 }
 
-/// Feeds the bytes at once, cut after 65,536 of them, and one by one, and then the end.
+/// Feeds the text at once, cut after 65,536 bytes, and byte by byte, and then the end.
 fn feed_long(
     rt: &impl Abort,
     alloc: Global,
-    bytes: &[u8],
+    text: &[u8],
     used: usize,
     turn: ReaderTurn,
-) -> Result<(), Fail> {
-    let end = match turn {
-        ReaderTurn::Fault(fault) => End::Fault(fault),
-        _ => End::Clean,
-    };
-    feed_cut(rt, alloc, bytes, 0, used, turn, end)?;
-    feed_cut(rt, alloc, bytes, 65_536, used, turn, end)?;
-    feed_each(rt, alloc, bytes, used, turn, end)
-}
-
-/// Feeds a beginning, so many times a part, and an end.
-fn feed_repeated(
-    rt: &impl Abort,
-    alloc: Global,
-    texts: (&[u8], &[u8], &[u8]),
-    count: usize,
-    used: usize,
-    turn: ReaderTurn,
-) -> Result<(), Fail> {
-    let text = repeated(alloc, texts, count)?;
-    feed_long(rt, alloc, &text, used, turn)
-}
-
-/// A beginning, a part and an end, how often the part comes, where the fault shows, and which it is.
-static TOO_MANY: [((&[u8], &[u8], &[u8]), usize, usize, LineFault); 4] = [
-    ((b"5 ", b"1 ", b""), 65_536, 131_073, LineFault::TooLong),
-    ((b"5 2 0", b" 1", b""), 65_537, 131_079, LineFault::TooLong),
-    ((b"5 d", b" 1", b""), 65_537, 131_077, LineFault::TooLong),
-    (
-        (b"5 2 0", b" 1", b" -"),
-        65_536,
-        131_079,
-        LineFault::RatHint,
-    ),
-];
-
-/// The longest clause is read.
-fn read_longest_clause(rt: &(impl Abort + AllocGlobal)) -> Result<(), Fail> {
-    let literals = vec![in rt.alloc(); 1; 65_535]?;
-    let longest = ReaderTurn::Line(Line::Add {
-        id: 5,
-        lits: &literals,
-        hints: &[],
-    });
-    let texts = (b"5 ".as_slice(), b"1 ".as_slice(), b"0 0\n".as_slice());
-    feed_repeated(rt, rt.alloc(), texts, 65_535, 131_076, longest)
-}
-
-/// The longest deletion is read.
-fn read_longest_deletion(rt: &(impl Abort + AllocGlobal)) -> Result<(), Fail> {
-    let identities = vec![in rt.alloc(); 1; 65_536]?;
-    let longest = ReaderTurn::Line(Line::Delete {
-        lead: 5,
-        ids: &identities,
-    });
-    let texts = (b"5 d".as_slice(), b" 1".as_slice(), b" 0\n".as_slice());
-    feed_repeated(rt, rt.alloc(), texts, 65_536, 131_078, longest)
-}
-
-#[test]
-fn limits(rt: HostRuntime) -> Result<(), Fail> {
-    for &(texts, count, used, fault) in &TOO_MANY {
-        let fault = ReaderTurn::Fault(fault);
-        feed_repeated(&rt, rt.alloc(), texts, count, used, fault)?;
+) -> Result<(), AllocError> {
+    for cut in [Some(0), Some(65_536), None] {
+        feed_one_way(rt, alloc, text, used, turn, cut)?;
     }
-    read_longest_clause(&rt)?;
-    read_longest_deletion(&rt)
-}
-
-/// Two lines and the beginning of a third.
-static TWO_AND_A_PART: [u8; 17] = *b"5 2 0 0\n6 0 5 0\n7";
-
-/// The two lines.
-static TWO: [Line; 2] = [
-    Line::Add {
-        id: 5,
-        lits: &[2],
-        hints: &[],
-    },
-    Line::Add {
-        id: 6,
-        lits: &[],
-        hints: &[5],
-    },
-];
-
-#[test]
-fn ends(rt: HostRuntime) -> Result<(), Fail> {
-    let mut reader = LineReader::new(rt.alloc())?;
-    feed(&rt, &mut reader, b"", 0, ReaderTurn::NeedMore);
-    same(&rt, reader.end(), End::Clean);
-    let text = &TWO_AND_A_PART;
-    feed(&rt, &mut reader, text, 8, ReaderTurn::Line(TWO[0]));
-    same(&rt, reader.end(), End::Clean);
-    feed(&rt, &mut reader, &text[8..], 8, ReaderTurn::Line(TWO[1]));
-    feed(&rt, &mut reader, &text[16..], 1, ReaderTurn::NeedMore);
-    let truncated = LineFault::Truncated;
-    same(&rt, reader.end(), End::Fault(truncated));
-    feed(&rt, &mut reader, text, 0, ReaderTurn::Fault(truncated));
-    same(&rt, reader.end(), End::Fault(truncated));
     Ok(())
 }
 
+/// A beginning, a part and an end, how often the part comes, how many bytes are used, and what these give.
+type LongRow = (
+    (&'static [u8], &'static [u8], &'static [u8]),
+    usize,
+    usize,
+    ReaderTurn<'static>,
+);
+
+/// Feeds the text of each row.
+fn feed_all_repeated(rt: &impl Abort, alloc: Global, rows: &[LongRow]) -> Result<(), AllocError> {
+    for &(texts, count, used, turn) in rows {
+        let text = repeated(alloc, texts, count)?;
+        feed_long(rt, alloc, &text, used, turn)?;
+    }
+    Ok(())
+}
+
+/// Lines with too many numbers, the longest clause and the longest deletion.
+static LONG_LINES: [LongRow; 6] = [
+    ((b"5 ", b"1 ", b""), 65_536, 131_073, TOO_LONG),
+    ((b"5 2 0", b" 1", b""), 65_537, 131_079, TOO_LONG),
+    ((b"5 d", b" 1", b""), 65_537, 131_077, TOO_LONG),
+    ((b"5 2 0", b" 1", b" -"), 65_536, 131_079, RAT_HINT),
+    (
+        (b"5 ", b"1 ", b"0 0\n"),
+        65_535,
+        131_076,
+        ReaderTurn::Line(Line::Add {
+            id: 5,
+            lits: &[1; 65_535],
+            hints: &[],
+        }),
+    ),
+    (
+        (b"5 d", b" 1", b" 0\n"),
+        65_536,
+        131_078,
+        ReaderTurn::Line(Line::Delete {
+            lead: 5,
+            ids: &[1; 65_536],
+        }),
+    ),
+];
+
 #[test]
-fn fault_stays(rt: HostRuntime) -> Result<(), Fail> {
-    let mut reader = LineReader::new(rt.alloc())?;
-    same(&rt, reader.feed(b"5 2 0 0\n").used, 8);
-    let fault = ReaderTurn::Fault(LineFault::RatHint);
-    feed(&rt, &mut reader, b"5 1 0 -2 0\n", 7, fault);
-    feed(&rt, &mut reader, b"5 2 0 0\n", 0, fault);
-    same(&rt, reader.end(), End::Fault(LineFault::RatHint));
+fn limits(rt: HostRuntime) -> Result<(), AllocError> {
+    feed_all_repeated(&rt, rt.alloc(), &LONG_LINES)
+}
+
+/// A piece, how much of it is used, what that gives, and, where it is asked for then, how the stream would end.
+type Step = (&'static [u8], usize, ReaderTurn<'static>, Option<End>);
+
+/// Feeds a reader these pieces, one after the other.
+fn feed_steps(rt: &impl Abort, reader: &mut LineReader, steps: &[Step]) {
+    for &(piece, used, turn, end) in steps {
+        feed(rt, reader, piece, used, turn);
+        if let Some(end) = end {
+            same(rt, (piece, reader.end()), (piece, end));
+        }
+    }
+}
+
+/// The same with a new reader.
+fn feed_new(rt: &impl Abort, alloc: Global, steps: &[Step]) -> Result<(), AllocError> {
+    let mut reader = LineReader::new(alloc)?;
+    feed_steps(rt, &mut reader, steps);
+    Ok(())
+}
+
+const FIVE: ReaderTurn = ReaderTurn::Line(Line::Add {
+    id: 5,
+    lits: &[2],
+    hints: &[],
+});
+
+const SIX: ReaderTurn = ReaderTurn::Line(Line::Add {
+    id: 6,
+    lits: &[],
+    hints: &[5],
+});
+
+const TRUNCATED: LineFault = LineFault::Truncated;
+
+/// Two lines and the beginning of a third.
+static TWO_AND_A_PART: [Step; 5] = [
+    (b"", 0, ReaderTurn::NeedMore, Some(End::Clean)),
+    (b"5 2 0 0\n6 0 5 0\n7", 8, FIVE, Some(End::Clean)),
+    (b"6 0 5 0\n7", 8, SIX, None),
+    (b"7", 1, ReaderTurn::NeedMore, Some(End::Fault(TRUNCATED))),
+    (
+        b"5 2 0 0\n6 0 5 0\n7",
+        0,
+        ReaderTurn::Fault(TRUNCATED),
+        Some(End::Fault(TRUNCATED)),
+    ),
+];
+
+#[test]
+fn ends(rt: HostRuntime) -> Result<(), AllocError> {
+    feed_new(&rt, rt.alloc(), &TWO_AND_A_PART)
+}
+
+static AFTER_A_FAULT: [Step; 3] = [
+    (b"5 2 0 0\n", 8, FIVE, None),
+    (b"5 1 0 -2 0\n", 7, RAT_HINT, None),
+    (
+        b"5 2 0 0\n",
+        0,
+        RAT_HINT,
+        Some(End::Fault(LineFault::RatHint)),
+    ),
+];
+
+#[test]
+fn fault_stays(rt: HostRuntime) -> Result<(), AllocError> {
+    feed_new(&rt, rt.alloc(), &AFTER_A_FAULT)
+}
+
+/// A fault has this text.
+fn has_text<F: fmt::Display>(
+    rt: &impl Abort,
+    alloc: Global,
+    fault: &F,
+    text: &str,
+) -> Result<(), AllocError> {
+    same(rt, fault.to_string(alloc)?.as_str(), text);
     Ok(())
 }
 
@@ -380,8 +399,8 @@ static FAULT_TEXTS: [(LineFault, &str); 4] = [
 
 #[test]
 fn fault_texts(rt: HostRuntime) -> Result<(), Fail> {
-    for &(fault, text) in &FAULT_TEXTS {
-        same(&rt, fault.to_string(rt.alloc())?.as_str(), text);
+    for (fault, text) in &FAULT_TEXTS {
+        has_text(&rt, rt.alloc(), fault, text)?;
     }
     Ok(())
 }
@@ -408,23 +427,29 @@ static FITTING: [(u64, i64, u64, bool); 7] = [
     (1, 1, 0, false),
 ];
 
-/// Does the deletion of these identities fit?
-fn deletes(ids: &[u64]) -> bool {
-    let line = Line::Delete { lead: 1, ids };
-    line.fits()
+/// One identity more than a deletion may have.
+static TOO_MANY_IDENTITIES: [u64; 65_537] = [1; 65_537];
+
+/// Does the deletion of so many identities fit?
+fn deletes(count: usize) -> bool {
+    let ids = &TOO_MANY_IDENTITIES[..count.min(65_537)];
+    Line::Delete { lead: 1, ids }.fits()
 }
 
 #[test]
-fn fits(rt: HostRuntime) -> Result<(), Fail> {
+fn fits(rt: HostRuntime) {
     for &(id, literal, hint, wanted) in &FITTING {
         let found = (id, literal, hint, adds(id, literal, hint));
         same(&rt, found, (id, literal, hint, wanted));
     }
-    for (count, wanted) in [(65_537, false), (65_536, true)] {
-        let ids = vec![in rt.alloc(); 1; count]?;
-        same(&rt, (count, deletes(&ids)), (count, wanted));
-    }
-    Ok(())
+    same(&rt, (deletes(65_537), deletes(65_536)), (false, true));
+}
+
+/// Writes a line, if it fits. Does the sink fail?
+fn write_fails<W: Sink>(line: &Line, sink: &mut W) -> bool
+    requires { W.has_failed sink.old ≡ false }
+{
+    line.fits() && write_line(line, sink).is_err()
 }
 
 /// Writes the line three bytes at a time, which takes so many calls: it breaks at each of them, and not at the next one.
@@ -436,30 +461,21 @@ fn write_in_threes(
     fails_at: usize,
 ) {
     let mut paper = Paper::new(rt.alloc(), 3, fails_at);
-    let wrote = if line.fits() {
-        write_line(line, &mut paper)
-    } else {
-        Ok(())
-    };
+    let fails = write_fails(line, &mut paper);
     let breaks = fails_at <= calls;
     let beginning = &text[..fails_at.saturating_sub(1).saturating_mul(3).min(text.len())];
-    let found = (wrote.is_err(), paper.failed(), paper.bytes.as_slice());
+    let found = (fails, paper.failed(), paper.bytes.as_slice());
     same(rt, found, (breaks, breaks, beginning));
 }
 
-/// Writes a deletion.
-fn write_deletion(rt: &(impl Abort + AllocGlobal)) -> Result<(), Fail> {
-    let deletion = Line::Delete {
-        lead: 5,
-        ids: &[5, 6],
-    };
-    let mut sink = Writing::new(Vec::new(rt.alloc()));
-    if deletion.fits() {
-        write_line(&deletion, &mut sink)?;
+/// A line's text, as it is written, and whether the sink says that it failed.
+fn written(alloc: Global, line: &Line) -> Result<(Vec<u8>, bool), WriteFault> {
+    let mut sink = Writing::new(Vec::new(alloc));
+    if line.fits() {
+        write_line(line, &mut sink)?;
     }
-    holds(rt, !sink.failed());
-    same(rt, sink.into_inner().as_slice(), b"5 d 5 6 0\n".as_slice());
-    Ok(())
+    let failed = sink.failed();
+    Ok((sink.into_inner(), failed))
 }
 
 #[test]
@@ -472,7 +488,17 @@ fn writes(rt: HostRuntime) -> Result<(), Fail> {
     for fails_at in 1..9 {
         write_in_threes(&rt, &line, b"17 -20 3 0 9 100 0\n", 7, fails_at);
     }
-    write_deletion(&rt)
+    let deletion = Line::Delete {
+        lead: 5,
+        ids: &[5, 6],
+    };
+    let (text, failed) = written(rt.alloc(), &deletion)?;
+    same(
+        &rt,
+        (text.as_slice(), failed),
+        (b"5 d 5 6 0\n".as_slice(), false),
+    );
+    Ok(())
 }
 
 /// Writes a text of three numbers.
@@ -555,118 +581,128 @@ fn put_literals<W: Sink>(
     buffer.flush(sink)
 }
 
+/// Puts these bytes, the numbers and the literals.
+fn put_after<W: Sink>(rt: &impl Abort, front: &[u8], sink: &mut W) -> Result<(), WriteFault>
+    requires { W.has_failed sink.old ≡ false }
+{
+    let mut buffer = WriteBuffer::new();
+    buffer.put(front, sink)?;
+    put_numbers(rt, &mut buffer, sink)?;
+    put_literals(rt, &mut buffer, sink)
+}
+
+/// What is written then.
+fn written_after(rt: &impl Abort, alloc: Global, front: &[u8]) -> Result<Vec<u8>, WriteFault> {
+    let mut sink = Writing::new(Vec::new(alloc));
+    put_after(rt, front, &mut sink)?;
+    Ok(sink.into_inner())
+}
+
+/// The text of the numbers and the literals.
+const NUMBERS_AND_LITERALS: &[u8] = b"\
+9 10 99 100 999 1000 9999 10000 99999999 100000000 18446744073709551615 \
+0 1 -1 -10 9999 -10000 16777215 -16777215 100000000 -9223372036854775808 ";
+
+/// What fills the front of a buffer.
+static FRONT: [u8; 4_097] = [b'x'; 4_097];
+
 /// Numbers where one more digit begins, and literals, from the front of a buffer on and over its end.
 #[test]
 fn numbers_are_written(rt: HostRuntime) -> Result<(), Fail> {
-    let numbers = "9 10 99 100 999 1000 9999 10000 99999999 100000000 18446744073709551615 ";
-    let literals = "0 1 -1 -10 9999 -10000 16777215 -16777215 100000000 -9223372036854775808 ";
     for held in 4_000..4_100usize {
-        let front = vec![in rt.alloc(); b'x'; held % 4_097]?;
-        let mut sink = Writing::new(Vec::new(rt.alloc()));
-        let mut buffer = WriteBuffer::new();
-        buffer.put(&front, &mut sink)?;
-        put_numbers(&rt, &mut buffer, &mut sink)?;
-        put_literals(&rt, &mut buffer, &mut sink)?;
-        let written = sink.into_inner();
-        let (before, after) = written.as_slice().split_at(front.len().min(written.len()));
-        same(&rt, (held, before), (held, front.as_slice()));
-        let (first, second) = after.split_at(numbers.len().min(after.len()));
-        same(&rt, (held, first), (held, numbers.as_bytes()));
-        same(&rt, (held, second), (held, literals.as_bytes()));
+        let front = &FRONT[..held % 4_097];
+        let text = written_after(&rt, rt.alloc(), front)?;
+        let found = (held, text.strip_prefix(front));
+        same(&rt, found, (held, Some(NUMBERS_AND_LITERALS)));
     }
     Ok(())
 }
 
-/// A tape that is read two bytes at a time, and may break at its end.
-#[derive(Drop)]
-struct Tape<'a> {
-    bytes: &'a [u8],
-    breaks: bool,
-    failed: bool,
+/// How many bytes a source gives next: 0 where it ends or fails.
+fn read_some<S: Source>(source: &mut S, buffer: &mut [u8]) -> usize {
+    if source.failed() {
+        return 0;
+    }
+    source.read(buffer).unwrap_or(0)
 }
 
-impl<'a> Source for Tape<'a> {
-    ghost left = { λ t. Some t.bytes.now };
-
-    ghost has_failed = { λ t. t.failed };
-
-    fn read(&mut self, buffer: &mut [u8]) -> Result<usize, ReadFault> {
-        if self.bytes.is_empty() && self.breaks {
-            self.failed = true;
-            return Err(ReadFault);
+/// How many lines end in a piece of at most four bytes.
+fn lines_in(rt: &impl Abort, reader: &mut LineReader, piece: &[u8]) -> usize {
+    let mut lines = 0usize;
+    let mut rest = piece;
+    for _ in 0..4 {
+        let fed = reader.feed(rest);
+        rest = &rest[fed.used..];
+        match fed.turn {
+            ReaderTurn::Line(_) => lines = lines.saturating_add(1),
+            ReaderTurn::NeedMore => {}
+            ReaderTurn::Fault(_) => holds(rt, false),
         }
-        let count = buffer.len().min(2).min(self.bytes.len());
-        let (front, rest) = self.bytes.split_at(count);
-        buffer[..count].copy_from_slice(front);
-        self.bytes = rest;
-        Ok(count)
     }
-
-    fn failed(&self) -> bool {
-        self.failed
-    }
+    lines
 }
 
 /// How many lines a source gives before it ends or fails.
-fn count_lines<S: Source>(rt: &impl Abort, alloc: Global, source: &mut S) -> Result<usize, Fail> {
+fn count_lines<S: Source>(
+    rt: &impl Abort,
+    alloc: Global,
+    source: &mut S,
+) -> Result<usize, AllocError> {
     let mut reader = LineReader::new(alloc)?;
     let mut lines = 0usize;
     let mut buffer = [0; 4];
     for _ in 0..64 {
-        if source.failed() {
-            break;
-        }
-        let Ok(count) = source.read(&mut buffer) else {
-            break;
-        };
+        let count = read_some(source, &mut buffer).min(4);
         if count == 0 {
             break;
         }
-        let mut at = 0;
-        for _ in 0..4 {
-            let end = count.min(4);
-            let fed = reader.feed(&buffer[at.min(end)..end]);
-            at = at.saturating_add(fed.used);
-            match fed.turn {
-                ReaderTurn::Line(_) => lines = lines.saturating_add(1),
-                ReaderTurn::NeedMore => {}
-                ReaderTurn::Fault(_) => holds(rt, false),
-            }
-        }
+        lines = lines.saturating_add(lines_in(rt, &mut reader, &buffer[..count]));
     }
     Ok(lines)
 }
 
-/// Counts the lines of a text at a tape that may break at its end.
-fn count_at_tape(
-    rt: &(impl Abort + AllocGlobal),
+/// Counts the lines of a text that is read two bytes at a time, where a read fails, if any, from 1 on.
+fn count_in_pieces(
+    rt: &impl Abort,
+    alloc: Global,
     bytes: &[u8],
-    breaks: bool,
-) -> Result<(usize, bool), Fail> {
-    let mut tape = Tape {
-        bytes,
-        breaks,
-        failed: false,
-    };
-    let lines = count_lines(rt, rt.alloc(), &mut tape)?;
-    Ok((lines, tape.failed()))
+    fails_at: usize,
+) -> Result<(usize, bool), AllocError> {
+    let mut source = Pieces::new("", 2, fails_at);
+    source.left = bytes;
+    let lines = count_lines(rt, alloc, &mut source)?;
+    Ok((lines, source.failed()))
 }
 
 /// Counts the lines of a text that std reads.
-fn count_at_reading(rt: &(impl Abort + AllocGlobal), bytes: &[u8]) -> Result<(usize, bool), Fail> {
+fn count_at_reading(
+    rt: &impl Abort,
+    alloc: Global,
+    bytes: &[u8],
+) -> Result<(usize, bool), AllocError> {
     let mut source = Reading::new(bytes);
-    let lines = count_lines(rt, rt.alloc(), &mut source)?;
+    let lines = count_lines(rt, alloc, &mut source)?;
     Ok((lines, source.failed()))
+}
+
+/// How many lines a text gives in pieces, the same where the read at its end fails, and read by std; and whether it failed.
+fn count_everywhere(
+    rt: &impl Abort,
+    alloc: Global,
+    bytes: &[u8],
+) -> Result<[(usize, bool); 3], AllocError> {
+    let whole = count_in_pieces(rt, alloc, bytes, 0)?;
+    let broken = count_in_pieces(rt, alloc, bytes, bytes.len().div_ceil(2).saturating_add(1))?;
+    Ok([whole, broken, count_at_reading(rt, alloc, bytes)?])
 }
 
 #[test]
 fn sources_end_and_fail(rt: HostRuntime) -> Result<(), Fail> {
     let text = b"5 2 0 0\n6 0 5 0\n5 d 5 0\n";
     for end in 0..=text.len() {
-        let bytes = &text[..end];
-        same(&rt, count_at_tape(&rt, bytes, false)?, (end / 8, false));
-        same(&rt, count_at_tape(&rt, bytes, true)?, (end / 8, true));
-        same(&rt, count_at_reading(&rt, bytes)?, (end / 8, false));
+        let found = count_everywhere(&rt, rt.alloc(), &text[..end])?;
+        let lines = end / 8;
+        same(&rt, found, [(lines, false), (lines, true), (lines, false)]);
     }
     Ok(())
 }

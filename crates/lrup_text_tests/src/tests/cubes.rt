@@ -1,6 +1,6 @@
 // Texts of cubes.
 
-use crate::tests::{repeated, same};
+use crate::tests::{has_text, repeated, same};
 use lrup_model::{Cube, Lit};
 use lrup_text::{CubeFault, read_cube};
 use std::alloc::{AllocError, Global};
@@ -16,43 +16,51 @@ fn push_if_had(shown: &mut String, cube: &Cube, value: i64) -> Result<(), AllocE
     }
 }
 
+/// Literals that a cube may have.
+static LITERALS: [i64; 8] = [1, -1, 2, -2, 3, -3, 16_777_215, -16_777_215];
+
 /// Those of these literals that the cube has.
-fn literals_shown(alloc: Global, cube: &Cube, literals: &[i64]) -> Result<String, AllocError> {
+fn literals_shown(alloc: Global, cube: &Cube) -> Result<String, AllocError> {
     let mut shown = String::from_str(alloc, "cube")?;
-    for &value in literals {
+    for &value in &LITERALS {
         push_if_had(&mut shown, cube, value)?;
     }
     Ok(shown)
 }
 
 /// The literals of a text's cube over these variables, or the fault's text.
-fn cube_shown(
-    alloc: Global,
-    text: &[u8],
-    vars: u32,
-    literals: &[i64],
-) -> Result<String, AllocError> {
+fn cube_shown(alloc: Global, text: &[u8], vars: u32) -> Result<String, AllocError> {
     match read_cube(alloc, text, vars.min(Lit::MAX_VARIABLE)) {
-        Ok(cube) => literals_shown(alloc, &cube, literals),
+        Ok(cube) => literals_shown(alloc, &cube),
         Err(fault) => fault.to_string(alloc),
     }
 }
 
 /// Reads the text of a cube over these variables.
 fn cube_is(
-    rt: &(impl Abort + AllocGlobal),
+    rt: &impl Abort,
+    alloc: Global,
     text: &[u8],
     vars: u32,
     wanted: &str,
-) -> Result<(), Fail> {
-    let literals = [1, -1, 2, -2, 3, -3, 16_777_215, -16_777_215];
-    let shown = cube_shown(rt.alloc(), text, vars, &literals)?;
-    assert_eq!(rt; shown.as_str(), wanted);
+) -> Result<(), AllocError> {
+    same(rt, cube_shown(alloc, text, vars)?.as_str(), wanted);
     Ok(())
 }
 
+/// Reads the text of each row.
+fn cubes_are(rt: &impl Abort, alloc: Global, rows: &[Row]) -> Result<(), AllocError> {
+    for &(text, vars, wanted) in rows {
+        cube_is(rt, alloc, text, vars, wanted)?;
+    }
+    Ok(())
+}
+
+/// A text, over how many variables it is, and its cube or the fault.
+type Row = (&'static [u8], u32, &'static str);
+
 /// Texts of cubes, over how many variables, and the cubes.
-static CUBES: [(&[u8], u32, &str); 8] = [
+static CUBES: [Row; 8] = [
     (b"-2 0\n", 2, "cube -2"),
     (b"-2 1 -2 0\n", 2, "cube 1 -2"),
     (b"2 0\n", 2, "cube 2"),
@@ -68,81 +76,83 @@ static CUBES: [(&[u8], u32, &str); 8] = [
 ];
 
 #[test]
-fn cubes(rt: HostRuntime) -> Result<(), Fail> {
-    for &(text, vars, wanted) in &CUBES {
-        cube_is(&rt, text, vars, wanted)?;
-    }
-    Ok(())
+fn cubes(rt: HostRuntime) -> Result<(), AllocError> {
+    cubes_are(&rt, rt.alloc(), &CUBES)
 }
 
+const BEYOND: &str = "variable out of range";
+
 /// Texts with a variable beyond the last one, and how many there are.
-static OUT_OF_RANGE: [(&[u8], u32); 7] = [
-    (b"3 0\n", 2),
-    (b"-3 0\n", 2),
-    (b"1 3 -2 0\n", 2),
-    (b"1 0\n", 0),
-    (b"16777216 0\n", 16_777_215),
-    (b"999999999999999999 0\n", 2),
-    (b"-999999999999999999 0\n", 2),
+static OUT_OF_RANGE: [Row; 7] = [
+    (b"3 0\n", 2, BEYOND),
+    (b"-3 0\n", 2, BEYOND),
+    (b"1 3 -2 0\n", 2, BEYOND),
+    (b"1 0\n", 0, BEYOND),
+    (b"16777216 0\n", 16_777_215, BEYOND),
+    (b"999999999999999999 0\n", 2, BEYOND),
+    (b"-999999999999999999 0\n", 2, BEYOND),
 ];
 
 #[test]
-fn cubes_out_of_range(rt: HostRuntime) -> Result<(), Fail> {
-    for &(text, vars) in &OUT_OF_RANGE {
-        cube_is(&rt, text, vars, "variable out of range")?;
-    }
-    Ok(())
+fn cubes_out_of_range(rt: HostRuntime) -> Result<(), AllocError> {
+    cubes_are(&rt, rt.alloc(), &OUT_OF_RANGE)
 }
 
+const SPELLING: &str = "spelling";
+
 /// Texts that are no cube's.
-static MISSPELLED: [&[u8]; 25] = [
-    b"",
-    b"\n",
-    b"-2 0",
-    b"+2 0\n",
-    b"-2 0\n0\n",
-    b"-2 0\n\n",
-    b"-2 0\r\n",
-    b"-2  0\n",
-    b" -2 0\n",
-    b"-2 0 \n",
-    b"-2\t0\n",
-    b"-2 00\n",
-    b"02 0\n",
-    b"-0 0\n",
-    b"- 2 0\n",
-    b"--2 0\n",
-    b"-2 d 0\n",
-    b"1,2 0\n",
-    b"1 0 2 0\n",
-    b"c\n-2 0\n",
-    b"0\n-2 0\n",
+static MISSPELLED: [Row; 25] = [
+    (b"", 2, SPELLING),
+    (b"\n", 2, SPELLING),
+    (b"-2 0", 2, SPELLING),
+    (b"+2 0\n", 2, SPELLING),
+    (b"-2 0\n0\n", 2, SPELLING),
+    (b"-2 0\n\n", 2, SPELLING),
+    (b"-2 0\r\n", 2, SPELLING),
+    (b"-2  0\n", 2, SPELLING),
+    (b" -2 0\n", 2, SPELLING),
+    (b"-2 0 \n", 2, SPELLING),
+    (b"-2\t0\n", 2, SPELLING),
+    (b"-2 00\n", 2, SPELLING),
+    (b"02 0\n", 2, SPELLING),
+    (b"-0 0\n", 2, SPELLING),
+    (b"- 2 0\n", 2, SPELLING),
+    (b"--2 0\n", 2, SPELLING),
+    (b"-2 d 0\n", 2, SPELLING),
+    (b"1,2 0\n", 2, SPELLING),
+    (b"1 0 2 0\n", 2, SPELLING),
+    (b"c\n-2 0\n", 2, SPELLING),
+    (b"0\n-2 0\n", 2, SPELLING),
     // misspelled, with a variable out of range before that
-    b"3 0",
-    b"3 x",
-    b"3 02 1111111111111111111 0\n",
-    b"999999999999999999",
+    (b"3 0", 2, SPELLING),
+    (b"3 x", 2, SPELLING),
+    (b"3 02 1111111111111111111 0\n", 2, SPELLING),
+    (b"999999999999999999", 2, SPELLING),
 ];
+
+/// Reads each beginning of a cube's text, and all of it.
+fn beginnings_are(rt: &impl Abort, alloc: Global) -> Result<(), AllocError> {
+    let whole = b"-2 13 -2 0\n";
+    for end in 0..whole.len() {
+        cube_is(rt, alloc, &whole[..end], 2, SPELLING)?;
+    }
+    cube_is(rt, alloc, whole, 2, BEYOND)
+}
 
 #[test]
 fn cubes_misspelled(rt: HostRuntime) -> Result<(), Fail> {
-    for &text in &MISSPELLED {
-        cube_is(&rt, text, 2, "spelling")?;
-    }
-    let whole = b"-2 13 -2 0\n";
-    for end in 0..whole.len() {
-        cube_is(&rt, &whole[..end], 2, "spelling")?;
-    }
-    cube_is(&rt, whole, 2, "variable out of range")
+    cubes_are(&rt, rt.alloc(), &MISSPELLED)?;
+    beginnings_are(&rt, rt.alloc())?;
+    Ok(())
 }
 
 /// Texts with a number that is too long.
-static TOO_LONG: [&[u8]; 5] = [
-    b"1000000000000000000 0\n",
-    b"-1000000000000000000 0\n",
-    b"3 1111111111111111111 0\n",
-    b"1111111111111111111",
-    b"1111111111111111111x",
+static TOO_LONG: [Row; 5] = [
+    (b"1000000000000000000 0\n", 2, "too long"),
+    (b"-1000000000000000000 0\n", 2, "too long"),
+    (b"3 1111111111111111111 0\n", 2, "too long"),
+    (b"1111111111111111111", 2, "too long"),
+    (b"1111111111111111111x", 2, "too long"),
 ];
 
 /// A literal, how often it comes, the text's end, and what it is.
@@ -159,15 +169,19 @@ static LONG: [(&[u8], usize, &[u8], &str); 10] = [
     (b"1 ", 65_535, b"0", "spelling"),
 ];
 
+/// Reads the long texts.
+fn long_cubes_are(rt: &impl Abort, alloc: Global) -> Result<(), AllocError> {
+    for &(literal, count, end, wanted) in &LONG {
+        let text = repeated(alloc, (b"", literal, end), count)?;
+        cube_is(rt, alloc, &text, 2, wanted)?;
+    }
+    Ok(())
+}
+
 #[test]
 fn cubes_too_long(rt: HostRuntime) -> Result<(), Fail> {
-    for &text in &TOO_LONG {
-        cube_is(&rt, text, 2, "too long")?;
-    }
-    for &(literal, count, end, wanted) in &LONG {
-        let text = repeated(rt.alloc(), (b"", literal, end), count)?;
-        cube_is(&rt, &text, 2, wanted)?;
-    }
+    cubes_are(&rt, rt.alloc(), &TOO_LONG)?;
+    long_cubes_are(&rt, rt.alloc())?;
     Ok(())
 }
 
@@ -181,8 +195,8 @@ static FAULT_TEXTS: [(CubeFault, &str); 4] = [
 
 #[test]
 fn cube_fault_texts(rt: HostRuntime) -> Result<(), Fail> {
-    for &(fault, text) in &FAULT_TEXTS {
-        same(&rt, fault.to_string(rt.alloc())?.as_str(), text);
+    for (fault, text) in &FAULT_TEXTS {
+        has_text(&rt, rt.alloc(), fault, text)?;
     }
     Ok(())
 }

@@ -1,10 +1,8 @@
 // Devices that fail at one of their calls.
-ghost use Rattle.std.specs.Prelude.{◌≡◌, IfOk};
+ghost use Rattle.std.specs.Prelude.{◌≡◌, false, IfOk};
 
-use crate::tests::{holds, same};
-use lrup_text::{
-    Line, ReadFault, Reading, Sink, Source, WriteBuffer, WriteFault, Writing, write_line,
-};
+use crate::tests::{same, write_fails};
+use lrup_text::{Line, ReadFault, Reading, Sink, Source, WriteBuffer, WriteFault, Writing};
 use std::io;
 use std::process::Abort;
 use std::test::Fail;
@@ -96,52 +94,66 @@ fn write_until_it_fails(rt: &impl Abort, bytes: &[u8], fails_at: usize) {
     same(rt, (failed, sink.into_inner().calls), (true, fails_at));
 }
 
+/// Bytes that are written.
+static BYTES: [u8; 70_000] = [b'1'; 70_000];
+
 #[test]
-fn failed_writes_are_not_repeated(rt: HostRuntime) -> Result<(), Fail> {
+fn failed_writes_are_not_repeated(rt: HostRuntime) {
     for size in [8usize, 512, 513, 70_000] {
-        let bytes = vec![in rt.alloc(); b'1'; size]?;
         for fails_at in 1..=5usize {
-            write_until_it_fails(&rt, bytes.as_slice(), fails_at);
+            write_until_it_fails(&rt, &BYTES[..size.min(70_000)], fails_at);
         }
     }
-    Ok(())
 }
 
 /// Writes a line to a device that fails at this of its calls, which are more than 300.
 fn write_long(rt: &impl Abort, line: &Line, fails_at: usize) {
     let mut sink = Writing::new(FailsOnce::new(fails_at));
-    let breaks = fails_at > 0;
-    if line.fits() {
-        same(rt, write_line(line, &mut sink).is_err(), breaks);
-    }
-    same(rt, sink.failed(), breaks);
+    let fails = write_fails(line, &mut sink);
+    let failed = sink.failed();
     let calls = sink.into_inner().calls;
-    holds(rt, calls > 300 || calls == fails_at);
+    let stops = calls > 300 || calls == fails_at;
+    let breaks = fails_at > 0;
+    same(rt, (fails, failed, stops), (breaks, breaks, true));
 }
 
+/// The longest deletion.
+static LONGEST: Line = Line::Delete {
+    lead: 5,
+    ids: &[999_999_999_999_999_999; 65_536],
+};
+
 #[test]
-fn long_lines_are_written_up_to_a_fault(rt: HostRuntime) -> Result<(), Fail> {
-    let ids = vec![in rt.alloc(); 999_999_999_999_999_999; 65_536]?;
-    let line = Line::Delete { lead: 5, ids: &ids };
+fn long_lines_are_written_up_to_a_fault(rt: HostRuntime) {
     for fails_at in [0usize, 1, 2, 3, 300] {
-        write_long(&rt, &line, fails_at);
+        write_long(&rt, &LONGEST, fails_at);
     }
-    Ok(())
+}
+
+/// Writes these bytes through a buffer. Does the sink fail?
+fn put_fails<W: Sink>(bytes: &[u8], sink: &mut W) -> bool
+    requires { W.has_failed sink.old ≡ false }
+{
+    let mut buffer = WriteBuffer::new();
+    buffer.put(bytes, sink).is_err() || buffer.flush(sink).is_err()
+}
+
+/// More than two buffers.
+static MANY: [u8; 10_000] = [b'x'; 10_000];
+
+/// Writes them to a device that fails at this of its calls, and at none where that is 0.
+fn put_many(rt: &impl Abort, fails_at: usize, calls: usize) {
+    let mut sink = Writing::new(FailsOnce::new(fails_at));
+    let fails = put_fails(&MANY, &mut sink);
+    let failed = sink.failed();
+    let breaks = fails_at > 0;
+    let found = (fails, failed, sink.into_inner().calls);
+    same(rt, found, (breaks, breaks, calls));
 }
 
 #[test]
-fn buffers_write_4096_bytes_at_a_time(rt: HostRuntime) -> Result<(), Fail> {
-    let bytes = vec![in rt.alloc(); b'x'; 10_000]?;
+fn buffers_write_4096_bytes_at_a_time(rt: HostRuntime) {
     for (fails_at, calls) in [(0usize, 3), (1, 1), (2, 2), (3, 3)] {
-        let mut sink = Writing::new(FailsOnce::new(fails_at));
-        let mut buffer = WriteBuffer::new();
-        let wrote = match buffer.put(&bytes, &mut sink) {
-            Ok(()) => buffer.flush(&mut sink),
-            Err(fault) => Err(fault),
-        };
-        same(&rt, wrote.is_err(), fails_at > 0);
-        same(&rt, sink.failed(), fails_at > 0);
-        same(&rt, sink.into_inner().calls, calls);
+        put_many(&rt, fails_at, calls);
     }
-    Ok(())
 }

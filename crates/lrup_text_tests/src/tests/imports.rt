@@ -1,34 +1,58 @@
 // Texts of imports, in every cutting, and writing them.
 
-use crate::tests::{feed, feed_every_way, feed_repeated, same, write_in_threes};
-use lrup_text::{Line, LineFault, LineReader, ReaderTurn, WriteFault, Writing, write_line};
-use std::alloc::Global;
+use crate::tests::{
+    LongRow, Row, SPELLING, TOO_LONG, feed, feed_all_repeated, feed_every_way, feed_texts, same,
+    write_in_threes, written,
+};
+use lrup_text::{Line, LineReader, ReaderTurn};
+use std::alloc::{AllocError, Global};
 use std::process::Abort;
 use std::test::Fail;
 
-/// Texts that begin with an import, how many bytes of them it takes, its identity and its literals.
-static IMPORTS: [(&[u8], usize, u64, &[i64]); 6] = [
-    (b"5 i 2 0\n", 8, 5, &[2]),
-    (b"5 i 2 0\n6 0", 8, 5, &[2]),
-    (b"5 i 0\n", 6, 5, &[]),
-    (b"5 i -2 0\n", 9, 5, &[-2]),
+/// Texts that begin with an import.
+static IMPORTS: [Row; 6] = [
+    (
+        b"5 i 2 0\n",
+        8,
+        ReaderTurn::Line(Line::Import { id: 5, lits: &[2] }),
+    ),
+    (
+        b"5 i 2 0\n6 0",
+        8,
+        ReaderTurn::Line(Line::Import { id: 5, lits: &[2] }),
+    ),
+    (
+        b"5 i 0\n",
+        6,
+        ReaderTurn::Line(Line::Import { id: 5, lits: &[] }),
+    ),
+    (
+        b"5 i -2 0\n",
+        9,
+        ReaderTurn::Line(Line::Import { id: 5, lits: &[-2] }),
+    ),
     // as written: a literal may repeat, and stand beside its complement
-    (b"1 i 2 1 2 -2 0\n", 15, 1, &[2, 1, 2, -2]),
+    (
+        b"1 i 2 1 2 -2 0\n",
+        15,
+        ReaderTurn::Line(Line::Import {
+            id: 1,
+            lits: &[2, 1, 2, -2],
+        }),
+    ),
     (
         b"999999999999999999 i 10 -999999999999999999 0\n",
         46,
-        999_999_999_999_999_999,
-        &[10, -999_999_999_999_999_999],
+        ReaderTurn::Line(Line::Import {
+            id: 999_999_999_999_999_999,
+            lits: &[10, -999_999_999_999_999_999],
+        }),
     ),
 ];
 
 #[test]
-fn imports_are_read(rt: HostRuntime) -> Result<(), Fail> {
-    for &(text, used, id, lits) in &IMPORTS {
-        let import = ReaderTurn::Line(Line::Import { id, lits });
-        feed_every_way(&rt, rt.alloc(), text, used, import)?;
-    }
-    Ok(())
+fn imports_are_read(rt: HostRuntime) -> Result<(), AllocError> {
+    feed_texts(&rt, rt.alloc(), &IMPORTS)
 }
 
 #[test]
@@ -41,84 +65,71 @@ fn unfinished_imports(rt: HostRuntime) -> Result<(), Fail> {
 }
 
 /// Texts of no import, and where that shows.
-static MISSPELLED: [(&[u8], usize); 29] = [
-    (b"5 i -0", 6),
-    (b"5 i 2 0 1", 8),
-    (b"5 i 2 0 -1 0\n", 8),
-    (b"5 i 2 0\r\n", 8),
-    (b"5 i 2 0 \n", 8),
-    (b"5 i 2\n", 6),
-    (b"5 i 2 \n", 7),
-    (b"5 i\n", 4),
-    (b"5 i \n", 5),
-    (b"5 i  2 0\n", 5),
-    (b"5 i +2 0\n", 5),
-    (b"5 i 02 0\n", 6),
-    (b"5 i --2 0\n", 6),
-    (b"5 i - 2 0\n", 6),
-    (b"5 i d 0\n", 5),
-    (b"5 i i 0\n", 5),
-    (b"5 i 2 d 0\n", 7),
-    (b"5 i 2 i 0\n", 7),
-    (b"5 d i 0\n", 5),
-    (b"5 ii 0\n", 4),
-    (b"5 id 0\n", 4),
-    (b"5 i2 0\n", 4),
-    (b"5 I 2 0\n", 3),
-    (b"5i 2 0\n", 2),
-    (b"5 2 i 0\n", 5),
-    (b"5 2 0 i\n", 7),
-    (b"i 2 0\n", 1),
-    (b"0 i 2 0\n", 1),
-    (b"-5 i 2 0\n", 1),
+static MISSPELLED: [Row; 29] = [
+    (b"5 i -0", 6, SPELLING),
+    (b"5 i 2 0 1", 8, SPELLING),
+    (b"5 i 2 0 -1 0\n", 8, SPELLING),
+    (b"5 i 2 0\r\n", 8, SPELLING),
+    (b"5 i 2 0 \n", 8, SPELLING),
+    (b"5 i 2\n", 6, SPELLING),
+    (b"5 i 2 \n", 7, SPELLING),
+    (b"5 i\n", 4, SPELLING),
+    (b"5 i \n", 5, SPELLING),
+    (b"5 i  2 0\n", 5, SPELLING),
+    (b"5 i +2 0\n", 5, SPELLING),
+    (b"5 i 02 0\n", 6, SPELLING),
+    (b"5 i --2 0\n", 6, SPELLING),
+    (b"5 i - 2 0\n", 6, SPELLING),
+    (b"5 i d 0\n", 5, SPELLING),
+    (b"5 i i 0\n", 5, SPELLING),
+    (b"5 i 2 d 0\n", 7, SPELLING),
+    (b"5 i 2 i 0\n", 7, SPELLING),
+    (b"5 d i 0\n", 5, SPELLING),
+    (b"5 ii 0\n", 4, SPELLING),
+    (b"5 id 0\n", 4, SPELLING),
+    (b"5 i2 0\n", 4, SPELLING),
+    (b"5 I 2 0\n", 3, SPELLING),
+    (b"5i 2 0\n", 2, SPELLING),
+    (b"5 2 i 0\n", 5, SPELLING),
+    (b"5 2 0 i\n", 7, SPELLING),
+    (b"i 2 0\n", 1, SPELLING),
+    (b"0 i 2 0\n", 1, SPELLING),
+    (b"-5 i 2 0\n", 1, SPELLING),
 ];
 
 #[test]
-fn misspelled_imports(rt: HostRuntime) -> Result<(), Fail> {
-    let fault = ReaderTurn::Fault(LineFault::Spelling);
-    for &(text, used) in &MISSPELLED {
-        feed_every_way(&rt, rt.alloc(), text, used, fault)?;
-    }
-    Ok(())
+fn misspelled_imports(rt: HostRuntime) -> Result<(), AllocError> {
+    feed_texts(&rt, rt.alloc(), &MISSPELLED)
 }
 
 /// Texts with a number that is too long, and where that shows.
-static TOO_LONG: [(&[u8], usize); 3] = [
-    (b"5 i 1111111111111111111 0\n", 23),
-    (b"5 i -1111111111111111111 0\n", 24),
-    (b"1111111111111111111 i 0\n", 19),
+static LONG_NUMBERS: [Row; 3] = [
+    (b"5 i 1111111111111111111 0\n", 23, TOO_LONG),
+    (b"5 i -1111111111111111111 0\n", 24, TOO_LONG),
+    (b"1111111111111111111 i 0\n", 19, TOO_LONG),
 ];
 
-/// How an import ends after many literals, how many these are, and which fault it has then.
-static TOO_MANY: [(&[u8], usize, LineFault); 3] = [
-    (b"", 65_536, LineFault::TooLong),
-    (b" -", 65_535, LineFault::TooLong),
-    (b" d", 65_535, LineFault::Spelling),
+/// Imports with too many literals, and the longest one.
+static LONG_IMPORTS: [LongRow; 4] = [
+    ((b"5 i", b" 1", b""), 65_536, 131_075, TOO_LONG),
+    ((b"5 i", b" 1", b" -"), 65_535, 131_075, TOO_LONG),
+    ((b"5 i", b" 1", b" d"), 65_535, 131_075, SPELLING),
+    (
+        (b"5 i", b" 1", b" 0\n"),
+        65_535,
+        131_076,
+        ReaderTurn::Line(Line::Import {
+            id: 5,
+            lits: &[1; 65_535],
+        }),
+    ),
 ];
-
-/// The longest import is read.
-fn read_longest(rt: &(impl Abort + AllocGlobal)) -> Result<(), Fail> {
-    let literals = vec![in rt.alloc(); 1; 65_535]?;
-    let longest = ReaderTurn::Line(Line::Import {
-        id: 5,
-        lits: &literals,
-    });
-    let texts = (b"5 i".as_slice(), b" 1".as_slice(), b" 0\n".as_slice());
-    feed_repeated(rt, rt.alloc(), texts, 65_535, 131_076, longest)
-}
 
 #[test]
 fn limits_of_imports(rt: HostRuntime) -> Result<(), Fail> {
-    for &(text, used) in &TOO_LONG {
-        let fault = ReaderTurn::Fault(LineFault::TooLong);
-        feed_every_way(&rt, rt.alloc(), text, used, fault)?;
-    }
-    for &(end, count, fault) in &TOO_MANY {
-        let fault = ReaderTurn::Fault(fault);
-        let texts = (b"5 i".as_slice(), b" 1".as_slice(), end);
-        feed_repeated(&rt, rt.alloc(), texts, count, 131_075, fault)?;
-    }
-    read_longest(&rt)
+    feed_texts(&rt, rt.alloc(), &LONG_NUMBERS)?;
+    feed_all_repeated(&rt, rt.alloc(), &LONG_IMPORTS)?;
+    Ok(())
 }
 
 /// A line of each kind, and its text.
@@ -161,15 +172,26 @@ fn feed_two(
     feed(rt, reader, rest, rest.len(), ReaderTurn::Line(two));
 }
 
+/// Feeds new readers the two lines, with the second in each cutting.
+fn feed_two_every_way(
+    rt: &impl Abort,
+    alloc: Global,
+    first: (&[u8], Line),
+    second: (&[u8], Line),
+) -> Result<(), AllocError> {
+    for cut in 0..second.0.len() {
+        let mut reader = LineReader::new(alloc)?;
+        feed_two(rt, &mut reader, first, second, cut);
+    }
+    Ok(())
+}
+
 /// A line of each kind, after which comes one of each kind.
 #[test]
 fn kinds_follow_one_another(rt: HostRuntime) -> Result<(), Fail> {
     for &first in &KINDS {
         for &second in &KINDS {
-            for cut in 0..second.0.len() {
-                let mut reader = LineReader::new(rt.alloc())?;
-                feed_two(&rt, &mut reader, first, second, cut);
-            }
+            feed_two_every_way(&rt, rt.alloc(), first, second)?;
         }
     }
     Ok(())
@@ -192,24 +214,27 @@ static FITTING: [(u64, i64, bool); 7] = [
     (1, -1_000_000_000_000_000_000, false),
 ];
 
-/// Does the import of these literals fit?
-fn long_import_fits(lits: &[i64]) -> bool {
-    let line = Line::Import { id: 1, lits };
-    line.fits()
+/// One literal more than an import may have.
+static TOO_MANY_LITERALS: [i64; 65_536] = [1; 65_536];
+
+/// Does the import of so many literals fit?
+fn long_import_fits(count: usize) -> bool {
+    let lits = &TOO_MANY_LITERALS[..count.min(65_536)];
+    Line::Import { id: 1, lits }.fits()
 }
 
 #[test]
-fn imports_fit(rt: HostRuntime) -> Result<(), Fail> {
+fn imports_fit(rt: HostRuntime) {
     for &(id, literal, wanted) in &FITTING {
         let found = (id, literal, import_fits(id, literal));
         same(&rt, found, (id, literal, wanted));
     }
-    for (count, wanted) in [(0, true), (65_535, true), (65_536, false)] {
-        let lits = vec![in rt.alloc(); 1; count]?;
-        let found = long_import_fits(&lits);
-        same(&rt, (count, found), (count, wanted));
-    }
-    Ok(())
+    let found = [
+        long_import_fits(0),
+        long_import_fits(65_535),
+        long_import_fits(65_536),
+    ];
+    same(&rt, found, [true, true, false]);
 }
 
 #[test]
@@ -221,15 +246,6 @@ fn imports_are_written(rt: HostRuntime) {
     for fails_at in 1..8 {
         write_in_threes(&rt, &line, b"17 i -20 3 0\n", 5, fails_at);
     }
-}
-
-/// An import's text, as it is written.
-fn written(alloc: Global, line: &Line) -> Result<Vec<u8>, WriteFault> {
-    let mut sink = Writing::new(Vec::new(alloc));
-    if line.fits() {
-        write_line(line, &mut sink)?;
-    }
-    Ok(sink.into_inner())
 }
 
 /// Identities and literals of imports.
@@ -244,7 +260,7 @@ static WRITTEN: [(u64, &[i64]); 3] = [
 fn written_imports_are_read_again(rt: HostRuntime) -> Result<(), Fail> {
     for &(id, lits) in &WRITTEN {
         let line = Line::Import { id, lits };
-        let text = written(rt.alloc(), &line)?;
+        let (text, _) = written(rt.alloc(), &line)?;
         feed_every_way(&rt, rt.alloc(), &text, text.len(), ReaderTurn::Line(line))?;
     }
     Ok(())
