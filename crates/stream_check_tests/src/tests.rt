@@ -1,10 +1,13 @@
 //! The worked rows at a plain map, each whole, byte by byte and in pieces of two, with the calls of the gate.
 ghost use Rattle.std.specs.Prelude.{◌≡◌, ◌<◌, IsSome};
+ghost use Rattle.checker_support.specs.Opened.{IsPlainOpened};
 ghost use Rattle.lrup_model.specs.Event.{History};
+ghost use Rattle.lrup_model.specs.Layout.{IsStream};
+ghost use Rattle.lrup_model.specs.Plain.{plain_place};
 ghost use Rattle.stream_check.specs.Checker.{IsReadyAt};
 
-use checker_support::{checker_at, open_map};
-use lrup_model::{ClauseMap, Cube, Id, Layout};
+use checker_support::{checker_under, open_map};
+use lrup_model::{ClauseMap, Cube, Id, Layout, PlainMap};
 use lrup_text::LineFault;
 use std::alloc::Global;
 use std::fmt;
@@ -104,16 +107,48 @@ fn feed_cut<M: ClauseMap, G: Gate>(
     checker.read_failed();
 }
 
+/// What is said of a stream that is fed at its desk in pieces of one length, and what its gate was told.
+fn said_at_desk(
+    map: &mut PlainMap,
+    stream: u64,
+    checker: &mut Checker,
+    bytes: &[u8],
+    cut: usize,
+) -> (Report, Told)
+    requires stream { IsStream map.old.layout stream }
+    requires ready { IsReadyAt checker.old (plain_place map.old stream) }
+    requires cut { 0 < cut }
+{
+    let mut gate = told_of(0, 0, 0);
+    feed_cut(checker, &mut map.desk(stream), &mut gate, bytes, cut);
+    (checker.report(), gate)
+}
+
+/// The same by a checker under this cube.
+fn judged_under(
+    alloc: Global,
+    map: &mut PlainMap,
+    cube: &Cube,
+    stream: u64,
+    tries: u64,
+    bytes: &[u8],
+    cut: usize,
+) -> Result<(Report, Told), Fail>
+    requires opened { IsPlainOpened map.old }
+    requires cut { 0 < cut }
+{
+    let mut checker = checker_under(alloc, map, cube, stream, tries)?;
+    Ok(said_at_desk(map, stream, &mut checker, bytes, cut))
+}
+
 /// What is said of a stream in pieces of one length, and what its gate was told.
 fn judged(alloc: Global, options: Options, bytes: &[u8], cut: usize) -> Result<(Report, Told), Fail>
     requires { 0 < cut }
 {
     let Options { stream, tries, .. } = options;
     let mut map = open_map(alloc, options.streams, options.lines, options.room)?;
-    let mut checker = checker_at(alloc, &map, stream, tries)?;
-    let mut gate = told_of(0, 0, 0);
-    feed_cut(&mut checker, &mut map.desk(stream), &mut gate, bytes, cut);
-    Ok((checker.report(), gate))
+    let none = Cube::empty(alloc);
+    judged_under(alloc, &mut map, &none, stream, tries, bytes, cut)
 }
 
 /// Under the empty cube, where a clause is within it exactly if it is empty.
@@ -357,124 +392,153 @@ fn identities_are_deleted_from_the_left(rt: HostRuntime) -> Result<(), Fail> {
     have_reports(&rt, rt.alloc(), &DELETIONS)
 }
 
-/// Room, lines, and what is said of them.
-static ROOMS: [(u64, &str, Said); 8] = [
+const NO_ROOM: Options = Options {
+    room: 0,
+    ..DEFAULTS
+};
+
+const ROOM_FOR_TWO: Options = Options {
+    room: 2,
+    ..DEFAULTS
+};
+
+const ROOM_FOR_THREE: Options = Options {
+    room: 3,
+    ..DEFAULTS
+};
+
+static ROOMS: [Row; 8] = [
     (
-        0,
+        NO_ROOM,
         "5 0 1 0\n",
         (0, 0, false, Ending::Bad(1, Fault::NotUnit(1))),
+        None,
     ),
     (
-        0,
+        NO_ROOM,
         "5 2 0 1 2 0\n",
         (0, 0, false, Ending::Bad(1, Fault::NoRoom)),
+        None,
     ),
-    (1, "5 2 2 0 1 2 0\n", (1, 0, false, Ending::Ended)),
     (
-        1,
+        LITTLE_ROOM,
+        "5 2 2 0 1 2 0\n",
+        (1, 0, false, Ending::Ended),
+        None,
+    ),
+    (
+        LITTLE_ROOM,
         "5 1 2 0 1 0\n",
         (0, 0, false, Ending::Bad(1, Fault::NoRoom)),
+        None,
     ),
-    (2, "5 1 2 0 1 0\n", (1, 0, false, Ending::Ended)),
     (
-        2,
+        ROOM_FOR_TWO,
+        "5 1 2 0 1 0\n",
+        (1, 0, false, Ending::Ended),
+        None,
+    ),
+    (
+        ROOM_FOR_TWO,
         "5 1 2 0 1 0\n6 2 0 1 2 0\n",
         (1, 0, false, Ending::Bad(2, Fault::NoRoom)),
+        None,
     ),
     // The empty clause takes none.
     (
-        3,
+        ROOM_FOR_THREE,
         "5 1 2 0 1 0\n6 2 0 1 2 0\n7 0 6 3 4 0\n",
         (3, 0, true, Ending::Ended),
+        None,
     ),
     // A retired clause gives none back.
     (
-        1,
+        LITTLE_ROOM,
         "5 2 0 1 2 0\n5 d 5 0\n6 2 0 1 2 0\n",
         (1, 1, false, Ending::Bad(3, Fault::NoRoom)),
+        None,
     ),
 ];
 
 #[test]
 fn the_room_ends(rt: HostRuntime) -> Result<(), Fail> {
-    for &(room, lines, said) in &ROOMS {
-        let options = Options { room, ..DEFAULTS };
-        has_report(&rt, rt.alloc(), (options, lines, said, None))?;
-    }
-    Ok(())
+    have_reports(&rt, rt.alloc(), &ROOMS)
 }
 
-/// How many streams, which one, its lines, and what is said of them.
-static IDENTITIES: [(u64, u64, &str, Said); 14] = [
+/// A stream that is alone, and each of two, with two identities for each.
+const ALONE: Options = Options {
+    lines: 2,
+    ..DEFAULTS
+};
+
+const FIRST: Options = Options {
+    streams: 2,
+    ..ALONE
+};
+
+const SECOND: Options = Options { stream: 2, ..FIRST };
+
+static IDENTITIES: [Row; 14] = [
     (
-        1,
-        1,
+        ALONE,
         "4 2 0 1 2 0\n",
         (0, 0, false, Ending::Bad(1, Fault::Identity)),
+        None,
     ),
-    (1, 1, "5 2 0 1 2 0\n", (1, 0, false, Ending::Ended)),
-    (1, 1, "6 2 0 1 2 0\n", (1, 0, false, Ending::Ended)),
+    (ALONE, "5 2 0 1 2 0\n", (1, 0, false, Ending::Ended), None),
+    (ALONE, "6 2 0 1 2 0\n", (1, 0, false, Ending::Ended), None),
     (
-        1,
-        1,
+        ALONE,
         "7 2 0 1 2 0\n",
         (0, 0, false, Ending::Bad(1, Fault::Identity)),
+        None,
     ),
-    (2, 1, "7 2 0 1 2 0\n", (1, 0, false, Ending::Ended)),
+    (FIRST, "7 2 0 1 2 0\n", (1, 0, false, Ending::Ended), None),
     (
-        2,
-        1,
+        FIRST,
         "8 2 0 1 2 0\n",
         (0, 0, false, Ending::Bad(1, Fault::Identity)),
+        None,
     ),
     (
-        2,
-        1,
+        FIRST,
         "9 2 0 1 2 0\n",
         (0, 0, false, Ending::Bad(1, Fault::Identity)),
+        None,
     ),
     (
-        2,
-        2,
+        SECOND,
         "5 2 0 1 2 0\n",
         (0, 0, false, Ending::Bad(1, Fault::Identity)),
+        None,
     ),
-    (2, 2, "8 2 0 1 2 0\n", (1, 0, false, Ending::Ended)),
+    (SECOND, "8 2 0 1 2 0\n", (1, 0, false, Ending::Ended), None),
     (
-        2,
-        2,
+        SECOND,
         "10 2 0 1 2 0\n",
         (0, 0, false, Ending::Bad(1, Fault::Identity)),
+        None,
     ),
-    (2, 1, "5 d 4 8 0\n", (0, 2, false, Ending::Ended)),
+    (FIRST, "5 d 4 8 0\n", (0, 2, false, Ending::Ended), None),
     (
-        2,
-        1,
+        FIRST,
         "5 d 9 0\n",
         (0, 0, false, Ending::Bad(1, Fault::NotLive(9))),
+        None,
     ),
-    (2, 2, "5 d 7 0\n", (0, 1, false, Ending::Ended)),
+    (SECOND, "5 d 7 0\n", (0, 1, false, Ending::Ended), None),
     (
-        2,
-        2,
+        SECOND,
         "5 d 9 0\n",
         (0, 0, false, Ending::Bad(1, Fault::NotLive(9))),
+        None,
     ),
 ];
 
 /// With two identities a stream: 5 and 6 for one stream; for two streams 5 and 7, and 6 and 8.
 #[test]
 fn the_identities_end(rt: HostRuntime) -> Result<(), Fail> {
-    for &(streams, stream, lines, said) in &IDENTITIES {
-        let options = Options {
-            streams,
-            stream,
-            lines: 2,
-            ..DEFAULTS
-        };
-        has_report(&rt, rt.alloc(), (options, lines, said, None))?;
-    }
-    Ok(())
+    have_reports(&rt, rt.alloc(), &IDENTITIES)
 }
 
 static RISING: [Row; 3] = [
@@ -610,12 +674,9 @@ fn bad_texts_end_the_reading(rt: HostRuntime) -> Result<(), Fail> {
 
 /// The checker is over, and tells of a failed read.
 fn tells_of_read(rt: &impl Abort, checker: &Checker) {
+    let said = said_of(0, 0, false, Ending::ReadFailed(1));
     assert!(rt; checker.is_over());
-    same(
-        rt,
-        checker.report(),
-        said_of(0, 0, false, Ending::ReadFailed(1)),
-    );
+    same(rt, checker.report(), said);
 }
 
 /// The read of a checker fails before its first byte.
@@ -627,10 +688,16 @@ fn fails_reading(rt: &impl Abort, checker: &mut Checker) {
     tells_of_read(rt, checker);
 }
 
+/// A checker at no map.
+fn new_checker(alloc: Global) -> Result<Checker, Fail> {
+    let layout = Layout::new(2, 4, 8, 1, 9, 9)?;
+    let checker = Checker::new(alloc, 1, &layout, &Cube::empty(alloc), 0)?;
+    Ok(checker)
+}
+
 #[test]
 fn a_failed_read_is_told(rt: HostRuntime) -> Result<(), Fail> {
-    let layout = Layout::new(2, 4, 8, 1, 9, 9)?;
-    let mut checker = Checker::new(rt.alloc(), 1, &layout, &Cube::empty(rt.alloc()), 0)?;
+    let mut checker = new_checker(rt.alloc())?;
     fails_reading(&rt, &mut checker);
     Ok(())
 }

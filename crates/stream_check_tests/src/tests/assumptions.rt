@@ -1,6 +1,6 @@
 //! Streams that derive clauses within a cube of assumed literals.
-use super::{feed_cut, same, told_of};
-use checker_support::{checker_under, open_map};
+use super::{judged_under, same};
+use checker_support::open_map;
 use lrup_model::{Cube, Lit};
 use std::alloc::Global;
 use std::process::Abort;
@@ -27,18 +27,10 @@ fn cube_of(alloc: Global, values: &[i64]) -> Result<Cube, Fail> {
 
 /// What is said of a stream of the four clauses under this cube.
 fn said_under(alloc: Global, cube: &[i64], lines: &str) -> Result<Report, Fail> {
-    let mut map = open_map(alloc, 1, 9, 9)?;
     let cube = cube_of(alloc, cube)?;
-    let mut checker = checker_under(alloc, &map, &cube, 1, 0)?;
-    let mut gate = told_of(0, 0, 0);
-    feed_cut(
-        &mut checker,
-        &mut map.desk(1),
-        &mut gate,
-        lines.as_bytes(),
-        65_536,
-    );
-    Ok(checker.report())
+    let mut map = open_map(alloc, 1, 9, 9)?;
+    let (report, _) = judged_under(alloc, &mut map, &cube, 1, 0, lines.as_bytes(), 65_536)?;
+    Ok(report)
 }
 
 /// How many additions, whether one's clause is empty, whether one's is within the cube, and the ending.
@@ -68,6 +60,17 @@ fn is_said(
     Ok(())
 }
 
+/// The assumed literals, the lines of a stream, and what is said of it.
+type Under = (&'static [i64], &'static str, SaidUnder);
+
+/// The same of each row.
+fn are_said(rt: &impl Abort, alloc: Global, rows: &[Under]) -> Result<(), Fail> {
+    for &(cube, lines, wanted) in rows {
+        is_said(rt, alloc, cube, lines, report_under(wanted))?;
+    }
+    Ok(())
+}
+
 const UNIT: &str = "5 2 0 1 2 0\n";
 
 const TWICE: &str = "5 2 2 0 1 2 0\n";
@@ -78,8 +81,7 @@ const FOUND: SaidUnder = (1, false, true, Ending::Ended);
 /// It adds one, which isn't.
 const NOT_FOUND: SaidUnder = (1, false, false, Ending::Ended);
 
-/// The assumed literals, the lines of a stream, and what is said of it.
-static WITHIN: [(&[i64], &str, SaidUnder); 12] = [
+static WITHIN: [Under; 12] = [
     (&[-2], UNIT, FOUND),
     (&[-2, 1, -2], UNIT, FOUND),
     (&[-2], TWICE, FOUND),
@@ -96,14 +98,10 @@ static WITHIN: [(&[i64], &str, SaidUnder); 12] = [
 
 #[test]
 fn clauses_within_the_cube_are_told(rt: HostRuntime) -> Result<(), Fail> {
-    for &(cube, lines, wanted) in &WITHIN {
-        is_said(&rt, rt.alloc(), cube, lines, report_under(wanted))?;
-    }
-    Ok(())
+    are_said(&rt, rt.alloc(), &WITHIN)
 }
 
-/// The columns are those of `WITHIN`.
-static LATER_LINES: [(&[i64], &str, SaidUnder); 6] = [
+static LATER_LINES: [Under; 6] = [
     (
         &[-2],
         "5 2 0 1 2 0\n6 1 0 1 3 0\n",
@@ -139,8 +137,5 @@ static LATER_LINES: [(&[i64], &str, SaidUnder); 6] = [
 /// What a good line added stays said, whatever follows; a bad line adds nothing.
 #[test]
 fn later_lines_take_nothing_back(rt: HostRuntime) -> Result<(), Fail> {
-    for &(cube, lines, wanted) in &LATER_LINES {
-        is_said(&rt, rt.alloc(), cube, lines, report_under(wanted))?;
-    }
-    Ok(())
+    are_said(&rt, rt.alloc(), &LATER_LINES)
 }

@@ -1,11 +1,14 @@
 //! Imports at a plain map.
-use super::two_streams::{SIX, Turn, judged_by_turns};
+ghost use Rattle.std.specs.Prelude.{IfOk};
+ghost use Rattle.checker_support.specs.Opened.{IsPlainOpened};
+
+use super::two_streams::{SAID_OF_SIX, SIX, Turn, TwoRow, are_judged};
 use super::{
-    DEFAULTS, FIRST_OF_TWO, ONE_MORE, Options, Row, Said, THREE_MORE, feed_cut, have_reports,
-    report_of, said_of, same, told_of,
+    DEFAULTS, FIRST_OF_TWO, NO_ROOM, ONE_MORE, Row, Said, THREE_MORE, have_reports, judged_under,
+    report_of, same,
 };
-use checker_support::{checker_at, open_formula};
-use lrup_model::{Formula, Layout};
+use checker_support::open_formula;
+use lrup_model::{Cube, Formula, Layout, PlainMap};
 use lrup_text::LineFault;
 use std::alloc::{AllocError, Global};
 use std::test::Fail;
@@ -13,11 +16,6 @@ use stream_check::{Ending, Fault, Report};
 use test_support::lit;
 
 const ENDED: Said = (0, 0, false, Ending::Ended);
-
-const NO_ROOM: Options = Options {
-    room: 0,
-    ..DEFAULTS
-};
 
 static GOOD_IMPORTS: [Row; 5] = [
     (DEFAULTS, "1 i 2 1 0\n", ENDED, Some((1, 1, 0))),
@@ -155,70 +153,84 @@ fn a_vacant_import_is_fetched_again(rt: HostRuntime) -> Result<(), Fail> {
     have_reports(&rt, rt.alloc(), &VACANT_IMPORTS)
 }
 
-static FOREIGN: [(&str, Ending); 6] = [
-    ("6 i -2 0\n", Ending::Ended),
-    ("6 i -2 -2 0\n", Ending::Ended),
-    ("6 i 2 0\n", Ending::Bad(1, Fault::Differs(6))),
-    ("6 i 0\n", Ending::Bad(1, Fault::Differs(6))),
-    ("6 i -2 1 0\n", Ending::Bad(1, Fault::Differs(6))),
-    ("8 i -2 0\n", Ending::Bad(1, Fault::Missing(8))),
+static FOREIGN: [TwoRow; 6] = [
+    (
+        0,
+        &[SIX, Turn::First("6 i -2 0\n")],
+        [((0, 0, false, Ending::Ended), (1, 1, 0)), SAID_OF_SIX],
+    ),
+    (
+        0,
+        &[SIX, Turn::First("6 i -2 -2 0\n")],
+        [((0, 0, false, Ending::Ended), (1, 1, 0)), SAID_OF_SIX],
+    ),
+    (
+        0,
+        &[SIX, Turn::First("6 i 2 0\n")],
+        [
+            ((0, 0, false, Ending::Bad(1, Fault::Differs(6))), (1, 1, 0)),
+            SAID_OF_SIX,
+        ],
+    ),
+    (
+        0,
+        &[SIX, Turn::First("6 i 0\n")],
+        [
+            ((0, 0, false, Ending::Bad(1, Fault::Differs(6))), (1, 1, 0)),
+            SAID_OF_SIX,
+        ],
+    ),
+    (
+        0,
+        &[SIX, Turn::First("6 i -2 1 0\n")],
+        [
+            ((0, 0, false, Ending::Bad(1, Fault::Differs(6))), (1, 1, 0)),
+            SAID_OF_SIX,
+        ],
+    ),
+    (
+        0,
+        &[SIX, Turn::First("8 i -2 0\n")],
+        [
+            ((0, 0, false, Ending::Bad(1, Fault::Missing(8))), (1, 1, 0)),
+            SAID_OF_SIX,
+        ],
+    ),
 ];
 
 #[test]
 fn a_foreign_clause_is_compared(rt: HostRuntime) -> Result<(), Fail> {
-    for &(line, ending) in &FOREIGN {
-        let said = judged_by_turns(rt.alloc(), 0, &[SIX, Turn::First(line)])?;
-        same(
-            &rt,
-            (line, said),
-            (
-                line,
-                [
-                    (said_of(0, 0, false, ending), told_of(1, 1, 0)),
-                    (said_of(1, 0, false, Ending::Ended), told_of(2, 1, 1)),
-                ],
-            ),
-        );
-    }
-    Ok(())
+    are_judged(&rt, rt.alloc(), &FOREIGN)
 }
+
+static CITED: [TwoRow; 1] = [(
+    0,
+    &[SIX, Turn::First("6 i -2 0\n5 2 0 1 2 0\n7 0 5 6 0\n")],
+    [((2, 0, true, Ending::Ended), (5, 1, 2)), SAID_OF_SIX],
+)];
 
 #[test]
 fn an_imported_clause_may_be_cited(rt: HostRuntime) -> Result<(), Fail> {
-    let turns = [SIX, Turn::First("6 i -2 0\n5 2 0 1 2 0\n7 0 5 6 0\n")];
-    let said = judged_by_turns(rt.alloc(), 0, &turns)?;
-    same(
-        &rt,
-        said,
-        [
-            (said_of(2, 0, true, Ending::Ended), told_of(5, 1, 2)),
-            (said_of(1, 0, false, Ending::Ended), told_of(2, 1, 1)),
-        ],
-    );
-    Ok(())
+    are_judged(&rt, rt.alloc(), &CITED)
 }
 
-#[test]
-fn an_import_that_its_owner_retired_is_retired(rt: HostRuntime) -> Result<(), Fail> {
-    let turns = [
+static RETIRED: [TwoRow; 1] = [(
+    7,
+    &[
         SIX,
         Turn::First("6 i -2 0\n"),
         Turn::Second("6 d 6 0\n"),
         Turn::First("6 i -2 0\n"),
-    ];
-    let said = judged_by_turns(rt.alloc(), 7, &turns)?;
-    same(
-        &rt,
-        said,
-        [
-            (
-                said_of(0, 0, false, Ending::Bad(2, Fault::Retired(6))),
-                told_of(2, 1, 0),
-            ),
-            (said_of(1, 1, false, Ending::Ended), told_of(2, 1, 1)),
-        ],
-    );
-    Ok(())
+    ],
+    [
+        ((0, 0, false, Ending::Bad(2, Fault::Retired(6))), (2, 1, 0)),
+        ((1, 1, false, Ending::Ended), (2, 1, 1)),
+    ],
+)];
+
+#[test]
+fn an_import_that_its_owner_retired_is_retired(rt: HostRuntime) -> Result<(), Fail> {
+    are_judged(&rt, rt.alloc(), &RETIRED)
 }
 
 /// A tautology, 1, and the empty clause, 2.
@@ -229,21 +241,21 @@ fn odd_formula(alloc: Global) -> Result<Formula, AllocError> {
     Ok(formula)
 }
 
-/// What is said of a stream over them.
-fn judged_odd(alloc: Global, lines: &str) -> Result<Report, Fail> {
+/// Their map.
+fn open_odd(alloc: Global) -> Result<PlainMap, Fail>
+    ensures { IfOk result IsPlainOpened }
+{
     let formula = odd_formula(alloc)?;
     let layout = Layout::new(1, 2, 2, 1, 9, 9)?;
-    let mut map = open_formula(alloc, &formula, &layout)?;
-    let mut checker = checker_at(alloc, &map, 1, 0)?;
-    let mut gate = told_of(0, 0, 0);
-    feed_cut(
-        &mut checker,
-        &mut map.desk(1),
-        &mut gate,
-        lines.as_bytes(),
-        4,
-    );
-    Ok(checker.report())
+    open_formula(alloc, &formula, &layout)
+}
+
+/// What is said of a stream over them.
+fn judged_odd(alloc: Global, lines: &str) -> Result<Report, Fail> {
+    let mut map = open_odd(alloc)?;
+    let none = Cube::empty(alloc);
+    let (report, _) = judged_under(alloc, &mut map, &none, 1, 0, lines.as_bytes(), 4)?;
+    Ok(report)
 }
 
 static ODD_IMPORTS: [(&str, Said); 6] = [

@@ -1,5 +1,6 @@
 //! How many events a line makes, at a map where another stream publishes late.
-ghost use Rattle.std.specs.Prelude.{◌≡◌, ◌≤◌, []};
+ghost use Rattle.std.specs.Prelude.{◌≡◌, ◌≤◌, [], IfOk};
+ghost use Rattle.checker_support.specs.Opened.{IsPlainOpened};
 ghost use Rattle.lrup_model.specs.Event.{History};
 ghost use Rattle.lrup_model.specs.Place.{Tells};
 ghost use Rattle.lrup_model.specs.Plain.{PlainMoves, formula_of, free_at, plain_place};
@@ -202,8 +203,36 @@ const NOTHING: Events = Events {
     retires: 0,
 };
 
-/// How a stream of these lines ends where it has room for two literals, and what events it made. Its own identities are 5 and 7,
-/// the other's 6 and 8.
+/// Stream 1's place, with room for two literals. Its own identities are 5 and 7, the other's 6 and 8.
+fn open_late<'a>(alloc: Global, late: Late, log: &'a Log) -> Result<LateMap<'a>, Fail>
+    ensures { IfOk result (λ late. IsPlainOpened late.map) }
+{
+    let map = open_map(alloc, 2, 2, 2)?;
+    Ok(LateMap {
+        log,
+        map,
+        room: 2,
+        late,
+        events: NOTHING,
+    })
+}
+
+/// How a stream of these lines ends there.
+fn feed_late_map<G: Gate>(
+    alloc: Global,
+    tries: u64,
+    map: &mut LateMap<'_>,
+    lines: &str,
+    gate: &mut G,
+) -> Result<Ending, Fail>
+    requires { IsPlainOpened map.old.map }
+{
+    let mut checker = checker_at(alloc, &map.map, 1, tries)?;
+    feed_cut(&mut checker, map, gate, lines.as_bytes(), 65_536);
+    Ok(checker.report().ending)
+}
+
+/// The same where the map was just opened, and what events it made.
 fn feed_late<G: Gate>(
     alloc: Global,
     tries: u64,
@@ -212,17 +241,9 @@ fn feed_late<G: Gate>(
     log: &Log,
     gate: &mut G,
 ) -> Result<(Ending, Events), Fail> {
-    let map = open_map(alloc, 2, 2, 2)?;
-    let mut checker = checker_at(alloc, &map, 1, tries)?;
-    let mut map = LateMap {
-        log,
-        map,
-        room: 2,
-        late,
-        events: NOTHING,
-    };
-    feed_cut(&mut checker, &mut map, gate, lines.as_bytes(), 65_536);
-    Ok((checker.report().ending, map.events))
+    let mut map = open_late(alloc, late, log)?;
+    let ending = feed_late_map(alloc, tries, &mut map, lines, gate)?;
+    Ok((ending, map.events))
 }
 
 /// The same, and what the gate is told.
@@ -238,8 +259,9 @@ fn events_of(
 }
 
 /// Where stream 2 publishes nothing, the lines make so many fetches, publishes and retires, and end so. No hint is fetched again.
-fn makes<R: AllocGlobal + Abort>(
-    rt: &R,
+fn makes(
+    rt: &impl Abort,
+    alloc: Global,
     lines: &str,
     events: (u64, u64, u64),
     ending: Ending,
@@ -250,14 +272,24 @@ fn makes<R: AllocGlobal + Abort>(
         publishes,
         retires,
     };
-    let found = events_of(rt.alloc(), 3, Late::Never, lines)?;
+    let found = events_of(alloc, 3, Late::Never, lines)?;
     let told = told_of(fetches, fetches.min(1), publishes);
     same(rt, (lines, found), (lines, (ending, wanted, told)));
     Ok(())
 }
 
 /// Lines, how many fetches, publishes and retires they make, and the ending.
-static OTHER_HINTS: [(&str, (u64, u64, u64), Ending); 8] = [
+type Made = (&'static str, (u64, u64, u64), Ending);
+
+/// The same of each row.
+fn make(rt: &impl Abort, alloc: Global, rows: &[Made]) -> Result<(), Fail> {
+    for &(lines, events, ending) in rows {
+        makes(rt, alloc, lines, events, ending)?;
+    }
+    Ok(())
+}
+
+static OTHER_HINTS: [Made; 8] = [
     ("5 2 0 9 0\n", (0, 0, 0), Ending::Bad(1, Fault::Missing(9))),
     ("5 1 2 0 1 0\n", (1, 1, 0), Ending::Ended),
     ("5 2 0 7 0\n", (1, 0, 0), Ending::Bad(1, Fault::Missing(7))),
@@ -284,14 +316,10 @@ static OTHER_HINTS: [(&str, (u64, u64, u64), Ending); 8] = [
 /// and one that was dropped.
 #[test]
 fn hints_that_are_not_foreign_are_fetched_once(rt: HostRuntime) -> Result<(), Fail> {
-    for &(lines, events, ending) in &OTHER_HINTS {
-        makes(&rt, lines, events, ending)?;
-    }
-    Ok(())
+    make(&rt, rt.alloc(), &OTHER_HINTS)
 }
 
-/// The columns are those of `OTHER_HINTS`.
-static OWN_DELETIONS: [(&str, (u64, u64, u64), Ending); 7] = [
+static OWN_DELETIONS: [Made; 7] = [
     ("5 d 0\n", (0, 0, 0), Ending::Ended),
     ("5 d 1 6 0\n", (0, 0, 0), Ending::Ended),
     ("5 2 0 1 2 0\n5 d 1 5 6 0\n", (2, 1, 1), Ending::Ended),
@@ -312,33 +340,48 @@ static OWN_DELETIONS: [(&str, (u64, u64, u64), Ending); 7] = [
 /// One retire for each own identity that is reached, and nothing for others.
 #[test]
 fn deletions_retire_own_identities_alone(rt: HostRuntime) -> Result<(), Fail> {
-    for &(lines, events, ending) in &OWN_DELETIONS {
-        makes(&rt, lines, events, ending)?;
-    }
-    Ok(())
+    make(&rt, rt.alloc(), &OWN_DELETIONS)
 }
 
-static EARLY_FAULTS: [(&str, Fault); 7] = [
-    ("5  2 0 1 2 0\n", Fault::Text(LineFault::Spelling)),
+static EARLY_FAULTS: [Made; 8] = [
+    (
+        "5  2 0 1 2 0\n",
+        (0, 0, 0),
+        Ending::Bad(1, Fault::Text(LineFault::Spelling)),
+    ),
     (
         "1000000000000000000 2 0 1 2 0\n",
-        Fault::Text(LineFault::TooLong),
+        (0, 0, 0),
+        Ending::Bad(1, Fault::Text(LineFault::TooLong)),
     ),
-    ("5 2 0 1 2 0", Fault::Text(LineFault::Truncated)),
-    ("5 1 0 -2 0\n", Fault::Text(LineFault::RatHint)),
-    ("6 2 0 1 2 0\n", Fault::Identity),
-    ("5 3 0 1 2 0\n", Fault::Literal),
-    ("5 1 -1 0 1 0\n", Fault::Tautology),
+    (
+        "5 2 0 1 2 0",
+        (0, 0, 0),
+        Ending::Bad(1, Fault::Text(LineFault::Truncated)),
+    ),
+    (
+        "5 1 0 -2 0\n",
+        (0, 0, 0),
+        Ending::Bad(1, Fault::Text(LineFault::RatHint)),
+    ),
+    ("6 2 0 1 2 0\n", (0, 0, 0), Ending::Bad(1, Fault::Identity)),
+    ("5 3 0 1 2 0\n", (0, 0, 0), Ending::Bad(1, Fault::Literal)),
+    (
+        "5 1 -1 0 1 0\n",
+        (0, 0, 0),
+        Ending::Bad(1, Fault::Tautology),
+    ),
+    (
+        "5 1 2 0 1 0\n7 2 0 1 2 0\n",
+        (1, 1, 0),
+        Ending::Bad(2, Fault::NoRoom),
+    ),
 ];
 
 /// The faults of the text and those of an addition before its hints.
 #[test]
 fn early_faults_make_no_event(rt: HostRuntime) -> Result<(), Fail> {
-    for &(line, fault) in &EARLY_FAULTS {
-        makes(&rt, line, (0, 0, 0), Ending::Bad(1, fault))?;
-    }
-    let lines = "5 1 2 0 1 0\n7 2 0 1 2 0\n";
-    makes(&rt, lines, (1, 1, 0), Ending::Bad(2, Fault::NoRoom))
+    make(&rt, rt.alloc(), &EARLY_FAULTS)
 }
 
 static FOREIGN_HINTS: [(u64, Late, u64, Ending); 19] = [

@@ -1,11 +1,14 @@
 //! Where memory runs out. With ample memory it never does. These tests are also run with one allocation of each refused, by
 //! `rt try --test --fail-alloc N`.
-ghost use Rattle.std.specs.Prelude.{IsSome};
+ghost use Rattle.std.specs.Prelude.{IsSome, IsTrue};
+ghost use Rattle.lrup_model.specs.Layout.{IsStream};
+ghost use Rattle.lrup_model.specs.Plain.{plain_place};
 ghost use Rattle.stream_check.specs.Checker.{IsReadyAt};
 
 use super::{said_of, same, told_of};
 use checker_support::{checker_at, open_map};
-use lrup_model::ClauseMap;
+use lrup_model::{ClauseMap, PlainMap};
+use std::alloc::Global;
 use std::process::Abort;
 use std::test::Fail;
 use stream_check::{CheckTurn, Checker, Ending, Report};
@@ -13,7 +16,7 @@ use stream_check::{CheckTurn, Checker, Ending, Report};
 /// The first line is an addition, with three literals, and takes no memory. Each other deletes one identity more that is
 /// kept, and the second an own one before it: where line `L` is the one that wants memory, `L - 1` identities were deleted
 /// before.
-const LINES: [&str; 20] = [
+static LINES: [&str; 20] = [
     "5 1 2 1 0 1 0\n",
     "5 d 5 1 0\n",
     "5 d 2 0\n",
@@ -36,21 +39,34 @@ const LINES: [&str; 20] = [
     "5 d 34 0\n",
 ];
 
+/// Feeds a line, of which all is used. Is the checker over then?
+fn feed_line<R: Abort, M: ClauseMap>(rt: &R, checker: &mut Checker, map: &mut M, line: &str) -> bool
+    requires { IsReadyAt checker.old (M.place map.old) }
+    ensures ready { IsReadyAt checker.new (M.place map.new) }
+    ensures over { IsTrue result → IsSome checker.new.ending }
+{
+    let progress = checker.feed(map, &mut told_of(0, 0, 0), line.as_bytes());
+    let is_over = checker.is_over();
+    let turn = if is_over {
+        CheckTurn::Over
+    } else {
+        CheckTurn::Line
+    };
+    let found = (line, progress.used, progress.turn);
+    same(rt, found, (line, line.len(), turn));
+    is_over
+}
+
 /// Feeds these lines, each alone. Where the checker is over before the last it has used the whole line.
 fn feed_lines<R: Abort, M: ClauseMap>(rt: &R, checker: &mut Checker, map: &mut M)
     requires { IsReadyAt checker.old (M.place map.old) }
     ensures { IsSome checker.new.ending }
 {
-    let mut gate = told_of(0, 0, 0);
-    for line in LINES {
-        let progress = checker.feed(map, &mut gate, line.as_bytes());
-        same(rt, progress.used, line.len());
-        if checker.is_over() {
-            same(rt, progress.turn, CheckTurn::Over);
+    for line in &LINES {
+        if feed_line(rt, checker, map, line) {
             stays_over(rt, checker, map);
             break;
         }
-        same(rt, progress.turn, CheckTurn::Line);
     }
     checker.end();
 }
@@ -75,18 +91,26 @@ fn fed_more<M: ClauseMap>(checker: &mut Checker, map: &mut M) -> (usize, CheckTu
     (more.used, more.turn)
 }
 
+/// What a checker says of a stream of these lines.
+fn said_at_desk<R: Abort>(rt: &R, map: &mut PlainMap, checker: &mut Checker) -> Report
+    requires stream { IsStream map.old.layout 1 }
+    requires ready { IsReadyAt checker.old (plain_place map.old 1) }
+{
+    feed_lines(rt, checker, &mut map.desk(1));
+    checker.report()
+}
+
 /// What is said of a stream of these lines.
-fn said_of_lines(rt: &(impl AllocGlobal + Abort)) -> Result<Report, Fail> {
-    let mut map = open_map(rt.alloc(), 2, 15, 2)?;
-    let mut checker = checker_at(rt.alloc(), &map, 1, 0)?;
-    feed_lines(rt, &mut checker, &mut map.desk(1));
-    Ok(checker.report())
+fn said_of_lines(rt: &impl Abort, alloc: Global) -> Result<Report, Fail> {
+    let mut map = open_map(alloc, 2, 15, 2)?;
+    let mut checker = checker_at(alloc, &map, 1, 0)?;
+    Ok(said_at_desk(rt, &mut map, &mut checker))
 }
 
 /// What is dropped is counted, and what came before a refused growth stays counted, its own line's identities too.
 #[test]
 fn a_refused_growth_ends_the_reading(rt: HostRuntime) -> Result<(), Fail> {
-    let said = said_of_lines(&rt)?;
+    let said = said_of_lines(&rt, rt.alloc())?;
     let wanted = match said.ending {
         Ending::Memory(line) => said_of(1, line.saturating_sub(1), false, said.ending),
         _ => said_of(1, 20, false, Ending::Ended),
@@ -98,7 +122,7 @@ fn a_refused_growth_ends_the_reading(rt: HostRuntime) -> Result<(), Fail> {
 /// This one fails where a growth is refused, and so shows that one was.
 #[test]
 fn every_growth_has_memory(rt: HostRuntime) -> Result<(), Fail> {
-    let said = said_of_lines(&rt)?;
+    let said = said_of_lines(&rt, rt.alloc())?;
     same(&rt, said, said_of(1, 20, false, Ending::Ended));
     Ok(())
 }

@@ -6,10 +6,11 @@ ghost use Rattle.lrup_model.specs.Layout.{IsStream};
 ghost use Rattle.lrup_model.specs.Plain.{PlainMoves, plain_place};
 ghost use Rattle.stream_check.specs.Checker.{IsReadyAt};
 
-use super::{Told, feed_whole, said_of, same, told_of};
+use super::{Said, Told, feed_whole, report_of, same, told_of};
 use checker_support::{checker_at, open_map};
 use lrup_model::PlainMap;
 use std::alloc::Global;
+use std::process::Abort;
 use std::test::Fail;
 use stream_check::laws::ready_beside;
 use stream_check::{Checker, Ending, Fault, Report};
@@ -99,19 +100,14 @@ impl Two {
 }
 
 /// Which stream comes next, and its piece.
-#[derive(Clone, Copy)]
+#[derive(Clone, Copy, Debug, PartialEq, Eq)]
 pub enum Turn {
     First(&'static str),
     Second(&'static str),
 }
 
 /// What is said of both streams after these turns, and what their gates were told.
-pub fn judged_by_turns(
-    alloc: Global,
-    tries: u64,
-    turns: &[Turn],
-) -> Result<[(Report, Told); 2], Fail> {
-    let mut two = Two::open(alloc, tries)?;
+fn take_turns(two: &mut Two, turns: &[Turn]) -> Result<[(Report, Told); 2], Fail> {
     for turn in turns {
         match turn {
             Turn::First(piece) => two.feed_first(piece.as_bytes()),
@@ -121,114 +117,138 @@ pub fn judged_by_turns(
     two.end()
 }
 
-/// The piece of the second stream that publishes `-2` under 6.
-pub const SIX: Turn = Turn::Second("6 -2 0 3 4 0\n");
-
-#[test]
-fn a_foreign_hint_is_found_after_its_publish(rt: HostRuntime) -> Result<(), Fail> {
-    let turns = [SIX, Turn::First("5 2 0 1 2 0\n7 0 5 6 0\n")];
-    let said = judged_by_turns(rt.alloc(), 0, &turns)?;
-    same(
-        &rt,
-        said,
-        [
-            (said_of(2, 0, true, Ending::Ended), told_of(4, 1, 2)),
-            (said_of(1, 0, false, Ending::Ended), told_of(2, 1, 1)),
-        ],
-    );
-    // A line is checked at its end: the publish may come between two pieces of it.
-    let turns = [Turn::First("5 -2 0 6"), SIX, Turn::First(" 0\n")];
-    let said = judged_by_turns(rt.alloc(), 0, &turns)?;
-    same(
-        &rt,
-        said,
-        [
-            (said_of(1, 0, false, Ending::Ended), told_of(1, 1, 1)),
-            (said_of(1, 0, false, Ending::Ended), told_of(2, 1, 1)),
-        ],
-    );
-    Ok(())
+/// The same of streams before their first byte.
+fn judged_by_turns(alloc: Global, tries: u64, turns: &[Turn]) -> Result<[(Report, Told); 2], Fail> {
+    let mut two = Two::open(alloc, tries)?;
+    take_turns(&mut two, turns)
 }
 
-#[test]
-fn a_hint_that_comes_too_late_is_missing(rt: HostRuntime) -> Result<(), Fail> {
-    let turns = [
-        Turn::First("5 -2 0 6 0\n"),
-        SIX,
-        Turn::First("5 -2 0 6 0\n"),
-    ];
-    for (tries, fetches) in [(0, 1), (1, 2), (7, 8)] {
-        let said = judged_by_turns(rt.alloc(), tries, &turns)?;
-        let missing = Ending::Bad(1, Fault::Missing(6));
-        same(
-            &rt,
-            said,
-            [
-                (said_of(0, 0, false, missing), told_of(fetches, fetches, 0)),
-                (said_of(1, 0, false, Ending::Ended), told_of(2, 1, 1)),
-            ],
-        );
+/// What is said of one stream, and what its gate is told.
+type SaidAndTold = (Said, (u64, u64, u64));
+
+/// How often a vacant identity may be fetched again, the turns, and what is said of the two streams.
+pub type TwoRow = (u64, &'static [Turn], [SaidAndTold; 2]);
+
+fn wanted_of(stream: SaidAndTold) -> (Report, Told) {
+    let (said, (fetches, most_attempts, publishes)) = stream;
+    let told = told_of(fetches, most_attempts, publishes);
+    (report_of(said), told)
+}
+
+/// The two streams of each row have their reports, and their gates are told this.
+pub fn are_judged(rt: &impl Abort, alloc: Global, rows: &[TwoRow]) -> Result<(), Fail> {
+    for &(tries, turns, [first, second]) in rows {
+        let said = judged_by_turns(alloc, tries, turns)?;
+        let wanted = [wanted_of(first), wanted_of(second)];
+        same(rt, (tries, turns, said), (tries, turns, wanted));
     }
     Ok(())
 }
 
+/// The piece of the second stream that publishes `-2` under 6.
+pub const SIX: Turn = Turn::Second("6 -2 0 3 4 0\n");
+
+/// What is said of the second stream after that piece alone, whose hints are found at once.
+pub const SAID_OF_SIX: SaidAndTold = ((1, 0, false, Ending::Ended), (2, 1, 1));
+
+static FOUND: [TwoRow; 2] = [
+    (
+        0,
+        &[SIX, Turn::First("5 2 0 1 2 0\n7 0 5 6 0\n")],
+        [((2, 0, true, Ending::Ended), (4, 1, 2)), SAID_OF_SIX],
+    ),
+    // A line is checked at its end: the publish may come between two pieces of it.
+    (
+        0,
+        &[Turn::First("5 -2 0 6"), SIX, Turn::First(" 0\n")],
+        [((1, 0, false, Ending::Ended), (1, 1, 1)), SAID_OF_SIX],
+    ),
+];
+
 #[test]
-fn a_hint_that_its_owner_retired_is_retired(rt: HostRuntime) -> Result<(), Fail> {
-    let turns = [
+fn a_foreign_hint_is_found_after_its_publish(rt: HostRuntime) -> Result<(), Fail> {
+    are_judged(&rt, rt.alloc(), &FOUND)
+}
+
+const MISSING: Said = (0, 0, false, Ending::Bad(1, Fault::Missing(6)));
+
+const CITES_SIX: Turn = Turn::First("5 -2 0 6 0\n");
+
+static TOO_LATE: [TwoRow; 3] = [
+    (
+        0,
+        &[CITES_SIX, SIX, CITES_SIX],
+        [(MISSING, (1, 1, 0)), SAID_OF_SIX],
+    ),
+    (
+        1,
+        &[CITES_SIX, SIX, CITES_SIX],
+        [(MISSING, (2, 2, 0)), SAID_OF_SIX],
+    ),
+    (
+        7,
+        &[CITES_SIX, SIX, CITES_SIX],
+        [(MISSING, (8, 8, 0)), SAID_OF_SIX],
+    ),
+];
+
+#[test]
+fn a_hint_that_comes_too_late_is_missing(rt: HostRuntime) -> Result<(), Fail> {
+    are_judged(&rt, rt.alloc(), &TOO_LATE)
+}
+
+static RETIRED_BY_ITS_OWNER: [TwoRow; 1] = [(
+    7,
+    &[
         SIX,
-        Turn::First("5 -2 0 6 0\n"),
+        CITES_SIX,
         Turn::Second("6 d 6 0\n"),
         Turn::First("7 -2 0 6 0\n"),
-    ];
-    let said = judged_by_turns(rt.alloc(), 7, &turns)?;
-    let retired = Ending::Bad(2, Fault::Retired(6));
-    same(
-        &rt,
-        said,
-        [
-            (said_of(1, 0, false, retired), told_of(2, 1, 1)),
-            (said_of(1, 1, false, Ending::Ended), told_of(2, 1, 1)),
-        ],
-    );
-    Ok(())
+    ],
+    [
+        ((1, 0, false, Ending::Bad(2, Fault::Retired(6))), (2, 1, 1)),
+        ((1, 1, false, Ending::Ended), (2, 1, 1)),
+    ],
+)];
+
+#[test]
+fn a_hint_that_its_owner_retired_is_retired(rt: HostRuntime) -> Result<(), Fail> {
+    are_judged(&rt, rt.alloc(), &RETIRED_BY_ITS_OWNER)
 }
+
+const DROPS: Turn = Turn::First("5 d 6 1 0\n");
+
+const USES: Turn = Turn::Second("8 0 6 1 2 0\n6 d 6 0\n");
+
+const DROPPED: [SaidAndTold; 2] = [
+    ((0, 2, false, Ending::Bad(2, Fault::Dropped(6))), (0, 0, 0)),
+    ((2, 1, true, Ending::Ended), (5, 1, 2)),
+];
+
+static DROPPED_BY_ONE: [TwoRow; 2] = [
+    (7, &[SIX, DROPS, USES, CITES_SIX], DROPPED),
+    (7, &[DROPS, SIX, CITES_SIX, USES], DROPPED),
+];
 
 /// What one stream drops is live for the other, before and after its publish: nothing was retired.
 #[test]
 fn a_foreign_deletion_drops_for_one_stream(rt: HostRuntime) -> Result<(), Fail> {
-    let drops = Turn::First("5 d 6 1 0\n");
-    let uses = Turn::Second("8 0 6 1 2 0\n6 d 6 0\n");
-    let hints = Turn::First("5 -2 0 6 0\n");
-    for turns in [[SIX, drops, uses, hints], [drops, SIX, hints, uses]] {
-        let said = judged_by_turns(rt.alloc(), 7, &turns)?;
-        let dropped = Ending::Bad(2, Fault::Dropped(6));
-        same(
-            &rt,
-            said,
-            [
-                (said_of(0, 2, false, dropped), told_of(0, 0, 0)),
-                (said_of(2, 1, true, Ending::Ended), told_of(5, 1, 2)),
-            ],
-        );
-    }
-    Ok(())
+    are_judged(&rt, rt.alloc(), &DROPPED_BY_ONE)
 }
+
+static ROOMS: [TwoRow; 1] = [(
+    0,
+    &[
+        Turn::First("5 1 2 0 1 0\n7 2 0 1 2 0\n"),
+        Turn::Second("6 1 2 0 1 0\n"),
+    ],
+    [
+        ((1, 0, false, Ending::Bad(2, Fault::NoRoom)), (1, 1, 1)),
+        ((1, 0, false, Ending::Ended), (1, 1, 1)),
+    ],
+)];
 
 #[test]
 fn room_is_not_shared(rt: HostRuntime) -> Result<(), Fail> {
-    let turns = [
-        Turn::First("5 1 2 0 1 0\n7 2 0 1 2 0\n"),
-        Turn::Second("6 1 2 0 1 0\n"),
-    ];
-    let said = judged_by_turns(rt.alloc(), 0, &turns)?;
-    let no_room = Ending::Bad(2, Fault::NoRoom);
-    same(
-        &rt,
-        said,
-        [
-            (said_of(1, 0, false, no_room), told_of(1, 1, 1)),
-            (said_of(1, 0, false, Ending::Ended), told_of(1, 1, 1)),
-        ],
-    );
-    Ok(())
+    are_judged(&rt, rt.alloc(), &ROOMS)
 }
