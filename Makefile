@@ -88,7 +88,8 @@ exact: c-and-python ## build: the filter that makes streams of other solvers' pr
 
 # Neither verified nor trusted.
 solve: solve-objects ## build: lrup-solve, from a formula to a proved verdict, at tools/solve/out; wants CaDiCaL's library
-	@$(CXX) -std=c++17 $(SOLVE_FLAGS) -Wall -Wextra -DVERSION='"$(VERSION)"' -o $(SOLVE) $(ALONE) $(SOLVE).objects/*.o -lcadical
+	@$(CXX) -std=c++17 $(SOLVE_FLAGS) -Wall -Wextra -DVERSION='"$(VERSION)"' -o $(SOLVE).new $(ALONE) $(SOLVE).objects/*.o -lcadical && \
+	mv $(SOLVE).new $(SOLVE)
 
 # What both look for beside them is there, too: lrupd and lrup-chain.
 solve-objects: c-and-python libcadical
@@ -98,8 +99,8 @@ solve-objects: c-and-python libcadical
 
 # It isn't installed: it goes with the MPI of where it was built.
 solve-mpi: solve-objects mpicxx ## build: lrup-solve-mpi, the same in several processes on one host or more; wants MPI, too
-	@OMPI_CXX="$(CXX)" mpicxx -std=c++17 $(SOLVE_FLAGS) -Wall -Wextra -DVERSION='"$(VERSION)"' -o $(SOLVE)-mpi \
-	$(filter-out tools/solve/alone.cpp,$(wildcard tools/solve/*.cpp)) $(SOLVE).objects/*.o -lcadical
+	@OMPI_CXX="$(CXX)" mpicxx -std=c++17 $(SOLVE_FLAGS) -Wall -Wextra -DVERSION='"$(VERSION)"' -o $(SOLVE)-mpi.new \
+	$(filter-out tools/solve/alone.cpp,$(wildcard tools/solve/*.cpp)) $(SOLVE).objects/*.o -lcadical && mv $(SOLVE)-mpi.new $(SOLVE)-mpi
 
 solver-test: $(BUILT) solver ## check: the example solver's streams, of one to eight solvers, and of some that are killed
 	@python3 tests/example_solver.py $(PROGRAM) $(SOLVER)

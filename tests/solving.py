@@ -1,9 +1,10 @@
 """What the tests of lrup-solve share: its two builds, runs, and what an answer has to be.
 
-Their command line is PROGRAM [FLAGS]. `make` builds both, with the compilers' flags where they are said, in a folder of each
-script's own, since several run at once.
+Their command line is PROGRAM [FLAGS]. `make` builds both, with the compilers' flags where they are said, in a folder of these
+flags: several scripts run at once, and the first one builds what is older than its sources.
 """
 import contextlib
+import fcntl
 import os
 import random
 import re
@@ -20,7 +21,8 @@ from proof_forms import read_formula
 
 PROGRAM = os.path.abspath(sys.argv[1]) if len(sys.argv) > 1 else ""
 FLAGS = sys.argv[2] if len(sys.argv) > 2 else "-O2"
-OUT = ROOT / "tools" / "solve" / "out" / re.sub(r"\W+", "", Path(sys.argv[0]).stem + FLAGS)
+COMPILERS = [os.environ.get(name, "") for name in ("CC", "CXX")]
+OUT = ROOT / "tools" / "solve" / "out" / re.sub(r"\W+", "", "".join(["tested", *COMPILERS, FLAGS]))
 SOLVE, TESTED = OUT / "lrup-solve", OUT / "lrup-solve-tested"
 EARLY = "elimint=10 probeint=10 subsumeint=10 compactint=10 reduceint=20 rephaseint=20"
 ELIMINATING = "elimint=1 compact=0"
@@ -154,15 +156,26 @@ def kill_children(children: Mapping[str, int], names: Sequence[str], number: int
 # The builds.
 
 
+def is_built(path: Path) -> bool:
+    """Whether it is younger than what it is made of."""
+    sources = [ROOT / "Makefile", ROOT / "VERSION", *ROOT.glob("tools/solve/*.*"), *ROOT.glob("tools/exact/*.*")]
+    return path.exists() and path.stat().st_mtime > max(file.stat().st_mtime for file in sources)
+
+
 def build(target: str, for_tests: bool) -> Optional[str]:
     """None, or why there is nothing to be tested."""
-    for path, flags in ((SOLVE, FLAGS), (TESTED, FLAGS + " -DSOLVE_TESTS"))[:1 + for_tests]:
-        out, err, status = run(["make", "-s", "-C", ROOT, target, f"SOLVE={path.relative_to(ROOT)}", f"SOLVE_FLAGS={flags}"],
-                               limit=600)
-        if status and re.search("libcadical-dev|libopenmpi-dev", out + err):
-            return (out + err).splitlines()[0]
-        if status:
-            sys.exit(out + err)
+    OUT.mkdir(parents=True, exist_ok=True)
+    with (OUT / "lock").open("w") as lock:
+        fcntl.flock(lock, fcntl.LOCK_EX)
+        for path, flags in ((SOLVE, FLAGS), (TESTED, FLAGS + " -DSOLVE_TESTS"))[:1 + for_tests]:
+            if is_built(path.with_name(path.name + target[len("solve"):])):
+                continue
+            out, err, status = run(["make", "-s", "-C", ROOT, target, f"SOLVE={path.relative_to(ROOT)}", f"SOLVE_FLAGS={flags}"],
+                                   limit=600)
+            if status and re.search("libcadical-dev|libopenmpi-dev", out + err):
+                return (out + err).splitlines()[0]
+            if status:
+                sys.exit(out + err)
     return None
 
 

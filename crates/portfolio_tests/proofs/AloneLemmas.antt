@@ -3,7 +3,7 @@ use Rattle.std.proofs.Common.{◌≡◌, ◌≤◌, ◌<◌, ◌^◌, ℕ, ℤ, 
 use Rattle.std.proofs.Common.{Some, None, pos, negsuc, refl, sym, ap, subst, ◌∙◌, inl, inr, arith}
 use Rattle.std.specs.Fmt.{digits}
 use Rattle.std.proofs.lemmas.Bool.Decides.{eqb_tells}
-use Rattle.std.specs.Prelude.{IsTrue, slice_get, codes, ◌==◌, ◌↔◌, Result, Ok, Err, IfOk, if◌then◌else◌}
+use Rattle.std.specs.Prelude.{IsTrue, slice_get, codes, ◌==◌, ◌↔◌, if◌then◌else◌}
 use Rattle.lrup_model.specs.Layout.{LayoutValue, Owns, owner}
 use Rattle.lrup_model.specs.declared.layout.Owner.{Owner}
 use Rattle.lrup_model.specs.declared.layout.Owner.TheVariants as owners
@@ -145,12 +145,6 @@ has_order streams reports verdict (order, comes) is = record {
   says = says_so verdict (list_any (λ report. report.empty) reports) (list_any (λ report. report.within) reports)
       (list_any (λ p. length p.1 == 0) (published (events_in order.blocks))) comes.empty is;
 }
-
--- two facts of a value that is there give a third
-pub if_both : {T E : Type 0} {A B C : T → Type 0} (result : Result T E) → IfOk result A → IfOk result B
-    → ((x : T) → A x → B x → C x) → IfOk result C
-if_both (Ok x) a b gives = gives x a b
-if_both (Err e) a b gives = tt
 
 -- The lines of the first stream, and of one that imports alone
 

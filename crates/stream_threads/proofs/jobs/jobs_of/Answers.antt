@@ -1,8 +1,9 @@
-use Rattle.std.proofs.Common.{◌≡◌, ◌∷◌, inl, inr, false, refl, subst, arith}
+use Rattle.std.proofs.Common.{◌≡◌, [], ◌∷◌, ◌∙◌, inl, inr, false, refl, sym, ap, subst, arith}
 use Rattle.std.specs.Iterator.Adapters.{zip_first, zip_second}
 use Rattle.std.specs.List.{AllByRecursion}
 use Rattle.std.specs.Vec.Iter.{into_iter_items, into_iter_len}
 use Rattle.lrup_model.specs.ListLemmas.{taken_next}
+use Rattle.stream_threads.specs.Jobs.{AreJobs}
 use Rattle.stream_threads.proofs.ThreadLemmas.{jobs_pushed, jobs_whole, none_to_come}
 use Rattle.stream_threads.proofs.jobs.jobs_of.Goals as goal
 
@@ -50,3 +51,25 @@ returns g c =
     let no_more : into_iter_len third ≡ 0 = omega (arith, none, now.invariant.others) in
     jobs_whole c.args.terms.now _ _ (into_iter_items first) _ _ (into_iter_items third) now.all.items
     now.invariant.jobs now.invariant.readers now.invariant.passes (none_to_come first none) (none_to_come third no_more)
+
+pub loop-reader-init : goal.loop-reader-init
+loop-reader-init g c =
+    let all = c.into_iter-reader-iterator.ensures.into_iter_gives in
+    let outer = c.zip-reader-items.ensures in
+    let inner = c.zip.ensures in
+    let first = ap (λ z. zip_first (zip_first z)) all ∙ ap zip_first outer.first ∙ inner.first in
+    let readers = ap into_iter_items first ∙ c.into_iter.ensures.rest in
+    let count = ap into_iter_len first ∙ c.into_iter.ensures.len in
+    let gates = ap (λ z. into_iter_len (zip_second (zip_first z))) all ∙ ap (λ z. into_iter_len (zip_second z)) outer.first
+    ∙ inner.second.1 in
+    let passes = ap (λ z. into_iter_len (zip_second z)) all ∙ outer.second.1 in
+    record {
+      running = subst (AllByRecursion (λ r. g.R.Source.has_failed r ≡ false)) (sym readers) c.requires.running;
+      jobs = subst (AreJobs c.args.terms.now 1 [] []) (sym c.in_ok-all.ensures.items) tt;
+      readers = readers;
+      passes = ap (λ z. into_iter_items (zip_second z)) all ∙ outer.second.0;
+      count = omega (arith, c.in_ok-all.ensures.len, count);
+      gates = omega (arith, gates, count, c.requires.gates);
+      others = omega (arith, passes, count, c.requires.passes);
+      room = refl;
+    }
