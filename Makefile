@@ -174,10 +174,11 @@ edits: toolchain ## check: the edits that the gate leaves out, of CRATE=name or 
 # streams and the filter's, mutated proofs, lrup-solve, a proof beside hostile streams, each call of the system refused in turn, of
 # the program and of tests, memory given back, and the instructions that lines take. The last line is rt's own, 'N passed, M
 # failed'.
-# Side by side, those that take longest first; what each one prints comes when it has ended.
-TESTS := lrup_solve_rounds sweep filter_mutants lrup_solve filter_rounds lrup_solve_solvers checkpoints lrup_solve_mpi leaks \
-	filter_streams examples neighbours solver-test live instructions
-SIDE_BY_SIDE := --output-sync=target -j $(shell nproc)
+# Side by side, those that take longest first, and two more than there are cores, since most of them wait now and then; what each
+# one prints comes when it has ended.
+TESTS := lrup_solve_rounds sweep filter_mutants lrup_solve lrup_solve_solvers filter_rounds lrup_solve_mpi leaks filter_streams \
+	checkpoints examples solver-test instructions neighbours live
+SIDE_BY_SIDE := --output-sync=target -j $(shell expr $$(nproc) + 2)
 test: SHELL := /bin/bash
 test: toolchain pages solver exact ## check: the gate, 25 to 100 minutes: every proof, edit and test; has to pass before a push
 	@rm -f $(addprefix $(dir $(SOLVE)),lrupd lrup-chain); set -o pipefail; log=$$(mktemp); trap 'rm -f "$$log"' EXIT; SECONDS=0; \
