@@ -1,5 +1,5 @@
 //! Two threads at the two ends of a ring: what no contract says is that bytes come at all, and that an end which sleeps is woken.
-ghost use Rattle.std.specs.Prelude.{◌≡◌, ◌<◌, ◌≤◌, [], None, false, length, vec_len, IfOk};
+ghost use Rattle.std.specs.Prelude.{◌≡◌, ◌<◌, [], None, false, length};
 ghost use Rattle.rtrb.specs.Ring.{sent};
 
 use lrup_text::{ReadFault, Source, StreamEnd};
@@ -95,107 +95,78 @@ struct Sizes {
     popped: usize,
 }
 
-/// What a sending thread is given.
-#[derive(Drop)]
-struct Sending<R: Source + Drop> {
-    reader: R,
-    sender: Sender,
-    piece: Vec<u8>,
-    items: Vec<u16>,
-    ghost running: { R.has_failed reader ≡ false },
-    ghost fresh: { sent sender.producer ≡ [] },
-    ghost room: { (0 < vec_len piece) × (0 < vec_len items) },
-}
-
-/// What a receiving thread is given.
-#[derive(Drop)]
-struct Hearing {
-    receiver: Receiver,
-    items: Vec<u16>,
-    bytes: Vec<u8>,
-    ghost room: { (0 < vec_len items) × (vec_len items ≡ vec_len bytes) },
-}
-
 /// The most bytes of a read.
 const PIECE: usize = 65_536;
 
-/// A ring, with this reader at one end.
-fn ends_of<R: Source + Drop>(
-    alloc: Global,
-    reader: R,
-    sizes: Sizes,
-) -> Result<(Sending<R>, Hearing), AllocError>
-    requires { R.has_failed reader ≡ false }
-{
-    let (sender, receiver) = ring(alloc, sizes.ring)?;
-    let sending = Sending {
-        reader,
-        sender,
-        piece: vec![in alloc; 0u8; PIECE]?,
-        items: vec![in alloc; 0u16; sizes.pushed.max(1)]?,
-    };
-    let hearing = Hearing {
-        receiver,
-        items: vec![in alloc; 0u16; sizes.popped.max(1)]?,
-        bytes: vec![in alloc; 0u8; sizes.popped.max(1)]?,
-    };
-    Ok((sending, hearing))
-}
+/// The most items of a push.
+const PUSHED: usize = 4_096;
 
-impl<R: Source + Drop> Sending<R> {
-    /// Sends all, and says how the reader ended.
-    fn send<W: Wait>(self, wait: &W) -> (R, StreamEnd) {
-        let Sending {
-            mut reader,
-            mut sender,
-            mut piece,
-            mut items,
-        } = self;
-        let end = sender.send_all(
-            wait,
-            &mut reader,
-            piece.as_mut_slice(),
-            items.as_mut_slice(),
-        );
-        (reader, end)
-    }
-}
-
-/// What is told of the bytes that come.
-trait Ear {
-    fn hear(&mut self, bytes: &[u8]);
-}
-
-impl Hearing {
-    /// Receives up to the mark, and says which end that tells. None where no mark came.
-    fn hear_all<W: Wait, E: Ear>(self, wait: &W, ear: &mut E) -> Option<StreamEnd> {
-        let Hearing {
-            mut receiver,
-            mut items,
-            mut bytes,
-        } = self;
-        hear_all(
-            wait,
-            &mut receiver,
-            items.as_mut_slice(),
-            bytes.as_mut_slice(),
-            ear,
-        )
-    }
-}
-
-fn hear_all<W: Wait, E: Ear>(
+/// Sends all, and says how the reader ended.
+fn send<W: Wait, R: Source>(
     wait: &W,
+    mut sender: Sender,
+    reader: &mut R,
+    pushed: usize,
+) -> StreamEnd
+    requires running { R.has_failed reader.old ≡ false }
+    requires fresh { sent sender.producer ≡ [] }
+{
+    let mut piece = [0u8; PIECE];
+    let mut items = [0u16; PUSHED];
+    let pushed = pushed.clamp(1, PUSHED);
+    sender.send_all(wait, reader, &mut piece, &mut items[..pushed])
+}
+
+/// What came: so many bytes, of which so many were wrong.
+#[derive(Clone, Copy, Debug, PartialEq, Eq)]
+struct Heard {
+    count: u64,
+    wrong: u64,
+}
+
+/// Counts what comes, for the other thread too. One that is late pauses each time before it receives.
+#[derive(Drop)]
+struct Ear<'a> {
+    heard: Heard,
+    counter: &'a AtomicU64,
+    is_late: bool,
+}
+
+impl Ear<'_> {
+    fn new(counter: &AtomicU64, is_late: bool) -> Ear<'_> {
+        Ear {
+            heard: Heard { count: 0, wrong: 0 },
+            counter,
+            is_late,
+        }
+    }
+
+    fn hear(&mut self, bytes: &[u8]) {
+        let Heard { count, wrong } = self.heard;
+        self.heard = Heard {
+            count: count.saturating_add(bytes.len() as u64),
+            wrong: wrong.saturating_add(wrong_bytes(bytes, count)),
+        };
+        self.counter.store(self.heard.count, Ordering::SeqCst);
+    }
+}
+
+/// Receives up to the mark, and says which end that tells. None where no mark came.
+fn hear_all<T: Wait + Clock>(
+    rt: &T,
     receiver: &mut Receiver,
     items: &mut [u16],
     bytes: &mut [u8],
-    ear: &mut E,
+    ear: &mut Ear<'_>,
 ) -> Option<StreamEnd>
     requires some { 0 < length items.old }
     requires room { length items.old ≡ length bytes.old }
 {
-    for _ in wait.forever() {
-        match receiver.receive(wait, items, bytes) {
+    for _ in rt.forever() {
+        if ear.is_late {
+            pause(rt);
+        }
+        match receiver.receive(rt, items, bytes) {
             Received::Bytes(count) => ear.hear(&bytes[..count]),
             Received::Mark(count, end) => {
                 ear.hear(&bytes[..count]);
@@ -207,56 +178,76 @@ fn hear_all<W: Wait, E: Ear>(
     unreachable!()
 }
 
-/// What came: so many bytes, of which so many were wrong.
-#[derive(Clone, Copy, Debug, PartialEq, Eq)]
-struct Heard {
-    count: u64,
-    wrong: u64,
-}
-
-impl Ear for Heard {
-    fn hear(&mut self, bytes: &[u8]) {
-        self.wrong = self.wrong.saturating_add(wrong_bytes(bytes, self.count));
-        self.count = self.count.saturating_add(bytes.len() as u64);
-    }
-}
-
-/// Receives all, and says what came.
-fn hear<W: Wait>(wait: &W, hearing: Hearing) -> (Heard, Option<StreamEnd>) {
-    let mut heard = Heard { count: 0, wrong: 0 };
-    let mark = hearing.hear_all(wait, &mut heard);
-    (heard, mark)
-}
-
-/// Sends a stream in one thread, and receives it in another.
-fn through<T: Threads + Wait + Sync>(
+/// The same, by pops of so many items.
+fn hear<T: Wait + Clock>(
     rt: &T,
-    sending: Sending<Stream>,
-    hearing: Hearing,
-) -> (StreamEnd, (Heard, Option<StreamEnd>)) {
-    let ((_, end), heard) = join(rt, || sending.send(rt), || hear(rt, hearing));
-    (end, heard)
+    alloc: Global,
+    mut receiver: Receiver,
+    popped: usize,
+    ear: &mut Ear<'_>,
+) -> Result<Option<StreamEnd>, AllocError> {
+    let mut items = vec![in alloc; 0u16; popped.max(1)]?;
+    let mut bytes = vec![in alloc; 0u8; popped.max(1)]?;
+    Ok(hear_all(rt, &mut receiver, &mut items, &mut bytes, ear))
 }
+
+/// Sends what is read in one thread, and receives it in another: how it ended for both.
+fn exchange<T: Threads + Wait + Clock + Sync, R: Source + Send>(
+    rt: &T,
+    alloc: Global,
+    sizes: Sizes,
+    reader: &mut R,
+    ear: &mut Ear<'_>,
+) -> Result<(StreamEnd, Option<StreamEnd>), AllocError>
+    requires { R.has_failed reader.old ≡ false }
+{
+    let (sender, receiver) = ring(alloc, sizes.ring)?;
+    let (end, mark) = join(
+        rt,
+        || send(rt, sender, reader, sizes.pushed),
+        || hear(rt, alloc, receiver, sizes.popped, ear),
+    );
+    Ok((end, mark?))
+}
+
+/// How a stream ended for its sender, what came, and how it ended for the receiver.
+type Came = (StreamEnd, (Heard, Option<StreamEnd>));
+
+/// Sends a stream, and receives it, maybe late.
+fn through<T: Threads + Wait + Clock + Sync>(
+    rt: &T,
+    alloc: Global,
+    sizes: Sizes,
+    mut stream: Stream,
+    is_late: bool,
+) -> Result<Came, AllocError>
+    requires { stream.failed ≡ false }
+{
+    let counter = AtomicU64::new(0);
+    let mut ear = Ear::new(&counter, is_late);
+    let (end, mark) = exchange(rt, alloc, sizes, &mut stream, &mut ear)?;
+    Ok((end, (ear.heard, mark)))
+}
+
+/// Whether the read after the last byte fails, and how the stream then ends.
+static ENDS: [(bool, StreamEnd); 2] = [(false, StreamEnd::Ended), (true, StreamEnd::Failed)];
 
 /// The stream comes whole, with its mark.
-fn comes_through<T: Threads + Wait + Sync + Abort>(
+fn comes_through<T: Threads + Wait + Clock + Sync + Abort>(
     rt: &T,
     alloc: Global,
     sizes: Sizes,
     count: usize,
     most: usize,
 ) -> Result<(), Fail> {
-    for (fails, end) in [(false, StreamEnd::Ended), (true, StreamEnd::Failed)] {
-        let (sending, hearing) = ends_of(alloc, Stream::new(count, most, fails), sizes)?;
-        let heard = Heard {
-            count: count as u64,
-            wrong: 0,
-        };
-        same(
-            rt,
-            (sizes, count, most, through(rt, sending, hearing)),
-            (sizes, count, most, (end, (heard, Some(end)))),
-        );
+    let heard = Heard {
+        count: count as u64,
+        wrong: 0,
+    };
+    for &(fails, end) in &ENDS {
+        let came = through(rt, alloc, sizes, Stream::new(count, most, fails), false)?;
+        let wanted = (end, (heard, Some(end)));
+        same(rt, (sizes, count, most, came), (sizes, count, most, wanted));
     }
     Ok(())
 }
@@ -377,20 +368,6 @@ impl<C: Clock> Source for Steps<'_, C> {
     }
 }
 
-/// Counts what came, for the other thread.
-#[derive(Drop)]
-struct Counts<'a> {
-    heard: Heard,
-    counter: &'a AtomicU64,
-}
-
-impl Ear for Counts<'_> {
-    fn hear(&mut self, bytes: &[u8]) {
-        self.heard.hear(bytes);
-        self.counter.store(self.heard.count, Ordering::SeqCst);
-    }
-}
-
 /// Sends so many bytes, each once the one before was received. Whether one came late, and what came.
 fn step_through<T: Threads + Wait + Clock + Sync>(
     rt: &T,
@@ -400,26 +377,18 @@ fn step_through<T: Threads + Wait + Clock + Sync>(
     pauses: u64,
 ) -> Result<(bool, (Heard, Option<StreamEnd>)), AllocError> {
     let counter = AtomicU64::new(0);
-    let counter = &counter;
-    let steps = Steps {
+    let mut steps = Steps {
         clock: rt,
-        heard: counter,
+        heard: &counter,
         given: 0,
         count,
         pauses,
         late: false,
     };
-    let (sending, hearing) = ends_of(alloc, steps, Sizes { ring, ..STANDARD })?;
-    let mut counts = Counts {
-        heard: Heard { count: 0, wrong: 0 },
-        counter,
-    };
-    let (late, mark) = join(
-        rt,
-        || sending.send(rt).0.late,
-        || hearing.hear_all(rt, &mut counts),
-    );
-    Ok((late, (counts.heard, mark)))
+    let mut ear = Ear::new(&counter, false);
+    let sizes = Sizes { ring, ..STANDARD };
+    let (_, mark) = exchange(rt, alloc, sizes, &mut steps, &mut ear)?;
+    Ok((steps.late, (ear.heard, mark)))
 }
 
 /// The size of a ring, how many bytes are sent, and at how many of them the sender pauses.
@@ -440,31 +409,6 @@ fn a_receiver_that_sleeps_is_woken(rt: HostRuntime) -> Result<(), Fail> {
     Ok(())
 }
 
-/// Receives after a pause each time, so that the sender sleeps at a full ring.
-fn hear_late<T: Wait + Clock>(rt: &T, hearing: Hearing) -> (Heard, Option<StreamEnd>) {
-    let mut late = Late {
-        clock: rt,
-        heard: Heard { count: 0, wrong: 0 },
-    };
-    pause(rt);
-    let mark = hearing.hear_all(rt, &mut late);
-    (late.heard, mark)
-}
-
-/// Pauses after each piece that came.
-#[derive(Drop)]
-struct Late<'a, C: Clock> {
-    clock: &'a C,
-    heard: Heard,
-}
-
-impl<C: Clock> Ear for Late<'_, C> {
-    fn hear(&mut self, bytes: &[u8]) {
-        self.heard.hear(bytes);
-        pause(self.clock);
-    }
-}
-
 /// The sizes of a ring and of a pop, and how many bytes are sent.
 static RINGS_THAT_FILL: [(usize, usize, usize); 4] = [
     (1, 1, 300),
@@ -473,18 +417,7 @@ static RINGS_THAT_FILL: [(usize, usize, usize); 4] = [
     (64, 1, 300),
 ];
 
-/// How a stream of so many bytes ended for the sender and for the receiver, who is late.
-fn late_through<T: Threads + Wait + Clock + Sync>(
-    rt: &T,
-    alloc: Global,
-    sizes: Sizes,
-    count: usize,
-) -> Result<(StreamEnd, (Heard, Option<StreamEnd>)), AllocError> {
-    let (sending, hearing) = ends_of(alloc, Stream::new(count, 65_536, true), sizes)?;
-    let ((_, end), came) = join(rt, || sending.send(rt), || hear_late(rt, hearing));
-    Ok((end, came))
-}
-
+/// The receiver is late, so the sender sleeps at a full ring.
 #[test]
 fn a_sender_that_sleeps_is_woken(rt: HostRuntime) -> Result<(), Fail> {
     for &(ring, popped, count) in &RINGS_THAT_FILL {
@@ -493,7 +426,13 @@ fn a_sender_that_sleeps_is_woken(rt: HostRuntime) -> Result<(), Fail> {
             pushed: 4_096,
             popped,
         };
-        let came = late_through(&rt, rt.alloc(), sizes, count)?;
+        let came = through(
+            &rt,
+            rt.alloc(),
+            sizes,
+            Stream::new(count, 65_536, true),
+            true,
+        )?;
         let heard = Heard {
             count: count as u64,
             wrong: 0,
@@ -521,13 +460,14 @@ fn heard_of_one_that_goes<T: Threads + Wait + Clock + Sync>(
     count: u64,
 ) -> Result<(Heard, Option<StreamEnd>), AllocError> {
     let (sender, receiver) = ring(alloc, 8)?;
-    let hearing = Hearing {
-        receiver,
-        items: vec![in alloc; 0u16; 8]?,
-        bytes: vec![in alloc; 0u8; 8]?,
-    };
-    let (_, came) = join(rt, || go(rt, sender, count), || hear(rt, hearing));
-    Ok(came)
+    let counter = AtomicU64::new(0);
+    let mut ear = Ear::new(&counter, false);
+    let (_, mark) = join(
+        rt,
+        || go(rt, sender, count),
+        || hear(rt, alloc, receiver, 8, &mut ear),
+    );
+    Ok((ear.heard, mark?))
 }
 
 /// The receiver sleeps, and is woken by a sender that goes.
