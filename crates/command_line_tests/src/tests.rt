@@ -1,5 +1,5 @@
 //! Command lines, and the numbers, words and faults that they have by the table of options.
-use command_line::{WordsFault, read_words};
+use command_line::{UsageText, WordsFault, read_words};
 use std::alloc::Global;
 use std::fmt;
 use std::process::Abort;
@@ -12,170 +12,127 @@ fn same<T: PartialEq + fmt::Debug + Drop>(rt: &impl Abort, value: T, wanted: T) 
     assert_eq!(rt; value, wanted);
 }
 
-/// The numbers of a command line, and its flags.
+/// What a command line gives.
 #[derive(Clone, Copy, Debug, PartialEq, Eq)]
-struct Options {
+struct Given<'a> {
     tries: u64,
     lines: u64,
     room: u64,
     serial: bool,
     watch: bool,
+    assume: Option<&'a str>,
+    checkpoint: Option<&'a str>,
+    formula: &'a str,
+    streams: &'a [&'a str],
 }
 
-/// Those of words without an option.
-const DEFAULTS: Options = Options {
+/// What the words `f` and `s` give.
+const DEFAULTS: Given<'static> = Given {
     tries: 1_000,
     lines: 65_536,
     room: 1_048_576,
     serial: false,
     watch: false,
+    assume: None,
+    checkpoint: None,
+    formula: "f",
+    streams: &["s"],
 };
 
-/// The words give these options, `f` and `s`.
-fn assert_options(
-    rt: &impl Abort,
-    alloc: Global,
-    words: &[&str],
-    want: Options,
-) -> Result<(), Fail> {
-    assert_paths(rt, alloc, words, want, "f", &["s"])
-}
-
-fn assert_paths(
-    rt: &impl Abort,
-    alloc: Global,
-    words: &[&str],
-    want: Options,
-    formula: &str,
-    streams: &[&str],
-) -> Result<(), Fail> {
-    let given = read_words(alloc, &*words)?;
-    let options = Options {
-        tries: given.tries,
-        lines: given.lines,
-        room: given.room,
-        serial: given.serial,
-        watch: given.watch,
+/// The words give this.
+fn gives(rt: &impl Abort, alloc: Global, words: &[&str], want: Given<'_>) -> Result<(), Fail> {
+    let line = read_words(alloc, words)?;
+    let given = Given {
+        tries: line.tries,
+        lines: line.lines,
+        room: line.room,
+        serial: line.serial,
+        watch: line.watch,
+        assume: line.assume,
+        checkpoint: line.checkpoint,
+        formula: line.formula,
+        streams: line.streams.as_slice(),
     };
-    let paths = (given.formula, given.streams.as_slice());
-    same(
-        rt,
-        (words, options, paths),
-        (words, want, (formula, streams)),
-    );
+    same(rt, (words, given), (words, want));
     Ok(())
 }
 
-/// Of words that give `f`, `s` and each option's default, the files of the options.
-fn assert_files(
-    rt: &impl Abort,
-    alloc: Global,
-    words: &[&str],
-    assume: Option<&str>,
-    checkpoint: Option<&str>,
-) -> Result<(), Fail> {
-    assert_options(rt, alloc, words, DEFAULTS)?;
-    let given = read_words(alloc, &*words)?;
-    let files = (given.assume, given.checkpoint);
-    same(rt, (words, files), (words, (assume, checkpoint)));
+/// Each of these words gives this.
+fn give(rt: &impl Abort, alloc: Global, rows: &[(&[&str], Given<'_>)]) -> Result<(), Fail> {
+    for &(words, want) in rows {
+        gives(rt, alloc, words, want)?;
+    }
     Ok(())
 }
 
-/// The words have a usage fault, whose text has this part.
-fn assert_usage(rt: &impl Abort, alloc: Global, words: &[&str], part: &str) -> Result<(), Fail> {
-    match read_words(alloc, &*words) {
-        Err(WordsFault::Usage(text)) => {
-            let text = text.as_str();
-            let found = (text.contains(part), text.ends_with('\n'));
-            same(
-                rt,
-                (words, part, text, found),
-                (words, part, text, (true, true)),
-            );
-            Ok(())
-        }
+/// The text of the usage fault that the words have.
+fn usage_of(alloc: Global, words: &[&str]) -> Result<UsageText, Fail> {
+    match read_words(alloc, words) {
+        Err(WordsFault::Usage(text)) => Ok(text),
         other => Err(Fail::from(format_args!("{words:?}: {other:?}"))),
     }
 }
 
-/// Each of these words gives `f`, `s` and these options.
-fn give_options(rt: &impl Abort, alloc: Global, rows: &[(&[&str], Options)]) -> Result<(), Fail> {
-    for &(words, want) in rows {
-        assert_options(rt, alloc, words, want)?;
-    }
-    Ok(())
-}
-
-/// Each of these words gives these options, this formula and these streams.
-fn give_paths(
-    rt: &impl Abort,
-    alloc: Global,
-    rows: &[(&[&str], Options, &str, &[&str])],
-) -> Result<(), Fail> {
-    for &(words, want, formula, streams) in rows {
-        assert_paths(rt, alloc, words, want, formula, streams)?;
-    }
-    Ok(())
-}
-
-/// Each of these words gives `f`, `s`, each option's default, a file of assumed literals and one
-/// for a checkpoint.
-fn give_files(
-    rt: &impl Abort,
-    alloc: Global,
-    rows: &[(&[&str], Option<&str>, Option<&str>)],
-) -> Result<(), Fail> {
-    for &(words, assume, checkpoint) in rows {
-        assert_files(rt, alloc, words, assume, checkpoint)?;
-    }
+/// The words have a usage fault, whose text has this part.
+fn has_fault(rt: &impl Abort, alloc: Global, words: &[&str], part: &str) -> Result<(), Fail> {
+    let usage = usage_of(alloc, words)?;
+    let text = usage.as_str();
+    let found = (text.contains(part), text.ends_with('\n'));
+    same(
+        rt,
+        (words, part, text, found),
+        (words, part, text, (true, true)),
+    );
     Ok(())
 }
 
 /// Each of these words has a usage fault, whose text has this part.
 fn have_faults(rt: &impl Abort, alloc: Global, rows: &[(&[&str], &str)]) -> Result<(), Fail> {
     for &(words, part) in rows {
-        assert_usage(rt, alloc, words, part)?;
+        has_fault(rt, alloc, words, part)?;
     }
     Ok(())
 }
 
+static NO_OPTION: [(&[&str], Given<'static>); 1] = [(
+    &["f.cnf", "s.lrup"],
+    Given {
+        formula: "f.cnf",
+        streams: &["s.lrup"],
+        ..DEFAULTS
+    },
+)];
+
 #[test]
 fn defaults_stand_where_no_option_does(rt: HostRuntime) -> Result<(), Fail> {
-    assert_paths(
-        &rt,
-        rt.alloc(),
-        &["f.cnf", "s.lrup"],
-        DEFAULTS,
-        "f.cnf",
-        &["s.lrup"],
-    )
+    give(&rt, rt.alloc(), &NO_OPTION)
 }
 
-static OWN_NUMBERS: [(&[&str], Options); 5] = [
+static OWN_NUMBERS: [(&[&str], Given<'static>); 5] = [
     (
         &["--tries", "7", "f", "s"],
-        Options {
+        Given {
             tries: 7,
             ..DEFAULTS
         },
     ),
     (
         &["--tries=7", "f", "s"],
-        Options {
+        Given {
             tries: 7,
             ..DEFAULTS
         },
     ),
     (
         &["--lines", "7", "f", "s"],
-        Options {
+        Given {
             lines: 7,
             ..DEFAULTS
         },
     ),
     (
         &["--room", "7", "f", "s"],
-        Options {
+        Given {
             room: 7,
             ..DEFAULTS
         },
@@ -184,60 +141,61 @@ static OWN_NUMBERS: [(&[&str], Options); 5] = [
         &[
             "--room", "3", "--watch", "--lines", "2", "--tries", "1", "--serial", "f", "s",
         ],
-        Options {
+        Given {
             tries: 1,
             lines: 2,
             room: 3,
             serial: true,
             watch: true,
+            ..DEFAULTS
         },
     ),
 ];
 
 #[test]
 fn each_option_has_its_own_number(rt: HostRuntime) -> Result<(), Fail> {
-    give_options(&rt, rt.alloc(), &OWN_NUMBERS)
+    give(&rt, rt.alloc(), &OWN_NUMBERS)
 }
 
-static IN_RANGE: [(&[&str], Options); 6] = [
+static IN_RANGE: [(&[&str], Given<'static>); 6] = [
     (
         &["--tries", "0", "f", "s"],
-        Options {
+        Given {
             tries: 0,
             ..DEFAULTS
         },
     ),
     (
         &["--tries", "1000000", "f", "s"],
-        Options {
+        Given {
             tries: 1_000_000,
             ..DEFAULTS
         },
     ),
     (
         &["--lines", "0", "f", "s"],
-        Options {
+        Given {
             lines: 0,
             ..DEFAULTS
         },
     ),
     (
         &["--lines", "268435456", "f", "s"],
-        Options {
+        Given {
             lines: 268_435_456,
             ..DEFAULTS
         },
     ),
     (
         &["--room", "0", "f", "s"],
-        Options {
+        Given {
             room: 0,
             ..DEFAULTS
         },
     ),
     (
         &["--room", "268435456", "f", "s"],
-        Options {
+        Given {
             room: 268_435_456,
             ..DEFAULTS
         },
@@ -252,24 +210,26 @@ static OUT_OF_RANGE: [(&[&str], &str); 3] = [
 
 #[test]
 fn each_number_has_its_range(rt: HostRuntime) -> Result<(), Fail> {
-    give_options(&rt, rt.alloc(), &IN_RANGE)?;
+    give(&rt, rt.alloc(), &IN_RANGE)?;
     have_faults(&rt, rt.alloc(), &OUT_OF_RANGE)
 }
 
-static NO_NUMBERS: [&str; 6] = ["", "x", "1,000", "1e3", "-1", "18446744073709551616"];
+static NO_NUMBERS: [(&[&str], &str); 7] = [
+    (&["--tries", "", "f", "s"], "error"),
+    (&["--tries", "x", "f", "s"], "error"),
+    (&["--tries", "1,000", "f", "s"], "error"),
+    (&["--tries", "1e3", "f", "s"], "error"),
+    (&["--tries", "-1", "f", "s"], "error"),
+    (&["--tries", "18446744073709551616", "f", "s"], "error"),
+    (
+        &["f", "s", "--tries"],
+        "a value is required for '--tries <N>'",
+    ),
+];
 
 #[test]
 fn what_is_no_number_is_refused(rt: HostRuntime) -> Result<(), Fail> {
-    let alloc = rt.alloc();
-    for number in &NO_NUMBERS {
-        assert_usage(&rt, alloc, &["--tries", *number, "f", "s"], "error")?;
-    }
-    assert_usage(
-        &rt,
-        alloc,
-        &["f", "s", "--tries"],
-        "a value is required for '--tries <N>'",
-    )
+    have_faults(&rt, rt.alloc(), &NO_NUMBERS)
 }
 
 static REQUIRED: [(&[&str], &str); 4] = [
@@ -316,13 +276,36 @@ fn an_option_stands_once(rt: HostRuntime) -> Result<(), Fail> {
     have_faults(&rt, rt.alloc(), &TWICE)
 }
 
-/// The words, the file of assumed literals, and the one for a checkpoint, which is none.
-static ASSUMED: [(&[&str], Option<&str>, Option<&str>); 5] = [
-    (&["f", "s"], None, None),
-    (&["--assume", "a", "f", "s"], Some("a"), None),
-    (&["--assume=a", "f", "s"], Some("a"), None),
-    (&["f", "--assume", "f", "s"], Some("f"), None),
-    (&["f", "s", "--assume", "s"], Some("s"), None),
+static ASSUMED: [(&[&str], Given<'static>); 5] = [
+    (&["f", "s"], DEFAULTS),
+    (
+        &["--assume", "a", "f", "s"],
+        Given {
+            assume: Some("a"),
+            ..DEFAULTS
+        },
+    ),
+    (
+        &["--assume=a", "f", "s"],
+        Given {
+            assume: Some("a"),
+            ..DEFAULTS
+        },
+    ),
+    (
+        &["f", "--assume", "f", "s"],
+        Given {
+            assume: Some("f"),
+            ..DEFAULTS
+        },
+    ),
+    (
+        &["f", "s", "--assume", "s"],
+        Given {
+            assume: Some("s"),
+            ..DEFAULTS
+        },
+    ),
 ];
 
 static ASSUME_FAULTS: [(&[&str], &str); 3] = [
@@ -339,32 +322,61 @@ static ASSUME_FAULTS: [(&[&str], &str); 3] = [
 
 #[test]
 fn a_file_of_assumed_literals_may_be_named(rt: HostRuntime) -> Result<(), Fail> {
-    give_files(&rt, rt.alloc(), &ASSUMED)?;
+    give(&rt, rt.alloc(), &ASSUMED)?;
     have_faults(&rt, rt.alloc(), &ASSUME_FAULTS)
 }
 
-/// The words, the file of assumed literals, and the one for a checkpoint.
-static CHECKPOINTS: [(&[&str], Option<&str>, Option<&str>); 7] = [
-    (&["f", "s"], None, None),
-    (&["--checkpoint", "c", "f", "s"], None, Some("c")),
-    (&["--checkpoint=c", "f", "s"], None, Some("c")),
-    (&["f", "--checkpoint", "f", "s"], None, Some("f")),
-    (&["f", "s", "--checkpoint", "s"], None, Some("s")),
+static CHECKPOINTS: [(&[&str], Given<'static>); 7] = [
+    (&["f", "s"], DEFAULTS),
+    (
+        &["--checkpoint", "c", "f", "s"],
+        Given {
+            checkpoint: Some("c"),
+            ..DEFAULTS
+        },
+    ),
+    (
+        &["--checkpoint=c", "f", "s"],
+        Given {
+            checkpoint: Some("c"),
+            ..DEFAULTS
+        },
+    ),
+    (
+        &["f", "--checkpoint", "f", "s"],
+        Given {
+            checkpoint: Some("f"),
+            ..DEFAULTS
+        },
+    ),
+    (
+        &["f", "s", "--checkpoint", "s"],
+        Given {
+            checkpoint: Some("s"),
+            ..DEFAULTS
+        },
+    ),
     (
         &["--checkpoint", "c", "--assume", "a", "f", "s"],
-        Some("a"),
-        Some("c"),
+        Given {
+            assume: Some("a"),
+            checkpoint: Some("c"),
+            ..DEFAULTS
+        },
     ),
     (
         &["--assume=a", "f", "s", "--checkpoint=a"],
-        Some("a"),
-        Some("a"),
+        Given {
+            assume: Some("a"),
+            checkpoint: Some("a"),
+            ..DEFAULTS
+        },
     ),
 ];
 
 #[test]
 fn a_file_for_a_checkpoint_may_be_named(rt: HostRuntime) -> Result<(), Fail> {
-    give_files(&rt, rt.alloc(), &CHECKPOINTS)
+    give(&rt, rt.alloc(), &CHECKPOINTS)
 }
 
 static CHECKPOINT_FAULTS: [(&[&str], &str); 4] = [
@@ -388,74 +400,77 @@ fn a_checkpoint_has_one_file(rt: HostRuntime) -> Result<(), Fail> {
     have_faults(&rt, rt.alloc(), &CHECKPOINT_FAULTS)
 }
 
-static SERIAL: [(&[&str], Options); 3] = [
+static SERIAL: [(&[&str], Given<'static>); 5] = [
     (
         &["--serial", "f", "s"],
-        Options {
+        Given {
             serial: true,
             ..DEFAULTS
         },
     ),
     (
         &["f", "--serial", "s"],
-        Options {
+        Given {
             serial: true,
             ..DEFAULTS
         },
     ),
     (
         &["f", "s", "--serial"],
-        Options {
+        Given {
             serial: true,
             ..DEFAULTS
         },
     ),
-];
-
-static SERIAL_PATHS: [(&[&str], Options, &str, &[&str]); 2] = [
     (
         &["f", "s", "--serial", "t", "--tries", "1000", "u"],
-        Options {
+        Given {
             serial: true,
+            streams: &["s", "t", "u"],
             ..DEFAULTS
         },
-        "f",
-        &["s", "t", "u"],
     ),
     (
         &["f", "--", "s", "--serial"],
-        DEFAULTS,
-        "f",
-        &["s", "--serial"],
+        Given {
+            streams: &["s", "--serial"],
+            ..DEFAULTS
+        },
     ),
 ];
 
 #[test]
 fn options_stand_anywhere_before_two_hyphens(rt: HostRuntime) -> Result<(), Fail> {
-    give_options(&rt, rt.alloc(), &SERIAL)?;
-    give_paths(&rt, rt.alloc(), &SERIAL_PATHS)
+    give(&rt, rt.alloc(), &SERIAL)
 }
 
-static WATCHED: [(&[&str], Options); 3] = [
+static WATCHED: [(&[&str], Given<'static>); 4] = [
     (
         &["--watch", "f", "s"],
-        Options {
+        Given {
             watch: true,
             ..DEFAULTS
         },
     ),
     (
         &["f", "s", "--watch"],
-        Options {
+        Given {
             watch: true,
             ..DEFAULTS
         },
     ),
     (
         &["--watch", "f", "--serial", "s"],
-        Options {
+        Given {
             serial: true,
             watch: true,
+            ..DEFAULTS
+        },
+    ),
+    (
+        &["f", "--", "--watch"],
+        Given {
+            streams: &["--watch"],
             ..DEFAULTS
         },
     ),
@@ -464,40 +479,49 @@ static WATCHED: [(&[&str], Options); 3] = [
 /// Each flag is its own.
 #[test]
 fn flags_stand_beside_each_other(rt: HostRuntime) -> Result<(), Fail> {
-    give_options(&rt, rt.alloc(), &WATCHED)?;
-    assert_paths(
-        &rt,
-        rt.alloc(),
-        &["f", "--", "--watch"],
-        DEFAULTS,
-        "f",
-        &["--watch"],
-    )
+    give(&rt, rt.alloc(), &WATCHED)
 }
+
+static MANY_STREAMS: [(&[&str], Given<'static>); 1] = [(
+    &["c", "b", "a", "b"],
+    Given {
+        formula: "c",
+        streams: &["b", "a", "b"],
+        ..DEFAULTS
+    },
+)];
 
 #[test]
 fn streams_keep_their_order(rt: HostRuntime) -> Result<(), Fail> {
-    let alloc = rt.alloc();
-    assert_paths(
-        &rt,
-        alloc,
-        &["c", "b", "a", "b"],
-        DEFAULTS,
-        "c",
-        &["b", "a", "b"],
-    )
+    give(&rt, rt.alloc(), &MANY_STREAMS)
 }
 
-static HYPHENS: [(&[&str], Options, &str, &[&str]); 2] = [
-    (&["--", "-f", "-s"], DEFAULTS, "-f", &["-s"]),
-    (&["f", "--", "-s", "--"], DEFAULTS, "f", &["-s", "--"]),
+static HYPHENS: [(&[&str], Given<'static>); 2] = [
+    (
+        &["--", "-f", "-s"],
+        Given {
+            formula: "-f",
+            streams: &["-s"],
+            ..DEFAULTS
+        },
+    ),
+    (
+        &["f", "--", "-s", "--"],
+        Given {
+            streams: &["-s", "--"],
+            ..DEFAULTS
+        },
+    ),
 ];
 
 #[test]
 fn after_two_hyphens_a_path_may_begin_with_one(rt: HostRuntime) -> Result<(), Fail> {
-    assert_usage(&rt, rt.alloc(), &["f", "-s"], "'-s'")?;
-    give_paths(&rt, rt.alloc(), &HYPHENS)
+    has_fault(&rt, rt.alloc(), &["f", "-s"], "'-s'")?;
+    give(&rt, rt.alloc(), &HYPHENS)
 }
+
+/// Words that ask for help.
+static HELP_WORDS: [&[&str]; 2] = [&["--help"], &["f", "s", "-h"]];
 
 static HELP: [&str; 14] = [
     "Usage: lrupd [OPTIONS] <FORMULA> <STREAM>...\n",
@@ -518,25 +542,21 @@ static HELP: [&str; 14] = [
 
 #[test]
 fn help_says_what_each_option_is(rt: HostRuntime) -> Result<(), Fail> {
-    let alloc = rt.alloc();
-    for part in &HELP {
-        assert_usage(&rt, alloc, &["--help"], part)?;
-        assert_usage(&rt, alloc, &["f", "s", "-h"], part)?;
+    for words in &HELP_WORDS {
+        for part in &HELP {
+            has_fault(&rt, rt.alloc(), words, part)?;
+        }
     }
     Ok(())
 }
 
 /// The words have the version as their fault: one line.
 fn tells_version(rt: &impl Abort, alloc: Global, words: &[&str]) -> Result<(), Fail> {
-    match read_words(alloc, words) {
-        Err(WordsFault::Usage(text)) => {
-            let text = text.as_str();
-            let found = (text.starts_with("lrupd "), text.lines().count());
-            same(rt, (words, text, found), (words, text, (true, 1)));
-            Ok(())
-        }
-        other => Err(Fail::from(format_args!("{words:?}: {other:?}"))),
-    }
+    let usage = usage_of(alloc, words)?;
+    let text = usage.as_str();
+    let found = (text.starts_with("lrupd "), text.lines().count());
+    same(rt, (words, text, found), (words, text, (true, 1)));
+    Ok(())
 }
 
 static VERSION: [&[&str]; 3] = [&["--version"], &["-V"], &["f", "s", "--version"]];
