@@ -24,10 +24,10 @@ loop-preserved g c =
 
 pub returns-in-Err-clause-sent : goal.returns-in-Err-clause-sent
 returns-in-Err-clause-sent g c = record {
-      bytes = sent c.loop.self.producer;
-      end = stream_ends.Failed;
-      told = Consumes-kept _ _ _ _ c.loop.invariant.told c.in-Err.ensures.bytes;
-      ends = c.in-Err.ensures.failed;
-      read = record { last = c.loop.reader; given = c.loop.invariant.gave; ends = (_, c.in-Err.ensures.reads) };
-      sent = record { small = c.loop.invariant.small; items_are = c.push_all-in-Err.ensures.sent };
-    }
+  bytes = sent c.loop.self.producer;
+  end = stream_ends.Failed;
+  told = Consumes-kept _ _ _ _ c.loop.invariant.told c.in-Err.ensures.bytes;
+  ends = c.in-Err.ensures.failed;
+  read = record { last = c.loop.reader; given = c.loop.invariant.gave; ends = (_, c.in-Err.ensures.reads) };
+  sent = record { small = c.loop.invariant.small; items_are = c.push_all-in-Err.ensures.sent };
+}
