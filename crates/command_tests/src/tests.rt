@@ -68,6 +68,14 @@ impl Sink for Nowhere {
     }
 }
 
+/// The read of a file that fails.
+#[derive(Clone, Copy)]
+struct FailingRead<'a> {
+    path: &'a str,
+    /// From 1 on; 0 for none.
+    number: usize,
+}
+
 /// Files, and the paths that were opened or asked for, in order, each followed by a space.
 #[derive(Drop)]
 struct Shelf<'a> {
@@ -77,8 +85,7 @@ struct Shelf<'a> {
     streams: &'a [&'a str],
     /// At `a`.
     assumed: &'a str,
-    /// The path of the file that fails, and at which read of it, from 1 on; 0 for none.
-    fails: (&'a str, usize),
+    failing: FailingRead<'a>,
     opened: String,
     /// How many bytes come a read, at most.
     most: usize,
@@ -125,8 +132,11 @@ impl<'a> Files for Shelf<'a> {
         let Some(text) = self.text_at(path) else {
             return Err(OpenFault::NotOpened);
         };
-        let (failing, read) = self.fails;
-        let fails_at = if path == failing { read } else { 0 };
+        let FailingRead {
+            path: failing,
+            number,
+        } = self.failing;
+        let fails_at = if path == failing { number } else { 0 };
         Ok(OpenFile(Pieces::new(text, self.most, fails_at)))
     }
 
@@ -160,7 +170,10 @@ fn shelf_of<'a>(alloc: Global, formula: &'a str, streams: &'a [&'a str]) -> Shel
         formula,
         streams,
         assumed: "",
-        fails: ("", 0),
+        failing: FailingRead {
+            path: "",
+            number: 0,
+        },
         opened: String::new(alloc),
         most: 3,
         is_full: false,
@@ -188,11 +201,11 @@ struct Ran {
 }
 
 /// Runs the program over the files. The sinks fail at these writes, from 1 on; 0 for none.
-fn run_on<T: Threads + Wait + Sync + Clock>(
+fn run_on<T: Threads + Wait + Sync + Clock, F: Files>(
     rt: &T,
     alloc: Global,
     words: &[&str],
-    files: &mut Shelf<'_>,
+    files: &mut F,
     out_fails_at: usize,
     err_fails_at: usize,
 ) -> Ran {

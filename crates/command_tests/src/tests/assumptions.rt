@@ -187,7 +187,10 @@ static UNREAD: [(&str, usize, &str, &[&str], (&str, u8, &str)); 4] = [
 fn assumptions_that_are_not_read(rt: HostRuntime) {
     for &(path, read, formula, streams, want) in &UNREAD {
         let mut files = shelf_under(rt.alloc(), formula, streams, "-2 0\n");
-        files.fails = ("a", read);
+        files.failing = FailingRead {
+            path: "a",
+            number: read,
+        };
         let words = ["--assume", path, "f", "1"];
         assert_opened(&rt, rt.alloc(), &words, &mut files, want);
     }

@@ -147,25 +147,6 @@ fn folder_of<'a>(
     }
 }
 
-/// Runs the program in the folder. The sinks fail at these writes, from 1 on; 0 for none.
-fn run_in<T: Threads + Wait + Sync + Clock>(
-    rt: &T,
-    alloc: Global,
-    words: &[&str],
-    files: &mut Folder<'_>,
-    out_fails_at: usize,
-    err_fails_at: usize,
-) -> Ran {
-    let mut out = Paper::new(alloc, 7, out_fails_at);
-    let mut err = Paper::new(alloc, 7, err_fails_at);
-    let status = command(rt, rt, alloc, words, files, &mut out, &mut err);
-    Ran {
-        out: out.bytes,
-        err: err.bytes,
-        status,
-    }
-}
-
 /// The run of these words over these streams, whose report fails at such a write if any, ends so and leaves this.
 fn assert_leaves<T: Threads + Wait + Sync + Clock + Abort>(
     rt: &T,
@@ -179,7 +160,7 @@ fn assert_leaves<T: Threads + Wait + Sync + Clock + Abort>(
 ) {
     let taken = AtomicU64::new(0);
     let mut files = folder_of(alloc, streams, manner, &taken);
-    let ran = run_in(rt, alloc, words, &mut files, out_fails_at, 0);
+    let ran = run_on(rt, alloc, words, &mut files, out_fails_at, 0);
     let wrote = (ran.status, ran.out.as_slice(), ran.err.as_slice());
     let count = taken.load(Ordering::SeqCst);
     let found = (files.shelf.opened.as_str(), files.kept.as_slice(), count);
@@ -409,7 +390,7 @@ fn assert_not_said<T: Threads + Wait + Sync + Clock + Abort>(
     let taken = AtomicU64::new(0);
     let mut files = folder_of(alloc, DROPPING, BROKEN, &taken);
     let words = ["--checkpoint", "ck", "f", "1"];
-    let ran = run_in(rt, alloc, &words, &mut files, out_fails_at, 2);
+    let ran = run_on(rt, alloc, &words, &mut files, out_fails_at, 2);
     let said = b"lrupd: ".as_slice();
     same(rt, (ran.status, ran.err.as_slice()), (status, said));
 }
@@ -439,7 +420,7 @@ fn may_end(ran: &Ran, kept: &[u8]) -> bool {
 fn assert_may_end<T: Threads + Wait + Sync + Clock + Abort>(rt: &T, alloc: Global, words: &[&str]) {
     let taken = AtomicU64::new(0);
     let mut files = folder_of(alloc, DROPPING, WELL, &taken);
-    let ran = run_in(rt, alloc, words, &mut files, 0, 0);
+    let ran = run_on(rt, alloc, words, &mut files, 0, 0);
     let found = (ran.status, may_end(&ran, &files.kept));
     same(rt, found, (ran.status, true));
 }

@@ -52,7 +52,10 @@ fn files_that_are_missing(rt: HostRuntime) {
 fn a_formula_whose_reading_fails(rt: HostRuntime) {
     for fails_at in 1..=FOUR.len().div_ceil(3) + 1 {
         let mut files = shelf_of(rt.alloc(), FOUR, TWO_EMPTY);
-        files.fails = ("f", fails_at);
+        files.failing = FailingRead {
+            path: "f",
+            number: fails_at,
+        };
         let line = "cannot read formula";
         assert_fault(&rt, rt.alloc(), &["f", "1"], &mut files, line, 5);
     }
@@ -72,7 +75,10 @@ s UNKNOWN
 ";
     for words in &BOTH_WAYS {
         let mut files = shelf_of(rt.alloc(), FOUR, ADDS_5_AND_6);
-        files.fails = ("1", 3);
+        files.failing = FailingRead {
+            path: "1",
+            number: 3,
+        };
         assert_ends(&rt, rt.alloc(), words, &mut files, (out, "", 3));
     }
 }

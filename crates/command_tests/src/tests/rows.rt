@@ -71,7 +71,10 @@ fn assert_fails<T: Threads + Wait + Sync + Clock + Abort>(
     for words in &ONE_BOTH_WAYS {
         let mut files = shelf_of(alloc, FOUR, &streams);
         files.most = most;
-        files.fails = ("1", fails_at);
+        files.failing = FailingRead {
+            path: "1",
+            number: fails_at,
+        };
         assert_ends(rt, alloc, words, &mut files, (out.as_str(), "", status));
     }
     Ok(())
