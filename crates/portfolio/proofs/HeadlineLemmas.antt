@@ -73,6 +73,7 @@ none_of_layout options f p n streams same count is fault bad =
 pub no_error : {T E : Type 0} {value : T} {e : E} → Ok value ≡ Err e → ⊥
 no_error is = cc
 
+-- nor has one result both
 pub ok_or_error : {T E : Type 0} {result : Result T E} {value : T} {e : E} → result ≡ Ok value → result ≡ Err e → ⊥
 ok_or_error is other = no_error (sym is ∙ other)
 
@@ -92,7 +93,7 @@ pub not_ring : {T : Type 0} (result : Result T RunFault) (stream : ℕ) → IfEr
 not_ring (Ok value) stream memory is = no_error is
 not_ring (Err e) stream memory is = cc
 
--- where the fault is there, so is none of what it lacks
+-- what `?` hands on is out of memory, and so is whatever fault there is
 pub is_memory : {T : Type 0} (result : Result T RunFault) → IsErrAnd result (λ e. e ≡ Memory) → IfErr result (λ e. e ≡ Memory)
 is_memory (Ok value) is = tt
 is_memory (Err e) is = is
