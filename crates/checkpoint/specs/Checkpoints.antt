@@ -9,7 +9,7 @@ use Rattle.lrup_model.specs.Formula.{Cnf, max_clause_literals, max_clauses}
 use Rattle.dimacs.specs.FormulaText.{IsFormulaText}
 use Rattle.checkpoint.specs.Entails.{Entails}
 use Rattle.checkpoint.specs.Live.{Entry, clauses_of}
-use Rattle.checkpoint.specs.Printing.{formula_text}
+use Rattle.checkpoint.specs.Printing.{formula_text, printed}
 use Rattle.checkpoint.specs.declared.saving.SaveFault.{SaveFault}
 use Rattle.checkpoint.specs.declared.saving.SaveFault.TheVariants as faults
 
@@ -18,6 +18,11 @@ pub record IsCheckpoint (original : Cnf) (bytes : List ℕ) : Type 0 where
   pub formula : Cnf
   pub text : IsFormulaText bytes formula
   pub entails : Entails original formula
+
+-- the bytes are a text of just this next formula, over the same variables, each clause of which follows from the original
+pub record IsCheckpointOf (original : Cnf) (bytes : List ℕ) (next : Cnf) : Type 0 where
+  pub text : IsFormulaText bytes next
+  pub entails : Entails original next
 
 -- a formula may have so many clauses, and of these lengths
 abbrev pub AreWithinLimits : List Clause → Type 0
@@ -35,6 +40,20 @@ Saves (Err faults.TooLarge) vars entries before after =
     (¬ AreWithinLimits (clauses_of entries)) × Appends before after []
 Saves (Err faults.Unwritten) vars entries before after =
     (went rest : List ℕ) × (formula_text vars entries ≡ went ++ rest) × Appends before after went
+
+-- What became of clauses that a later round goes on with: their text was written, and the formula is that of the text; or it is as
+-- with a saving that failed.
+abbrev pub Carries : Result Cnf SaveFault → ℕ → List Entry → Option (List ℕ) → Option (List ℕ)
+    → Type 0
+Carries (Ok next) vars entries before after =
+    (next ≡ printed vars entries) × Appends before after (formula_text vars entries)
+Carries (Err fault) vars entries before after = Saves (Err fault) vars entries before after
+
+-- why clauses aren't carried, but for memory: they are too many or too long
+abbrev pub IsTooLarge : List Clause → SaveFault → Type 0
+IsTooLarge clauses faults.Memory = Unit {0}
+IsTooLarge clauses faults.TooLarge = ¬ AreWithinLimits clauses
+IsTooLarge clauses faults.Unwritten = ⊥
 
 -- Chains of files
 

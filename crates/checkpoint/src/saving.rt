@@ -110,7 +110,7 @@ pub fn save_clips<M: ClauseMap, W: Sink>(
 }
 
 /// Whether a formula may have as many clauses as there are clips, of these lengths.
-fn are_few(clips: &[Clip]) -> bool
+pub(crate) fn are_few(clips: &[Clip]) -> bool
     ensures { IsTrue result ↔ ((length clips.now ≤ max_clauses)
         × AllByRecursion (λ clip. clip.len ≤ max_clause_literals) clips.now) }
 {

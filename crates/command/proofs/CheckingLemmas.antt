@@ -158,6 +158,7 @@ read_cause files words given line faults.Memory cause = tt
 read_cause files words given line faults.Unwritten cause = absurd cause
 read_cause files words given line faults.NotCreated cause = absurd cause
 read_cause files words given line (faults.NotSaved fault) cause = absurd cause
+read_cause files words given line faults.TwoCheckpoints cause = absurd cause
 
 assume_cause : (files : FilesView) (words : List Text) (given : CommandLine) (f : Cnf) (next : files.State) → IsCommandLineOf words given
     → IsFormulaAt files given.formula.now f next → (path : Text) → assumed_at given ≡ Some path → (fault : CommandFault)
@@ -183,6 +184,7 @@ assume_cause files words given f next line at path same faults.Memory cause = tt
 assume_cause files words given f next line at path same faults.Unwritten cause = absurd cause
 assume_cause files words given f next line at path same faults.NotCreated cause = absurd cause
 assume_cause files words given f next line at path same (faults.NotSaved fault) cause = absurd cause
+assume_cause files words given f next line at path same faults.TwoCheckpoints cause = absurd cause
 
 pub assumed_cause : (files : FilesView) (words : List Text) (given : CommandLine) (f : Cnf) (next : files.State)
     → IsCommandLineOf words given
@@ -210,6 +212,7 @@ open_cause files words given f cube next later line at assumed faults.Memory cau
 open_cause files words given f cube next later line at assumed faults.Unwritten cause = absurd cause
 open_cause files words given f cube next later line at assumed faults.NotCreated cause = absurd cause
 open_cause files words given f cube next later line at assumed (faults.NotSaved fault) cause = absurd cause
+open_cause files words given f cube next later line at assumed faults.TwoCheckpoints cause = absurd cause
 
 line_cause : (files : FilesView) (words : List Text) (given : CommandLine) (f : Cnf) (cube : CubeValue) (next later : files.State)
     → IsCommandLineOf words given
@@ -231,6 +234,7 @@ line_cause files words given f cube next later line at assumed faults.Memory cau
 line_cause files words given f cube next later line at assumed faults.Unwritten cause = absurd cause
 line_cause files words given f cube next later line at assumed faults.NotCreated cause = absurd cause
 line_cause files words given f cube next later line at assumed (faults.NotSaved fault) cause = absurd cause
+line_cause files words given f cube next later line at assumed faults.TwoCheckpoints cause = absurd cause
 
 -- so a run's cause, by the layout that the run has
 pub run_cause_of : (files : FilesView) (words : List Text) (given : CommandLine) (f : Cnf) (cube : CubeValue) (options : OptionsValue)
@@ -274,6 +278,7 @@ create_cause files words given f cube next later line at assumed readers last op
 create_cause files words given f cube next later line at assumed readers last opened layout faults.NotCreated cause =
     (given, line, inr (f, next, at, inr (cube, later, assumed, inr (inr (readers, last, opened, layout, cause)))))
 create_cause files words given f cube next later line at assumed readers last opened layout (faults.NotSaved fault) cause = absurd cause
+create_cause files words given f cube next later line at assumed readers last opened layout faults.TwoCheckpoints cause = absurd cause
 
 -- so a layout that was found is that of the command line
 pub layout_moved : (files : FilesView) (given : CommandLine) (f : Cnf) (options : OptionsValue) (readers : List files.Reader)

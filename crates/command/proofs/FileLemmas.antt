@@ -38,6 +38,7 @@ reading_cause files before path reader after opened left faults.Memory cause = t
 reading_cause files before path reader after opened left faults.Unwritten cause = absurd cause
 reading_cause files before path reader after opened left faults.NotCreated cause = absurd cause
 reading_cause files before path reader after opened left (faults.NotSaved fault) cause = absurd cause
+reading_cause files before path reader after opened left faults.TwoCheckpoints cause = absurd cause
 
 -- what was read of a file that was opened
 pub was_read : (files : FilesView) (before : files.State) (path : Text) (reader : files.Reader) (after : files.State) {T E : Type 0}
@@ -66,6 +67,7 @@ formula_file_cause files path faults.Memory cause = tt
 formula_file_cause files path faults.Unwritten cause = absurd cause
 formula_file_cause files path faults.NotCreated cause = absurd cause
 formula_file_cause files path (faults.NotSaved fault) cause = absurd cause
+formula_file_cause files path faults.TwoCheckpoints cause = absurd cause
 
 pub cube_file_cause : (files : FilesView) (vars : ℕ) (before : files.State) (path : Text) (fault : CommandFault)
     → IsFileCause files before path fault → IsAssumeCause files vars before (Some path) (of_cube_file fault)
@@ -82,6 +84,7 @@ cube_file_cause files vars before path faults.Memory cause = tt
 cube_file_cause files vars before path faults.Unwritten cause = absurd cause
 cube_file_cause files vars before path faults.NotCreated cause = absurd cause
 cube_file_cause files vars before path (faults.NotSaved fault) cause = absurd cause
+cube_file_cause files vars before path faults.TwoCheckpoints cause = absurd cause
 
 -- why what was read is no formula, or no text of literals
 pub text_cause : (files : FilesView) (path : Text) (bytes : List ℕ) (after : files.State) → WasReadIn files files.first path bytes after
@@ -131,3 +134,4 @@ module _ (files : FilesView) (first : files.State) where
   moved_cause vars before (Some path) faults.Unwritten cause = absurd cause
   moved_cause vars before (Some path) faults.NotCreated cause = absurd cause
   moved_cause vars before (Some path) (faults.NotSaved fault) cause = absurd cause
+  moved_cause vars before (Some path) faults.TwoCheckpoints cause = absurd cause

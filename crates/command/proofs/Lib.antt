@@ -7,3 +7,4 @@ mod ArgumentLemmas
 mod FileLemmas
 mod StatusLemmas
 mod SavingLemmas
+mod RoundLemmas

@@ -1,5 +1,5 @@
 -- What a status says.
-use Rattle.std.proofs.Common.{◌≡◌, ◌∙◌, ◌⊎◌, ℕ, Bool, IsTrue, true, false, List, Option, None, Some, inl, inr, refl, sym, subst, arith}
+use Rattle.std.proofs.Common.{◌≡◌, ◌∙◌, ◌⊎◌, ℕ, Bool, IsTrue, true, false, List, Option, None, Some, inl, inr, refl, sym, subst}
 use Rattle.std.specs.Prelude.{◌↔◌}
 use Rattle.lrup_model.specs.Formula.{Cnf}
 use Rattle.lrup_model.specs.declared.layout.LayoutFault.TheVariants as layouts
@@ -14,6 +14,7 @@ use Rattle.command.specs.Commands.{LeavesCheckpoint, NameCheckpoint, WasLeftEmpt
 use Rattle.command.specs.Faults.{status_of}
 use Rattle.command.specs.declared.fault.CommandFault.{CommandFault}
 use Rattle.command.specs.declared.fault.CommandFault.TheVariants as faults
+use Rattle.command.specs.Rounds.{Ends, EndsInRounds, IsOfRounds}
 use Rattle.command.proofs.CheckingLemmas.{ask_for}
 
 -- the verdict of a report with this status
@@ -76,6 +77,7 @@ module _ (files : FilesView) where
   not_7 words faults.Unwritten cause is = never_unwritten words cause
   not_7 words faults.NotCreated cause is = let no : Path ℕ 5 7 = is in cc
   not_7 words (faults.NotSaved fault) cause is = let no : Path ℕ 9 7 = is in cc
+  not_7 words faults.TwoCheckpoints cause is = let no : Path ℕ 2 7 = is in cc
 
 -- however the program ends, its status is 7 exactly where the sink failed
 pub ends_unwritten : (files : FilesView) (words : List Text) (after : files.State) (out err : SinkChange) (status : ℕ)
@@ -112,6 +114,7 @@ no_fault faults.Memory is = neither 6 (λ e. cc) (λ e. cc) is
 no_fault faults.Unwritten is = neither 7 (λ e. cc) (λ e. cc) is
 no_fault faults.NotCreated is = neither 5 (λ e. cc) (λ e. cc) is
 no_fault (faults.NotSaved fault) is = neither 9 (λ e. cc) (λ e. cc) is
+no_fault faults.TwoCheckpoints is = neither 2 (λ e. cc) (λ e. cc) is
 
 module _ (files : FilesView) where
   leaves_saved : (failed : Bool) (unsaved : Option SaveFault) (verdict : Verdict) (path : Text) (f : Cnf) (before after : files.State)
@@ -174,6 +177,7 @@ no_zero faults.Memory is = let no : Path ℕ 6 0 = is in cc
 no_zero faults.Unwritten is = let no : Path ℕ 7 0 = is in cc
 no_zero faults.NotCreated is = let no : Path ℕ 5 0 = is in cc
 no_zero (faults.NotSaved fault) is = let no : Path ℕ 9 0 = is in cc
+no_zero faults.TwoCheckpoints is = let no : Path ℕ 2 0 = is in cc
 
 pub ends_empty : (files : FilesView) (words : List Text) (after : files.State) (out err : SinkChange) (status : ℕ)
     → EndsWithReport files words after out err status ⊎ EndsWithFault files words out err status
@@ -189,3 +193,70 @@ ends_empty files words after out err status (inl report) path ask is =
     let left = created.1 in
     (outcome.last, left.0, left.1, left.2)
 ends_empty files words after out err status (inr fault) path ask is = absurd (no_zero fault.fault (sym fault.status_is ∙ is))
+
+-- ---- the same, where the program may end in rounds
+
+rounds_not_7 : (fault : CommandFault) → IsOfRounds fault → status_of fault ≡ 7 → ⊥
+rounds_not_7 (faults.Usage text) of is = of
+rounds_not_7 faults.Unread of is = let no : Path ℕ 5 7 = is in cc
+rounds_not_7 (faults.Refused fault) of is = let no : Path ℕ 4 7 = is in cc
+rounds_not_7 faults.CubeUnread of is = let no : Path ℕ 5 7 = is in cc
+rounds_not_7 (faults.CubeRefused fault) of is = let no : Path ℕ 4 7 = is in cc
+rounds_not_7 (faults.NotOpened stream) of is = let no : Path ℕ 5 7 = is in cc
+rounds_not_7 (faults.Layout layouts.TooManyVariables) of is = let no : Path ℕ 4 7 = is in cc
+rounds_not_7 (faults.Layout layouts.TooManyClauses) of is = let no : Path ℕ 4 7 = is in cc
+rounds_not_7 (faults.Layout layouts.BadStreamCount) of is = let no : Path ℕ 2 7 = is in cc
+rounds_not_7 (faults.Layout layouts.RowTooLong) of is = let no : Path ℕ 2 7 = is in cc
+rounds_not_7 (faults.Spawn stream) of is = let no : Path ℕ 6 7 = is in cc
+rounds_not_7 (faults.Ring stream) of is = let no : Path ℕ 6 7 = is in cc
+rounds_not_7 faults.Memory of is = let no : Path ℕ 6 7 = is in cc
+rounds_not_7 faults.Unwritten of is = of
+rounds_not_7 faults.NotCreated of is = let no : Path ℕ 5 7 = is in cc
+rounds_not_7 (faults.NotSaved fault) of is = of
+rounds_not_7 faults.TwoCheckpoints of is = let no : Path ℕ 2 7 = is in cc
+
+module _ (files : FilesView) (words : List Text) where
+  in_rounds_unwritten : (out err : SinkChange) (status : ℕ) → EndsInRounds files words out err status → IsTrue out.failed ↔ (status ≡ 7)
+  in_rounds_unwritten out err status ends = elim ends.ending [
+    | inl report ↦ (
+      (λ failed. report.status_is ∙ has_7 out.failed report.last.unsaved report.last.verdict failed),
+      (λ seven. written out.failed report.last.unsaved report.last.verdict (sym report.status_is ∙ seven)),
+    )
+    | inr fails ↦ (
+      (λ failed. absurd (let no : false ≡ true = sym fails.untouched.failed ∙ failed in cc)),
+      (λ seven. absurd (rounds_not_7 fails.fault fails.is (sym fails.status_is ∙ seven))),
+    )
+  ]
+
+  pub all_unwritten : (after : files.State) (out err : SinkChange) (status : ℕ) → Ends files words after out err status
+      → IsTrue out.failed ↔ (status ≡ 7)
+  all_unwritten after out err status (inl report) = ends_unwritten files words after out err status (inl report.0)
+  all_unwritten after out err status (inr (inl fault)) = ends_unwritten files words after out err status (inr fault)
+  all_unwritten after out err status (inr (inr rounds)) = in_rounds_unwritten out err status rounds
+
+  -- with a checkpoint of its own a run in rounds ends with neither of these statuses
+  not_both : (out err : SinkChange) (status : ℕ) (path : Text) → AskToSave words path → EndsInRounds files words out err status
+      → (fault : CommandFault) × (status ≡ status_of fault)
+  not_both out err status path ask ends = elim ends.ending [
+    | inl report ↦
+        let no : Some path ≡ None = sym ask.path_is ∙ sym ends.command_line.said.checkpoint ∙ report.alone in
+        absurd (cc)
+    | inr fails ↦ (fails.fault, fails.status_is)
+  ]
+
+  pub all_saved : (after : files.State) (out err : SinkChange) (status : ℕ) → Ends files words after out err status
+      → (path : Text) → AskToSave words path → (status ≡ 3) ⊎ (status ≡ 8)
+      → NameCheckpoint (WasReadIn files) (WasSavedIn files) files.first words path after
+  all_saved after out err status (inl report) path ask is = ends_saved files words after out err status (inl report.0) path ask is
+  all_saved after out err status (inr (inl fault)) path ask is = ends_saved files words after out err status (inr fault) path ask is
+  all_saved after out err status (inr (inr rounds)) path ask is =
+      let fault = not_both out err status path ask rounds in
+      absurd (no_fault fault.0 (subst (λ (n : ℕ). (n ≡ 3) ⊎ (n ≡ 8)) fault.1 is))
+
+  pub all_empty : (after : files.State) (out err : SinkChange) (status : ℕ) → Ends files words after out err status
+      → (path : Text) → AskToSave words path → status ≡ 0 → WasLeftEmpty files.creates files.written path after
+  all_empty after out err status (inl report) path ask is = ends_empty files words after out err status (inl report.0) path ask is
+  all_empty after out err status (inr (inl fault)) path ask is = ends_empty files words after out err status (inr fault) path ask is
+  all_empty after out err status (inr (inr rounds)) path ask is =
+      let fault = not_both out err status path ask rounds in
+      absurd (no_zero fault.0 (sym fault.1 ∙ is))

@@ -1,10 +1,17 @@
 -- What is written.
-use Rattle.std.proofs.Common.{◌≡◌, ◌++◌, ◌∙◌, ℕ, Bool, true, false, List, [], Option, None, Some, refl, sym, ap, subst}
+use Rattle.std.proofs.Common.{◌≡◌, ◌≢◌, ◌++◌, ◌∙◌, ℕ, Bool, true, false, List, [], Option, None, Some, refl, sym, ap, subst}
 use Rattle.std.proofs.lemmas.List.{append_assoc}
 use Rattle.std.proofs.KnownBytes.{Appends-trans}
 use Rattle.std.specs.Io.KnownBytes.{Appends, Keeps}
 use Rattle.checkpoint.specs.declared.saving.SaveFault.{SaveFault}
 use Rattle.command.specs.Commands.{SaysOfReport, SinkTook, TakesUnlessFailed, change}
+use Rattle.std.specs.Prelude.{Result, Ok, Err}
+use Rattle.std.proofs.lemmas.Bool.{eq-eqb, ne_eqb}
+use Rattle.lrup_text.specs.Writing.{WritesText}
+use Rattle.stream_check.specs.declared.report.Report.{Report}
+use Rattle.portfolio.specs.declared.outcome.Verdict.{Verdict}
+use Rattle.portfolio.specs.ReportText.{report_text}
+use Rattle.command.specs.Rounds.{last_text, round_text}
 use Rattle.command.specs.Faults.{error_text}
 use Rattle.command.specs.declared.fault.CommandFault.TheVariants as faults
 
@@ -51,3 +58,29 @@ says_both a b c true failed (Some fault) said stays goes =
     ∙ append_assoc said.0 said.1 (error_text faults.Unwritten) in
     subst (λ (f : Bool). TakesUnlessFailed f a c text) (sym same.1)
     (said.0, rest, is, subst (λ (o : Option (List ℕ)). Appends a o said.0) (sym same.0) said.3)
+
+-- a text that goes out after another
+pub writes_after : {E : Type 0} (r : Result (Unit {0}) E) (a b c : Option (List ℕ)) (one two : List ℕ) → Appends a b one
+    → WritesText r b c two → WritesText r a c (one ++ two)
+writes_after (Ok u) a b c one two first next = Appends-trans a b c one two first next
+writes_after (Err e) a b c one two first next = (
+  one ++ next.0,
+  next.1,
+  ap (λ t. one ++ t) next.2 ∙ sym (append_assoc one next.0 next.1),
+  Appends-trans a b c one next.0 first next.3,
+)
+
+-- one that broke off before the other
+pub breaks_before : (a b : Option (List ℕ)) (one two : List ℕ) → (went rest : List ℕ) × (one ≡ went ++ rest) × Appends a b went
+    → (went rest : List ℕ) × (one ++ two ≡ went ++ rest) × Appends a b went
+breaks_before a b one two broken =
+    (broken.0, broken.1 ++ two, ap (λ t. t ++ two) broken.2 ∙ append_assoc broken.0 broken.1 two, broken.3)
+
+-- the text of the last round, whichever it is
+pub last_of_one : (number : ℕ) (reports : List Report) (verdict : Verdict) → number ≡ 1
+    → last_text number reports verdict ≡ report_text reports verdict
+last_of_one number reports verdict is = rw (eq-eqb number 1 is) refl
+
+pub last_of_more : (number : ℕ) (reports : List Report) (verdict : Verdict) → number ≢ 1
+    → last_text number reports verdict ≡ round_text number ++ report_text reports verdict
+last_of_more number reports verdict other = rw (ne_eqb number 1 other) refl

@@ -167,7 +167,7 @@ readers_view its = source_view its.left its.has_failed its.reads
 -- What is known of files: as what they pass from one call to the next, as what readers they are opened, and as what sinks they are
 -- created; which of these they are at first; what the file at each path tells, where the device tells it, and whether the opening of
 -- a path or its creation may be refused, all of which stays while files are opened; what an opening, a creation and a keeping does; and
--- what is known of the readers and the sinks.
+-- what is known of the readers and the sinks; and whether the opening of a path may be refused at any time.
 pub record FilesView : Type 1 where
   pub State : Type 0
   pub Reader : Type 0
@@ -181,6 +181,7 @@ pub record FilesView : Type 1 where
   pub keeps : State → Output → State → Type 0
   pub reading : SourceView Reader
   pub written : Output → Option (List ℕ)
+  pub refuses : State → Text → Bool
 
 -- these, as the types of files, of their readers and of their sinks say them
 abbrev pub files_view : {F R W M : Type 0} → Files.Ghosts F R W M → Source.Ghosts R
@@ -198,6 +199,7 @@ files_view {F = F} {R = R} {W = W} its input output first = record {
   keeps = its.keeps;
   reading = readers_view input;
   written = output.written;
+  refuses = its.may_refuse;
 }
 
 -- the same, where others were the first ones
@@ -225,6 +227,10 @@ path_of path = option_map (λ lent. lent.now) path
 -- the path of the assumed literals that the words have, if any
 abbrev pub assumed_at : CommandLine → Option Text
 assumed_at given = path_of given.assume
+
+-- the folder of the rounds that they ask for, if any
+abbrev pub rounds_at : CommandLine → Option Text
+rounds_at given = path_of given.rounds
 
 -- the path of the checkpoint that they ask for, if any
 abbrev pub checkpoint_at : CommandLine → Option Text
@@ -262,19 +268,25 @@ pub record IsOutcome (files : FilesView) (words : List Text) (reports : List Rep
 -- nothing. With 'unsatisfiable': a file that was created, with nothing in it. Else the file was created, written and kept; or it
 -- was created, and the fault says why it wasn't saved: only where a write or the keeping failed may anything more have been done to
 -- the files.
+abbrev pub LeavesBehind : {F W : Type 0} → (F → Text → W → F → Type 0) → (W → Option (List ℕ))
+    → (F → W → F → Type 0) → Option Text → Cnf → Verdict → Option SaveFault → F → F → Type 0
+LeavesBehind creates written keeps None formula verdict unsaved before after =
+    (unsaved ≡ None) × (after ≡ before)
+LeavesBehind {W = W} creates written keeps (Some path) formula Unsatisfiable unsaved before after =
+    (unsaved ≡ None)
+    × ((output : W) × creates before path output after
+    × ForSome (written output) (λ all. all ≡ []))
+LeavesBehind creates written keeps (Some path) formula verdict None before after =
+    (bytes : List ℕ) × WasSaved creates written keeps before path bytes after
+    × IsCheckpoint formula bytes
+LeavesBehind {F = F} {W = W} creates written keeps (Some path) formula verdict (Some fault) before after =
+    (output : W) × (next : F) × creates before path output next
+    × ((fault ≡ saves.Unwritten) ⊎ (after ≡ next))
+
+-- the same, by what is known of files
 abbrev pub LeavesCheckpoint : (files : FilesView) → Option Text → Cnf → Verdict
     → Option SaveFault → files.State → files.State → Type 0
-LeavesCheckpoint files None formula verdict unsaved before after =
-    (unsaved ≡ None) × (after ≡ before)
-LeavesCheckpoint files (Some path) formula Unsatisfiable unsaved before after =
-    (unsaved ≡ None)
-    × ((output : files.Output) × files.creates before path output after
-    × ForSome (files.written output) (λ all. all ≡ []))
-LeavesCheckpoint files (Some path) formula verdict None before after =
-    (bytes : List ℕ) × WasSavedIn files before path bytes after × IsCheckpoint formula bytes
-LeavesCheckpoint files (Some path) formula verdict (Some fault) before after =
-    (output : files.Output) × (next : files.State) × files.creates before path output next
-    × ((fault ≡ saves.Unwritten) ⊎ (after ≡ next))
+LeavesCheckpoint files = LeavesBehind files.creates files.written files.keeps
 
 -- Causes. Nothing shows afterwards that memory ran out or that a thread wasn't started, so these are taken as causes whatever the
 -- files hold.

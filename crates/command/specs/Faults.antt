@@ -69,6 +69,7 @@ status_of faults.Memory = 6
 status_of faults.Unwritten = 7
 status_of faults.NotCreated = 5
 status_of (faults.NotSaved fault) = 9
+status_of faults.TwoCheckpoints = 2
 
 -- What is said: a usage fault in the words of the command line's reader, each other fault in one line.
 abbrev pub formula_fault_text : DimacsFault → List ℕ
@@ -110,6 +111,7 @@ cause_text faults.Memory = codes "out of memory"
 cause_text faults.Unwritten = codes "cannot write report"
 cause_text faults.NotCreated = codes "cannot create checkpoint"
 cause_text (faults.NotSaved fault) = save_fault_text fault
+cause_text faults.TwoCheckpoints = codes "--checkpoint and --rounds exclude each other"
 
 -- a line of the program's
 abbrev pub error_line : List ℕ → List ℕ

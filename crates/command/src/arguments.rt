@@ -7,7 +7,8 @@ ghost use Rattle.clap.specs.Walk.{texts};
 ghost use Rattle.command_line.specs.CommandLine.{AskToSave, HaveFault};
 ghost use Rattle.command.specs.Arguments.{EndsWithoutArguments, not_utf8, refusal_status, refusal_text};
 ghost use Rattle.command.specs.Arguments.{words_after_name};
-ghost use Rattle.command.specs.Commands.{EndsWithFault, EndsWithReport, NameCheckpoint, NameUnsatisfiable};
+ghost use Rattle.command.specs.Commands.{NameCheckpoint, NameUnsatisfiable};
+ghost use Rattle.command.specs.Rounds.{Ends};
 ghost use Rattle.command.specs.Commands.{NameUnsatisfiableUnder, Text, WasSaved};
 ghost use Rattle.command.specs.Commands.{SinkTook, WasRead, change, files_view};
 
@@ -57,8 +58,7 @@ pub fn command_with_arguments<
         let output = change (O.written out.old) (O.written out.new) (O.has_failed out.new) in
         let errors = change (E.written err.old) (E.written err.new) (E.has_failed err.new) in
         IfOk arguments (λ given.
-        EndsWithReport view (words_after_name given) files.new output errors (exit_status result)
-        ⊎ EndsWithFault view (words_after_name given) output errors (exit_status result)) }
+        Ends view (words_after_name given) files.new output errors (exit_status result)) }
     // With status 3 or 8, where the words ask for a checkpoint, what was saved there is a text of a formula each clause of which
     // follows from that of FORMULA.
     ensures saved { let read = WasRead F.opens F.Input.Source.reads (F.tells files.old) in
@@ -105,8 +105,7 @@ fn with_words<T: Threads + Wait + Sync, C: Clock + Sync, F: Files, O: Sink, E: S
     ensures ends { let view = files_view F.Files F.Input.Source F.Output.Sink files.old in
         let output = change (O.written out.old) (O.written out.new) (O.has_failed out.new) in
         let errors = change (E.written err.old) (E.written err.new) (E.has_failed err.new) in
-        EndsWithReport view (words_after_name arguments) files.new output errors result
-        ⊎ EndsWithFault view (words_after_name arguments) output errors result }
+        Ends view (words_after_name arguments) files.new output errors result }
     ensures saved { let read = WasRead F.opens F.Input.Source.reads (F.tells files.old) in
         let save = WasSaved F.creates F.Output.Sink.written F.keeps in
         (path : Text) → AskToSave (words_after_name arguments) path → (result ≡ 3) ⊎ (result ≡ 8)
@@ -131,7 +130,10 @@ fn after_name(alloc: Global, arguments: Args) -> Result<Vec<String>, AllocError>
 }
 
 /// The arguments as words.
-fn words_of<'a>(alloc: Global, arguments: &'a [String]) -> Result<Vec<&'a str>, AllocError>
+pub(crate) fn words_of<'a>(
+    alloc: Global,
+    arguments: &'a [String],
+) -> Result<Vec<&'a str>, AllocError>
     ensures { IfOk result (λ words. texts words.items ≡ map string_bytes arguments.now) }
 {
     let mut words = Vec::with_capacity(alloc, arguments.len())?;

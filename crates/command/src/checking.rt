@@ -142,7 +142,7 @@ pub fn check_asked<T: Threads + Wait + Sync, C: Clock + Sync, F: Files>(
 }
 
 /// Parses a formula, and gives the memory of its text back.
-fn parse_text(alloc: Global, bytes: Vec<u8>) -> Result<Formula, DimacsFault>
+pub(crate) fn parse_text(alloc: Global, bytes: Vec<u8>) -> Result<Formula, DimacsFault>
     ensures formula { IfOk result (λ formula. IsFormulaText bytes.items formula) }
     ensures fault { IfErr result
         (λ fault. fault ≢ DimacsFault.Memory → IsFormulaFault bytes.items fault) }
@@ -151,7 +151,7 @@ fn parse_text(alloc: Global, bytes: Vec<u8>) -> Result<Formula, DimacsFault>
 }
 
 /// Opens, reads and parses the file of the assumed literals, over the formula's variables. Without a path there are none.
-fn read_assumed<W: Wait, F: Files>(
+pub(crate) fn read_assumed<W: Wait, F: Files>(
     wait: &W,
     alloc: Global,
     files: &mut F,
@@ -254,7 +254,7 @@ fn read_all<W: Wait, S: Source>(
 }
 
 /// Opens the files of the streams, in order.
-fn open_streams<F: Files>(
+pub(crate) fn open_streams<F: Files>(
     alloc: Global,
     files: &mut F,
     paths: &[&str],
@@ -283,7 +283,7 @@ fn open_streams<F: Files>(
 }
 
 /// Refuses streams that have no layout, before a file is created that would be left empty.
-fn find_layout(setup: &Setup<'_>, streams: usize) -> Result<(), CommandFault>
+pub(crate) fn find_layout(setup: &Setup<'_>, streams: usize) -> Result<(), CommandFault>
     ensures found { let terms = terms_on setup.now streams in
         IfOk result (λ _. (fault : LayoutFault) → IsFault terms.layout fault → ⊥) }
     ensures cause { let terms = terms_on setup.now streams in
@@ -296,7 +296,7 @@ fn find_layout(setup: &Setup<'_>, streams: usize) -> Result<(), CommandFault>
 }
 
 /// Creates the checkpoint's file, if there is to be one.
-fn create_checkpoint<F: Files>(
+pub(crate) fn create_checkpoint<F: Files>(
     files: &mut F,
     path: Option<&str>,
 ) -> Result<Option<F::Output>, CommandFault>
@@ -317,7 +317,7 @@ fn create_checkpoint<F: Files>(
 }
 
 /// Keeps the checkpoint's file, where a checkpoint was written to it, and returns why the saving failed, if it did.
-fn keep_checkpoint<F: Files>(
+pub(crate) fn keep_checkpoint<F: Files>(
     files: &mut F,
     saved: Result<Option<F::Output>, SaveFault>,
 ) -> Option<SaveFault>
@@ -335,11 +335,11 @@ fn keep_checkpoint<F: Files>(
 
 /// The terms by which streams are checked, and whether by turns on one thread.
 #[derive(Clone, Copy)]
-struct Setup<'a> {
-    formula: &'a Formula,
-    cube: &'a Cube,
-    options: Options,
-    serial: bool,
+pub(crate) struct Setup<'a> {
+    pub(crate) formula: &'a Formula,
+    pub(crate) cube: &'a Cube,
+    pub(crate) options: Options,
+    pub(crate) serial: bool,
 }
 
 /// What the checking of the streams found, and what it made of the checkpoint's file: one to be kept, where a checkpoint was written
@@ -486,7 +486,7 @@ fn check_in_threads<T: Threads + Wait + Sync, C: Clock + Sync, F: Files>(
 }
 
 /// The checkpoint's file, where there is one and a checkpoint is to be written to it.
-fn to_write<W: Drop>(verdict: Verdict, output: Option<W>) -> Option<W>
+pub(crate) fn to_write<W: Drop>(verdict: Verdict, output: Option<W>) -> Option<W>
     ensures { result ≡ to_write verdict output }
 {
     match verdict {
@@ -496,7 +496,7 @@ fn to_write<W: Drop>(verdict: Verdict, output: Option<W>) -> Option<W>
 }
 
 /// A gate for each of `count` streams that are checked in threads. Where they are watched, each reports on a watcher of its own.
-fn thread_gates<'a, C: Clock + Sync, F: Files>(
+pub(crate) fn thread_gates<'a, C: Clock + Sync, F: Files>(
     alloc: Global,
     clock: &'a C,
     watched: Option<&F>,
@@ -513,7 +513,7 @@ fn thread_gates<'a, C: Clock + Sync, F: Files>(
 }
 
 /// Such gates for streams that are checked by turns.
-fn turn_gates<'a, C: Clock + Sync, F: Files>(
+pub(crate) fn turn_gates<'a, C: Clock + Sync, F: Files>(
     alloc: Global,
     clock: &'a C,
     watched: Option<&F>,

@@ -44,6 +44,8 @@ pub enum CommandFault {
     NotCreated,
     /// The checkpoint wasn't saved.
     NotSaved(SaveFault),
+    /// The words ask for a checkpoint and for rounds, whose checkpoints have names of their own.
+    TwoCheckpoints,
 }
 
 impl From<AllocError> for CommandFault {
@@ -142,6 +144,7 @@ impl CommandFault {
     {
         match self {
             CommandFault::Usage(_)
+            | CommandFault::TwoCheckpoints
             | CommandFault::Layout(LayoutFault::BadStreamCount | LayoutFault::RowTooLong) => 2,
             CommandFault::Refused(_) | CommandFault::CubeRefused(_) | CommandFault::Layout(_) => 4,
             CommandFault::Unread | CommandFault::CubeUnread | CommandFault::NotOpened(_) => 5,
@@ -186,6 +189,9 @@ impl CommandFault {
             CommandFault::Unwritten => Cause::plain(b"cannot write report"),
             CommandFault::NotCreated => Cause::plain(b"cannot create checkpoint"),
             CommandFault::NotSaved(fault) => save_cause(*fault),
+            CommandFault::TwoCheckpoints => {
+                Cause::plain(b"--checkpoint and --rounds exclude each other")
+            }
         }
     }
 }

@@ -2,12 +2,15 @@
 #![tactic(auto)]
 
 mod arguments;
+mod carrying;
 mod checking;
 mod fault;
 mod files;
 mod program;
+mod rounds;
 
 pub use arguments::command_with_arguments;
 pub use checking::Asked;
 pub use files::{Files, OpenFault};
 pub use program::{check_formula, command};
+pub use rounds::RoundResult;

@@ -1,5 +1,5 @@
 //! The program, but for the machine that it runs on.
-ghost use Rattle.std.specs.Prelude.{◌≡◌, ◌↔◌, ◌⊎◌, ◌≤◌, IsTrue, List, false, true};
+ghost use Rattle.std.specs.Prelude.{◌≡◌, ◌↔◌, ◌⊎◌, ◌≤◌, IsTrue, List, None, Some, false, is_err, true};
 ghost use Rattle.clap.specs.Walk.{texts};
 ghost use Rattle.dimacs.specs.FormulaText.{IsFormulaText};
 ghost use Rattle.lrup_model.specs.Cube.{CubeValue, IsUnsatisfiableUnder};
@@ -7,7 +7,9 @@ ghost use Rattle.lrup_model.specs.Entailment.{IsUnsatisfiable};
 ghost use Rattle.lrup_model.specs.Formula.{Cnf};
 ghost use Rattle.portfolio.specs.ReportText.{report_text};
 ghost use Rattle.command_line.specs.CommandLine.{AskToSave, HaveFault, IsCommandLineOf};
-ghost use Rattle.command.specs.Commands.{AreAssumed, EndsWithFault, EndsWithReport, NameCheckpoint, NameUnsatisfiable};
+ghost use Rattle.command.specs.Commands.{AreAssumed, EndsWithFault, EndsWithReport, NameCheckpoint, NameUnsatisfiable, rounds_at};
+ghost use Rattle.command.specs.Rounds.{Ends, EndsInRounds, last_text, round_text};
+ghost use Rattle.lrup_text.specs.Writing.{WritesText};
 ghost use Rattle.command.specs.Commands.{NameUnsatisfiableUnder, SaysOfReport, SinkTook, Text, WasLeftEmpty, WasRead, WasReadIn, WasSaved};
 ghost use Rattle.command.specs.Commands.{assumed_at, change, files_view, from_first, report_status};
 ghost use Rattle.command.specs.Faults.{status_of, error_text};
@@ -16,8 +18,9 @@ ghost use Rattle.stream_check.specs.Setting.{max_tries};
 use crate::checking::{Asked, RunResult, check_asked, read_asked};
 use crate::fault::CommandFault;
 use crate::files::Files;
+use crate::rounds::{RoundResult, check_rounds};
 use checkpoint::SaveFault;
-use lrup_text::{Sink, WriteFault};
+use lrup_text::{Sink, WriteBuffer, WriteFault};
 use portfolio::{Verdict, write_report};
 use std::alloc::Global;
 use std::sync::Wait;
@@ -66,8 +69,7 @@ pub fn command<T: Threads + Wait + Sync, C: Clock + Sync, F: Files, O: Sink, E: 
     ensures ends { let view = files_view F.Files F.Input.Source F.Output.Sink files.old in
         let output = change (O.written out.old) (O.written out.new) (O.has_failed out.new) in
         let errors = change (E.written err.old) (E.written err.new) (E.has_failed err.new) in
-        EndsWithReport view (texts words.now) files.new output errors result
-        ⊎ EndsWithFault view (texts words.now) output errors result }
+        Ends view (texts words.now) files.new output errors result }
     // With status 3 or 8, where the words ask for a checkpoint, what was saved there is a text of a formula each clause of which
     // follows from that of FORMULA.
     ensures saved { let read = WasRead F.opens F.Input.Source.reads (F.tells files.old) in
@@ -123,11 +125,83 @@ pub fn check_formula<T: Threads + Wait + Sync, C: Clock + Sync, F: Files, O: Sin
         let errors = change (E.written err.old) (E.written err.new) (E.has_failed err.new) in
         IsCommandLineOf words asked.entry.line
         → WasReadIn view first asked.entry.line.formula.now asked.entry.formula.items files.old
+        → Ends view words files.new output errors result }
+{
+    match asked.line.rounds {
+        None => check_once(threads, clock, alloc, asked, files, out, err),
+        Some(folder) => check_in_rounds(threads, clock, alloc, asked, folder, files, out, err),
+    }
+}
+
+/// Checks the streams in one run.
+fn check_once<T: Threads + Wait + Sync, C: Clock + Sync, F: Files, O: Sink, E: Sink>(
+    threads: &T,
+    clock: &C,
+    alloc: Global,
+    asked: Asked<'_>,
+    files: &mut F,
+    out: &mut O,
+    err: &mut E,
+) -> u8
+    requires out { O.has_failed out.old ≡ false }
+    requires err { E.has_failed err.old ≡ false }
+    // The words allow no greater number.
+    requires tries { asked.line.tries ≤ max_tries }
+    ensures sound { result ≡ 0
+        → (f : Cnf) × IsFormulaText asked.entry.formula.items f × IsUnsatisfiable f }
+    ensures sound_under { let read = WasRead F.opens F.Input.Source.reads (F.tells files.old) in
+        result ≡ 8 → (f : Cnf) × (cube : CubeValue) × (after : F)
+        × IsFormulaText asked.entry.formula.items f
+        × AreAssumed read f.vars files.old (assumed_at asked.entry.line) cube after
+        × IsUnsatisfiableUnder f cube }
+    ensures ends { (words : List Text) (first : F) →
+        let view = from_first (files_view F.Files F.Input.Source F.Output.Sink files.old) first in
+        let output = change (O.written out.old) (O.written out.new) (O.has_failed out.new) in
+        let errors = change (E.written err.old) (E.written err.new) (E.has_failed err.new) in
+        IsCommandLineOf words asked.entry.line
+        → WasReadIn view first asked.entry.line.formula.now asked.entry.formula.items files.old
         → EndsWithReport view words files.new output errors result
         ⊎ EndsWithFault view words output errors result }
 {
     match check_asked(threads, clock, alloc, asked, files) {
         Ok(found) => report(&found, out, err),
+        Err(fault) => say(&fault, err),
+    }
+}
+
+/// Checks the streams of one round after the other.
+fn check_in_rounds<T: Threads + Wait + Sync, C: Clock + Sync, F: Files, O: Sink, E: Sink>(
+    threads: &T,
+    clock: &C,
+    alloc: Global,
+    asked: Asked<'_>,
+    folder: &str,
+    files: &mut F,
+    out: &mut O,
+    err: &mut E,
+) -> u8
+    requires out { O.has_failed out.old ≡ false }
+    requires err { E.has_failed err.old ≡ false }
+    // The words allow no greater number.
+    requires folder { rounds_at asked.line ≡ Some folder.now }
+    requires tries { asked.line.tries ≤ max_tries }
+    ensures sound { result ≡ 0
+        → (f : Cnf) × IsFormulaText asked.entry.formula.items f × IsUnsatisfiable f }
+    ensures sound_under { let read = WasRead F.opens F.Input.Source.reads (F.tells files.old) in
+        result ≡ 8 → (f : Cnf) × (cube : CubeValue) × (after : F)
+        × IsFormulaText asked.entry.formula.items f
+        × AreAssumed read f.vars files.old (assumed_at asked.entry.line) cube after
+        × IsUnsatisfiableUnder f cube }
+    ensures ends { (words : List Text) (first : F) →
+        let view = from_first (files_view F.Files F.Input.Source F.Output.Sink files.old) first in
+        let output = change (O.written out.old) (O.written out.new) (O.has_failed out.new) in
+        let errors = change (E.written err.old) (E.written err.new) (E.has_failed err.new) in
+        IsCommandLineOf words asked.entry.line
+        → WasReadIn view first asked.entry.line.formula.now asked.entry.formula.items files.old
+        → EndsInRounds view words output errors result }
+{
+    match check_rounds(threads, clock, alloc, asked, folder, files) {
+        Ok(last) => report_round(&last, out, err),
         Err(fault) => say(&fault, err),
     }
 }
@@ -149,6 +223,54 @@ fn report<O: Sink, E: Sink>(found: &RunResult, out: &mut O, err: &mut E) -> u8
         Ok(()) => written_status(found),
         Err(WriteFault) => say_next(&CommandFault::Unwritten, err),
     }
+}
+
+/// As `report` does, of the last round.
+fn report_round<O: Sink, E: Sink>(last: &RoundResult, out: &mut O, err: &mut E) -> u8
+    requires out { O.has_failed out.old ≡ false }
+    requires err { E.has_failed err.old ≡ false }
+    ensures printed { SinkTook
+        (change (O.written out.old) (O.written out.new) (O.has_failed out.new))
+        (last_text last.now.number last.now.found.reports.items last.now.found.verdict) }
+    ensures said { SaysOfReport (O.has_failed out.new) last.now.found.unsaved
+        (change (E.written err.old) (E.written err.new) (E.has_failed err.new)) }
+    ensures status { result
+        ≡ report_status (O.has_failed out.new) last.now.found.unsaved last.now.found.verdict }
+{
+    say_unsaved(last.found.unsaved, err);
+    match write_last(last, out) {
+        Ok(()) => written_status(&last.found),
+        Err(_) => say_next(&CommandFault::Unwritten, err),
+    }
+}
+
+/// Writes the report of the last round, after its number where that isn't 1.
+fn write_last<O: Sink>(last: &RoundResult, out: &mut O) -> Result<(), WriteFault>
+    requires running { O.has_failed out.old ≡ false }
+    ensures text { WritesText result (O.written out.old) (O.written out.new)
+        (last_text last.now.number last.now.found.reports.items last.now.found.verdict) }
+    ensures failed { O.has_failed out.new ≡ is_err result }
+{
+    if last.number == 1 {
+        return write_report(&last.found.reports, last.found.verdict, out);
+    }
+    match write_number(last.number, out) {
+        Ok(()) => write_report(&last.found.reports, last.found.verdict, out),
+        Err(WriteFault) => Err(WriteFault),
+    }
+}
+
+/// Writes the line of a round's number.
+fn write_number<O: Sink>(number: u64, out: &mut O) -> Result<(), WriteFault>
+    requires running { O.has_failed out.old ≡ false }
+    ensures text { WritesText result (O.written out.old) (O.written out.new) (round_text number) }
+    ensures failed { O.has_failed out.new ≡ is_err result }
+{
+    let mut buffer = WriteBuffer::new();
+    buffer.put(b"c round ", out)?;
+    buffer.put_number(number, out)?;
+    buffer.put(b"\n", out)?;
+    buffer.flush(out)
 }
 
 /// Says why the checkpoint wasn't saved, where it wasn't.

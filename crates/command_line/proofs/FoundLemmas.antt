@@ -109,32 +109,32 @@ other e = cc
 
 tries_parses : Parses (codes "tries") (parser.Unsigned 0 1000000)
 tries_parses = (
-  (λ _. refl, (other, (other, (other, (other, (other, (other, (other, (other, tt))))))))),
-  (λ _. refl, (other, (other, (other, (other, (other, (other, (other, (other, (other, (other, tt))))))))))),
+  (λ _. refl, (other, (other, (other, (other, (other, (other, (other, (other, (other, tt)))))))))),
+  (λ _. refl, (other, (other, (other, (other, (other, (other, (other, (other, (other, (other, (other, tt)))))))))))),
 )
 
 lines_parses : Parses (codes "lines") (parser.Unsigned 0 268435456)
 lines_parses = (
-  (other, (λ _. refl, (other, (other, (other, (other, (other, (other, (other, tt))))))))),
-  (other, (λ _. refl, (other, (other, (other, (other, (other, (other, (other, (other, (other, tt))))))))))),
+  (other, (λ _. refl, (other, (other, (other, (other, (other, (other, (other, (other, tt)))))))))),
+  (other, (λ _. refl, (other, (other, (other, (other, (other, (other, (other, (other, (other, (other, tt)))))))))))),
 )
 
 room_parses : Parses (codes "room") (parser.Unsigned 0 268435456)
 room_parses = (
-  (other, (other, (λ _. refl, (other, (other, (other, (other, (other, (other, tt))))))))),
-  (other, (other, (λ _. refl, (other, (other, (other, (other, (other, (other, (other, (other, tt))))))))))),
+  (other, (other, (λ _. refl, (other, (other, (other, (other, (other, (other, (other, tt)))))))))),
+  (other, (other, (λ _. refl, (other, (other, (other, (other, (other, (other, (other, (other, (other, tt)))))))))))),
 )
 
 serial_parses : Parses (codes "serial") parser.Bool
 serial_parses = (
-  (other, (other, (other, (other, (other, (λ _. refl, (other, (other, (other, tt))))))))),
-  (other, (other, (other, (other, (other, (λ _. refl, (other, (other, (other, (other, (other, tt))))))))))),
+  (other, (other, (other, (other, (other, (other, (λ _. refl, (other, (other, (other, tt)))))))))),
+  (other, (other, (other, (other, (other, (other, (λ _. refl, (other, (other, (other, (other, (other, tt)))))))))))),
 )
 
 watch_parses : Parses (codes "watch") parser.Bool
 watch_parses = (
-  (other, (other, (other, (other, (other, (other, (λ _. refl, (other, (other, tt))))))))),
-  (other, (other, (other, (other, (other, (other, (λ _. refl, (other, (other, (other, (other, tt))))))))))),
+  (other, (other, (other, (other, (other, (other, (other, (λ _. refl, (other, (other, tt)))))))))),
+  (other, (other, (other, (other, (other, (other, (other, (λ _. refl, (other, (other, (other, (other, tt)))))))))))),
 )
 
 up_to : (d : Command) (f : Found) (name : Text) (most : ℕ) → IsProgram d → ValuesPass d f → (name ≡ [] → ⊥)
@@ -194,14 +194,14 @@ filled d f id is pass named takes_one used =
 
 formula_takes : EachArgument (TakesOne (codes "FORMULA"))
 formula_takes = (
-  (other, (other, (other, (other, (other, (other, (other, (λ _. (λ e. cc, λ e. absurd (omega arith)), (other, tt))))))))),
-  (other, (other, (other, (other, (other, (other, (other, (λ _. (λ e. cc, λ e. absurd (omega arith)), (other, (other, (other, tt))))))))))),
+  (other, (other, (other, (other, (other, (other, (other, (other, (λ _. (λ e. cc, λ e. absurd (omega arith)), (other, tt)))))))))),
+  (other, (other, (other, (other, (other, (other, (other, (other, (λ _. (λ e. cc, λ e. absurd (omega arith)), (other, (other, (other, tt)))))))))))),
 )
 
 stream_takes : EachArgument (TakesOne (codes "STREAM"))
 stream_takes = (
-  (other, (other, (other, (other, (other, (other, (other, (other, (λ _. (λ e. cc, λ e. absurd (omega arith)), tt))))))))),
-  (other, (other, (other, (other, (other, (other, (other, (other, (λ _. (λ e. cc, λ e. absurd (omega arith)), (other, (other, tt))))))))))),
+  (other, (other, (other, (other, (other, (other, (other, (other, (other, (λ _. (λ e. cc, λ e. absurd (omega arith)), tt)))))))))),
+  (other, (other, (other, (other, (other, (other, (other, (other, (other, (λ _. (λ e. cc, λ e. absurd (omega arith)), (other, (other, tt)))))))))))),
 )
 
 -- ---- all of it

@@ -283,6 +283,7 @@ defaults formula first rest rows are given said = record {
   room = said.room ∙ ap (option_number (codes "room") 1048576) are;
   assume = no_path (λ path. path.now) given.assume (said.assume ∙ ap (first_of (codes "assume")) are);
   checkpoint = no_path (λ path. path.now) given.checkpoint (said.checkpoint ∙ ap (first_of (codes "checkpoint")) are);
+  rounds = no_path (λ path. path.now) given.rounds (said.rounds ∙ ap (first_of (codes "rounds")) are);
   serial = said.serial ∙ ap (is_set (codes "serial")) are;
   watch = said.watch ∙ ap (is_set (codes "watch")) are;
 }
@@ -299,5 +300,8 @@ plain_words formula (first ∷ rest) plain all some few = (
   ),
   λ path ask.
       let no : Some path ≡ None = sym ask.path_is ∙ ap (first_of (codes "checkpoint")) (plain_rows formula first rest plain all) in
+      cc,
+  λ folder ask.
+      let no : Some folder ≡ None = sym ask.folder_is ∙ ap (first_of (codes "rounds")) (plain_rows formula first rest plain all) in
       cc,
 )

@@ -53,7 +53,7 @@ lrupd = record {
     rules = number_rule (codes "tries") 1000000
         ∷ number_rule (codes "lines") 268435456
         ∷ number_rule (codes "room") 268435456
-        ∷ file_rule (codes "assume") ∷ file_rule (codes "checkpoint")
+        ∷ file_rule (codes "assume") ∷ file_rule (codes "checkpoint") ∷ file_rule (codes "rounds")
         ∷ flag_rule (codes "serial") ∷ flag_rule (codes "watch")
         -- FORMULA: one word
         ∷ record (new_rule (codes "FORMULA")) { required = true }
@@ -73,6 +73,11 @@ pub record AskFor (words : List Text) (formula : Text) (assume : Option Text) : 
 pub record AskToSave (words : List Text) (path : Text) : Type 0 where
   pub good : fault_of lrupd words ≡ []
   pub path_is : first_of (codes "checkpoint") (matches_of lrupd words) ≡ Some path
+
+-- The words have no fault, and ask for rounds, of a folder.
+pub record AskForRounds (words : List Text) (folder : Text) : Type 0 where
+  pub good : fault_of lrupd words ≡ []
+  pub folder_is : first_of (codes "rounds") (matches_of lrupd words) ≡ Some folder
 
 -- ---- what the words say, by the rows that are found in them
 
@@ -100,6 +105,7 @@ pub record IsSaidBy (rows : List Row) (given : CommandLine) : Type 0 where
   pub assume : option_map (λ path. path.now) given.assume ≡ first_of (codes "assume") rows
   pub checkpoint :
       option_map (λ path. path.now) given.checkpoint ≡ first_of (codes "checkpoint") rows
+  pub rounds : option_map (λ path. path.now) given.rounds ≡ first_of (codes "rounds") rows
   pub serial : given.serial ≡ is_set (codes "serial") rows
   pub watch : given.watch ≡ is_set (codes "watch") rows
   pub formula : first_of (codes "FORMULA") rows ≡ Some given.formula.now

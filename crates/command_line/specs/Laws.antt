@@ -2,7 +2,7 @@
 use Rattle.std.specs.Prelude.{◌≡◌, ◌==◌, ◌<◌, ◌^◌, Bool, true, false, not, List, [], ◌∷◌, Option, None, length}
 use Rattle.std.specs.List.{list_all}
 use Rattle.clap.specs.Words.{Text, fault_of}
-use Rattle.command_line.specs.CommandLine.{AskFor, AskToSave, IsCommandLineOf, lrupd}
+use Rattle.command_line.specs.CommandLine.{AskFor, AskForRounds, AskToSave, IsCommandLineOf, lrupd}
 use Rattle.command_line.specs.declared.words.CommandLine.{CommandLine}
 
 -- the word doesn't begin with a hyphen (45)
@@ -19,11 +19,12 @@ pub record HasDefaults (first : Text) (rest : List Text) (given : CommandLine) :
   pub room : given.room ≡ 1048576
   pub assume : given.assume ≡ None
   pub checkpoint : given.checkpoint ≡ None
+  pub rounds : given.rounds ≡ None
   pub serial : given.serial ≡ false
   pub watch : given.watch ≡ false
 
 -- Words of which none begins with a hyphen are a formula and its streams in order, whatever they
--- are, and ask for no checkpoint.
+-- are, and ask for no checkpoint and for no rounds.
 abbrev pub PlainWords : Type 0
 PlainWords = (formula : Text) (streams : List Text) → is_plain formula ≡ true
     → list_all is_plain streams ≡ true → 0 < length streams → length streams < 2 ^ 64
@@ -33,3 +34,4 @@ PlainWords = (formula : Text) (streams : List Text) → is_plain formula ≡ tru
     × ((path : Text) (assume : Option Text) → AskFor (formula ∷ streams) path assume
     → (path ≡ formula) × (assume ≡ None))
     × ((path : Text) → ¬ AskToSave (formula ∷ streams) path)
+    × ((folder : Text) → ¬ AskForRounds (formula ∷ streams) folder)

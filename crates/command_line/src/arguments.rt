@@ -23,8 +23,9 @@ pub fn program<'a>(alloc: Global) -> Result<Command<'a>, AllocError>
     ensures { IfOk result (λ program. app_of program ≡ lrupd) }
 {
     let command = with_numbers(alloc)?;
-    let command = command.arg(file(alloc, "assume", help::ASSUME))?;
-    let command = command.arg(file(alloc, "checkpoint", help::CHECKPOINT))?;
+    let command = command.arg(file(alloc, "assume", "FILE", help::ASSUME))?;
+    let command = command.arg(file(alloc, "checkpoint", "FILE", help::CHECKPOINT))?;
+    let command = command.arg(file(alloc, "rounds", "DIR", help::ROUNDS))?;
     let command = command.arg(flag(alloc, "serial", help::SERIAL))?;
     let command = command.arg(flag(alloc, "watch", help::WATCH))?;
     let command = command.arg(formula(alloc))?;
@@ -65,14 +66,14 @@ fn number<'a>(alloc: Global, name: &'a str, most: u64, help: &'a str) -> Arg<'a>
         .help(help)
 }
 
-/// The option `--name FILE`.
-fn file<'a>(alloc: Global, name: &'a str, help: &'a str) -> Arg<'a>
+/// The option `--name FILE`, or another word than FILE for its path.
+fn file<'a>(alloc: Global, name: &'a str, value: &'a str, help: &'a str) -> Arg<'a>
     ensures rule { rule_of result ≡ file_rule name.now }
     ensures local { result.global ≡ false }
 {
     Arg::new(alloc, name)
         .long(name)
-        .value_name("FILE")
+        .value_name(value)
         .help(help)
 }
 

@@ -54,6 +54,15 @@ Save the clauses that are live at the end as a formula for a later run to go
 on with: FILE, which must not be there yet, is the FORMULA of that run. With
 the answer 's UNSATISFIABLE' nothing is saved, and FILE stays empty.";
 
+/// Of `--rounds`.
+pub const ROUNDS: &str = "\
+Go on in rounds. STREAM... are those of round 1. Where all streams of round R
+have ended, and none derived the empty clause, the clauses that are live are
+saved as DIR/round-Q.cnf, Q being R+1, and kept for the next round, whose
+streams are DIR/round-Q.stream-1, -2 and so on, as many as in round 1. The
+last round is the one after which there is no stream 1. DIR/round-Q.cnf must
+not be there yet. Not together with --checkpoint.";
+
 /// Of `--serial`.
 pub const SERIAL: &str = "\
 Check all streams on one thread, a line of each by turns, so that runs

@@ -26,6 +26,8 @@ pub struct CommandLine<'a> {
     pub assume: Option<&'a str>,
     /// The path of the checkpoint to be written, if any.
     pub checkpoint: Option<&'a str>,
+    /// The folder of the rounds after the first, if the run is to go on in rounds.
+    pub rounds: Option<&'a str>,
     /// Whether one thread checks all streams by turns.
     pub serial: bool,
     /// Whether to report progress while streams are checked.
@@ -151,6 +153,7 @@ fn command_line<'a>(alloc: Global, matches: &ArgMatches<'a>) -> Result<CommandLi
         room: option_number(matches, "room", 1_048_576),
         assume: file_of(matches, "assume"),
         checkpoint: file_of(matches, "checkpoint"),
+        rounds: file_of(matches, "rounds"),
         serial: is_set(matches, "serial"),
         watch: is_set(matches, "watch"),
         formula: formula_of(matches),

@@ -39,6 +39,7 @@ no_fault faults.Memory is = let no : 0 ≡ 6 = is in cc
 no_fault faults.Unwritten is = let no : 0 ≡ 7 = is in cc
 no_fault faults.NotCreated is = let no : 0 ≡ 5 = is in cc
 no_fault (faults.NotSaved fault) is = let no : 0 ≡ 9 = is in cc
+no_fault faults.TwoCheckpoints is = let no : 0 ≡ 2 = is in cc
 
 pub status_0 : (files : FilesView) → Status0HasACommandLine files
 status_0 files words after out err (inl report) =

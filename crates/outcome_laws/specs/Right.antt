@@ -82,6 +82,7 @@ IsOfMachine faults.Memory = Unit {0}
 IsOfMachine faults.Unwritten = ⊥
 IsOfMachine faults.NotCreated = Unit {0}
 IsOfMachine (faults.NotSaved fault) = ⊥
+IsOfMachine faults.TwoCheckpoints = ⊥
 
 -- memory ran out, or a read failed, in the first lines of stream s, so many; or one of them cites a clause of another stream that
 -- wasn't there, or wasn't any more; here the cube makes no difference

@@ -2,11 +2,12 @@
 use Rattle.std.specs.Prelude.{◌≡◌, ◌⊎◌, ◌≤◌, ◌==◌, ◌||◌, ℕ, Bool, not, List, length, Option, Result, Err}
 use Rattle.std.specs.List.{AllByRecursion, list_any}
 use Rattle.lrup_model.specs.Event.{Reply}
+use Rattle.lrup_model.specs.Formula.{Cnf}
 use Rattle.lrup_model.specs.Layout.{LayoutValue, last_identity}
 use Rattle.lrup_model.specs.State.{State, Answers}
 use Rattle.stream_check.specs.DroppedValue.{DroppedValue}
 use Rattle.stream_check.specs.Standing.{is_among}
-use Rattle.checkpoint.specs.Checkpoints.{Saves}
+use Rattle.checkpoint.specs.Checkpoints.{Carries, Saves}
 use Rattle.checkpoint.specs.Live.{fetches, wanted_of}
 use Rattle.checkpoint.specs.declared.saving.SaveFault.{SaveFault}
 use Rattle.checkpoint.specs.declared.saving.SaveFault.TheVariants as faults
@@ -33,3 +34,21 @@ pub record SavesState {S : Type 0} (written : S → Option (List ℕ))
   pub replies : List Reply
   pub answers : (s : ℕ) → AllByRecursion (Answers slots) (fetches s 1 replies)
   pub saves : SavesFound written result layout wants replies old new
+
+-- So it is where the clauses are carried on to a later round: all were fetched, and what was found live and is wanted was carried, as
+-- the result says; or memory ran out before the first write.
+abbrev pub CarriesFound : {S : Type 0} → (S → Option (List ℕ)) → Result Cnf SaveFault → LayoutValue
+    → (ℕ → Bool) → List Reply → S → S → Type 0
+CarriesFound written result layout wants replies old new =
+    (length replies ≤ last_identity layout)
+    × ((length replies ≡ last_identity layout)
+    × Carries result layout.vars (wanted_of wants 1 replies) (written old) (written new)
+    ⊎ (result ≡ Err faults.Memory) × (new ≡ old))
+
+-- What became of the carrying of what is live in this state of the clause map, and wanted.
+pub record CarriesState {S : Type 0} (written : S → Option (List ℕ))
+    (result : Result Cnf SaveFault) (slots : State) (layout : LayoutValue) (wants : ℕ → Bool)
+    (old new : S) : Type 0 where
+  pub replies : List Reply
+  pub answers : (s : ℕ) → AllByRecursion (Answers slots) (fetches s 1 replies)
+  pub carries : CarriesFound written result layout wants replies old new

@@ -8,13 +8,13 @@ ghost use Rattle.lrup_model.specs.Plain.{PlainMoves, formula_of, plain_state};
 ghost use Rattle.lrup_model.specs.State.{state};
 ghost use Rattle.clause_store.specs.Passes.{AreOf, views};
 ghost use Rattle.runs.specs.Headline.{HaveOneHistory};
-ghost use Rattle.checkpoint.specs.Checkpoints.{IsCheckpoint};
+ghost use Rattle.checkpoint.specs.Checkpoints.{IsCheckpoint, IsCheckpointOf};
 ghost use Rattle.checkpoint.specs.Live.{fetches};
-ghost use Rattle.portfolio.specs.Saving.{SavesState, is_wanted};
+ghost use Rattle.portfolio.specs.Saving.{CarriesState, SavesState, is_wanted};
 
-use checkpoint::{SaveFault, Wanted, save};
+use checkpoint::{SaveFault, Wanted, carry, save};
 use clause_store::{Desk, Pass, Store};
-use lrup_model::{Id, Layout, PlainMap};
+use lrup_model::{Formula, Id, Layout, PlainMap};
 use lrup_text::Sink;
 use std::alloc::Global;
 use stream_check::Dropped;
@@ -99,4 +99,71 @@ pub fn save_plain<W: Sink>(
     let _ = layout.streams();
     let mut desk = map.desk(1);
     save(alloc, &mut desk, &layout, &NotAllDropped { dropped }, sink)
+}
+
+/// Writes that formula, as `save_live` does, and gives it, for a later round to go on with.
+pub fn carry_live<W: Sink>(
+    alloc: Global,
+    store: &Store,
+    layout: &Layout,
+    passes: Vec<Pass>,
+    dropped: &[Dropped],
+    sink: &mut W,
+) -> Result<Formula, SaveFault>
+    requires of { AreOf store.now passes.items }
+    requires layout { store.now.layout ≡ layout.now }
+    requires some { 0 < vec_len passes }
+    requires running { W.has_failed sink.old ≡ false }
+    // What was written whole is a text of the formula that is given, each clause of which follows from the run's.
+    ensures next { (f : Cnf) (h : History)
+        → HaveOneHistory f layout.now h (views passes.items) → IfOk result (λ next. (bytes : List ℕ)
+        × Appends (W.written sink.old) (W.written sink.new) bytes
+        × IsCheckpointOf f bytes next) }
+    // It is that of the clauses that the run's history leaves live, and that not all streams
+    // dropped.
+    ensures carries { (f : Cnf) (h : History)
+        → HaveOneHistory f layout.now h (views passes.items) → CarriesState W.written result
+        (state f h) layout.now (is_wanted dropped.now) sink.old sink.new }
+    ensures failed { IsTrue (W.has_failed sink.new) ↔ (result ≡ Err SaveFault.Unwritten) }
+{
+    let mut passes = passes;
+    let Some(last) = passes.pop() else {
+        unreachable!()
+    };
+    // The call shows that the pass is fair, and so that the layout is the formula's.
+    let _ = last.stream();
+    let mut desk = Desk::new(store, last);
+    let carried = carry(alloc, &mut desk, layout, &NotAllDropped { dropped }, sink);
+    // As in `save_live`: what was fetched is what the run left.
+    passes.push_reserved(desk.into_pass());
+    store.meet_all(&mut passes);
+    carried
+}
+
+/// Writes that formula after a run on one thread, as `save_plain` does, and gives it.
+pub fn carry_plain<W: Sink>(
+    alloc: Global,
+    map: &mut PlainMap,
+    dropped: &[Dropped],
+    sink: &mut W,
+) -> Result<Formula, SaveFault>
+    requires fits { Fits map.old.layout (formula_of map.old) }
+    requires running { W.has_failed sink.old ≡ false }
+    // What was written whole is a text of the formula that is given, each clause of which follows from the map's.
+    ensures next { IfOk result (λ next. (bytes : List ℕ)
+        × Appends (W.written sink.old) (W.written sink.new) bytes
+        × IsCheckpointOf (formula_of map.old) bytes next) }
+    // It is that of the clauses that the map has live, and that not all streams dropped.
+    ensures carries { CarriesState W.written result (plain_state map.old) map.old.layout
+        (is_wanted dropped.now) sink.old sink.new }
+    // The map only answered fetches.
+    ensures moves { (replies : List Reply)
+        × PlainMoves map.old map.new 1 (fetches 1 1 replies) }
+    ensures failed { IsTrue (W.has_failed sink.new) ↔ (result ≡ Err SaveFault.Unwritten) }
+{
+    let layout = *map.layout();
+    // The call shows that there is a stream.
+    let _ = layout.streams();
+    let mut desk = map.desk(1);
+    carry(alloc, &mut desk, &layout, &NotAllDropped { dropped }, sink)
 }

@@ -1,30 +1,31 @@
-use Rattle.std.proofs.Common.{◌≡◌, List, inr, map, rules, string_bytes, subst, sym}
+use Rattle.std.proofs.Common.{◌≡◌, List, inl, inr, map, rules, string_bytes, subst, sym}
 use Rattle.clap.specs.Walk.{texts}
 use Rattle.command_line.specs.CommandLine.{AskToSave, HaveFault}
 use Rattle.command.specs.Arguments.{words_after_name}
-use Rattle.command.specs.Commands.{NameCheckpoint, NameUnsatisfiable, NameUnsatisfiableUnder, Text, WasRead, WasSaved}
+use Rattle.command.specs.Commands.{NameCheckpoint, NameUnsatisfiable, NameUnsatisfiableUnder, Text, WasRead, WasSaved, change, files_view}
+use Rattle.command.specs.Rounds.{Ends}
 use Rattle.command.proofs.WordLemmas.{read_all}
 use Rattle.command.specs.declared.fault.CommandFault.TheVariants as faults
 use Rattle.command.proofs.arguments.with_words.Given
 use Rattle.command.proofs.arguments.with_words.Goals as goal
 
 pub returns-in_default-clause-ends : goal.returns-in_default-clause-ends
-returns-in_default-clause-ends g c = inr (record {
+returns-in_default-clause-ends g c = inr (inl (record {
   fault = faults.Memory;
   cause = tt;
   untouched = record { written = search rules; failed = c.requires.out };
   said = c.say.ensures.said;
   status_is = c.say.ensures.status;
-})
+}))
 
 pub returns-in_default-words_of-clause-ends : goal.returns-in_default-words_of-clause-ends
-returns-in_default-words_of-clause-ends g c = inr (record {
+returns-in_default-words_of-clause-ends g c = inr (inl (record {
   fault = faults.Memory;
   cause = tt;
   untouched = record { written = search rules; failed = c.requires.out };
   said = c.say-in_default-words_of.ensures.said;
   status_is = c.say-in_default-words_of.ensures.status;
-})
+}))
 
 -- the words are those of the arguments
 same_words : (g : Given.Over) (c : goal.After-drop-arguments-2 g) → texts c.deref-2.result.now ≡ words_after_name c.args.arguments
@@ -53,3 +54,10 @@ returns-clause-saved g c path ask is =
 
 pub returns-clause-usage : goal.returns-clause-usage
 returns-clause-usage g c fault = c.command.ensures.usage (subst HaveFault (sym (same_words g c)) fault)
+
+pub returns-clause-ends : goal.returns-clause-ends
+returns-clause-ends g c =
+    let files = files_view g.F.Files g.F.Input.Source g.F.Output.Sink c.args.files.now in
+    let output = change (g.O.Sink.written c.args.out.now) (g.O.Sink.written c.command.new.out) (g.O.Sink.has_failed c.command.new.out) in
+    let errors = change (g.E.Sink.written c.args.err.now) (g.E.Sink.written c.command.new.err) (g.E.Sink.has_failed c.command.new.err) in
+    subst (λ (words : List Text). Ends files words c.command.new.files output errors c.command.result) (same_words g c) c.command.ensures.ends

@@ -1,8 +1,9 @@
-use Rattle.std.proofs.Common.{◌⊎◌, ℕ, Bool, List, Option, subst}
+use Rattle.std.proofs.Common.{ℕ, Bool, List, Option, inl, inr, rules, subst}
 use Rattle.clap.specs.Walk.{texts}
-use Rattle.command.specs.Commands.{EndsWithFault, EndsWithReport, FilesView, Text, WasReadIn, change, files_view}
+use Rattle.command.specs.Commands.{FilesView, Text, WasReadIn, change, files_view}
+use Rattle.command.specs.Rounds.{Ends}
 use Rattle.command.proofs.CheckingLemmas.{names_unsatisfiable, names_unsatisfiable_under}
-use Rattle.command.proofs.StatusLemmas.{ends_empty, ends_saved, ends_unwritten}
+use Rattle.command.proofs.StatusLemmas.{all_empty, all_saved, all_unwritten}
 use Rattle.command.proofs.program.command.Goals as goal
 
 pub returns-in-Ok-clause-sound : goal.returns-in-Ok-clause-sound
@@ -32,20 +33,28 @@ returns-in-Ok-clause-ends g c =
     change (g.O.Sink.written c.args.out.now) (g.O.Sink.written c.check_formula.new.out) (g.O.Sink.has_failed c.check_formula.new.out) in
     let errors =
     change (g.E.Sink.written c.args.err.now) (g.E.Sink.written c.check_formula.new.err) (g.E.Sink.has_failed c.check_formula.new.err) in
-    let Ends : (Text → Option (List ℕ)) → (Text → Bool) → (Text → Bool)
+    let Told : (Text → Option (List ℕ)) → (Text → Bool) → (Text → Bool)
     → Type 0 = λ t m n. WasReadIn (view t m n) first asked.line.formula.now asked.formula.items next
-    → EndsWithReport (view t m n) words c.check_formula.new.files output errors c.check_formula.result
-    ⊎ EndsWithFault (view t m n) words output errors c.check_formula.result in
+    → Ends (view t m n) words c.check_formula.new.files output errors c.check_formula.result in
     let ends = c.check_formula.ensures.ends words first c.in-Ok.ensures.line in
-    let told = subst (λ t. Ends t (g.F.Files.may_refuse next) (g.F.Files.may_refuse_new next)) c.in-Ok.ensures.stays ends in
-    let refused = subst (λ m. Ends (g.F.Files.tells first) m (g.F.Files.may_refuse_new next)) c.in-Ok.ensures.stays_refused told in
-    subst (Ends (g.F.Files.tells first) (g.F.Files.may_refuse first)) c.in-Ok.ensures.stays_refused_new refused c.in-Ok.ensures.bytes
+    let told = subst (λ t. Told t (g.F.Files.may_refuse next) (g.F.Files.may_refuse_new next)) c.in-Ok.ensures.stays ends in
+    let refused = subst (λ m. Told (g.F.Files.tells first) m (g.F.Files.may_refuse_new next)) c.in-Ok.ensures.stays_refused told in
+    subst (Told (g.F.Files.tells first) (g.F.Files.may_refuse first)) c.in-Ok.ensures.stays_refused_new refused c.in-Ok.ensures.bytes
 
 pub returns-in-Ok-clause-saved : goal.returns-in-Ok-clause-saved
-returns-in-Ok-clause-saved g c = ends_saved _ _ _ _ _ _ (returns-in-Ok-clause-ends g c)
+returns-in-Ok-clause-saved g c = all_saved _ _ _ _ _ _ (returns-in-Ok-clause-ends g c)
 
 pub returns-in-Ok-clause-unwritten : goal.returns-in-Ok-clause-unwritten
-returns-in-Ok-clause-unwritten g c = ends_unwritten _ _ _ _ _ _ (returns-in-Ok-clause-ends g c)
+returns-in-Ok-clause-unwritten g c = all_unwritten _ _ _ _ _ _ (returns-in-Ok-clause-ends g c)
 
 pub returns-in-Ok-clause-none_saved : goal.returns-in-Ok-clause-none_saved
-returns-in-Ok-clause-none_saved g c = ends_empty _ _ _ _ _ _ (returns-in-Ok-clause-ends g c)
+returns-in-Ok-clause-none_saved g c = all_empty _ _ _ _ _ _ (returns-in-Ok-clause-ends g c)
+
+pub returns-in-Err-clause-ends : goal.returns-in-Err-clause-ends
+returns-in-Err-clause-ends g c = inr (inl (record {
+  fault = c.in-Err.fault;
+  cause = c.in-Err.ensures.cause;
+  untouched = record { written = search rules; failed = c.requires.out };
+  said = c.say.ensures.said;
+  status_is = c.say.ensures.status;
+}))

@@ -1,4 +1,4 @@
-use Rattle.std.proofs.Common.{◌≡◌, ◌∙◌, Bool, Err, true, ap, refl, sym, subst}
+use Rattle.std.proofs.Common.{◌≡◌, ◌∙◌, Bool, true, ap, sym, subst}
 use Rattle.std.specs.Prelude.{is_err}
 use Rattle.command.specs.Commands.{SaysOfReport, change}
 use Rattle.command.proofs.WritingLemmas.{says_both}

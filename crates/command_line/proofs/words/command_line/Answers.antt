@@ -28,6 +28,7 @@ returns c =
       small_room = subst (λ (n : ℕ). n ≤ 268435456) (sym c.option_number-3.ensures) room;
       assume = c.file_of.ensures;
       checkpoint = c.file_of-2.ensures;
+      rounds = c.file_of-3.ensures;
       serial = c.is_set.ensures;
       watch = c.is_set-2.ensures;
       formula = c.formula_of.ensures;

@@ -1,0 +1,13 @@
+use Rattle.std.proofs.Common.{◌≡◌, [], take}
+use Rattle.checkpoint.specs.Live.{entries_of}
+use Rattle.checkpoint.specs.Printing.{printed}
+use Rattle.checkpoint.proofs.carrying.formula_of.Given as goal
+
+abbrev pub invariant-loop-clip : goal.invariant-loop-clip
+invariant-loop-clip g l =
+    let place = g.M.ClauseMap.place in
+    record {
+      formula : l.formula ≡ printed l.vars (entries_of (place l.fn.map) (take l.clip-index l.clips));
+      event : g.M.ClauseMap.moves l.fn.map l.map [];
+      stays : place l.map ≡ place l.fn.map;
+    }

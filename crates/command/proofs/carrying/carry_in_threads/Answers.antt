@@ -1,0 +1,82 @@
+use Rattle.std.proofs.Common.{◌∙◌, false, length, Err, None, Ok, refl, sym, subst, inr}
+use Rattle.command.specs.Commands.{IsRunCause, terms_on}
+use Rattle.command.proofs.CheckingLemmas.{err_given, has_layout, run_cause}
+use Rattle.command.proofs.SavingLemmas.{running_to_write, written_err, written_none}
+use Rattle.command.proofs.RoundLemmas.{next_saved, next_written, no_next, some_none, uncarried_none}
+use Rattle.command.proofs.carrying.carry_in_threads.Goals.{in-None, in-Some, in-Ok, in-Err}
+use Rattle.command.proofs.carrying.carry_in_threads.Goals as goal
+
+pub returns-in_err-outcome-clause-cause : goal.returns-in_err-outcome-clause-cause
+returns-in_err-outcome-clause-cause g c =
+    let p = (terms_on c.args.setup.now (length c.args.readers.items)).layout in
+    let cause = run_cause false p c.run.result c.in_err-outcome.field-0.0 c.in_err-outcome.was c.run.ensures.layout
+    (λ stream is. (refl, c.run.ensures.spawn stream is)) (λ stream is. (refl, c.run.ensures.ring stream is)) in
+    err_given c.from_residual-in_err-outcome.result _ (IsRunCause false p)
+    (λ fault is. subst (IsRunCause false p) (sym is) cause) c.from_residual-in_err-outcome.ensures.1
+
+pub returns-clause-checked : goal.returns-clause-checked
+returns-clause-checked g c =
+    let p = (terms_on c.args.setup.now (length c.args.readers.items)).layout in
+    let reports = c.in_ok-outcome.ensures.reports in
+    record {
+      layout = has_layout p c.run.result c.in_ok-outcome.outcome c.in_ok-outcome.was c.run.ensures.layout;
+      lasts = c.in_ok-outcome.outcome.readers.items;
+      reported = record {
+        streams = reports.streams;
+        are_told = reports.are_told;
+        judged = (reports.judged.0, (_, c.in_ok-outcome.ensures.history.legal, reports.judged.1));
+      };
+      read = reports.judged.2;
+      is_verdict = c.in_ok-outcome.ensures.verdict;
+      sound = c.in_ok-outcome.ensures.sound;
+      sound_under = c.in_ok-outcome.ensures.sound_under;
+    }
+
+pub carry_live-requires-clause-running : goal.carry_live-requires-clause-running
+carry_live-requires-clause-running g c =
+    running_to_write g.F.Output.Sink.has_failed c.in_ok-outcome.outcome.verdict c.args.output c.in-Some.sink c.requires.created
+    (sym c.to_write.ensures ∙ c.in-Some.is)
+
+pub returns-clause-written : goal.returns-clause-written
+returns-clause-written g c =
+    let written = g.F.Output.Sink.written in
+    let formula = c.args.setup.now.formula.now in
+    let verdict = c.in_ok-outcome.outcome.verdict in
+    let history = rw (← c.in_ok-outcome.ensures.kept) at c.in_ok-outcome.ensures.history in
+    elim c.match-to_write.branch [
+      | in-None w ↦ rw w.saved-is (written_none written formula verdict c.args.output (sym c.to_write.ensures ∙ w.in-None.is))
+      | in-Some w ↦ elim w.match-carry_live.branch [
+        | in-Ok w' ↦ rw (w.saved-is, w'.saved-is)
+            (next_written written formula verdict c.args.output w.in-Some.sink w.carry_live.new.sink w'.in-Ok.next
+            (sym c.to_write.ensures ∙ w.in-Some.is) (w'.in-Ok.ensures.next formula _ history))
+        | in-Err w' ↦ rw (w.saved-is, w'.saved-is) (written_err written formula verdict c.args.output
+            w.in-Some.sink w'.in-Err.fault (sym c.to_write.ensures ∙ w.in-Some.is))
+      ]
+    ]
+
+pub returns-clause-next : goal.returns-clause-next
+returns-clause-next g c =
+    let written = g.F.Output.Sink.written in
+    let formula = c.args.setup.now.formula.now in
+    let verdict = c.in_ok-outcome.outcome.verdict in
+    let history = rw (← c.in_ok-outcome.ensures.kept) at c.in_ok-outcome.ensures.history in
+    elim c.match-to_write.branch [
+      | in-None w ↦ rw w.saved-is (no_next written formula c.args.output (Ok None))
+      | in-Some w ↦ elim w.match-carry_live.branch [
+        | in-Ok w' ↦ rw (w.saved-is, w'.saved-is)
+            (next_saved written formula verdict c.args.output w.in-Some.sink w.carry_live.new.sink w'.in-Ok.next
+            (sym c.to_write.ensures ∙ w.in-Some.is) (w'.in-Ok.ensures.next formula _ history))
+        | in-Err w' ↦ rw (w.saved-is, w'.saved-is) (no_next written formula c.args.output (Err w'.in-Err.fault))
+      ]
+    ]
+
+pub returns-clause-none : goal.returns-clause-none
+returns-clause-none g c =
+    let verdict = c.in_ok-outcome.outcome.verdict in
+    elim c.match-to_write.branch [
+      | in-None w ↦ rw w.saved-is (λ none. uncarried_none verdict c.args.output (Ok None) (sym c.to_write.ensures ∙ w.in-None.is))
+      | in-Some w ↦ elim w.match-carry_live.branch [
+        | in-Ok w' ↦ rw (w.saved-is, w'.saved-is) (λ none. some_none w'.in-Ok.next _ none)
+        | in-Err w' ↦ rw (w.saved-is, w'.saved-is) (λ none. inr (inr (w'.in-Err.fault, refl)))
+      ]
+    ]

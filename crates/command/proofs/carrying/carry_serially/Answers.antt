@@ -1,0 +1,65 @@
+use Rattle.std.proofs.Common.{◌∙◌, true, length, Err, None, Ok, sym, subst, inr, refl}
+use Rattle.command.specs.Commands.{IsRunCause, terms_on}
+use Rattle.command.proofs.CheckingLemmas.{err_given, has_layout, run_cause}
+use Rattle.command.proofs.SavingLemmas.{written_err, written_none}
+use Rattle.command.proofs.RoundLemmas.{next_saved, next_written, no_next, some_none, uncarried_none}
+use Rattle.command.proofs.carrying.carry_serially.Goals.{in-None, in-Some+in-Ok, in-Some+in-Err}
+use Rattle.command.proofs.carrying.carry_serially.Goals as goal
+
+pub returns-in_err-outcome-clause-cause : goal.returns-in_err-outcome-clause-cause
+returns-in_err-outcome-clause-cause g c =
+    let p = (terms_on c.args.setup.now (length c.args.readers.items)).layout in
+    let cause = run_cause true p c.run_serial.result c.in_err-outcome.field-0.0 c.in_err-outcome.was c.run_serial.ensures.layout
+    (λ stream is. absurd (c.run_serial.ensures.no_spawn stream is)) (λ stream is. absurd (c.run_serial.ensures.no_ring stream is)) in
+    err_given c.from_residual-in_err-outcome.result _ (IsRunCause true p)
+    (λ fault is. subst (IsRunCause true p) (sym is) cause) c.from_residual-in_err-outcome.ensures.1
+
+pub returns-clause-checked : goal.returns-clause-checked
+returns-clause-checked g c =
+    let p = (terms_on c.args.setup.now (length c.args.readers.items)).layout in
+    let ordered = c.in_ok-outcome.ensures.ordered in
+    record {
+      layout = has_layout p c.run_serial.result c.in_ok-outcome.outcome c.in_ok-outcome.was c.run_serial.ensures.layout;
+      lasts = c.in_ok-outcome.outcome.readers.items;
+      reported = record { streams = ordered.streams; are_told = ordered.are_told; judged = ordered.judged.0 };
+      read = ordered.judged.1;
+      is_verdict = c.in_ok-outcome.ensures.verdict;
+      sound = c.in_ok-outcome.ensures.sound;
+      sound_under = c.in_ok-outcome.ensures.sound_under;
+    }
+
+pub returns-clause-written : goal.returns-clause-written
+returns-clause-written g c =
+    let written = g.F.Output.Sink.written in
+    let formula = c.args.setup.now.formula.now in
+    let verdict = c.in_ok-outcome.outcome.verdict in
+    elim c.match-to_write.branch [
+      | in-None w ↦ rw w.saved-is (written_none written formula verdict c.args.output (sym c.to_write.ensures ∙ w.in-None.is))
+      | in-Some+in-Ok w ↦ rw w.saved-is
+          (next_written written formula verdict c.args.output w.in-Some.sink w.carry_plain.new.sink w.in-Ok.next
+          (sym c.to_write.ensures ∙ w.in-Some.is) (rw c.in_ok-outcome.ensures.kept.0 at w.in-Ok.ensures.next))
+      | in-Some+in-Err w ↦ rw w.saved-is (written_err written formula verdict c.args.output
+          w.in-Some.sink w.in-Err.fault (sym c.to_write.ensures ∙ w.in-Some.is))
+    ]
+
+pub returns-clause-next : goal.returns-clause-next
+returns-clause-next g c =
+    let written = g.F.Output.Sink.written in
+    let formula = c.args.setup.now.formula.now in
+    let verdict = c.in_ok-outcome.outcome.verdict in
+    elim c.match-to_write.branch [
+      | in-None w ↦ rw w.saved-is (no_next written formula c.args.output (Ok None))
+      | in-Some+in-Ok w ↦ rw w.saved-is
+          (next_saved written formula verdict c.args.output w.in-Some.sink w.carry_plain.new.sink w.in-Ok.next
+          (sym c.to_write.ensures ∙ w.in-Some.is) (rw c.in_ok-outcome.ensures.kept.0 at w.in-Ok.ensures.next))
+      | in-Some+in-Err w ↦ rw w.saved-is (no_next written formula c.args.output (Err w.in-Err.fault))
+    ]
+
+pub returns-clause-none : goal.returns-clause-none
+returns-clause-none g c =
+    let verdict = c.in_ok-outcome.outcome.verdict in
+    elim c.match-to_write.branch [
+      | in-None w ↦ rw w.saved-is (λ none. uncarried_none verdict c.args.output (Ok None) (sym c.to_write.ensures ∙ w.in-None.is))
+      | in-Some+in-Ok w ↦ rw w.saved-is (λ none. some_none w.in-Ok.next _ none)
+      | in-Some+in-Err w ↦ rw w.saved-is (λ none. inr (inr (w.in-Err.fault, refl)))
+    ]

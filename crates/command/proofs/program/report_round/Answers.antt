@@ -1,0 +1,18 @@
+use Rattle.std.proofs.Common.{◌≡◌, ◌∙◌, Bool, true, ap, sym, subst}
+use Rattle.std.specs.Prelude.{is_err}
+use Rattle.command.specs.Commands.{SaysOfReport, change}
+use Rattle.command.proofs.WritingLemmas.{says_both}
+use Rattle.command.proofs.program.report_round.Goals as goal
+
+pub returns-in-Err-clause-said : goal.returns-in-Err-clause-said
+returns-in-Err-clause-said g c =
+    let written = g.E.Sink.written in
+    let has_failed = g.E.Sink.has_failed in
+    let err = change (written c.args.err.now) (written c.say_next.new.err) (has_failed c.say_next.new.err) in
+    let failed : g.O.Sink.has_failed c.write_last.new.out ≡ true = c.write_last.ensures.failed ∙ ap is_err c.in-Err.is in
+    subst (λ (b : Bool). SaysOfReport b c.args.last.now.found.unsaved err) (sym failed)
+    (says_both (written c.args.err.now) (written c.say_unsaved.new.err) (written c.say_next.new.err) (has_failed c.say_unsaved.new.err)
+    (has_failed c.say_next.new.err) c.args.last.now.found.unsaved
+    c.say_unsaved.ensures
+    (λ broken. let same = c.say_next.ensures.failed broken in (ap written same, ap has_failed same ∙ broken))
+    c.say_next.ensures.said)

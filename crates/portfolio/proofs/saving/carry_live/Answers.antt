@@ -1,0 +1,71 @@
+use Rattle.std.proofs.Common.{◌≡◌, ◌+◌, ◌-◌, ◌++◌, ◌∷◌, [], ℕ, List, Some, length, sym, ap, subst, ◌∙◌, arith}
+use Rattle.std.specs.Prelude.{IfOk, slice_get}
+use Rattle.std.specs.Io.KnownBytes.{Appends}
+use Rattle.std.proofs.lemmas.List.{map-append}
+use Rattle.lrup_model.specs.Formula.{Cnf}
+use Rattle.lrup_model.specs.Pass.{View, AreMet}
+use Rattle.lrup_model.specs.Place.{Caller}
+use Rattle.clause_store.specs.Passes.{PassValue, StoreValue, AreOf, store_of, views}
+use Rattle.runs.specs.Headline.{HaveOneHistory}
+use Rattle.checkpoint.specs.Checkpoints.{IsCheckpointOf}
+use Rattle.portfolio.proofs.SavingLemmas.{fetched_so, last_at}
+use Rattle.portfolio.proofs.saving.carry_live.Goals as goal
+
+-- the last of the passes is at the history's formula
+pub returns-clause-next : goal.returns-clause-next
+returns-clause-next g c = λ f h history.
+    let rest : List PassValue = c.pop.new.self.items in
+    let pass : PassValue = c.in-Some.last in
+    let vs : List View = views rest in
+    let all : views c.args.passes.items ≡ vs ++ pass.view ∷ [] = ap views c.in-Some.ensures.items
+    ∙ map-append (λ (p : PassValue). p.view) rest (pass ∷ []) in
+    let stream : length vs + 1 - 1 ≡ length vs = omega arith in
+    let at : slice_get (views c.args.passes.items) (length vs + 1 - 1) ≡ Some pass.view =
+    ap (slice_get (views c.args.passes.items)) stream ∙ ap (λ (ws : List View). slice_get ws (length vs)) all ∙ last_at vs pass.view in
+    let caller = (history.calls (length vs + 1) pass.view (omega arith, at)).0 in
+    let formula : c.new-desk.result.pass.view.caller.formula ≡ f = ap (λ (p : PassValue). p.view.caller.formula) c.new-desk.ensures
+    ∙ ap (λ (k : Caller). k.formula) caller in
+    subst (λ (k : Cnf). IfOk c.carry-carried.result (λ next. (bytes : List ℕ)
+    × Appends (g.W.Sink.written c.args.sink.now) (g.W.Sink.written c.carry-carried.new.sink) bytes × IsCheckpointOf k bytes next))
+    formula c.carry-carried.ensures.next
+
+-- the store's passes, of which the last is another
+other_last : (store : StoreValue) (ps : List PassValue) (p q : PassValue) → AreOf store (ps ++ p ∷ []) → store_of q ≡ store_of p
+    → AreOf store (ps ++ q ∷ [])
+other_last store [] p q all same = (same ∙ all.0, tt)
+other_last store (x ∷ ps) p q all same = (all.0, other_last store ps p q all.1 same)
+
+pub meet_all-requires : goal.meet_all-requires
+meet_all-requires g c =
+    let store : StoreValue = c.args.store.now in
+    let rest : List PassValue = c.pop.new.self.items in
+    let old : PassValue = c.in-Some.last in
+    let new : PassValue = c.into_pass.result in
+    let before : AreOf store (rest ++ old ∷ []) = subst (AreOf store) c.in-Some.ensures.items c.requires.of in
+    let stays : store_of new ≡ store_of old =
+    ap store_of c.into_pass.ensures ∙ c.carry-carried.ensures.carries.1.store ∙ ap store_of c.new-desk.ensures in
+    subst (AreOf store) (sym (c.deref_mut.ensures.value ∙ c.push_reserved.ensures.items)) (other_last store rest old new before stays)
+
+-- what the last pass fetched is what the history left, as the meeting shows
+pub returns-clause-carries : goal.returns-clause-carries
+returns-clause-carries g c = λ f h history.
+    let rest : List PassValue = c.pop.new.self.items in
+    let vs : List View = views rest in
+    let v : View = c.new-desk.result.pass.view in
+    let w : View = c.carry-carried.new.map.pass.view in
+    let us : List View = views c.meet_all.new.passes in
+    let saved = c.carry-carried.ensures.carries in
+    let before : views c.args.passes.items ≡ vs ++ v ∷ [] =
+    ap views c.in-Some.ensures.items ∙ map-append (λ (p : PassValue). p.view) rest (c.in-Some.last ∷ [])
+    ∙ ap (λ (p : PassValue). vs ++ p.view ∷ []) (sym c.new-desk.ensures) in
+    let after : views c.deref_mut.result.now ≡ vs ++ w ∷ [] =
+    ap views (c.deref_mut.ensures.value ∙ c.push_reserved.ensures.items)
+    ∙ map-append (λ (p : PassValue). p.view) rest (c.into_pass.result ∷ [])
+    ∙ ap (λ (p : PassValue). vs ++ p.view ∷ []) c.into_pass.ensures in
+    let one : HaveOneHistory f c.args.layout.now h (vs ++ v ∷ []) = subst (HaveOneHistory f c.args.layout.now h) before history in
+    let met : AreMet (vs ++ w ∷ []) us = subst (λ (xs : List View). AreMet xs us) after c.meet_all.ensures.met in
+    record {
+      replies = saved.0;
+      answers = fetched_so f c.args.layout.now h vs v w saved.0 us c.meet_all.ensures.one.0 one saved.1.moves met c.meet_all.ensures.one.1;
+      carries = (saved.2, saved.3);
+    }
