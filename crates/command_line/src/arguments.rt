@@ -13,10 +13,10 @@ use std::alloc::{AllocError, Global};
 const MAX_TRIES: u64 = 1_000_000;
 
 /// The greatest value of `--lines`.
-const MAX_LINES: u64 = 268_435_456;
+pub(crate) const MAX_LINES: u64 = 268_435_456;
 
 /// The greatest value of `--room`.
-const MAX_ROOM: u64 = 268_435_456;
+pub(crate) const MAX_ROOM: u64 = 268_435_456;
 
 /// The command, with its arguments.
 pub fn program<'a>(alloc: Global) -> Result<Command<'a>, AllocError>

@@ -4,6 +4,8 @@
 mod arguments;
 mod help;
 pub mod laws;
+mod sizes;
 mod words;
 
+pub use sizes::{Sizes, read_sizes};
 pub use words::{CommandLine, Paths, UsageText, WordsFault, read_words};

@@ -1,0 +1,60 @@
+//! The sizes of a round, read from their text.
+ghost use Rattle.std.specs.Prelude.{◌≡◌, ◌<◌, ◌≤◌, ◌∷◌, ◌++◌, IfNone, IfSome, List, Some, ℕ};
+ghost use Rattle.std.specs.Fmt.{decimal};
+ghost use Rattle.command_line.specs.Sizes.{HaveNoSizes, IsSizesText};
+
+use crate::arguments::{MAX_LINES, MAX_ROOM};
+use std::str;
+
+/// The greatest number of streams.
+const MAX_STREAMS: u64 = 64;
+
+/// The sizes of a round.
+#[derive(Debug, Clone, Copy, PartialEq, Eq)]
+pub struct Sizes {
+    /// The number of streams, 1 to 64.
+    pub streams: u64,
+    /// The identities of each stream, at most 268,435,456.
+    pub lines: u64,
+    /// The literals of each stream's own clauses, at most 268,435,456.
+    pub room: u64,
+}
+
+/// Reads sizes: `STREAMS LINES ROOM` and LF, in decimal, without a leading 0. None if the bytes are anything else, or a
+/// number is out of its range.
+pub fn read_sizes(bytes: &[u8]) -> Option<Sizes>
+    ensures some { IfSome result (IsSizesText bytes.now) }
+    ensures none { IfNone result (HaveNoSizes bytes.now) }
+{
+    let text = str::from_utf8(bytes).ok()?;
+    let (streams, text) = number_before(text, ' ')?;
+    let (lines, text) = number_before(text, ' ')?;
+    let (room, text) = number_before(text, '\n')?;
+    let within = 0 < streams && streams <= MAX_STREAMS && lines <= MAX_LINES && room <= MAX_ROOM;
+    if !within || !text.is_empty() {
+        return None;
+    }
+    Some(Sizes {
+        streams,
+        lines,
+        room,
+    })
+}
+
+/// Whether the text begins with a digit, and with 0 only if it has nothing else.
+fn begins_as_number(text: &str) -> bool {
+    match text.as_bytes() {
+        [b'0'] | [b'1'..=b'9', ..] => true,
+        _ => false,
+    }
+}
+
+/// The number that the text begins with and the text after it, if one stands there in decimal, without a leading 0, and
+/// the character `end` follows it.
+fn number_before(text: &str, end: char) -> Option<(u64, &str)> {
+    let (number, rest) = text.split_once(end)?;
+    if !begins_as_number(number) {
+        return None;
+    }
+    Some((number.parse::<u64>().ok()?, rest))
+}
