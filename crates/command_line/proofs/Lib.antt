@@ -3,3 +3,4 @@ pub mod FoundLemmas
 pub mod PlainLemmas
 pub mod ProgramLemmas
 pub mod ReadLemmas
+pub mod SizesLemmas

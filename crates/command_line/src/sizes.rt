@@ -1,7 +1,6 @@
 //! The sizes of a round, read from their text.
-ghost use Rattle.std.specs.Prelude.{◌≡◌, ◌<◌, ◌≤◌, ◌∷◌, ◌++◌, IfNone, IfSome, List, Some, ℕ};
-ghost use Rattle.std.specs.Fmt.{decimal};
-ghost use Rattle.command_line.specs.Sizes.{HaveNoSizes, IsSizesText};
+ghost use Rattle.std.specs.Prelude.{◌≡◌, ◌<◌, ◌↔◌, IfNone, IfSome, IsSomeAnd, IsTrue, List, ℕ};
+ghost use Rattle.command_line.specs.Sizes.{AreWithinSizes, BeginsAsNumber, HaveNoSizes, IsNumberBefore, IsSizesText};
 
 use crate::arguments::{MAX_LINES, MAX_ROOM};
 use std::str;
@@ -20,29 +19,46 @@ pub struct Sizes {
     pub room: u64,
 }
 
+impl Sizes {
+    /// Whether each number is within its range.
+    fn are_within(self) -> bool
+        ensures { IsTrue result ↔ AreWithinSizes self }
+    {
+        1 <= self.streams
+            && self.streams <= MAX_STREAMS
+            && self.lines <= MAX_LINES
+            && self.room <= MAX_ROOM
+    }
+}
+
 /// Reads sizes: `STREAMS LINES ROOM` and LF, in decimal, without a leading 0. None if the bytes are anything else, or a
 /// number is out of its range.
 pub fn read_sizes(bytes: &[u8]) -> Option<Sizes>
     ensures some { IfSome result (IsSizesText bytes.now) }
     ensures none { IfNone result (HaveNoSizes bytes.now) }
 {
-    let text = str::from_utf8(bytes).ok()?;
+    let Ok(text) = str::from_utf8(bytes) else {
+        return None;
+    };
     let (streams, text) = number_before(text, ' ')?;
     let (lines, text) = number_before(text, ' ')?;
     let (room, text) = number_before(text, '\n')?;
-    let within = 0 < streams && streams <= MAX_STREAMS && lines <= MAX_LINES && room <= MAX_ROOM;
-    if !within || !text.is_empty() {
-        return None;
-    }
-    Some(Sizes {
+    let sizes = Sizes {
         streams,
         lines,
         room,
-    })
+    };
+    if text.is_empty() && sizes.are_within() {
+        Some(sizes)
+    } else {
+        None
+    }
 }
 
 /// Whether the text begins with a digit, and with 0 only if it has nothing else.
-fn begins_as_number(text: &str) -> bool {
+fn begins_as_number(text: &str) -> bool
+    ensures { IsTrue result ↔ BeginsAsNumber text.now }
+{
     match text.as_bytes() {
         [b'0'] | [b'1'..=b'9', ..] => true,
         _ => false,
@@ -51,7 +67,12 @@ fn begins_as_number(text: &str) -> bool {
 
 /// The number that the text begins with and the text after it, if one stands there in decimal, without a leading 0, and
 /// the character `end` follows it.
-fn number_before(text: &str, end: char) -> Option<(u64, &str)> {
+fn number_before(text: &str, end: char) -> Option<(u64, &str)>
+    requires { end < 48 }
+    ensures some { IfSome result (λ found. IsNumberBefore text.now end found.0 found.1.now) }
+    ensures all { (number : ℕ) (rest : List ℕ) → IsNumberBefore text.now end number rest
+        → IsSomeAnd result (λ found. (found.0 ≡ number) × (found.1.now ≡ rest)) }
+{
     let (number, rest) = text.split_once(end)?;
     if !begins_as_number(number) {
         return None;
