@@ -6,24 +6,6 @@ use Rattle.command_line.proofs.sizes.read_sizes.Goals.{else-is_empty-via-then-is
 pub returns-in_default-clause-none : goal.returns-in_default-clause-none
 returns-in_default-clause-none c sizes is = c.in_default.ensures.cases.0 (sizes_utf8 c.args.bytes.now sizes is)
 
-pub returns-in_err-streams-clause-none : goal.returns-in_err-streams-clause-none
-returns-in_err-streams-clause-none c = rw c.from_residual.ensures (λ sizes is.
-    let numbers = three_numbers c.args.bytes.now sizes is in
-    c.in_err-streams.ensures.all sizes.streams (after_streams sizes) (along 32 _ _ c.in-Ok.ensures.cases.0 numbers.streams))
-
-pub returns-in_err-lines-clause-none : goal.returns-in_err-lines-clause-none
-returns-in_err-lines-clause-none c = rw c.from_residual-in_err-lines.ensures (λ sizes is.
-    let numbers = three_numbers c.args.bytes.now sizes is in
-    let one = c.in_ok-streams.ensures.all sizes.streams (after_streams sizes) (along 32 _ _ c.in-Ok.ensures.cases.0 numbers.streams) in
-    c.in_err-lines.ensures.all sizes.lines (after_lines sizes) (along 32 _ _ one.1 numbers.lines))
-
-pub returns-in_err-room-clause-none : goal.returns-in_err-room-clause-none
-returns-in_err-room-clause-none c = rw c.from_residual-in_err-room.ensures (λ sizes is.
-    let numbers = three_numbers c.args.bytes.now sizes is in
-    let one = c.in_ok-streams.ensures.all sizes.streams (after_streams sizes) (along 32 _ _ c.in-Ok.ensures.cases.0 numbers.streams) in
-    let two = c.in_ok-lines.ensures.all sizes.lines (after_lines sizes) (along 32 _ _ one.1 numbers.lines) in
-    c.in_err-room.ensures.all sizes.room [] (along 10 _ _ two.1 numbers.room))
-
 pub returns-else-is_empty-clause-none : goal.returns-else-is_empty-clause-none
 returns-else-is_empty-clause-none c sizes is =
     let numbers = three_numbers c.args.bytes.now sizes is in
