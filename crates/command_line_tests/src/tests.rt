@@ -6,6 +6,7 @@ use std::process::Abort;
 use std::test::Fail;
 
 mod asked;
+mod sizes;
 
 /// Stops the test where two values differ: an assertion that is proved once for all tests.
 fn same<T: PartialEq + fmt::Debug + Drop>(rt: &impl Abort, value: T, wanted: T) {
@@ -22,6 +23,7 @@ struct Given<'a> {
     watch: bool,
     assume: Option<&'a str>,
     checkpoint: Option<&'a str>,
+    rounds: Option<&'a str>,
     formula: &'a str,
     streams: &'a [&'a str],
 }
@@ -35,6 +37,7 @@ const DEFAULTS: Given<'static> = Given {
     watch: false,
     assume: None,
     checkpoint: None,
+    rounds: None,
     formula: "f",
     streams: &["s"],
 };
@@ -50,6 +53,7 @@ fn gives(rt: &impl Abort, alloc: Global, words: &[&str], want: Given<'_>) -> Res
         watch: line.watch,
         assume: line.assume,
         checkpoint: line.checkpoint,
+        rounds: line.rounds,
         formula: line.formula,
         streams: line.streams.as_slice(),
     };
@@ -400,6 +404,72 @@ fn a_checkpoint_has_one_file(rt: HostRuntime) -> Result<(), Fail> {
     have_faults(&rt, rt.alloc(), &CHECKPOINT_FAULTS)
 }
 
+static ROUNDS: [(&[&str], Given<'static>); 5] = [
+    (
+        &["--rounds", "d", "f", "s"],
+        Given {
+            rounds: Some("d"),
+            ..DEFAULTS
+        },
+    ),
+    (
+        &["--rounds=d", "f", "s"],
+        Given {
+            rounds: Some("d"),
+            ..DEFAULTS
+        },
+    ),
+    (
+        &["f", "s", "--rounds", "s"],
+        Given {
+            rounds: Some("s"),
+            ..DEFAULTS
+        },
+    ),
+    (
+        &["f", "s", "--", "--rounds", "d"],
+        Given {
+            streams: &["s", "--rounds", "d"],
+            ..DEFAULTS
+        },
+    ),
+    (
+        &["--rounds", "d", "f", "s", "--checkpoint", "c"],
+        Given {
+            checkpoint: Some("c"),
+            rounds: Some("d"),
+            ..DEFAULTS
+        },
+    ),
+];
+
+/// Beside a checkpoint a folder is taken, too: that they exclude each other is said later.
+#[test]
+fn a_folder_of_rounds_may_be_named(rt: HostRuntime) -> Result<(), Fail> {
+    give(&rt, rt.alloc(), &ROUNDS)
+}
+
+static ROUNDS_FAULTS: [(&[&str], &str); 4] = [
+    (
+        &["--rounds", "d", "f", "s", "--rounds=e"],
+        "'--rounds <DIR>' cannot be used multiple times",
+    ),
+    (
+        &["f", "s", "--rounds"],
+        "a value is required for '--rounds <DIR>'",
+    ),
+    (
+        &["--rounds", "--serial", "f", "s"],
+        "a value is required for '--rounds <DIR>'",
+    ),
+    (&["--rounds", "d", "f"], "<STREAM>"),
+];
+
+#[test]
+fn rounds_have_one_folder(rt: HostRuntime) -> Result<(), Fail> {
+    have_faults(&rt, rt.alloc(), &ROUNDS_FAULTS)
+}
+
 static SERIAL: [(&[&str], Given<'static>); 5] = [
     (
         &["--serial", "f", "s"],
@@ -523,7 +593,7 @@ fn after_two_hyphens_a_path_may_begin_with_one(rt: HostRuntime) -> Result<(), Fa
 /// Words that ask for help.
 static HELP_WORDS: [&[&str]; 2] = [&["--help"], &["f", "s", "-h"]];
 
-static HELP: [&str; 14] = [
+static HELP: [&str; 15] = [
     "Usage: lrupd [OPTIONS] <FORMULA> <STREAM>...\n",
     "--tries <N>\n",
     "0 to 1,000,000, default 1,000.",
@@ -535,6 +605,7 @@ static HELP: [&str; 14] = [
     "'s UNSATISFIABLE UNDER ASSUMPTIONS'.",
     "--checkpoint <FILE>\n",
     "FILE, which must not be there yet,",
+    "--rounds <DIR>\n",
     "--serial\n",
     "--watch\n",
     "\n  lrupd --tries 1000000 big.cnf solver1.lrup solver2.lrup\n",

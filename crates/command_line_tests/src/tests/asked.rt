@@ -1,8 +1,9 @@
 //! What the definition of what words ask for says of a few words. Each follows from the definition alone, so a wrong one isn't proved.
 ghost use Rattle.std.specs.Prelude.{[], ◌∷◌, ℕ, List, Option, Some, codes};
-ghost use Rattle.command_line.specs.CommandLine.{AskFor, AskToSave};
+ghost use Rattle.command_line.specs.CommandLine.{AskFor, AskForRounds, AskToSave};
 
-/// `--assume` has the word after it, and FORMULA is the first word that no option has. Words with a fault ask for nothing. A checkpoint is asked for by its own option alone.
+/// `--assume` has the word after it, and FORMULA is the first word that no option has. Words with a fault ask for nothing. A checkpoint
+/// is asked for by its own option alone, and so are rounds.
 pub fn words_ask_for_files()
     ensures assumed { AskFor (codes "--assume" ∷ codes "a" ∷ codes "f" ∷ codes "s" ∷ [])
         (codes "f") (Some (codes "a")) }
@@ -11,4 +12,7 @@ pub fn words_ask_for_files()
     ensures saved { AskToSave (codes "f" ∷ codes "--checkpoint=c" ∷ codes "s" ∷ []) (codes "c") }
     ensures unsaved { (path : List ℕ) →
         ¬ AskToSave (codes "--assume" ∷ codes "a" ∷ codes "f" ∷ codes "s" ∷ []) path }
+    ensures rounds { AskForRounds (codes "f" ∷ codes "--rounds=d" ∷ codes "s" ∷ []) (codes "d") }
+    ensures one_round { (folder : List ℕ) →
+        ¬ AskForRounds (codes "--checkpoint" ∷ codes "d" ∷ codes "f" ∷ codes "s" ∷ []) folder }
 {}

@@ -1,6 +1,6 @@
 use Rattle.std.proofs.Common.{ℕ, List, [], ◌∷◌, Option, Some, codes, refl}
 use Rattle.clap.proofs.OnLiterals.{clap_on_literals}
-use Rattle.command_line.specs.CommandLine.{AskFor, AskToSave}
+use Rattle.command_line.specs.CommandLine.{AskFor, AskForRounds, AskToSave}
 use Rattle.command_line_tests.proofs.tests.asked.words_ask_for_files.Goals as goal
 
 assumed : AskFor (codes "--assume" ∷ codes "a" ∷ codes "f" ∷ codes "s" ∷ []) (codes "f") (Some (codes "a"))
@@ -19,5 +19,13 @@ unsaved : (path : List ℕ) → ¬ AskToSave (codes "--assume" ∷ codes "a" ∷
 unfolding clap_on_literals
 unsaved path h = let e = h.path_is in cc
 
+rounds : AskForRounds (codes "f" ∷ codes "--rounds=d" ∷ codes "s" ∷ []) (codes "d")
+unfolding clap_on_literals
+rounds = record { good = refl; folder_is = refl }
+
+one_round : (folder : List ℕ) → ¬ AskForRounds (codes "--checkpoint" ∷ codes "d" ∷ codes "f" ∷ codes "s" ∷ []) folder
+unfolding clap_on_literals
+one_round folder h = let e = h.folder_is in cc
+
 pub returns : goal.returns
-returns c = record { assumed = assumed; fault = fault; saved = saved; unsaved = unsaved }
+returns c = record { assumed = assumed; fault = fault; saved = saved; unsaved = unsaved; rounds = rounds; one_round = one_round }
