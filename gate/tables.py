@@ -153,13 +153,15 @@ def fault_table() -> str:
 
 def marked(text: str) -> str:
     """A text of the program with backticks round what it quotes, and round options and placeholders."""
-    return re.sub(r"(?<!\w)'([^']+)'(?!\w)|(?<![\w-])(--[a-z]+|FILE|FORMULA|STREAM)(?!\w)", r"`\1\2`", text)
+    return re.sub(r"(?<!\w)'([^']+)'(?!\w)|(?<![\w-])(--[a-z]+|FILE|FORMULA|STREAM|DIR(?:/[\w.-]*\w)?)(?!\w)", r"`\1\2`", text)
 
 
 def macro(span: str) -> str:
     """The macro for what stood in backticks."""
     if span.startswith("--"):
         return f".Fl {span[1:]}"
+    if span.startswith("DIR/"):
+        return f".Pa {span.lower()}"
     return f".Ar {span if len(span) == 1 else span.lower()}" if re.fullmatch("[A-Z]+", span) else f".Ql {span}"
 
 

@@ -15,7 +15,7 @@ use Rattle.clap.specs.Walk.{row_of}
 use Rattle.clap.specs.Facts.{explicit_source, least_values, Entry, EntryPasses, HasReading, IsCountArg, AllowsNone, PassesArg, ValuesPass}
 use Rattle.clap.specs.Facts.{parser_of, parser_of_value, unwrap_or_range}
 use Rattle.clap.specs.Takes.{is_given}
-use Rattle.clap.specs.declared.builder.action.ArgAction.TheVariants.{Count, Set}
+use Rattle.clap.specs.declared.builder.action.ArgAction.TheVariants.{Append, Count, Set}
 use Rattle.clap.specs.declared.builder.arg.Arg.{Arg}
 use Rattle.clap.specs.declared.builder.command.Command.{Command}
 use Rattle.clap.specs.declared.builder.command.Command.TheViews.{out-Command}
@@ -192,16 +192,23 @@ filled d f id is pass named takes_one used =
         let held = entry_holds d f id entry.1 pass (program_simple d is).groups named found in
         (entry.1, found, elim held.filled [ inl lt ↦ lt | inr or ↦ absurd (none or) ])
 
+-- it is set or appended, by a value at least
+sets : (Set ≡ Count → ⊥) × (◌≡◌ {A = ℕ} 1 0 → ⊥)
+sets = (λ e. cc, λ e. absurd (omega arith))
+
+appends : (Append ≡ Count → ⊥) × (◌≡◌ {A = ℕ} 1 0 → ⊥)
+appends = (λ e. cc, λ e. absurd (omega arith))
+
 formula_takes : EachArgument (TakesOne (codes "FORMULA"))
 formula_takes = (
-  (other, (other, (other, (other, (other, (other, (other, (other, (λ _. (λ e. cc, λ e. absurd (omega arith)), (other, tt)))))))))),
-  (other, (other, (other, (other, (other, (other, (other, (other, (λ _. (λ e. cc, λ e. absurd (omega arith)), (other, (other, (other, tt)))))))))))),
+  (other, (other, (other, (other, (other, (other, (other, (other, (λ _. sets, (other, tt)))))))))),
+  (other, (other, (other, (other, (other, (other, (other, (other, (λ _. sets, (other, (other, (other, tt)))))))))))),
 )
 
 stream_takes : EachArgument (TakesOne (codes "STREAM"))
 stream_takes = (
-  (other, (other, (other, (other, (other, (other, (other, (other, (other, (λ _. (λ e. cc, λ e. absurd (omega arith)), tt)))))))))),
-  (other, (other, (other, (other, (other, (other, (other, (other, (other, (λ _. (λ e. cc, λ e. absurd (omega arith)), (other, (other, tt)))))))))))),
+  (other, (other, (other, (other, (other, (other, (other, (other, (other, (λ _. appends, tt)))))))))),
+  (other, (other, (other, (other, (other, (other, (other, (other, (other, (λ _. appends, (other, (other, tt)))))))))))),
 )
 
 -- ---- all of it

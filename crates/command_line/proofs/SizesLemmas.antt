@@ -1,14 +1,14 @@
--- A number in decimal before a character that is no digit.
+-- A number in decimal before a character that is no digit, and the text of sizes.
 use Rattle.std.proofs.Common.{◌≡◌, ◌∙◌, refl, sym, ap, subst, arith, ℕ, zero, suc, ◌^◌, ◌<◌, List, [], ◌∷◌, ◌++◌, length, get_or}
-use Rattle.std.proofs.Common.{Option, Some, None, Result, Ok, Err, MatchOption, Bor}
-use Rattle.std.proofs.Common.{append_assoc}
+use Rattle.std.proofs.Common.{Option, Some, None, Result, Ok, Err, MatchOption, Bor, append_assoc}
 use Rattle.std.specs.Result.{result_ok}
 use Rattle.std.specs.Str.{IsAscii, IsUtf8}
 use Rattle.std.proofs.lemmas.Str.{IsAscii-append, IsUtf8-from_ascii}
 use Rattle.std.proofs.lemmas.Str.Ascii.{IsAscii-nil}
 use Rattle.std.specs.Fmt.{decimal}
 use Rattle.std.specs.Str.Parse.{AllDigits, ParsesUnsigned, digits_value}
-use Rattle.std.proofs.lemmas.Fmt.{IsAscii-decimal, decimal-digits_value, decimal_digit, decimal_nonempty, digits_decimal, first_decimal, parse-decimal}
+use Rattle.std.proofs.lemmas.Fmt.{IsAscii-decimal, decimal-digits_value, decimal_digit, decimal_nonempty, digits_decimal}
+use Rattle.std.proofs.lemmas.Fmt.{first_decimal, parse-decimal}
 use Rattle.std.proofs.lemmas.Str.Parse.{IsNumeralModel, digit_at, not_in_digits, numerals_by_value, parse_plain, tells_digits}
 use Rattle.std.proofs.lemmas.Str.Pattern.{IsSplitOnceResult, split_after, split_parts}
 use Rattle.command_line.specs.Sizes.{AreWithinSizes, BeginsAsNumber, IsNumberBefore, IsSizesText, sizes_text}
@@ -101,7 +101,8 @@ sizes_utf8 bytes sizes is =
 
 -- sizes whose numbers are those of a text are its sizes
 pub same_sizes : (bytes : List ℕ) (sizes : Sizes) (streams lines room : ℕ) → IsSizesText bytes sizes
-    → streams ≡ sizes.streams → lines ≡ sizes.lines → room ≡ sizes.room → AreWithinSizes (record { streams = streams; lines = lines; room = room })
+    → streams ≡ sizes.streams → lines ≡ sizes.lines → room ≡ sizes.room
+    → AreWithinSizes (record { streams = streams; lines = lines; room = room })
 same_sizes bytes sizes streams lines room is one two three = record {
   some_streams = omega (arith, one, is.within.some_streams);
   few_streams = omega (arith, one, is.within.few_streams);

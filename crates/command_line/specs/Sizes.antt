@@ -6,7 +6,8 @@ use Rattle.command_line.specs.declared.sizes.Sizes.{Sizes}
 
 -- three numbers in decimal, a space between them, and a line feed
 abbrev pub sizes_text : Sizes → List ℕ
-sizes_text sizes = decimal sizes.streams ++ codes " " ++ decimal sizes.lines ++ codes " " ++ decimal sizes.room ++ codes "\n"
+sizes_text sizes = decimal sizes.streams ++ codes " " ++ decimal sizes.lines ++ codes " "
+    ++ decimal sizes.room ++ codes "\n"
 
 -- there are 1 to 64 streams, and the other numbers are within the ranges of `--lines` and `--room`
 pub record AreWithinSizes (sizes : Sizes) : Type 0 where

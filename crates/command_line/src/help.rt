@@ -56,12 +56,14 @@ the answer 's UNSATISFIABLE' nothing is saved, and FILE stays empty.";
 
 /// Of `--rounds`.
 pub const ROUNDS: &str = "\
-Go on in rounds. STREAM... are those of round 1. Where all streams of round R
-have ended, and none derived the empty clause, the clauses that are live are
-saved as DIR/round-Q.cnf, Q being R+1, and kept for the next round, whose
-streams are DIR/round-Q.stream-1, -2 and so on, as many as in round 1. The
-last round is the one after which there is no stream 1. DIR/round-Q.cnf must
-not be there yet. Not together with --checkpoint.";
+Go on in rounds, each over the live clauses of the one before: FORMULA and
+STREAM... are those of round 1. After it the live clauses are saved, as by
+--checkpoint, in DIR/round-2.cnf. If all streams ended and the answer is
+'s UNKNOWN', round 2 begins, with the streams DIR/round-2.stream-1, -2 and so
+on. DIR/round-2.sizes, if it is there, has their number, then the round's
+--lines and --room: '4 65536 1048576'. If there is no stream 1, the run is
+over. Round 3 has a 3 in these names, and so on. Not together with
+--checkpoint.";
 
 /// Of `--serial`.
 pub const SERIAL: &str = "\

@@ -26,7 +26,8 @@ pub returns-clause-some : goal.returns-clause-some
 returns-clause-some c =
     let split = splits c.args.text.now c.args.end c.split_once.result c.split_once.ensures.cases c.requires in
     let parts = rw c.in_ok-number.was at split in
-    let read = decimal_read _ c.in_ok-number.number.now c.in_ok-ok.field-0 c.parse.result (c.begins_as_number.ensures.0 c.if-not-begins_as_number.false)
+    let begins = c.begins_as_number.ensures.0 c.if-not-begins_as_number.false in
+    let read = decimal_read _ c.in_ok-number.number.now c.in_ok-ok.field-0 c.parse.result begins
     c.parse.ensures.value.0 c.in_ok-ok.ensures.value in
     record { parts = parts ∙ ap (λ (digits : List ℕ). digits ++ c.args.end ∷ c.in_ok-number.rest.now) read.0; small = read.1 }
 
