@@ -20,7 +20,7 @@ use Rattle.command_line.specs.declared.words.CommandLine.{CommandLine}
 use Rattle.command.specs.Commands.{AreAssumed, IsAssumeCause, NameUnsatisfiableUnder, assumed_at}
 use Rattle.command.specs.Commands.{AreChecked, AreOpened, IsCause, IsFormulaAt, IsOpenCause, IsOutcome, IsReadCause}
 use Rattle.command.specs.Commands.{FilesView, IsCreateCause, IsRunCause, LeavesCheckpoint, NameUnsatisfiable, Text, WasRead, WasReadIn}
-use Rattle.command.specs.Commands.{checkpoint_at, layout_at, options_of}
+use Rattle.command.specs.Commands.{checkpoint_at, created_at, layout_at, options_of}
 use Rattle.command.specs.Faults.{of_run}
 use Rattle.command.specs.declared.fault.CommandFault.{CommandFault}
 use Rattle.command.specs.declared.fault.CommandFault.TheVariants as faults
@@ -145,27 +145,14 @@ is_outcome files words given f cube options readers next later last line at assu
 -- The causes are those of the words and the files.
 pub read_cause : (files : FilesView) (words : List Text) (given : CommandLine) → IsCommandLineOf words given
     → (fault : CommandFault) → IsReadCause files given.formula.now fault → IsCause files words fault
-read_cause files words given line (faults.Usage text) cause = absurd cause
 read_cause files words given line faults.Unread cause = (given, line, inl cause)
 read_cause files words given line (faults.Refused fault) cause = (given, line, inl cause)
-read_cause files words given line faults.CubeUnread cause = absurd cause
-read_cause files words given line (faults.CubeRefused fault) cause = absurd cause
-read_cause files words given line (faults.NotOpened stream) cause = absurd cause
-read_cause files words given line (faults.Layout fault) cause = absurd cause
-read_cause files words given line (faults.Spawn stream) cause = absurd cause
-read_cause files words given line (faults.Ring stream) cause = absurd cause
 read_cause files words given line faults.Memory cause = tt
-read_cause files words given line faults.Unwritten cause = absurd cause
-read_cause files words given line faults.NotCreated cause = absurd cause
-read_cause files words given line (faults.NotSaved fault) cause = absurd cause
-read_cause files words given line faults.TwoCheckpoints cause = absurd cause
+read_cause files words given line fault cause = absurd cause
 
 assume_cause : (files : FilesView) (words : List Text) (given : CommandLine) (f : Cnf) (next : files.State) → IsCommandLineOf words given
     → IsFormulaAt files given.formula.now f next → (path : Text) → assumed_at given ≡ Some path → (fault : CommandFault)
     → IsAssumeCause files f.vars next (Some path) fault → IsCause files words fault
-assume_cause files words given f next line at path same (faults.Usage text) cause = absurd cause
-assume_cause files words given f next line at path same faults.Unread cause = absurd cause
-assume_cause files words given f next line at path same (faults.Refused fault) cause = absurd cause
 assume_cause files words given f next line at path same faults.CubeUnread cause = (
   given,
   line,
@@ -176,15 +163,8 @@ assume_cause files words given f next line at path same (faults.CubeRefused faul
   line,
   inr (f, next, at, inl (subst (λ (o : Option Text). IsAssumeCause files f.vars next o (faults.CubeRefused fault)) (sym same) cause)),
 )
-assume_cause files words given f next line at path same (faults.NotOpened stream) cause = absurd cause
-assume_cause files words given f next line at path same (faults.Layout fault) cause = absurd cause
-assume_cause files words given f next line at path same (faults.Spawn stream) cause = absurd cause
-assume_cause files words given f next line at path same (faults.Ring stream) cause = absurd cause
 assume_cause files words given f next line at path same faults.Memory cause = tt
-assume_cause files words given f next line at path same faults.Unwritten cause = absurd cause
-assume_cause files words given f next line at path same faults.NotCreated cause = absurd cause
-assume_cause files words given f next line at path same (faults.NotSaved fault) cause = absurd cause
-assume_cause files words given f next line at path same faults.TwoCheckpoints cause = absurd cause
+assume_cause files words given f next line at path same fault cause = absurd cause
 
 pub assumed_cause : (files : FilesView) (words : List Text) (given : CommandLine) (f : Cnf) (next : files.State)
     → IsCommandLineOf words given
@@ -198,32 +178,15 @@ pub open_cause : (files : FilesView) (words : List Text) (given : CommandLine) (
     → IsCommandLineOf words given
     → IsFormulaAt files given.formula.now f next → AreAssumed (WasReadIn files) f.vars next (assumed_at given) cube later
     → (fault : CommandFault) → IsOpenCause files.opens files.may_refuse later given.streams fault → IsCause files words fault
-open_cause files words given f cube next later line at assumed (faults.Usage text) cause = absurd cause
-open_cause files words given f cube next later line at assumed faults.Unread cause = absurd cause
-open_cause files words given f cube next later line at assumed (faults.Refused fault) cause = absurd cause
-open_cause files words given f cube next later line at assumed faults.CubeUnread cause = absurd cause
-open_cause files words given f cube next later line at assumed (faults.CubeRefused fault) cause = absurd cause
 open_cause files words given f cube next later line at assumed (faults.NotOpened stream) cause =
     (given, line, inr (f, next, at, inr (cube, later, assumed, inl cause)))
-open_cause files words given f cube next later line at assumed (faults.Layout fault) cause = absurd cause
-open_cause files words given f cube next later line at assumed (faults.Spawn stream) cause = absurd cause
-open_cause files words given f cube next later line at assumed (faults.Ring stream) cause = absurd cause
 open_cause files words given f cube next later line at assumed faults.Memory cause = tt
-open_cause files words given f cube next later line at assumed faults.Unwritten cause = absurd cause
-open_cause files words given f cube next later line at assumed faults.NotCreated cause = absurd cause
-open_cause files words given f cube next later line at assumed (faults.NotSaved fault) cause = absurd cause
-open_cause files words given f cube next later line at assumed faults.TwoCheckpoints cause = absurd cause
+open_cause files words given f cube next later line at assumed fault cause = absurd cause
 
 line_cause : (files : FilesView) (words : List Text) (given : CommandLine) (f : Cnf) (cube : CubeValue) (next later : files.State)
     → IsCommandLineOf words given
     → IsFormulaAt files given.formula.now f next → AreAssumed (WasReadIn files) f.vars next (assumed_at given) cube later
     → (fault : CommandFault) → IsRunCause given.serial (layout_at given f) fault → IsCause files words fault
-line_cause files words given f cube next later line at assumed (faults.Usage text) cause = absurd cause
-line_cause files words given f cube next later line at assumed faults.Unread cause = absurd cause
-line_cause files words given f cube next later line at assumed (faults.Refused fault) cause = absurd cause
-line_cause files words given f cube next later line at assumed faults.CubeUnread cause = absurd cause
-line_cause files words given f cube next later line at assumed (faults.CubeRefused fault) cause = absurd cause
-line_cause files words given f cube next later line at assumed (faults.NotOpened stream) cause = absurd cause
 line_cause files words given f cube next later line at assumed (faults.Layout fault) cause =
     (given, line, inr (f, next, at, inr (cube, later, assumed, inr (inl cause))))
 line_cause files words given f cube next later line at assumed (faults.Spawn stream) cause =
@@ -231,10 +194,7 @@ line_cause files words given f cube next later line at assumed (faults.Spawn str
 line_cause files words given f cube next later line at assumed (faults.Ring stream) cause =
     (given, line, inr (f, next, at, inr (cube, later, assumed, inr (inl cause))))
 line_cause files words given f cube next later line at assumed faults.Memory cause = tt
-line_cause files words given f cube next later line at assumed faults.Unwritten cause = absurd cause
-line_cause files words given f cube next later line at assumed faults.NotCreated cause = absurd cause
-line_cause files words given f cube next later line at assumed (faults.NotSaved fault) cause = absurd cause
-line_cause files words given f cube next later line at assumed faults.TwoCheckpoints cause = absurd cause
+line_cause files words given f cube next later line at assumed fault cause = absurd cause
 
 -- so a run's cause, by the layout that the run has
 pub run_cause_of : (files : FilesView) (words : List Text) (given : CommandLine) (f : Cnf) (cube : CubeValue) (options : OptionsValue)
@@ -263,22 +223,11 @@ pub create_cause : (files : FilesView) (words : List Text) (given : CommandLine)
     → IsFormulaAt files given.formula.now f next → AreAssumed (WasReadIn files) f.vars next (assumed_at given) cube later
     → (readers : List files.Reader) (last : files.State) → AreOpened files.opens later given.streams readers last
     → ((other : LayoutFault) → IsFault (layout_at given f) other → ⊥) → (fault : CommandFault)
-    → IsCreateCause files.may_refuse_new (checkpoint_at given) fault → IsCause files words fault
-create_cause files words given f cube next later line at assumed readers last opened layout (faults.Usage text) cause = absurd cause
-create_cause files words given f cube next later line at assumed readers last opened layout faults.Unread cause = absurd cause
-create_cause files words given f cube next later line at assumed readers last opened layout (faults.Refused fault) cause = absurd cause
-create_cause files words given f cube next later line at assumed readers last opened layout faults.CubeUnread cause = absurd cause
-create_cause files words given f cube next later line at assumed readers last opened layout (faults.CubeRefused fault) cause = absurd cause
-create_cause files words given f cube next later line at assumed readers last opened layout (faults.NotOpened stream) cause = absurd cause
-create_cause files words given f cube next later line at assumed readers last opened layout (faults.Layout fault) cause = absurd cause
-create_cause files words given f cube next later line at assumed readers last opened layout (faults.Spawn stream) cause = absurd cause
-create_cause files words given f cube next later line at assumed readers last opened layout (faults.Ring stream) cause = absurd cause
+    → IsCreateCause files.may_refuse_new (created_at given) fault → IsCause files words fault
 create_cause files words given f cube next later line at assumed readers last opened layout faults.Memory cause = tt
-create_cause files words given f cube next later line at assumed readers last opened layout faults.Unwritten cause = absurd cause
 create_cause files words given f cube next later line at assumed readers last opened layout faults.NotCreated cause =
     (given, line, inr (f, next, at, inr (cube, later, assumed, inr (inr (readers, last, opened, layout, cause)))))
-create_cause files words given f cube next later line at assumed readers last opened layout (faults.NotSaved fault) cause = absurd cause
-create_cause files words given f cube next later line at assumed readers last opened layout faults.TwoCheckpoints cause = absurd cause
+create_cause files words given f cube next later line at assumed readers last opened layout fault cause = absurd cause
 
 -- so a layout that was found is that of the command line
 pub layout_moved : (files : FilesView) (given : CommandLine) (f : Cnf) (options : OptionsValue) (readers : List files.Reader)

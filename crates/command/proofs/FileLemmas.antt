@@ -24,21 +24,10 @@ opening_cause files before path opens.Memory refused = tt
 pub reading_cause : (files : FilesView) (before : files.State) (path : Text) (reader : files.Reader) (after : files.State)
     → files.opens before path reader after → files.reading.left reader ≡ files.tells path
     → (fault : CommandFault) → IsFailedRead files.reading reader fault → IsFileCause files before path fault
-reading_cause files before path reader after opened left (faults.Usage text) cause = absurd cause
 reading_cause files before path reader after opened left faults.Unread cause =
     inr (record { reader = reader; after = after; opened = opened; left = left; broken = cause })
-reading_cause files before path reader after opened left (faults.Refused fault) cause = absurd cause
-reading_cause files before path reader after opened left faults.CubeUnread cause = absurd cause
-reading_cause files before path reader after opened left (faults.CubeRefused fault) cause = absurd cause
-reading_cause files before path reader after opened left (faults.NotOpened stream) cause = absurd cause
-reading_cause files before path reader after opened left (faults.Layout fault) cause = absurd cause
-reading_cause files before path reader after opened left (faults.Spawn stream) cause = absurd cause
-reading_cause files before path reader after opened left (faults.Ring stream) cause = absurd cause
 reading_cause files before path reader after opened left faults.Memory cause = tt
-reading_cause files before path reader after opened left faults.Unwritten cause = absurd cause
-reading_cause files before path reader after opened left faults.NotCreated cause = absurd cause
-reading_cause files before path reader after opened left (faults.NotSaved fault) cause = absurd cause
-reading_cause files before path reader after opened left faults.TwoCheckpoints cause = absurd cause
+reading_cause files before path reader after opened left fault cause = absurd cause
 
 -- what was read of a file that was opened
 pub was_read : (files : FilesView) (before : files.State) (path : Text) (reader : files.Reader) (after : files.State) {T E : Type 0}
@@ -54,37 +43,15 @@ was_read files before path reader after items (Err fault) opened left gave all =
 -- so of the formula's file, and of that of the assumed literals
 pub formula_file_cause : (files : FilesView) (path : Text) (fault : CommandFault) → IsFileCause files files.first path fault
     → IsReadCause files path fault
-formula_file_cause files path (faults.Usage text) cause = absurd cause
 formula_file_cause files path faults.Unread cause = cause
-formula_file_cause files path (faults.Refused fault) cause = absurd cause
-formula_file_cause files path faults.CubeUnread cause = absurd cause
-formula_file_cause files path (faults.CubeRefused fault) cause = absurd cause
-formula_file_cause files path (faults.NotOpened stream) cause = absurd cause
-formula_file_cause files path (faults.Layout fault) cause = absurd cause
-formula_file_cause files path (faults.Spawn stream) cause = absurd cause
-formula_file_cause files path (faults.Ring stream) cause = absurd cause
 formula_file_cause files path faults.Memory cause = tt
-formula_file_cause files path faults.Unwritten cause = absurd cause
-formula_file_cause files path faults.NotCreated cause = absurd cause
-formula_file_cause files path (faults.NotSaved fault) cause = absurd cause
-formula_file_cause files path faults.TwoCheckpoints cause = absurd cause
+formula_file_cause files path fault cause = absurd cause
 
 pub cube_file_cause : (files : FilesView) (vars : ℕ) (before : files.State) (path : Text) (fault : CommandFault)
     → IsFileCause files before path fault → IsAssumeCause files vars before (Some path) (of_cube_file fault)
-cube_file_cause files vars before path (faults.Usage text) cause = absurd cause
 cube_file_cause files vars before path faults.Unread cause = cause
-cube_file_cause files vars before path (faults.Refused fault) cause = absurd cause
-cube_file_cause files vars before path faults.CubeUnread cause = absurd cause
-cube_file_cause files vars before path (faults.CubeRefused fault) cause = absurd cause
-cube_file_cause files vars before path (faults.NotOpened stream) cause = absurd cause
-cube_file_cause files vars before path (faults.Layout fault) cause = absurd cause
-cube_file_cause files vars before path (faults.Spawn stream) cause = absurd cause
-cube_file_cause files vars before path (faults.Ring stream) cause = absurd cause
 cube_file_cause files vars before path faults.Memory cause = tt
-cube_file_cause files vars before path faults.Unwritten cause = absurd cause
-cube_file_cause files vars before path faults.NotCreated cause = absurd cause
-cube_file_cause files vars before path (faults.NotSaved fault) cause = absurd cause
-cube_file_cause files vars before path faults.TwoCheckpoints cause = absurd cause
+cube_file_cause files vars before path fault cause = absurd cause
 
 -- why what was read is no formula, or no text of literals
 pub text_cause : (files : FilesView) (path : Text) (bytes : List ℕ) (after : files.State) → WasReadIn files files.first path bytes after
@@ -121,17 +88,7 @@ module _ (files : FilesView) (first : files.State) where
   pub moved_cause : (vars : ℕ) (before : files.State) (path : Option Text) (fault : CommandFault)
       → IsAssumeCause later vars before path fault → IsAssumeCause files vars before path fault
   moved_cause vars before None fault cause = absurd cause
-  moved_cause vars before (Some path) (faults.Usage text) cause = absurd cause
-  moved_cause vars before (Some path) faults.Unread cause = absurd cause
-  moved_cause vars before (Some path) (faults.Refused fault) cause = absurd cause
   moved_cause vars before (Some path) faults.CubeUnread cause = moved_unread before path cause
   moved_cause vars before (Some path) (faults.CubeRefused fault) cause = cause
-  moved_cause vars before (Some path) (faults.NotOpened stream) cause = absurd cause
-  moved_cause vars before (Some path) (faults.Layout fault) cause = absurd cause
-  moved_cause vars before (Some path) (faults.Spawn stream) cause = absurd cause
-  moved_cause vars before (Some path) (faults.Ring stream) cause = absurd cause
   moved_cause vars before (Some path) faults.Memory cause = tt
-  moved_cause vars before (Some path) faults.Unwritten cause = absurd cause
-  moved_cause vars before (Some path) faults.NotCreated cause = absurd cause
-  moved_cause vars before (Some path) (faults.NotSaved fault) cause = absurd cause
-  moved_cause vars before (Some path) faults.TwoCheckpoints cause = absurd cause
+  moved_cause vars before (Some path) fault cause = absurd cause

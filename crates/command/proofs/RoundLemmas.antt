@@ -1,21 +1,32 @@
 -- Rounds, one after the other.
-use Rattle.std.proofs.Common.{◌≡◌, ◌∙◌, ◌+◌, ◌++◌, add-one, Bool, IsTrue, inl, inr, slice_get, arith, length, length-append, suc, zero, ℕ, List, [], ◌∷◌, Option, None, Some, Result, Ok, refl, sym, ap, subst, ◌⊎◌}
+use Rattle.std.proofs.Common.{arith, ◌≡◌, ◌≤◌, ◌<◌, ◌^◌, ◌∙◌, ◌+◌, ◌++◌, add-one, Bool, IsTrue, inl, inr, slice_get, length, length-append, suc, zero, ℕ, List, [], ◌∷◌}
+use Rattle.std.proofs.Common.{Option, None, Some, Result, Ok, Err, refl, sym, ap, subst, ◌⊎◌, drop, map, take}
+use Rattle.std.proofs.lemmas.Bool.{cases_lt}
 use Rattle.std.specs.Io.KnownBytes.{Appends}
 use Rattle.std.specs.Option.{ForSome}
-use Rattle.lrup_model.specs.Formula.{Cnf}
+use Rattle.lrup_model.specs.Cube.{IsUnsatisfiableUnder}
+use Rattle.lrup_model.specs.Entailment.{IsUnsatisfiable}
+use Rattle.lrup_model.specs.Formula.{Cnf, max_clauses}
+use Rattle.lrup_model.specs.Literal.{max_variable}
+use Rattle.lrup_model.specs.Layout.{IsFault, LayoutValue}
+use Rattle.lrup_model.specs.declared.layout.LayoutFault.{LayoutFault}
+use Rattle.lrup_model.specs.declared.layout.LayoutFault.TheVariants as layouts
 use Rattle.portfolio.specs.declared.outcome.Verdict.{Verdict}
 use Rattle.portfolio.specs.declared.outcome.Verdict.TheVariants.{Unsatisfiable, UnsatisfiableUnder, Unknown}
 use Rattle.checkpoint.specs.Checkpoints.{IsCheckpointOf}
-use Rattle.checkpoint.specs.declared.saving.SaveFault.{SaveFault}
-use Rattle.command.specs.Rounds.{AreRounds, Carried, CarriesTo, Deeds, HaveEnded, IsBarred, IsUncarried, IsRound, Plan, Round, Stands, round_of, stream_path, stream_paths}
-use Rattle.command.specs.declared.rounds.RoundResult.{RoundResult}
 use Rattle.checkpoint.specs.Entails.{RefutesBack, RefutesBackUnder}
-use Rattle.lrup_model.specs.Cube.{IsUnsatisfiableUnder}
-use Rattle.lrup_model.specs.Entailment.{IsUnsatisfiable}
+use Rattle.checkpoint.specs.declared.saving.SaveFault.{SaveFault}
+use Rattle.command_line.specs.declared.sizes.Sizes.{Sizes}
 use Rattle.command.specs.Commands.{AreOpened, IsOpenCause, Text}
-use Rattle.command.specs.declared.fault.CommandFault.TheVariants as faults
-use Rattle.stream_check.specs.declared.report.Report.{Report}
+use Rattle.command.specs.Paths.{sizes_path, stream_path, stream_paths}
+use Rattle.command.specs.Rounds.{AreRounds, AreSized, Deeds, GoesOn, HaveEnded, IsBarred, IsNextCause, IsOver, IsRoundCause, Plan, Round}
+use Rattle.command.specs.Rounds.{StreamsOpened, WasChecked}
 use Rattle.command.specs.Saving.{CreatesCheckpoint, KeepsCheckpoint, WritesCheckpoint, to_write}
+use Rattle.command.specs.Standing.{CarriesTo, EndsAt, FailsAfter, IsAlone, IsLaterCause, IsUncarried, IsUnchecked, Stands, round_of}
+use Rattle.command.specs.declared.course.LastRound.{LastRound}
+use Rattle.command.specs.declared.course.RoundFault.{RoundFault}
+use Rattle.command.specs.declared.fault.CommandFault.{CommandFault}
+use Rattle.command.specs.declared.fault.CommandFault.TheVariants as faults
 use Rattle.command.proofs.SavingLemmas.{written_ok}
 
 module _ {W : Type 0} (written : W → Option (List ℕ)) (f : Cnf) where
@@ -68,108 +79,207 @@ opened_count opens first (p ∷ ps) (r ∷ rs) after all =
     let rest = opened_count opens all.0 ps rs after all.2 in
     omega (arith, rest)
 
+-- stream 1's path is the first one
+paths_begin : (folder : Text) (number count : ℕ)
+    → (rest : List Text) × (stream_paths folder number (suc count) ≡ stream_path folder number 1 ∷ rest)
+paths_begin folder number zero = ([], refl)
+paths_begin folder number (suc count) =
+    let before = paths_begin folder number count in
+    let last = stream_path folder number (suc (suc count)) ∷ [] in
+    (before.0 ++ last, ap (λ ps. ps ++ last) before.1)
+
+pub path_and_rest : (folder : Text) (number count : ℕ) → 0 < count
+    → stream_paths folder number count ≡ stream_path folder number 1 ∷ drop 1 (stream_paths folder number count)
+path_and_rest folder number zero some = absurd (omega (arith, some))
+path_and_rest folder number (suc count) some =
+    let begins = paths_begin folder number count in
+    let rest : drop 1 (stream_paths folder number (suc count)) ≡ begins.0 = ap (drop 1) begins.1 in
+    begins.1 ∙ ap (λ ps. stream_path folder number 1 ∷ ps) (sym rest)
+
 -- what holds of the one that is there
 pub for_some : {A : Type 0} (P : A → Type 0) (x : A) → P x → ForSome (Some x) P
 for_some P x is other same = let told : x ≡ other = cc in subst P told is
 
-module _ (its : Deeds) (course : Plan) (formula : Cnf) (first : its.State) (paths : List Text) where
+-- streams that have a layout are some
+pub some_streams : (layout : LayoutValue) → ((fault : LayoutFault) → IsFault layout fault → ⊥) → 0 < layout.streams
+some_streams layout none = elim (cases_lt 0 layout.streams) [
+  | inl some ↦ some
+  | inr zero ↦ elim (cases_lt max_variable layout.vars) [
+    | inl many ↦ absurd (none layouts.TooManyVariables many)
+    | inr vars ↦ elim (cases_lt max_clauses layout.clauses) [
+      | inl many ↦ absurd (none layouts.TooManyClauses (vars, many))
+      | inr clauses ↦ absurd (none layouts.BadStreamCount (vars, clauses, inl (omega (arith, zero))))
+    ]
+  ]
+]
+
+module _ (its : Deeds) (plan : Plan) (formula : Cnf) (sizes : Sizes) (first : its.State) (paths : List Text) where
   -- round 1
-  pub stands_first : (found : RoundResult) (opened after : its.State) (readers : List its.Reader)
-      → AreOpened its.opens first paths readers opened
-      → IsRound its course 1 (round_of formula readers opened found after)
-      → ForSome found.next (Carried its course 1 (round_of formula readers opened found after))
-      → (found.next ≡ None → IsBarred (round_of formula readers opened found after))
-      → found.number ≡ 1 → Stands its course formula first paths found after
-  stands_first found opened after readers are round carried over number =
-      let one = round_of formula readers opened found after in
-      let count : 1 ≡ length (one ∷ []) = omega arith in
+  pub stands_first : (last : LastRound) (next : Option Cnf) (opened after : its.State) (readers : List its.Reader) (number : ℕ) → number ≡ 1
+      → StreamsOpened its first paths readers opened
+      → WasChecked its plan (round_of formula readers opened last after)
+      → ForSome next (GoesOn its plan number (round_of formula readers opened last after))
+      → (next ≡ None → IsBarred its plan number (round_of formula readers opened last after))
+      → last.number ≡ number → last.sizes ≡ sizes → Stands its plan formula sizes first paths last next after
+  stands_first last next opened after readers number one are checked goes over number_is sizes_are =
+      let round = round_of formula readers opened last after in
+      let count : 1 ≡ length (round ∷ []) = omega arith in
       record {
-        round = one;
+        round = round;
         before = [];
-        rounds = (refl, are, round);
-        number = number ∙ count;
+        rounds = record { formula_is = refl; sizes_are = sizes_are; opened = are; checked = checked };
+        number = number_is ∙ one ∙ count;
         is_found = record {
+          sizes = refl;
           reports = refl;
           verdict = refl;
           unsaved = refl;
-          next = subst (λ (n : ℕ). ForSome found.next (Carried its course n one)) (sym number) carried;
-          over = over;
+          next = subst (λ (n : ℕ). ForSome next (GoesOn its plan n round)) (sym number_is) goes;
+          over = subst (λ (n : ℕ). next ≡ None → IsBarred its plan n round) (sym number_is) over;
         };
         left = refl;
       }
 
   -- a round after another
-  pub stands_next : (last found : RoundResult) (before opened after : its.State) (next : Cnf) (readers : List its.Reader) (number : ℕ)
-      → number ≡ last.number + 1 → Stands its course formula first paths last before → last.next ≡ Some next
-      → AreOpened its.opens before (stream_paths course.folder number course.streams) readers opened
-      → IsRound its course number (round_of next readers opened found after)
-      → ForSome found.next (Carried its course number (round_of next readers opened found after))
-      → (found.next ≡ None → IsBarred (round_of next readers opened found after))
-      → found.number ≡ number → Stands its course formula first paths found after
-  stands_next last found before opened after next readers number is stands some are round carried over found_is =
-      let one = round_of next readers opened found after in
+  pub stands_next : (last found : LastRound) (formula_now : Cnf) (next : Option Cnf) (before sized opened after : its.State)
+      (readers : List its.Reader) (number : ℕ)
+      → number ≡ last.number + 1 → Stands its plan formula sizes first paths last (Some formula_now) before
+      → AreSized its (sizes_path plan.folder number) last.sizes before found.sizes sized
+      → StreamsOpened its sized (stream_paths plan.folder number found.sizes.streams) readers opened
+      → WasChecked its plan (round_of formula_now readers opened found after)
+      → ForSome next (GoesOn its plan number (round_of formula_now readers opened found after))
+      → (next ≡ None → IsBarred its plan number (round_of formula_now readers opened found after))
+      → found.number ≡ number → Stands its plan formula sizes first paths found next after
+  stands_next last found formula_now next before sized opened after readers number is stands are_sized are checked goes over found_is =
+      let round = round_of formula_now readers opened found after in
       let k : ℕ = length (stands.round ∷ stands.before) in
       let number_is : number ≡ k + 1 = is ∙ ap (λ n. n + 1) stands.number in
-      let count : k + 1 ≡ length (one ∷ stands.round ∷ stands.before) = omega arith in
-      let here = subst (λ (n : ℕ). AreOpened its.opens before (stream_paths course.folder n course.streams) readers opened) number_is are in
+      let count : k + 1 ≡ length (round ∷ stands.round ∷ stands.before) = omega arith in
+      let of_sizes = subst (λ (s : Sizes). AreSized its (sizes_path plan.folder number) s before found.sizes sized)
+      (sym stands.is_found.sizes) are_sized in
+      let of_files = subst (λ (f : its.State). AreSized its (sizes_path plan.folder number) stands.round.sizes f found.sizes sized)
+      stands.left of_sizes in
       record {
-        round = one;
+        round = round;
         before = stands.round ∷ stands.before;
         rounds = (
-          subst (λ (n : ℕ). Carried its course n stands.round next) stands.number (stands.is_found.next next some),
-          subst (λ (s : its.State). AreOpened its.opens s (stream_paths course.folder (k + 1) course.streams) readers opened) stands.left here,
-          subst (λ (n : ℕ). IsRound its course n one) number_is round,
+          record {
+            goes_on = subst (λ (n : ℕ). GoesOn its plan n stands.round formula_now) stands.number (stands.is_found.next formula_now refl);
+            sized = sized;
+            sizes = subst (λ (n : ℕ). AreSized its (sizes_path plan.folder n) stands.round.sizes stands.round.after found.sizes sized)
+                number_is of_files;
+            opened = subst (λ (n : ℕ). StreamsOpened its sized (stream_paths plan.folder n found.sizes.streams) readers opened)
+                number_is are;
+            checked = checked;
+          },
           stands.rounds,
         );
         number = found_is ∙ number_is ∙ count;
         is_found = record {
+          sizes = refl;
           reports = refl;
           verdict = refl;
           unsaved = refl;
-          next = subst (λ (n : ℕ). ForSome found.next (Carried its course n one)) (sym found_is) carried;
-          over = over;
+          next = subst (λ (n : ℕ). ForSome next (GoesOn its plan n round)) (sym found_is) goes;
+          over = subst (λ (n : ℕ). next ≡ None → IsBarred its plan n round) (sym found_is) over;
         };
         left = refl;
       }
 
+  -- The rounds end.
+  ends_so : (last : LastRound) (next : Option Cnf) (before after : its.State)
+      → (stands : Stands its plan formula sizes first paths last next before)
+      → IsOver its plan (length (stands.round ∷ stands.before)) stands.round after → EndsAt its plan formula sizes first paths last after
+  ends_so last next before after stands over = record {
+    round = stands.round;
+    before = stands.before;
+    rounds = stands.rounds;
+    number = stands.number;
+    reports = stands.is_found.reports;
+    verdict = stands.is_found.verdict;
+    unsaved = stands.is_found.unsaved;
+    over = over;
+  }
+
+  -- since the last one doesn't go on
+  pub ends_barred : (last : LastRound) (after : its.State) → Stands its plan formula sizes first paths last None after
+      → EndsAt its plan formula sizes first paths last after
+  ends_barred last after stands =
+      ends_so last None after after stands
+      (inl (subst (λ (n : ℕ). IsBarred its plan n stands.round) stands.number (stands.is_found.over refl), stands.left))
+
+  -- since there is no stream 1
+  pub ends_alone : (last : LastRound) (next : Cnf) (before after : its.State) → Stands its plan formula sizes first paths last (Some next) before
+      → IsAlone its plan last before after → EndsAt its plan formula sizes first paths last after
+  ends_alone last next before after stands alone =
+      let Alone : ℕ → Sizes → its.State → Type 0 = λ n s f. (read : Sizes) × (sized : its.State)
+      × AreSized its (sizes_path plan.folder (n + 1)) s f read sized × its.lacks sized (stream_path plan.folder (n + 1) 1) after in
+      let round = stands.round in
+      let k : ℕ = length (round ∷ stands.before) in
+      let number = subst (λ (n : ℕ). Alone n last.sizes before) stands.number alone in
+      let of_sizes = subst (λ (s : Sizes). Alone k s before) (sym stands.is_found.sizes) number in
+      let of_files = subst (λ (f : its.State). Alone k round.sizes f) stands.left of_sizes in
+      ends_so last (Some next) before after stands
+      (inr (inl (next, subst (λ (n : ℕ). GoesOn its plan n round next) stands.number (stands.is_found.next next refl), of_files)))
+
+  -- since the number of the next one would be too high
+  pub ends_high : (last : LastRound) (next : Option Cnf) (after : its.State) → Stands its plan formula sizes first paths last next after
+      → 2 ^ 64 < last.number + 3 → EndsAt its plan formula sizes first paths last after
+  ends_high last next after stands high =
+      ends_so last next after after stands (inr (inr (subst (λ (n : ℕ). 2 ^ 64 < n + 3) stands.number high, stands.left)))
+
+  -- the next one has no report
+  pub fails_after : (last : LastRound) (next : Cnf) (before : its.State) (failed : RoundFault)
+      → Stands its plan formula sizes first paths last (Some next) before
+      → IsUnchecked its plan last next before failed.fault → failed.round ≡ last.number + 1
+      → FailsAfter its plan formula sizes first paths failed
+  fails_after last next before failed stands cause number_is =
+      let round = stands.round in
+      let k : ℕ = length (round ∷ stands.before) in
+      let number = subst (λ (n : ℕ). IsRoundCause its plan n last.sizes next before failed.fault) stands.number cause in
+      let of_sizes = subst (λ (s : Sizes). IsRoundCause its plan k s next before failed.fault) (sym stands.is_found.sizes) number in
+      let of_files = subst (λ (f : its.State). IsRoundCause its plan k round.sizes next f failed.fault) stands.left of_sizes in
+      record {
+        last = round;
+        before = stands.before;
+        rounds = stands.rounds;
+        number = number_is ∙ ap (λ n. n + 1) stands.number;
+        cause = (next, subst (λ (n : ℕ). GoesOn its plan n round next) stands.number (stands.is_found.next next refl), of_files);
+      }
+
   -- the last round was checked
-  pub head_round : (round : Round its.State its.Reader) (before : List (Round its.State its.Reader))
-      → AreRounds its course formula first paths (round ∷ before) → IsRound its course (length (round ∷ before)) round
-  head_round round [] rounds =
-      let count : 1 ≡ length (round ∷ []) = omega arith in
-      subst (λ (n : ℕ). IsRound its course n round) count rounds.2
-  head_round round (b ∷ more) rounds =
-      let count : length (b ∷ more) + 1 ≡ length (round ∷ b ∷ more) = omega arith in
-      subst (λ (n : ℕ). IsRound its course n round) count rounds.2
+  head_checked : (round : Round its.State its.Reader) (before : List (Round its.State its.Reader))
+      → AreRounds its plan formula sizes first paths (round ∷ before) → WasChecked its plan round
+  head_checked round [] rounds = rounds.checked
+  head_checked round (b ∷ more) rounds = rounds.0.checked
 
   -- a formula that a round refutes was refuted from the first one on
   rounds_refute : RefutesBack → (round : Round its.State its.Reader) (before : List (Round its.State its.Reader))
-      → AreRounds its course formula first paths (round ∷ before) → IsUnsatisfiable round.formula → IsUnsatisfiable formula
-  rounds_refute law round [] rounds refuted = subst IsUnsatisfiable rounds.0 refuted
+      → AreRounds its plan formula sizes first paths (round ∷ before) → IsUnsatisfiable round.formula → IsUnsatisfiable formula
+  rounds_refute law round [] rounds refuted = subst IsUnsatisfiable rounds.formula_is refuted
   rounds_refute law round (b ∷ more) rounds refuted =
-      rounds_refute law b more rounds.3 (law b.formula round.formula rounds.0.carried.entails refuted)
+      rounds_refute law b more rounds.1 (law b.formula round.formula rounds.0.goes_on.carried.entails refuted)
 
   rounds_refute_under : RefutesBackUnder → (round : Round its.State its.Reader) (before : List (Round its.State its.Reader))
-      → AreRounds its course formula first paths (round ∷ before) → IsUnsatisfiableUnder round.formula course.cube
-      → IsUnsatisfiableUnder formula course.cube
-  rounds_refute_under law round [] rounds refuted = subst (λ (f : Cnf). IsUnsatisfiableUnder f course.cube) rounds.0 refuted
+      → AreRounds its plan formula sizes first paths (round ∷ before) → IsUnsatisfiableUnder round.formula plan.cube
+      → IsUnsatisfiableUnder formula plan.cube
+  rounds_refute_under law round [] rounds refuted = subst (λ (f : Cnf). IsUnsatisfiableUnder f plan.cube) rounds.formula_is refuted
   rounds_refute_under law round (b ∷ more) rounds refuted =
-      rounds_refute_under law b more rounds.3 (law b.formula round.formula course.cube rounds.0.carried.entails refuted)
+      rounds_refute_under law b more rounds.1 (law b.formula round.formula plan.cube rounds.0.goes_on.carried.entails refuted)
 
-  pub stands_sound : RefutesBack → (found : RoundResult) (after : its.State) → Stands its course formula first paths found after
-      → found.found.verdict ≡ Unsatisfiable → IsUnsatisfiable formula
-  stands_sound law found after stands is =
-      rounds_refute law stands.round stands.before stands.rounds
-      ((head_round stands.round stands.before stands.rounds).checked.sound (stands.is_found.verdict ∙ is))
+  pub ends_sound : RefutesBack → (last : LastRound) (after : its.State) → EndsAt its plan formula sizes first paths last after
+      → last.found.verdict ≡ Unsatisfiable → IsUnsatisfiable formula
+  ends_sound law last after ends is =
+      rounds_refute law ends.round ends.before ends.rounds
+      ((head_checked ends.round ends.before ends.rounds).1.sound (ends.verdict ∙ is))
 
-  pub stands_sound_under : RefutesBackUnder → (found : RoundResult) (after : its.State)
-      → Stands its course formula first paths found after
-      → found.found.verdict ≡ UnsatisfiableUnder → IsUnsatisfiableUnder formula course.cube
-  stands_sound_under law found after stands is =
-      rounds_refute_under law stands.round stands.before stands.rounds
-      ((head_round stands.round stands.before stands.rounds).checked.sound_under (stands.is_found.verdict ∙ is))
+  pub ends_sound_under : RefutesBackUnder → (last : LastRound) (after : its.State) → EndsAt its plan formula sizes first paths last after
+      → last.found.verdict ≡ UnsatisfiableUnder → IsUnsatisfiableUnder formula plan.cube
+  ends_sound_under law last after ends is =
+      rounds_refute_under law ends.round ends.before ends.rounds
+      ((head_checked ends.round ends.before ends.rounds).1.sound_under (ends.verdict ∙ is))
 
--- ---- why there is no next round
+-- ---- why there is no next formula
 
 pub some_none : {A : Type 0} (x : A) (Q : Type 0) → Some x ≡ None → Q
 some_none x Q is = absurd (let no : Some x ≡ None = is in cc)
@@ -180,40 +290,18 @@ uncarried_none Unsatisfiable output saved is = inl refl
 uncarried_none UnsatisfiableUnder output saved is = inr (inl is)
 uncarried_none Unknown output saved is = inr (inl is)
 
+-- why the round doesn't go on, then
 pub barred_by : {F W : Type 0} (creates : F → Text → W → F → Type 0) (written : W → Option (List ℕ)) (keeps : F → W → F → Type 0)
     (before mid after : F) (path : Text) (output : Option W) (saved : Result (Option W) SaveFault) (unsaved : Option SaveFault)
-    (verdict : Verdict) (reports : List Report)
+    (verdict : Verdict) (Ended : Type 0)
     → CreatesCheckpoint creates written before (Some path) output mid → KeepsCheckpoint keeps mid saved unsaved after
     → IsUncarried verdict output saved
-    → (verdict ≡ Unsatisfiable) ⊎ (((fault : SaveFault) × (unsaved ≡ Some fault)) ⊎ (¬ HaveEnded reports))
-barred_by creates written keeps before mid after path output saved unsaved verdict reports created kept (inl refuted) = inl refuted
-barred_by creates written keeps before mid after path None saved unsaved verdict reports created kept (inr (inl none)) = absurd created
-barred_by creates written keeps before mid after path (Some w) saved unsaved verdict reports created kept (inr (inl none)) =
+    → (¬ (verdict ≡ Unknown)) ⊎ (((fault : SaveFault) × (unsaved ≡ Some fault)) ⊎ (¬ Ended))
+barred_by creates written keeps before mid after path output saved unsaved verdict Ended created kept (inl refuted) =
+    inl (λ is. let no : Unsatisfiable ≡ Unknown = sym refuted ∙ is in cc)
+barred_by creates written keeps before mid after path None saved unsaved verdict Ended created kept (inr (inl none)) = absurd created
+barred_by creates written keeps before mid after path (Some w) saved unsaved verdict Ended created kept (inr (inl none)) =
     some_none w _ none
-barred_by {F} {W} creates written keeps before mid after path output saved unsaved verdict reports created kept (inr (inr failed)) =
+barred_by {F} {W} creates written keeps before mid after path output saved unsaved verdict Ended created kept (inr (inr failed)) =
     let told = subst (λ (s : Result (Option W) SaveFault). KeepsCheckpoint keeps mid s unsaved after) failed.1 kept in
     inr (inl (failed.0, told.0))
-
--- the first of the paths
-get_front : (xs : List Text) (z : Text) (ys : List Text) → slice_get ((xs ++ z ∷ []) ++ ys) 0 ≡ slice_get (xs ++ z ∷ []) 0
-get_front [] z ys = refl
-get_front (x ∷ xs) z ys = refl
-
-first_path : (folder : Text) (number count : ℕ) (path : Text) → slice_get (stream_paths folder number count) 0 ≡ Some path
-    → stream_path folder number 1 ≡ path
-first_path folder number zero path at = absurd (let no : None ≡ Some path = at in cc)
-first_path folder number (suc zero) path at = let told : Some (stream_path folder number 1) ≡ Some path = at in cc
-first_path folder number (suc (suc count)) path at =
-    first_path folder number (suc count) path
-    (sym (get_front (stream_paths folder number count) (stream_path folder number (suc count)) (stream_path folder number (suc (suc count)) ∷ []))
-    ∙ at)
-
--- stream 1 was refused
-pub first_refused : {F R : Type 0} (opens : F → Text → R → F → Type 0) (may_refuse : Text → Bool) (before : F) (folder : Text)
-    (number count stream : ℕ) (paths : List Text) → paths ≡ stream_paths folder number count → stream ≡ 1
-    → IsOpenCause opens may_refuse before paths (faults.NotOpened stream) → IsTrue (may_refuse (stream_path folder number 1))
-first_refused opens may_refuse before folder number count stream paths are one cause =
-    let place : cause.0 ≡ 0 = omega (arith, one, cause.4) in
-    let at : slice_get (stream_paths folder number count) 0 ≡ Some cause.1 =
-    ap (λ (ps : List Text). slice_get ps 0) (sym are) ∙ ap (slice_get paths) (sym place) ∙ cause.5 in
-    subst (λ (p : Text). IsTrue (may_refuse p)) (sym (first_path folder number count cause.1 at)) cause.7

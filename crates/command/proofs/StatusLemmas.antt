@@ -14,7 +14,7 @@ use Rattle.command.specs.Commands.{LeavesCheckpoint, NameCheckpoint, WasLeftEmpt
 use Rattle.command.specs.Faults.{status_of}
 use Rattle.command.specs.declared.fault.CommandFault.{CommandFault}
 use Rattle.command.specs.declared.fault.CommandFault.TheVariants as faults
-use Rattle.command.specs.Rounds.{Ends, EndsInRounds, IsOfRounds}
+use Rattle.command.specs.Rounds.{Deeds, Ends, EndsInRounds, IsNextCause, Plan, Round, deeds_of}
 use Rattle.command.proofs.CheckingLemmas.{ask_for}
 
 -- the verdict of a report with this status
@@ -45,6 +45,28 @@ has_7 : (failed : Bool) (unsaved : Option SaveFault) (verdict : Verdict) → IsT
 has_7 true unsaved verdict is = refl
 has_7 false unsaved verdict is = absurd (let no : false ≡ true = is in cc)
 
+-- only the fault of the report's writing has status 7
+seven_is : (fault : CommandFault) → status_of fault ≡ 7 → fault ≡ faults.Unwritten
+seven_is (faults.Usage text) is = absurd (let no : Path ℕ 2 7 = is in cc)
+seven_is faults.Unread is = absurd (let no : Path ℕ 5 7 = is in cc)
+seven_is (faults.Refused fault) is = absurd (let no : Path ℕ 4 7 = is in cc)
+seven_is faults.CubeUnread is = absurd (let no : Path ℕ 5 7 = is in cc)
+seven_is (faults.CubeRefused fault) is = absurd (let no : Path ℕ 4 7 = is in cc)
+seven_is (faults.NotOpened stream) is = absurd (let no : Path ℕ 5 7 = is in cc)
+seven_is (faults.Layout layouts.TooManyVariables) is = absurd (let no : Path ℕ 4 7 = is in cc)
+seven_is (faults.Layout layouts.TooManyClauses) is = absurd (let no : Path ℕ 4 7 = is in cc)
+seven_is (faults.Layout layouts.BadStreamCount) is = absurd (let no : Path ℕ 2 7 = is in cc)
+seven_is (faults.Layout layouts.RowTooLong) is = absurd (let no : Path ℕ 2 7 = is in cc)
+seven_is (faults.Spawn stream) is = absurd (let no : Path ℕ 6 7 = is in cc)
+seven_is (faults.Ring stream) is = absurd (let no : Path ℕ 6 7 = is in cc)
+seven_is faults.Memory is = absurd (let no : Path ℕ 6 7 = is in cc)
+seven_is faults.Unwritten is = refl
+seven_is faults.NotCreated is = absurd (let no : Path ℕ 5 7 = is in cc)
+seven_is (faults.NotSaved fault) is = absurd (let no : Path ℕ 9 7 = is in cc)
+seven_is faults.TwoCheckpoints is = absurd (let no : Path ℕ 2 7 = is in cc)
+seven_is faults.SizesUnread is = absurd (let no : Path ℕ 5 7 = is in cc)
+seven_is faults.Sizes is = absurd (let no : Path ℕ 2 7 = is in cc)
+
 module _ (files : FilesView) where
   never_assumed : (vars : ℕ) (before : files.State) (path : Option Text) → IsAssumeCause files vars before path faults.Unwritten → ⊥
   never_assumed vars before None cause = cause
@@ -61,23 +83,7 @@ module _ (files : FilesView) where
   ]
 
   not_7 : (words : List Text) (fault : CommandFault) → IsCause files words fault → status_of fault ≡ 7 → ⊥
-  not_7 words (faults.Usage text) cause is = let no : Path ℕ 2 7 = is in cc
-  not_7 words faults.Unread cause is = let no : Path ℕ 5 7 = is in cc
-  not_7 words (faults.Refused fault) cause is = let no : Path ℕ 4 7 = is in cc
-  not_7 words faults.CubeUnread cause is = let no : Path ℕ 5 7 = is in cc
-  not_7 words (faults.CubeRefused fault) cause is = let no : Path ℕ 4 7 = is in cc
-  not_7 words (faults.NotOpened stream) cause is = let no : Path ℕ 5 7 = is in cc
-  not_7 words (faults.Layout layouts.TooManyVariables) cause is = let no : Path ℕ 4 7 = is in cc
-  not_7 words (faults.Layout layouts.TooManyClauses) cause is = let no : Path ℕ 4 7 = is in cc
-  not_7 words (faults.Layout layouts.BadStreamCount) cause is = let no : Path ℕ 2 7 = is in cc
-  not_7 words (faults.Layout layouts.RowTooLong) cause is = let no : Path ℕ 2 7 = is in cc
-  not_7 words (faults.Spawn stream) cause is = let no : Path ℕ 6 7 = is in cc
-  not_7 words (faults.Ring stream) cause is = let no : Path ℕ 6 7 = is in cc
-  not_7 words faults.Memory cause is = let no : Path ℕ 6 7 = is in cc
-  not_7 words faults.Unwritten cause is = never_unwritten words cause
-  not_7 words faults.NotCreated cause is = let no : Path ℕ 5 7 = is in cc
-  not_7 words (faults.NotSaved fault) cause is = let no : Path ℕ 9 7 = is in cc
-  not_7 words faults.TwoCheckpoints cause is = let no : Path ℕ 2 7 = is in cc
+  not_7 words fault cause is = never_unwritten words (subst (λ (f : CommandFault). IsCause files words f) (seven_is fault is) cause)
 
 -- however the program ends, its status is 7 exactly where the sink failed
 pub ends_unwritten : (files : FilesView) (words : List Text) (after : files.State) (out err : SinkChange) (status : ℕ)
@@ -115,6 +121,8 @@ no_fault faults.Unwritten is = neither 7 (λ e. cc) (λ e. cc) is
 no_fault faults.NotCreated is = neither 5 (λ e. cc) (λ e. cc) is
 no_fault (faults.NotSaved fault) is = neither 9 (λ e. cc) (λ e. cc) is
 no_fault faults.TwoCheckpoints is = neither 2 (λ e. cc) (λ e. cc) is
+no_fault faults.SizesUnread is = neither 5 (λ e. cc) (λ e. cc) is
+no_fault faults.Sizes is = neither 2 (λ e. cc) (λ e. cc) is
 
 module _ (files : FilesView) where
   leaves_saved : (failed : Bool) (unsaved : Option SaveFault) (verdict : Verdict) (path : Text) (f : Cnf) (before after : files.State)
@@ -178,6 +186,8 @@ no_zero faults.Unwritten is = let no : Path ℕ 7 0 = is in cc
 no_zero faults.NotCreated is = let no : Path ℕ 5 0 = is in cc
 no_zero (faults.NotSaved fault) is = let no : Path ℕ 9 0 = is in cc
 no_zero faults.TwoCheckpoints is = let no : Path ℕ 2 0 = is in cc
+no_zero faults.SizesUnread is = let no : Path ℕ 5 0 = is in cc
+no_zero faults.Sizes is = let no : Path ℕ 2 0 = is in cc
 
 pub ends_empty : (files : FilesView) (words : List Text) (after : files.State) (out err : SinkChange) (status : ℕ)
     → EndsWithReport files words after out err status ⊎ EndsWithFault files words out err status
@@ -196,35 +206,28 @@ ends_empty files words after out err status (inr fault) path ask is = absurd (no
 
 -- ---- the same, where the program may end in rounds
 
-rounds_not_7 : (fault : CommandFault) → IsOfRounds fault → status_of fault ≡ 7 → ⊥
-rounds_not_7 (faults.Usage text) of is = of
-rounds_not_7 faults.Unread of is = let no : Path ℕ 5 7 = is in cc
-rounds_not_7 (faults.Refused fault) of is = let no : Path ℕ 4 7 = is in cc
-rounds_not_7 faults.CubeUnread of is = let no : Path ℕ 5 7 = is in cc
-rounds_not_7 (faults.CubeRefused fault) of is = let no : Path ℕ 4 7 = is in cc
-rounds_not_7 (faults.NotOpened stream) of is = let no : Path ℕ 5 7 = is in cc
-rounds_not_7 (faults.Layout layouts.TooManyVariables) of is = let no : Path ℕ 4 7 = is in cc
-rounds_not_7 (faults.Layout layouts.TooManyClauses) of is = let no : Path ℕ 4 7 = is in cc
-rounds_not_7 (faults.Layout layouts.BadStreamCount) of is = let no : Path ℕ 2 7 = is in cc
-rounds_not_7 (faults.Layout layouts.RowTooLong) of is = let no : Path ℕ 2 7 = is in cc
-rounds_not_7 (faults.Spawn stream) of is = let no : Path ℕ 6 7 = is in cc
-rounds_not_7 (faults.Ring stream) of is = let no : Path ℕ 6 7 = is in cc
-rounds_not_7 faults.Memory of is = let no : Path ℕ 6 7 = is in cc
-rounds_not_7 faults.Unwritten of is = of
-rounds_not_7 faults.NotCreated of is = let no : Path ℕ 5 7 = is in cc
-rounds_not_7 (faults.NotSaved fault) of is = of
-rounds_not_7 faults.TwoCheckpoints of is = let no : Path ℕ 2 7 = is in cc
+module _ (its : Deeds) (plan : Plan) (number : ℕ) (last : Round its.State its.Reader) where
+  -- no cause of a round is one of the writing of a report
+  never_next : IsNextCause its plan number last faults.Unwritten → ⊥
+  never_next (next, on, inl sizes) = sizes
+  never_next (next, on, inr (sizes, sized, are, inl opens)) = opens
+  never_next (next, on, inr (sizes, sized, are, inr (readers, opened, were, inl runs))) = runs
+  never_next (next, on, inr (sizes, sized, are, inr (readers, opened, were, inr create))) = create.1
+
+  next_not_7 : (fault : CommandFault) → IsNextCause its plan number last fault → status_of fault ≡ 7 → ⊥
+  next_not_7 fault cause is = never_next (subst (λ (f : CommandFault). IsNextCause its plan number last f) (seven_is fault is) cause)
 
 module _ (files : FilesView) (words : List Text) where
-  in_rounds_unwritten : (out err : SinkChange) (status : ℕ) → EndsInRounds files words out err status → IsTrue out.failed ↔ (status ≡ 7)
-  in_rounds_unwritten out err status ends = elim ends.ending [
+  in_rounds_unwritten : (after : files.State) (out err : SinkChange) (status : ℕ) → EndsInRounds files words after out err status
+      → IsTrue out.failed ↔ (status ≡ 7)
+  in_rounds_unwritten after out err status ends = elim ends.ending [
     | inl report ↦ (
       (λ failed. report.status_is ∙ has_7 out.failed report.last.unsaved report.last.verdict failed),
       (λ seven. written out.failed report.last.unsaved report.last.verdict (sym report.status_is ∙ seven)),
     )
     | inr fails ↦ (
       (λ failed. absurd (let no : false ≡ true = sym fails.untouched.failed ∙ failed in cc)),
-      (λ seven. absurd (rounds_not_7 fails.fault fails.is (sym fails.status_is ∙ seven))),
+      (λ seven. absurd (next_not_7 (deeds_of files) _ _ fails.last fails.fault fails.cause (sym fails.status_is ∙ seven))),
     )
   ]
 
@@ -232,31 +235,27 @@ module _ (files : FilesView) (words : List Text) where
       → IsTrue out.failed ↔ (status ≡ 7)
   all_unwritten after out err status (inl report) = ends_unwritten files words after out err status (inl report.0)
   all_unwritten after out err status (inr (inl fault)) = ends_unwritten files words after out err status (inr fault)
-  all_unwritten after out err status (inr (inr rounds)) = in_rounds_unwritten out err status rounds
+  all_unwritten after out err status (inr (inr rounds)) = in_rounds_unwritten after out err status rounds
 
-  -- with a checkpoint of its own a run in rounds ends with neither of these statuses
-  not_both : (out err : SinkChange) (status : ℕ) (path : Text) → AskToSave words path → EndsInRounds files words out err status
-      → (fault : CommandFault) × (status ≡ status_of fault)
-  not_both out err status path ask ends = elim ends.ending [
-    | inl report ↦
-        let no : Some path ≡ None = sym ask.path_is ∙ sym ends.command_line.said.checkpoint ∙ report.alone in
-        absurd (cc)
-    | inr fails ↦ (fails.fault, fails.status_is)
-  ]
+  -- there are no rounds beside a checkpoint that is asked for
+  not_both : (after : files.State) (out err : SinkChange) (status : ℕ) (path : Text) → AskToSave words path
+      → EndsInRounds files words after out err status → ⊥
+  not_both after out err status path ask ends =
+      let asked : checkpoint_at ends.given ≡ Some path = ends.command_line.said.checkpoint ∙ ask.path_is in
+      elim ends.ending [
+        | inl report ↦ (let no : Some path ≡ None = sym asked ∙ report.were.alone in cc)
+        | inr fails ↦ (let no : Some path ≡ None = sym asked ∙ fails.were.alone in cc)
+      ]
 
   pub all_saved : (after : files.State) (out err : SinkChange) (status : ℕ) → Ends files words after out err status
       → (path : Text) → AskToSave words path → (status ≡ 3) ⊎ (status ≡ 8)
       → NameCheckpoint (WasReadIn files) (WasSavedIn files) files.first words path after
   all_saved after out err status (inl report) path ask is = ends_saved files words after out err status (inl report.0) path ask is
   all_saved after out err status (inr (inl fault)) path ask is = ends_saved files words after out err status (inr fault) path ask is
-  all_saved after out err status (inr (inr rounds)) path ask is =
-      let fault = not_both out err status path ask rounds in
-      absurd (no_fault fault.0 (subst (λ (n : ℕ). (n ≡ 3) ⊎ (n ≡ 8)) fault.1 is))
+  all_saved after out err status (inr (inr rounds)) path ask is = absurd (not_both after out err status path ask rounds)
 
   pub all_empty : (after : files.State) (out err : SinkChange) (status : ℕ) → Ends files words after out err status
       → (path : Text) → AskToSave words path → status ≡ 0 → WasLeftEmpty files.creates files.written path after
   all_empty after out err status (inl report) path ask is = ends_empty files words after out err status (inl report.0) path ask is
   all_empty after out err status (inr (inl fault)) path ask is = ends_empty files words after out err status (inr fault) path ask is
-  all_empty after out err status (inr (inr rounds)) path ask is =
-      let fault = not_both out err status path ask rounds in
-      absurd (no_zero fault.0 (sym fault.1 ∙ is))
+  all_empty after out err status (inr (inr rounds)) path ask is = absurd (not_both after out err status path ask rounds)

@@ -4,15 +4,17 @@ use Rattle.std.proofs.lemmas.List.{append_assoc}
 use Rattle.std.proofs.KnownBytes.{Appends-trans}
 use Rattle.std.specs.Io.KnownBytes.{Appends, Keeps}
 use Rattle.checkpoint.specs.declared.saving.SaveFault.{SaveFault}
-use Rattle.command.specs.Commands.{SaysOfReport, SinkTook, TakesUnlessFailed, change}
-use Rattle.std.specs.Prelude.{Result, Ok, Err}
+use Rattle.command.specs.Commands.{SaysOfRound, SinkTook, TakesUnlessFailed, change}
+use Rattle.std.specs.Fmt.{decimal}
+use Rattle.std.specs.Prelude.{codes, Result, Ok, Err}
 use Rattle.std.proofs.lemmas.Bool.{eq-eqb, ne_eqb}
 use Rattle.lrup_text.specs.Writing.{WritesText}
 use Rattle.stream_check.specs.declared.report.Report.{Report}
 use Rattle.portfolio.specs.declared.outcome.Verdict.{Verdict}
 use Rattle.portfolio.specs.ReportText.{report_text}
 use Rattle.command.specs.Rounds.{last_text, round_text}
-use Rattle.command.specs.Faults.{error_text}
+use Rattle.command.specs.Faults.{error_text, of_round, round_error_text}
+use Rattle.command.specs.declared.fault.CommandFault.{CommandFault}
 use Rattle.command.specs.declared.fault.CommandFault.TheVariants as faults
 
 -- nothing was held before
@@ -41,18 +43,18 @@ took_after_text true a b c first text one took = (
   Appends-trans a b c first took.0 one took.3,
 )
 
--- A line on the report follows what was said of the checkpoint, if that went out whole.
-pub says_both : (a b c : Option (List ℕ)) (broken failed : Bool) (unsaved : Option SaveFault)
-    → SaysOfReport false unsaved (change a b broken)
+-- A line on the report follows what was said of the checkpoint of the round, if that went out whole.
+pub says_both : (round : ℕ) (a b c : Option (List ℕ)) (broken failed : Bool) (unsaved : Option SaveFault)
+    → SaysOfRound round false unsaved (change a b broken)
     → (broken ≡ true → (c ≡ b) × (failed ≡ true)) → (broken ≡ false → SinkTook (change b c failed) (error_text faults.Unwritten))
-    → SaysOfReport true unsaved (change a c failed)
-says_both a b c broken failed None said stays goes =
+    → SaysOfRound round true unsaved (change a c failed)
+says_both round a b c broken failed None said stays goes =
     took_after_nothing failed a b c (error_text faults.Unwritten) said.written (goes said.failed)
-says_both a b c false failed (Some fault) said stays goes =
-    took_after_text failed a b c (error_text (faults.NotSaved fault)) (error_text faults.Unwritten) said (goes refl)
-says_both a b c true failed (Some fault) said stays goes =
+says_both round a b c false failed (Some fault) said stays goes =
+    took_after_text failed a b c (round_error_text round (faults.NotSaved fault)) (error_text faults.Unwritten) said (goes refl)
+says_both round a b c true failed (Some fault) said stays goes =
     let same = stays refl in
-    let text = error_text (faults.NotSaved fault) ++ error_text faults.Unwritten in
+    let text = round_error_text round (faults.NotSaved fault) ++ error_text faults.Unwritten in
     let rest = said.1 ++ error_text faults.Unwritten in
     let is : text ≡ said.0 ++ rest = ap (λ t. t ++ error_text faults.Unwritten) said.2
     ∙ append_assoc said.0 said.1 (error_text faults.Unwritten) in
@@ -84,3 +86,15 @@ last_of_one number reports verdict is = rw (eq-eqb number 1 is) refl
 pub last_of_more : (number : ℕ) (reports : List Report) (verdict : Verdict) → number ≢ 1
     → last_text number reports verdict ≡ round_text number ++ report_text reports verdict
 last_of_more number reports verdict other = rw (ne_eqb number 1 other) refl
+
+-- so the words on a round before a fault
+pub of_more : (number : ℕ) → number ≢ 1 → of_round number ≡ codes "round " ++ decimal number ++ codes ": "
+of_more number other = rw (ne_eqb number 1 other) refl
+
+pub of_one : (number : ℕ) → number ≡ 1 → of_round number ≡ []
+of_one number is = rw (eq-eqb number 1 is) refl
+
+-- of round 1 just the fault is said
+pub first_error : (fault : CommandFault) → round_error_text 1 fault ≡ error_text fault
+first_error (faults.Usage text) = refl
+first_error fault = refl

@@ -33,9 +33,10 @@ use Rattle.portfolio.specs.declared.outcome.Verdict.TheVariants.{Unsatisfiable, 
 use Rattle.checkpoint.specs.Checkpoints.{IsCheckpoint}
 use Rattle.checkpoint.specs.declared.saving.SaveFault.{SaveFault}
 use Rattle.checkpoint.specs.declared.saving.SaveFault.TheVariants as saves
-use Rattle.command_line.specs.CommandLine.{AskFor, HaveFault, IsCommandLineOf}
+use Rattle.command_line.specs.CommandLine.{AskFor, AskForRounds, AskToSave, HaveFault, IsCommandLineOf}
 use Rattle.command_line.specs.declared.words.CommandLine.{CommandLine}
-use Rattle.command.specs.Faults.{status_of, error_text}
+use Rattle.command.specs.Faults.{status_of, error_text, round_error_text}
+use Rattle.command.specs.Paths.{formula_path}
 use Rattle.command.specs.declared.checking.Setup.{Setup}
 use Rattle.command.specs.declared.files.Files as Files
 use Rattle.command.specs.declared.fault.CommandFault.{CommandFault}
@@ -166,8 +167,8 @@ readers_view its = source_view its.left its.has_failed its.reads
 
 -- What is known of files: as what they pass from one call to the next, as what readers they are opened, and as what sinks they are
 -- created; which of these they are at first; what the file at each path tells, where the device tells it, and whether the opening of
--- a path or its creation may be refused, all of which stays while files are opened; what an opening, a creation and a keeping does; and
--- what is known of the readers and the sinks; and whether the opening of a path may be refused at any time.
+-- a path or its creation may be refused, all of which stays while files are opened; what an opening, a creation and a keeping does; what
+-- is seen where a path has no file; what is known of the readers and the sinks; and what files tell and may refuse, whichever they are.
 pub record FilesView : Type 1 where
   pub State : Type 0
   pub Reader : Type 0
@@ -179,9 +180,12 @@ pub record FilesView : Type 1 where
   pub opens : State → Text → Reader → State → Type 0
   pub creates : State → Text → Output → State → Type 0
   pub keeps : State → Output → State → Type 0
+  pub lacks : State → Text → State → Type 0
   pub reading : SourceView Reader
   pub written : Output → Option (List ℕ)
+  pub tells_at : State → Text → Option (List ℕ)
   pub refuses : State → Text → Bool
+  pub refuses_new : State → Text → Bool
 
 -- these, as the types of files, of their readers and of their sinks say them
 abbrev pub files_view : {F R W M : Type 0} → Files.Ghosts F R W M → Source.Ghosts R
@@ -197,9 +201,12 @@ files_view {F = F} {R = R} {W = W} its input output first = record {
   opens = its.opens;
   creates = its.creates;
   keeps = its.keeps;
+  lacks = its.lacks;
   reading = readers_view input;
   written = output.written;
+  tells_at = its.tells;
   refuses = its.may_refuse;
+  refuses_new = its.may_refuse_new;
 }
 
 -- the same, where others were the first ones
@@ -235,6 +242,15 @@ rounds_at given = path_of given.rounds
 -- the path of the checkpoint that they ask for, if any
 abbrev pub checkpoint_at : CommandLine → Option Text
 checkpoint_at given = path_of given.checkpoint
+
+-- the path of the checkpoint that is created before the streams are checked, if any: the one that the words ask for, or the formula
+-- of round 2
+abbrev pub created_path : Option Text → Option Text → Option Text
+created_path None checkpoint = checkpoint
+created_path (Some folder) checkpoint = Some (formula_path folder 2)
+
+abbrev pub created_at : CommandLine → Option Text
+created_at given = created_path (rounds_at given) (checkpoint_at given)
 
 -- The files at the paths were opened as these readers, each by the opening next after the one before it: the first from the files
 -- before, the last to those after.
@@ -390,12 +406,14 @@ IsCauseAt files given fault =
     ⊎ ((readers : List files.Reader) × (last : files.State)
     × AreOpened files.opens later given.streams readers last
     × ((other : LayoutFault) → IsFault (layout_at given formula) other → ⊥)
-    × IsCreateCause files.may_refuse_new (checkpoint_at given) fault))))))
+    × IsCreateCause files.may_refuse_new (created_at given) fault))))))
 
 -- Why there is no outcome, by the words and the files.
 abbrev pub IsCause : FilesView → List Text → CommandFault → Type 0
 IsCause files words (faults.Usage text) = HaveFault words
 IsCause files words faults.Memory = Unit {0}
+IsCause files words faults.TwoCheckpoints =
+    (folder path : Text) × AskForRounds words folder × AskToSave words path
 IsCause files words fault =
     (given : CommandLine) × IsCommandLineOf words given × IsCauseAt files given fault
 
@@ -436,13 +454,18 @@ report_status true unsaved verdict = status_of faults.Unwritten
 report_status false (Some fault) verdict = status_of (faults.NotSaved fault)
 report_status false None verdict = verdict_status verdict
 
--- what standard error says then
+-- what standard error says then, of the round with this number
+abbrev pub SaysOfRound : ℕ → Bool → Option SaveFault → SinkChange → Type 0
+SaysOfRound round true (Some fault) err =
+    SinkTook err (round_error_text round (faults.NotSaved fault) ++ error_text faults.Unwritten)
+SaysOfRound round true None err = SinkTook err (error_text faults.Unwritten)
+SaysOfRound round false (Some fault) err =
+    SinkTook err (round_error_text round (faults.NotSaved fault))
+SaysOfRound round false None err = IsUntouched err
+
+-- so of a single run, as of round 1: no number is said
 abbrev pub SaysOfReport : Bool → Option SaveFault → SinkChange → Type 0
-SaysOfReport true (Some fault) err =
-    SinkTook err (error_text (faults.NotSaved fault) ++ error_text faults.Unwritten)
-SaysOfReport true None err = SinkTook err (error_text faults.Unwritten)
-SaysOfReport false (Some fault) err = SinkTook err (error_text (faults.NotSaved fault))
-SaysOfReport false None err = IsUntouched err
+SaysOfReport = SaysOfRound 1
 
 -- The program ends with a report, and leaves these files.
 pub record EndsWithReport (files : FilesView) (words : List Text) (after : files.State)

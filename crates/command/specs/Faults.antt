@@ -1,5 +1,5 @@
 -- Why the program ends without a report, or without its checkpoint: what it says of that, and its status (this project's own).
-use Rattle.std.specs.Prelude.{ℕ, List, ◌++◌, codes, Option}
+use Rattle.std.specs.Prelude.{ℕ, List, [], ◌++◌, ◌==◌, if◌then◌else◌, codes, Option}
 use Rattle.std.specs.Fmt.{decimal}
 use Rattle.checkpoint.specs.declared.saving.SaveFault.{SaveFault}
 use Rattle.checkpoint.specs.declared.saving.SaveFault.TheVariants as saves
@@ -70,6 +70,8 @@ status_of faults.Unwritten = 7
 status_of faults.NotCreated = 5
 status_of (faults.NotSaved fault) = 9
 status_of faults.TwoCheckpoints = 2
+status_of faults.SizesUnread = 5
+status_of faults.Sizes = 2
 
 -- What is said: a usage fault in the words of the command line's reader, each other fault in one line.
 abbrev pub formula_fault_text : DimacsFault → List ℕ
@@ -112,6 +114,8 @@ cause_text faults.Unwritten = codes "cannot write report"
 cause_text faults.NotCreated = codes "cannot create checkpoint"
 cause_text (faults.NotSaved fault) = save_fault_text fault
 cause_text faults.TwoCheckpoints = codes "--checkpoint and --rounds exclude each other"
+cause_text faults.SizesUnread = codes "cannot read sizes"
+cause_text faults.Sizes = codes "sizes"
 
 -- a line of the program's
 abbrev pub error_line : List ℕ → List ℕ
@@ -120,6 +124,19 @@ error_line cause = codes "lrupd: " ++ cause ++ codes "\n"
 abbrev pub error_text : CommandFault → List ℕ
 error_text (faults.Usage text) = text
 error_text fault = error_line (cause_text fault)
+
+-- what a line says of a round first, from the second one on
+abbrev pub of_round : ℕ → List ℕ
+of_round round = if round == 1 then [] else codes "round " ++ decimal round ++ codes ": "
+
+-- a line of the program's, of a round
+abbrev pub round_error_line : ℕ → List ℕ → List ℕ
+round_error_line round cause = error_line (of_round round ++ cause)
+
+-- what is said of a fault of a round: in round 1 just what is said of that fault
+abbrev pub round_error_text : ℕ → CommandFault → List ℕ
+round_error_text round (faults.Usage text) = text
+round_error_text round fault = round_error_line round (cause_text fault)
 
 -- a text, a number if there is one, and the rest
 abbrev pub cause_bytes : List ℕ → Option ℕ → List ℕ → List ℕ

@@ -1,65 +1,53 @@
 -- Runs in rounds: each goes on with what the one before it saved (this project's own).
-use Rattle.std.specs.Prelude.{◌≡◌, ◌==◌, if◌then◌else◌, ◌+◌, ◌++◌, ◌∷◌, ◌⊎◌, ℕ, suc, zero, Bool, List, [], Option, None, Some, Result, Ok, Err, codes, length, IsTrue, ◌<◌, ◌^◌}
+use Rattle.std.specs.Prelude.{◌≡◌, ◌==◌, if◌then◌else◌, ◌+◌, ◌++◌, ◌∷◌, ◌⊎◌, ◌<◌, ◌^◌, ℕ, Bool, List, [], Option, None, Some, codes, length, map, IsTrue}
 use Rattle.std.specs.Fmt.{decimal}
-use Rattle.std.specs.Io.KnownBytes.{Appends}
 use Rattle.std.specs.List.{AllByRecursion}
 use Rattle.std.specs.Option.{ForSome}
 use Rattle.lrup_model.specs.Cube.{CubeValue}
 use Rattle.lrup_model.specs.Formula.{Cnf}
+use Rattle.lrup_model.specs.Layout.{IsFault}
+use Rattle.lrup_model.specs.declared.layout.LayoutFault.{LayoutFault}
 use Rattle.lrup_text.specs.declared.device.Sink as Sink
 use Rattle.lrup_text.specs.declared.device.Source as Source
 use Rattle.lrup_text.specs.ReadOut.{SourceView}
+use Rattle.lrup_text.specs.Reads.{Gave}
+use Rattle.runs.specs.Streams.{TermsValue}
 use Rattle.stream_check.specs.declared.report.Ending.TheVariants as endings
 use Rattle.stream_check.specs.declared.report.Report.{Report}
 use Rattle.portfolio.specs.Outcomes.{OptionsValue, terms_of}
 use Rattle.portfolio.specs.ReportText.{report_text}
 use Rattle.portfolio.specs.declared.outcome.Verdict.{Verdict}
-use Rattle.portfolio.specs.declared.outcome.Verdict.TheVariants.{Unsatisfiable}
+use Rattle.portfolio.specs.declared.outcome.Verdict.TheVariants.{Unknown}
 use Rattle.checkpoint.specs.Checkpoints.{IsCheckpointOf}
 use Rattle.checkpoint.specs.declared.saving.SaveFault.{SaveFault}
 use Rattle.command_line.specs.CommandLine.{AskForRounds, IsCommandLineOf}
+use Rattle.command_line.specs.Sizes.{HaveNoSizes, IsSizesText}
+use Rattle.command_line.specs.declared.sizes.Sizes.{Sizes}
 use Rattle.command_line.specs.declared.words.CommandLine.{CommandLine}
-use Rattle.command.specs.Commands.{EndsWithFault, EndsWithReport, IsUntouched, rounds_at}
-use Rattle.command.specs.Faults.{error_text, status_of}
-use Rattle.command.specs.Commands.{AreAssumed, AreChecked, AreOpened, FilesView, IsFormulaAt, LeavesBehind, SaysOfReport, SinkChange, SinkTook}
-use Rattle.command.specs.Commands.{Text, WasReadIn, WasSaved, assumed_at, checkpoint_at, options_of, readers_view, report_status}
+use Rattle.command.specs.Commands.{AreAssumed, AreChecked, AreOpened, EndsWithFault, EndsWithReport, FilesView, HasBrokenOff}
+use Rattle.command.specs.Commands.{IsCreateCause, IsFormulaAt, IsOpenCause, IsRunCause, IsUntouched, LeavesBehind, SaysOfRound, SinkChange}
+use Rattle.command.specs.Commands.{SinkTook, Text, WasRead, WasReadIn, WasSaved, assumed_at, checkpoint_at, readers_view}
+use Rattle.command.specs.Commands.{report_status, rounds_at}
+use Rattle.command.specs.Faults.{round_error_text, status_of}
+use Rattle.command.specs.Paths.{formula_path, sizes_path, stream_path, stream_paths}
 use Rattle.command.specs.declared.fault.CommandFault.{CommandFault}
 use Rattle.command.specs.declared.fault.CommandFault.TheVariants as faults
 use Rattle.command.specs.declared.files.Files as Files
-use Rattle.command.specs.declared.rounds.Course.{Course}
-use Rattle.command.specs.declared.rounds.RoundResult.{RoundResult}
 
--- Paths
-
--- DIR/round-R and what follows it
-abbrev pub round_path : Text → ℕ → List ℕ → Text
-round_path folder number rest = folder ++ (codes "/round-" ++ (decimal number ++ rest))
-
--- of the text of a round's formula
-abbrev pub formula_path : Text → ℕ → Text
-formula_path folder number = round_path folder number (codes ".cnf")
-
--- of a stream of a round, from 1 on
-abbrev pub stream_path : Text → ℕ → ℕ → Text
-stream_path folder number stream = round_path folder number (codes ".stream-" ++ decimal stream)
-
--- of the first so many streams
-abbrev pub stream_paths : Text → ℕ → ℕ → List Text
-stream_paths folder number zero = []
-stream_paths folder number (suc count) =
-    stream_paths folder number count ++ stream_path folder number (suc count) ∷ []
-
--- What files do, whichever they were first.
+-- What files do, tell and may refuse, whichever they are.
 pub record Deeds : Type 1 where
   pub State : Type 0
   pub Reader : Type 0
   pub Output : Type 0
   pub opens : State → Text → Reader → State → Type 0
+  pub lacks : State → Text → State → Type 0
   pub creates : State → Text → Output → State → Type 0
   pub keeps : State → Output → State → Type 0
   pub reading : SourceView Reader
   pub written : Output → Option (List ℕ)
+  pub tells : State → Text → Option (List ℕ)
   pub refuses : State → Text → Bool
+  pub refuses_new : State → Text → Bool
 
 -- as the types of files, of their readers and of their sinks say it
 abbrev pub deeds : {F R W M : Type 0} → Files.Ghosts F R W M → Source.Ghosts R → Sink.Ghosts W
@@ -69,11 +57,14 @@ deeds {F = F} {R = R} {W = W} its input output = record {
   Reader = R;
   Output = W;
   opens = its.opens;
+  lacks = its.lacks;
   creates = its.creates;
   keeps = its.keeps;
   reading = readers_view input;
   written = output.written;
+  tells = its.tells;
   refuses = its.may_refuse;
+  refuses_new = its.may_refuse_new;
 }
 
 -- of files that more is known of
@@ -83,25 +74,46 @@ deeds_of files = record {
   Reader = files.Reader;
   Output = files.Output;
   opens = files.opens;
+  lacks = files.lacks;
   creates = files.creates;
   keeps = files.keeps;
   reading = files.reading;
   written = files.written;
+  tells = files.tells_at;
   refuses = files.refuses;
+  refuses_new = files.refuses_new;
 }
 
--- What stays the same in all rounds: how streams are checked, the cube, the folder, and how many streams there are.
+-- What stays the same in all rounds.
 pub record Plan : Type 0 where
-  pub options : OptionsValue
+  pub tries : ℕ
   pub serial : Bool
   pub cube : CubeValue
   pub folder : Text
-  pub streams : ℕ
 
--- A round: its formula; the readers of its streams as they were opened, and the files after that; its reports, its verdict, and why
--- its checkpoint wasn't saved, if it wasn't; and the files after that.
+-- so, by a command line
+abbrev pub plan_at : CommandLine → CubeValue → Text → Plan
+plan_at given cube folder =
+    record { tries = given.tries; serial = given.serial; cube = cube; folder = folder }
+
+-- the sizes of round 1, by a command line
+abbrev pub sizes_of : CommandLine → Sizes
+sizes_of given =
+    record { streams = length given.streams; lines = given.lines; room = given.room }
+
+-- what the streams of a round are checked by
+abbrev pub options_by : ℕ → Sizes → OptionsValue
+options_by tries sizes = record { tries = tries; lines = sizes.lines; room = sizes.room }
+
+abbrev pub terms_by : Plan → Cnf → Sizes → TermsValue
+terms_by plan formula sizes =
+    terms_of (options_by plan.tries sizes) plan.cube formula sizes.streams
+
+-- A round: its formula and its sizes; the readers of its streams as they were opened, and the files after that; its reports, its
+-- verdict, and why its checkpoint wasn't saved, if it wasn't; and the files after that.
 pub record Round (F R : Type 0) : Type 0 where
   pub formula : Cnf
+  pub sizes : Sizes
   pub readers : List R
   pub opened : F
   pub reports : List Report
@@ -109,130 +121,154 @@ pub record Round (F R : Type 0) : Type 0 where
   pub unsaved : Option SaveFault
   pub after : F
 
+-- the streams of the round were checked, as those of a run are
+abbrev pub WasChecked : (its : Deeds) → Plan → Round its.State its.Reader → Type 0
+WasChecked its plan round =
+    (length round.readers ≡ round.sizes.streams)
+    × AreChecked its.reading plan.serial round.formula (terms_by plan round.formula round.sizes)
+    round.readers round.reports round.verdict
+
+-- The files at the paths were opened as these readers, in order, and where files tell what a path has, its reader has just that left.
+pub record StreamsOpened (its : Deeds) (before : its.State) (paths : List Text)
+    (readers : List its.Reader) (after : its.State) : Type 0 where
+  pub opened : AreOpened its.opens before paths readers after
+  pub left : map its.reading.left readers ≡ map (its.tells before) paths
+
 -- all streams ended
 abbrev pub HaveEnded : List Report → Type 0
 HaveEnded reports = AllByRecursion (λ report. report.ending ≡ endings.Ended) reports
 
--- The streams of the round with this number were checked, and it left a checkpoint, as a run with `--checkpoint` does.
-pub record IsRound (its : Deeds) (course : Plan) (number : ℕ)
-    (round : Round its.State its.Reader) : Type 0 where
-  pub count : length round.readers ≡ course.streams
-  pub checked : AreChecked its.reading course.serial round.formula
-      (terms_of course.options course.cube round.formula course.streams) round.readers round.reports
-      round.verdict
-  pub checkpoint : LeavesBehind its.creates its.written its.keeps
-      (Some (formula_path course.folder (number + 1))) round.formula round.verdict round.unsaved
-      round.opened round.after
-
--- no round follows this one: the formula was refuted, the checkpoint wasn't saved, or a stream didn't end
-abbrev pub IsBarred : {F R : Type 0} → Round F R → Type 0
-IsBarred round =
-    (round.verdict ≡ Unsatisfiable)
-    ⊎ (((fault : SaveFault) × (round.unsaved ≡ Some fault)) ⊎ (¬ HaveEnded round.reports))
-
--- A round's streams ended, and its checkpoint was saved whole: a text of just this next formula, each clause of which follows.
-pub record Carried (its : Deeds) (course : Plan) (number : ℕ) (round : Round its.State its.Reader)
+-- The round with this number goes on: its verdict is 'unknown', its streams ended, and its checkpoint was saved, a text of just this
+-- next formula, each clause of which follows from the round's.
+pub record GoesOn (its : Deeds) (plan : Plan) (number : ℕ) (round : Round its.State its.Reader)
     (next : Cnf) : Type 0 where
+  pub verdict : round.verdict ≡ Unknown
   pub ended : HaveEnded round.reports
+  pub unsaved : round.unsaved ≡ None
   pub bytes : List ℕ
   pub saved : WasSaved its.creates its.written its.keeps round.opened
-      (formula_path course.folder (number + 1)) bytes round.after
+      (formula_path plan.folder (number + 1)) bytes round.after
   pub carried : IsCheckpointOf round.formula bytes next
 
--- Rounds, the last one first: the first has this formula, and its streams are those at the paths; each other goes on with what the
--- one before it saved, over the streams that were opened next. A round's number is how many there are up to it.
-abbrev pub AreRounds : (its : Deeds) → Plan → Cnf → its.State → List Text
-    → List (Round its.State its.Reader) → Type 0
-AreRounds its course formula first paths [] = ⊥
-AreRounds its course formula first paths (round ∷ []) =
-    (round.formula ≡ formula) × AreOpened its.opens first paths round.readers round.opened
-    × IsRound its course 1 round
-AreRounds its course formula first paths (round ∷ before ∷ more) =
-    Carried its course (length (before ∷ more)) before round.formula
-    × AreOpened its.opens before.after
-    (stream_paths course.folder (length (before ∷ more) + 1) course.streams) round.readers
-    round.opened
-    × IsRound its course (length (before ∷ more) + 1) round
-    × AreRounds its course formula first paths (before ∷ more)
-
--- What stays the same, as the program has it.
-abbrev pub plan_of : Course → Plan
-plan_of course = record {
-  options = course.options;
-  serial = course.serial;
-  cube = course.cube.now;
-  folder = course.folder.now;
-  streams = course.streams;
-}
-
--- so, by a command line
-abbrev pub plan_at : CommandLine → CubeValue → Text → Plan
-plan_at given cube folder = record {
-  options = options_of given;
-  serial = given.serial;
-  cube = cube;
-  folder = folder;
-  streams = length given.streams;
-}
-
--- a round of this formula and these readers, by what was found
-abbrev pub round_of : {F R : Type 0} → Cnf → List R → F → RoundResult → F → Round F R
-round_of formula readers opened found after = record {
-  formula = formula;
-  readers = readers;
-  opened = opened;
-  reports = found.found.reports.items;
-  verdict = found.found.verdict;
-  unsaved = found.found.unsaved;
-  after = after;
-}
-
--- What was found of a round, and the next formula, where there is one, which is what the round carried on.
-pub record IsFound (its : Deeds) (course : Plan) (found : RoundResult)
+-- It doesn't: it has another verdict, its checkpoint wasn't saved, or a stream didn't end. It left a checkpoint, as a run with
+-- `--checkpoint` does.
+pub record IsBarred (its : Deeds) (plan : Plan) (number : ℕ)
     (round : Round its.State its.Reader) : Type 0 where
-  pub reports : round.reports ≡ found.found.reports.items
-  pub verdict : round.verdict ≡ found.found.verdict
-  pub unsaved : round.unsaved ≡ found.found.unsaved
-  pub next : ForSome found.next (Carried its course found.number round)
-  pub over : found.next ≡ None → IsBarred round
+  pub why : (¬ (round.verdict ≡ Unknown))
+      ⊎ (((fault : SaveFault) × (round.unsaved ≡ Some fault)) ⊎ (¬ HaveEnded round.reports))
+  pub checkpoint : LeavesBehind its.creates its.written its.keeps
+      (Some (formula_path plan.folder (number + 1))) round.formula round.verdict round.unsaved
+      round.opened round.after
 
--- The rounds up to this one, which was found so and left these files.
-pub record Stands (its : Deeds) (course : Plan) (formula : Cnf) (first : its.State)
-    (paths : List Text) (found : RoundResult) (after : its.State) : Type 0 where
-  pub round : Round its.State its.Reader
-  pub before : List (Round its.State its.Reader)
-  pub rounds : AreRounds its course formula first paths (round ∷ before)
-  pub number : found.number ≡ length (round ∷ before)
-  pub is_found : IsFound its course found round
-  pub left : after ≡ round.after
+-- the sizes of the round after: those before, if there is no file of them; else what was read of the file is a text of them
+abbrev pub AreSized : (its : Deeds) → Text → Sizes → its.State → Sizes → its.State → Type 0
+AreSized its path old before new after =
+    (its.lacks before path after × (new ≡ old))
+    ⊎ ((bytes : List ℕ)
+    × WasRead its.opens its.reading.reads (its.tells before) before path bytes after
+    × IsSizesText bytes new)
 
--- why there is no round after this one: none follows it; or stream 1 of the next round was refused; or its number would be too high
-abbrev pub IsOver : (its : Deeds) → Plan → RoundResult → its.State → Type 0
-IsOver its course found after =
-    (found.next ≡ None)
-    ⊎ (IsTrue (its.refuses after (stream_path course.folder (found.number + 1) 1))
-    ⊎ (2 ^ 64 < found.number + 3))
+-- A round follows the one with this number: it has the formula that was carried on, its sizes were read, then its streams were opened,
+-- and they were checked.
+pub record Follows (its : Deeds) (plan : Plan) (number : ℕ)
+    (before round : Round its.State its.Reader) : Type 0 where
+  pub goes_on : GoesOn its plan number before round.formula
+  pub sized : its.State
+  pub sizes : AreSized its (sizes_path plan.folder (number + 1)) before.sizes before.after
+      round.sizes sized
+  pub opened : StreamsOpened its sized
+      (stream_paths plan.folder (number + 1) round.sizes.streams) round.readers round.opened
+  pub checked : WasChecked its plan round
 
--- why nothing was carried on: the formula was refuted, or there is no file, or the saving failed
-abbrev pub IsUncarried : {W : Type 0} → Verdict → Option W → Result (Option W) SaveFault → Type 0
-IsUncarried verdict output saved =
-    (verdict ≡ Unsatisfiable)
-    ⊎ ((output ≡ None) ⊎ ((fault : SaveFault) × (saved ≡ Err fault)))
+-- The first round: its streams are those at the paths.
+pub record IsFirst (its : Deeds) (plan : Plan) (formula : Cnf) (sizes : Sizes) (first : its.State)
+    (paths : List Text) (round : Round its.State its.Reader) : Type 0 where
+  pub formula_is : round.formula ≡ formula
+  pub sizes_are : round.sizes ≡ sizes
+  pub opened : StreamsOpened its first paths round.readers round.opened
+  pub checked : WasChecked its plan round
 
--- The next formula was saved to the file, if one was written to: the bytes that went to it are a text of just this formula.
-abbrev pub CarriesTo : {W : Type 0} → (W → Option (List ℕ)) → Cnf → Option W
-    → Result (Option W) SaveFault → Cnf → Type 0
-CarriesTo {W = W} written formula output saved next =
-    (first last : W) × (output ≡ Some first) × (saved ≡ Ok (Some last))
-    × ((bytes : List ℕ) × Appends (written first) (written last) bytes
-    × IsCheckpointOf formula bytes next)
+-- Rounds, the last one first, and the first one so: each other follows the one before it. A round's number is how many there are up
+-- to it.
+abbrev pub AreRounds : (its : Deeds) → Plan → Cnf → Sizes → its.State → List Text
+    → List (Round its.State its.Reader) → Type 0
+AreRounds its plan formula sizes first paths [] = ⊥
+AreRounds its plan formula sizes first paths (round ∷ []) =
+    IsFirst its plan formula sizes first paths round
+AreRounds its plan formula sizes first paths (round ∷ before ∷ more) =
+    Follows its plan (length (before ∷ more)) before round
+    × AreRounds its plan formula sizes first paths (before ∷ more)
 
--- a fault that a run in rounds may end with, in place of a report
-abbrev pub IsOfRounds : CommandFault → Type 0
-IsOfRounds (faults.Usage text) = ⊥
-IsOfRounds faults.Unwritten = ⊥
-IsOfRounds (faults.NotSaved fault) = ⊥
-IsOfRounds fault = Unit {0}
+-- why there is no round after the last one, with this number, and what became of the files: it doesn't go on; or the sizes of the next
+-- one were read, and there is no file of its stream 1; or its number would be 2 ^ 64 - 1
+abbrev pub IsOver : (its : Deeds) → Plan → ℕ → Round its.State its.Reader → its.State → Type 0
+IsOver its plan number last after =
+    (IsBarred its plan number last × (after ≡ last.after))
+    ⊎ (((next : Cnf) × GoesOn its plan number last next
+    × ((sizes : Sizes) × (sized : its.State)
+    × AreSized its (sizes_path plan.folder (number + 1)) last.sizes last.after sizes sized
+    × its.lacks sized (stream_path plan.folder (number + 1) 1) after))
+    ⊎ ((2 ^ 64 < number + 3) × (after ≡ last.after)))
+
+-- Causes.
+
+-- The file at the path was opened, and what it holds is no text of sizes: what was read of it to its end isn't, or there are 64 bytes,
+-- which is more than the longest has.
+pub record HoldsNoSizes (its : Deeds) (before : its.State) (path : Text) : Type 0 where
+  pub reader : its.Reader
+  pub after : its.State
+  pub opened : its.opens before path reader after
+  pub bytes : List ℕ
+  pub holds : (WasRead its.opens its.reading.reads (its.tells before) before path bytes after
+      × HaveNoSizes bytes)
+      ⊎ ((last : its.Reader) × Gave its.Reader its.reading.reads reader bytes last
+      × (length bytes ≡ 64))
+
+-- The file at the path was opened, and its reading failed.
+pub record BrokeOff (its : Deeds) (before : its.State) (path : Text) : Type 0 where
+  pub reader : its.Reader
+  pub after : its.State
+  pub opened : its.opens before path reader after
+  pub left : its.reading.left reader ≡ its.tells before path
+  pub broken : HasBrokenOff its.reading reader
+
+-- why the sizes at a path weren't read: their file was refused, or its reading failed, or it holds none
+abbrev pub IsSizesCause : (its : Deeds) → its.State → Text → CommandFault → Type 0
+IsSizesCause its before path faults.SizesUnread =
+    IsTrue (its.refuses before path) ⊎ BrokeOff its before path
+IsSizesCause its before path faults.Sizes = HoldsNoSizes its before path
+IsSizesCause its before path faults.Memory = Unit {0}
+IsSizesCause its before path fault = ⊥
+
+-- why the streams of a round that were opened weren't checked: there is no layout, or one and a fault of the run, or of the creation of
+-- the next round's formula
+abbrev pub IsStartCause : (its : Deeds) → Plan → ℕ → Cnf → Sizes → its.State → CommandFault
+    → Type 0
+IsStartCause its plan number formula sizes opened fault =
+    IsRunCause plan.serial (terms_by plan formula sizes).layout fault
+    ⊎ (((other : LayoutFault) → IsFault (terms_by plan formula sizes).layout other → ⊥)
+    × IsCreateCause (its.refuses_new opened) (Some (formula_path plan.folder (number + 1))) fault)
+
+-- why the round after the one with this number, of this formula, has no report: of its sizes; or, once they were read, of the opening
+-- of its streams; or, of those that were opened, of their check
+abbrev pub IsRoundCause : (its : Deeds) → Plan → ℕ → Sizes → Cnf → its.State → CommandFault
+    → Type 0
+IsRoundCause its plan number old formula before fault =
+    IsSizesCause its before (sizes_path plan.folder (number + 1)) fault
+    ⊎ ((sizes : Sizes) × (sized : its.State)
+    × AreSized its (sizes_path plan.folder (number + 1)) old before sizes sized
+    × (IsOpenCause its.opens (its.refuses sized) sized
+    (stream_paths plan.folder (number + 1) sizes.streams) fault
+    ⊎ ((readers : List its.Reader) × (opened : its.State)
+    × StreamsOpened its sized (stream_paths plan.folder (number + 1) sizes.streams) readers opened
+    × IsStartCause its plan (number + 1) formula sizes opened fault)))
+
+-- why the round after the one with this number, which goes on, has no report
+abbrev pub IsNextCause : (its : Deeds) → Plan → ℕ → Round its.State its.Reader → CommandFault
+    → Type 0
+IsNextCause its plan number last fault =
+    (next : Cnf) × GoesOn its plan number last next
+    × IsRoundCause its plan number last.sizes next last.after fault
 
 -- What goes out.
 
@@ -245,9 +281,10 @@ abbrev pub last_text : ℕ → List Report → Verdict → List ℕ
 last_text number reports verdict =
     (if number == 1 then [] else round_text number) ++ report_text reports verdict
 
--- The report of the last round, where no checkpoint is asked for beside rounds.
-pub record ReportsRounds (files : FilesView) (given : CommandLine) (folder : Text)
-    (out err : SinkChange) (status : ℕ) : Type 0 where
+-- The formula and the assumed literals were read, and then came these rounds.
+pub record WereRounds (files : FilesView) (given : CommandLine) (folder : Text)
+    (last : Round files.State files.Reader)
+    (before : List (Round files.State files.Reader)) : Type 0 where
   pub alone : checkpoint_at given ≡ None
   pub formula : Cnf
   pub next : files.State
@@ -255,37 +292,51 @@ pub record ReportsRounds (files : FilesView) (given : CommandLine) (folder : Tex
   pub cube : CubeValue
   pub later : files.State
   pub assumed : AreAssumed (WasReadIn files) formula.vars next (assumed_at given) cube later
+  pub told : files.tells_at later ≡ files.tells
+  pub rounds : AreRounds (deeds_of files) (plan_at given cube folder) formula (sizes_of given)
+      later given.streams (last ∷ before)
+
+-- The report of the last round.
+pub record ReportsRounds (files : FilesView) (given : CommandLine) (folder : Text)
+    (after : files.State) (out err : SinkChange) (status : ℕ) : Type 0 where
   pub last : Round files.State files.Reader
   pub before : List (Round files.State files.Reader)
-  pub rounds : AreRounds (deeds_of files) (plan_at given cube folder) formula later given.streams
-      (last ∷ before)
-  pub over : IsBarred last
-      ⊎ (IsTrue (files.refuses last.after (stream_path folder (length (last ∷ before) + 1) 1))
-      ⊎ (2 ^ 64 < length (last ∷ before) + 3))
+  pub were : WereRounds files given folder last before
+  pub over : IsOver (deeds_of files) (plan_at given were.cube folder) (length (last ∷ before)) last
+      after
   pub printed : SinkTook out (last_text (length (last ∷ before)) last.reports last.verdict)
-  pub said : SaysOfReport out.failed last.unsaved err
+  pub said : SaysOfRound (length (last ∷ before)) out.failed last.unsaved err
   pub status_is : status ≡ report_status out.failed last.unsaved last.verdict
 
--- No report, and the fault.
-pub record FailsInRounds (out err : SinkChange) (status : ℕ) : Type 0 where
+-- No report, and why the round after the last one has none.
+pub record FailsInRound (files : FilesView) (given : CommandLine) (folder : Text)
+    (out err : SinkChange) (status : ℕ) : Type 0 where
+  pub last : Round files.State files.Reader
+  pub before : List (Round files.State files.Reader)
+  pub were : WereRounds files given folder last before
   pub fault : CommandFault
-  pub is : IsOfRounds fault
+  pub cause : IsNextCause (deeds_of files) (plan_at given were.cube folder)
+      (length (last ∷ before)) last fault
   pub untouched : IsUntouched out
-  pub said : SinkTook err (error_text fault)
+  pub said : SinkTook err (round_error_text (length (last ∷ before) + 1) fault)
   pub status_is : status ≡ status_of fault
 
--- The words ask for rounds, and the program ends with the report of the last one, or without one.
-pub record EndsInRounds (files : FilesView) (words : List Text) (out err : SinkChange)
-    (status : ℕ) : Type 0 where
+-- The words ask for rounds, and there was at least one. The program ends with the report of the last one; or without one, for a cause
+-- that the round after it had.
+pub record EndsInRounds (files : FilesView) (words : List Text) (after : files.State)
+    (out err : SinkChange) (status : ℕ) : Type 0 where
   pub given : CommandLine
   pub command_line : IsCommandLineOf words given
   pub folder : Text
   pub asked : rounds_at given ≡ Some folder
-  pub ending : ReportsRounds files given folder out err status ⊎ FailsInRounds out err status
+  pub ending : ReportsRounds files given folder after out err status
+      ⊎ FailsInRound files given folder out err status
 
--- How the program ends: with a report of a single run, where the words ask for no rounds; without one, for a cause; or in rounds.
+-- How the program ends: with a report of a single run, where the words ask for no rounds; without one, for a cause of a single run or
+-- of round 1; or in rounds.
 abbrev pub Ends : (files : FilesView) → List Text → files.State → SinkChange → SinkChange → ℕ
     → Type 0
 Ends files words after out err status =
-    (EndsWithReport files words after out err status × ((folder : Text) → ¬ AskForRounds words folder))
-    ⊎ (EndsWithFault files words out err status ⊎ EndsInRounds files words out err status)
+    (EndsWithReport files words after out err status
+    × ((folder : Text) → ¬ AskForRounds words folder))
+    ⊎ (EndsWithFault files words out err status ⊎ EndsInRounds files words after out err status)

@@ -2,20 +2,23 @@
 ghost use Rattle.std.specs.Prelude.{◌≡◌, None, true, false, IfErr, IfOk, length};
 ghost use Rattle.std.specs.List.{AllByRecursion};
 ghost use Rattle.std.specs.Option.{ForSome};
-ghost use Rattle.command.specs.Commands.{AreChecked, IsRunCause, readers_view, terms_on};
-ghost use Rattle.command.specs.Rounds.{CarriesTo, IsUncarried};
+ghost use Rattle.command.specs.Commands.{AreChecked, IsRunCause, readers_view};
+ghost use Rattle.command.specs.Rounds.{terms_by};
+ghost use Rattle.command.specs.Standing.{CarriesTo, IsUncarried, plan_of};
 ghost use Rattle.command.specs.Saving.{WritesCheckpoint};
 
-use crate::checking::{Setup, thread_gates, to_write, turn_gates};
+use crate::checking::{thread_gates, to_write, turn_gates};
+use crate::course::{Course, OpenRound};
 use crate::fault::CommandFault;
 use crate::files::Files;
+use crate::watching::now_if;
 use checkpoint::SaveFault;
 use lrup_model::Formula;
 use portfolio::{Outcome, SerialOutcome, Verdict, carry_live, carry_plain, run, run_serial};
 use std::alloc::Global;
 use std::sync::Wait;
 use std::thread::Threads;
-use std::time::Clock;
+use std::time::{Clock, Instant};
 use stream_check::Report;
 
 /// What the checking of the streams found, what it made of the checkpoint's file, and the formula that was saved there, where one was.
@@ -23,6 +26,8 @@ use stream_check::Report;
 pub(crate) struct CarriedRun<W: Drop> {
     pub(crate) reports: Vec<Report>,
     pub(crate) verdict: Verdict,
+    /// When the streams were over, where they are watched.
+    pub(crate) ended: Option<Instant>,
     pub(crate) saved: Result<Option<W>, SaveFault>,
     pub(crate) next: Option<Formula>,
 }
@@ -33,29 +38,31 @@ pub(crate) fn carry_streams<T: Threads + Wait + Sync, C: Clock + Sync, F: Files>
     threads: &T,
     clock: &C,
     alloc: Global,
-    setup: &Setup<'_>,
+    course: &Course<'_>,
+    round: OpenRound<F::Input>,
     watched: Option<&F>,
-    readers: Vec<F::Input>,
     output: Option<F::Output>,
 ) -> Result<CarriedRun<F::Output>, CommandFault>
-    requires running { AllByRecursion (λ r. F.Input.Source.has_failed r ≡ false) readers.items }
+    requires running { AllByRecursion (λ r. F.Input.Source.has_failed r ≡ false)
+        round.readers.items }
+    requires count { length round.readers.items ≡ round.sizes.streams }
     requires created { ForSome output (λ sink. F.Output.Sink.has_failed sink ≡ false) }
-    ensures checked { let terms = terms_on setup.now (length readers.items) in
-        IfOk result (λ found. AreChecked (readers_view F.Input.Source) setup.now.serial
-        setup.now.formula.now terms readers.items found.reports.items found.verdict) }
+    ensures checked { let terms = terms_by (plan_of course.now) round.formula round.sizes in
+        IfOk result (λ found. AreChecked (readers_view F.Input.Source) course.now.serial
+        round.formula terms round.readers.items found.reports.items found.verdict) }
     ensures written { IfOk result (λ found. WritesCheckpoint F.Output.Sink.written
-        setup.now.formula.now found.verdict output found.saved) }
+        round.formula found.verdict output found.saved) }
     ensures next { IfOk result (λ found. ForSome found.next (CarriesTo F.Output.Sink.written
-        setup.now.formula.now output found.saved)) }
+        round.formula output found.saved)) }
     ensures none { IfOk result (λ found. found.next ≡ None
         → IsUncarried found.verdict output found.saved) }
-    ensures cause { let terms = terms_on setup.now (length readers.items) in
-        IfErr result (IsRunCause setup.now.serial terms.layout) }
+    ensures cause { let terms = terms_by (plan_of course.now) round.formula round.sizes in
+        IfErr result (IsRunCause course.now.serial terms.layout) }
 {
-    if setup.serial {
-        carry_serially(threads, clock, alloc, setup, watched, readers, output)
+    if course.serial {
+        carry_serially(threads, clock, alloc, course, round, watched, output)
     } else {
-        carry_in_threads(threads, clock, alloc, setup, watched, readers, output)
+        carry_in_threads(threads, clock, alloc, course, round, watched, output)
     }
 }
 
@@ -64,35 +71,47 @@ fn carry_serially<W: Wait, C: Clock + Sync, F: Files>(
     wait: &W,
     clock: &C,
     alloc: Global,
-    setup: &Setup<'_>,
+    course: &Course<'_>,
+    round: OpenRound<F::Input>,
     watched: Option<&F>,
-    readers: Vec<F::Input>,
     output: Option<F::Output>,
 ) -> Result<CarriedRun<F::Output>, CommandFault>
-    requires running { AllByRecursion (λ r. F.Input.Source.has_failed r ≡ false) readers.items }
+    requires running { AllByRecursion (λ r. F.Input.Source.has_failed r ≡ false)
+        round.readers.items }
+    requires count { length round.readers.items ≡ round.sizes.streams }
     requires created { ForSome output (λ sink. F.Output.Sink.has_failed sink ≡ false) }
-    ensures checked { let terms = terms_on setup.now (length readers.items) in
+    ensures checked { let terms = terms_by (plan_of course.now) round.formula round.sizes in
         IfOk result (λ found. AreChecked (readers_view F.Input.Source) true
-        setup.now.formula.now terms readers.items found.reports.items found.verdict) }
+        round.formula terms round.readers.items found.reports.items found.verdict) }
     ensures written { IfOk result (λ found. WritesCheckpoint F.Output.Sink.written
-        setup.now.formula.now found.verdict output found.saved) }
+        round.formula found.verdict output found.saved) }
     ensures next { IfOk result (λ found. ForSome found.next (CarriesTo F.Output.Sink.written
-        setup.now.formula.now output found.saved)) }
+        round.formula output found.saved)) }
     ensures none { IfOk result (λ found. found.next ≡ None
         → IsUncarried found.verdict output found.saved) }
-    ensures cause { let terms = terms_on setup.now (length readers.items) in
+    ensures cause { let terms = terms_by (plan_of course.now) round.formula round.sizes in
         IfErr result (IsRunCause true terms.layout) }
 {
+    let OpenRound {
+        number: _,
+        sizes,
+        formula,
+        readers,
+    } = round;
     let gates = turn_gates(alloc, clock, watched, readers.len())?;
+    let options = course.options(sizes);
     let outcome = run_serial(
         wait,
         alloc,
-        setup.formula,
-        setup.cube,
-        setup.options,
+        &formula,
+        course.cube,
+        options,
         readers,
         gates,
     )?;
+    // Before the next formula is made.
+    drop(formula);
+    let ended = now_if(clock, course.watch);
     let SerialOutcome {
         reports,
         verdict,
@@ -110,6 +129,7 @@ fn carry_serially<W: Wait, C: Clock + Sync, F: Files>(
     Ok(CarriedRun {
         reports,
         verdict,
+        ended,
         saved,
         next,
     })
@@ -120,35 +140,47 @@ fn carry_in_threads<T: Threads + Wait + Sync, C: Clock + Sync, F: Files>(
     threads: &T,
     clock: &C,
     alloc: Global,
-    setup: &Setup<'_>,
+    course: &Course<'_>,
+    round: OpenRound<F::Input>,
     watched: Option<&F>,
-    readers: Vec<F::Input>,
     output: Option<F::Output>,
 ) -> Result<CarriedRun<F::Output>, CommandFault>
-    requires running { AllByRecursion (λ r. F.Input.Source.has_failed r ≡ false) readers.items }
+    requires running { AllByRecursion (λ r. F.Input.Source.has_failed r ≡ false)
+        round.readers.items }
+    requires count { length round.readers.items ≡ round.sizes.streams }
     requires created { ForSome output (λ sink. F.Output.Sink.has_failed sink ≡ false) }
-    ensures checked { let terms = terms_on setup.now (length readers.items) in
+    ensures checked { let terms = terms_by (plan_of course.now) round.formula round.sizes in
         IfOk result (λ found. AreChecked (readers_view F.Input.Source) false
-        setup.now.formula.now terms readers.items found.reports.items found.verdict) }
+        round.formula terms round.readers.items found.reports.items found.verdict) }
     ensures written { IfOk result (λ found. WritesCheckpoint F.Output.Sink.written
-        setup.now.formula.now found.verdict output found.saved) }
+        round.formula found.verdict output found.saved) }
     ensures next { IfOk result (λ found. ForSome found.next (CarriesTo F.Output.Sink.written
-        setup.now.formula.now output found.saved)) }
+        round.formula output found.saved)) }
     ensures none { IfOk result (λ found. found.next ≡ None
         → IsUncarried found.verdict output found.saved) }
-    ensures cause { let terms = terms_on setup.now (length readers.items) in
+    ensures cause { let terms = terms_by (plan_of course.now) round.formula round.sizes in
         IfErr result (IsRunCause false terms.layout) }
 {
+    let OpenRound {
+        number: _,
+        sizes,
+        formula,
+        readers,
+    } = round;
     let gates = thread_gates(alloc, clock, watched, readers.len())?;
+    let options = course.options(sizes);
     let outcome = run(
         threads,
         alloc,
-        setup.formula,
-        setup.cube,
-        setup.options,
+        &formula,
+        course.cube,
+        options,
         readers,
         gates,
     )?;
+    // Before the next formula is made.
+    drop(formula);
+    let ended = now_if(clock, course.watch);
     let Outcome {
         reports,
         verdict,
@@ -170,6 +202,7 @@ fn carry_in_threads<T: Threads + Wait + Sync, C: Clock + Sync, F: Files>(
     Ok(CarriedRun {
         reports,
         verdict,
+        ended,
         saved,
         next,
     })

@@ -1,5 +1,5 @@
 //! From the words to the reports.
-ghost use Rattle.std.specs.Prelude.{◌≡◌, ◌≢◌, ◌<◌, ◌≤◌, List, true, false, IfErr, IfOk, Some, length, map, vec_len};
+ghost use Rattle.std.specs.Prelude.{◌≡◌, ◌≢◌, ◌<◌, ◌≤◌, List, None, true, false, IfErr, IfOk, Some, length, map, vec_len};
 ghost use Rattle.std.specs.List.{AllByRecursion};
 ghost use Rattle.std.specs.Option.{ForSome};
 ghost use Rattle.clap.specs.Walk.{texts};
@@ -16,6 +16,8 @@ ghost use Rattle.command.specs.Commands.{AreAssumed, AreChecked, AreOpened, IsAs
 ghost use Rattle.command.specs.Commands.{IsFileCause, IsOpenCause, IsOutcome, IsRunCause, Text, WasRead, WasReadIn};
 ghost use Rattle.command.specs.Commands.{IsCreateCause, LeavesCheckpoint, assumed_at, checkpoint_at, files_view, from_first};
 ghost use Rattle.command.specs.Commands.{path_of, readers_view, terms_on};
+ghost use Rattle.command.specs.Commands.{rounds_at};
+ghost use Rattle.command.specs.Standing.{HasBegun};
 ghost use Rattle.command.specs.Saving.{CreatesCheckpoint, KeepsCheckpoint, WritesCheckpoint, to_write};
 ghost use Rattle.command.specs.Faults.{of_cube_file};
 ghost use Rattle.stream_check.specs.Setting.{max_tries};
@@ -89,6 +91,7 @@ pub fn check_asked<T: Threads + Wait + Sync, C: Clock + Sync, F: Files>(
     files: &mut F,
 ) -> Result<RunResult, CommandFault>
     requires tries { asked.line.tries ≤ max_tries }
+    requires once { rounds_at asked.line ≡ None }
     ensures outcome { (words : List Text) (first : F) →
         let view = from_first (files_view F.Files F.Input.Source F.Output.Sink files.old) first in
         IsCommandLineOf words asked.entry.line
@@ -114,10 +117,12 @@ pub fn check_asked<T: Threads + Wait + Sync, C: Clock + Sync, F: Files>(
         line,
         formula: bytes,
     } = asked;
-    let formula = parse_text(alloc, bytes)?;
-    let cube = read_assumed(threads, alloc, files, line.assume, &formula)?;
+    let Beginning {
+        formula,
+        cube,
+        readers,
+    } = begin(threads, alloc, &line, bytes, files)?;
     let options = Options::new(line.tries, line.lines, line.room).unwrap();
-    let readers = open_streams(alloc, files, line.streams.as_slice())?;
     let setup = Setup {
         formula: &formula,
         cube: &cube,
@@ -138,6 +143,46 @@ pub fn check_asked<T: Threads + Wait + Sync, C: Clock + Sync, F: Files>(
         reports,
         verdict,
         unsaved,
+    })
+}
+
+/// What a run begins with.
+#[derive(Drop)]
+pub(crate) struct Beginning<R: Drop> {
+    pub(crate) formula: Formula,
+    pub(crate) cube: Cube,
+    /// The streams, in order.
+    pub(crate) readers: Vec<R>,
+}
+
+/// Parses the formula, reads the assumed literals, and opens the streams of the command line. It blocks while a file does.
+pub(crate) fn begin<W: Wait, F: Files>(
+    wait: &W,
+    alloc: Global,
+    line: &CommandLine<'_>,
+    bytes: Vec<u8>,
+    files: &mut F,
+) -> Result<Beginning<F::Input>, CommandFault>
+    ensures formula { IfOk result (λ begun. IsFormulaText bytes.items begun.formula) }
+    ensures begun { let view = files_view F.Files F.Input.Source F.Output.Sink files.old in
+        IfOk result (λ begun. HasBegun view line.now begun.formula begun.cube files.old
+        begun.readers.items files.new) }
+    ensures running { IfOk result (λ begun.
+        AllByRecursion (λ r. F.Input.Source.has_failed r ≡ false) begun.readers.items) }
+    ensures stays_refused_new { F.may_refuse_new files.new ≡ F.may_refuse_new files.old }
+    ensures cause { (words : List Text) (first : F) →
+        let view = from_first (files_view F.Files F.Input.Source F.Output.Sink files.old) first in
+        IsCommandLineOf words line.now
+        → WasReadIn view first line.now.formula.now bytes.items files.old
+        → IfErr result (IsCause view words) }
+{
+    let formula = parse_text(alloc, bytes)?;
+    let cube = read_assumed(wait, alloc, files, line.assume, &formula)?;
+    let readers = open_streams(alloc, files, line.streams.as_slice())?;
+    Ok(Beginning {
+        formula,
+        cube,
+        readers,
     })
 }
 

@@ -2,8 +2,8 @@
 ghost use Rattle.std.specs.Prelude.{◌≡◌, [], Some, false, is_err};
 ghost use Rattle.lrup_text.specs.Writing.{PutsAll, WritesText};
 ghost use Rattle.lrup_model.specs.Layout.{layout_fault_text};
-ghost use Rattle.command.specs.Faults.{cause_bytes, cause_text, cube_fault_text, formula_fault_text, error_line};
-ghost use Rattle.command.specs.Faults.{error_text, save_fault_text, status_of};
+ghost use Rattle.command.specs.Faults.{cause_bytes, cause_text, cube_fault_text, formula_fault_text};
+ghost use Rattle.command.specs.Faults.{of_round, round_error_line, round_error_text, save_fault_text, status_of};
 ghost use Rattle.stream_check.specs.Faults.{number_text};
 
 use crate::files::OpenFault;
@@ -46,6 +46,10 @@ pub enum CommandFault {
     NotSaved(SaveFault),
     /// The words ask for a checkpoint and for rounds, whose checkpoints have names of their own.
     TwoCheckpoints,
+    /// The file of a round's sizes is there, and wasn't opened or not read to its end.
+    SizesUnread,
+    /// The file of a round's sizes holds no text of them.
+    Sizes,
 }
 
 impl From<AllocError> for CommandFault {
@@ -145,26 +149,28 @@ impl CommandFault {
         match self {
             CommandFault::Usage(_)
             | CommandFault::TwoCheckpoints
+            | CommandFault::Sizes
             | CommandFault::Layout(LayoutFault::BadStreamCount | LayoutFault::RowTooLong) => 2,
             CommandFault::Refused(_) | CommandFault::CubeRefused(_) | CommandFault::Layout(_) => 4,
             CommandFault::Unread | CommandFault::CubeUnread | CommandFault::NotOpened(_) => 5,
-            CommandFault::NotCreated => 5,
+            CommandFault::NotCreated | CommandFault::SizesUnread => 5,
             CommandFault::Spawn(_) | CommandFault::Ring(_) | CommandFault::Memory => 6,
             CommandFault::Unwritten => 7,
             CommandFault::NotSaved(_) => 9,
         }
     }
 
-    /// Writes the fault's text, without taking memory. After a fault of the sink, what went out is a beginning of the text.
-    pub fn write<W: Sink>(&self, sink: &mut W) -> Result<(), WriteFault>
+    /// Writes the text of the fault of a round, from 1 on, without taking memory. After a fault of the sink, what went out is a
+    /// beginning of the text.
+    pub fn write<W: Sink>(&self, round: u64, sink: &mut W) -> Result<(), WriteFault>
         requires running { W.has_failed sink.old ≡ false }
         ensures text { WritesText result (W.written sink.old) (W.written sink.new)
-            (error_text self.now) }
+            (round_error_text round self.now) }
         ensures failed { W.has_failed sink.new ≡ is_err result }
     {
         match self {
             CommandFault::Usage(text) => write_all(text.as_str().as_bytes(), sink),
-            _ => write_line(&self.cause(), sink),
+            _ => write_line(round, &self.cause(), sink),
         }
     }
 
@@ -192,6 +198,8 @@ impl CommandFault {
             CommandFault::TwoCheckpoints => {
                 Cause::plain(b"--checkpoint and --rounds exclude each other")
             }
+            CommandFault::SizesUnread => Cause::plain(b"cannot read sizes"),
+            CommandFault::Sizes => Cause::plain(b"sizes"),
         }
     }
 }
@@ -287,18 +295,39 @@ fn save_cause(fault: SaveFault) -> Cause<'static>
     }
 }
 
-/// Writes a line, which begins with the program's name.
-fn write_line<W: Sink>(cause: &Cause<'_>, sink: &mut W) -> Result<(), WriteFault>
+/// Writes a line, which begins with the program's name, and has the round's number behind it, if that isn't 1.
+fn write_line<W: Sink>(round: u64, cause: &Cause<'_>, sink: &mut W) -> Result<(), WriteFault>
     requires running { W.has_failed sink.old ≡ false }
     ensures text { WritesText result (W.written sink.old) (W.written sink.new)
-        (error_line (cause_bytes cause.now.text.now cause.now.number cause.now.rest.now)) }
+        (round_error_line round
+        (cause_bytes cause.now.text.now cause.now.number cause.now.rest.now)) }
     ensures failed { W.has_failed sink.new ≡ is_err result }
 {
     let mut buffer = WriteBuffer::new();
     buffer.put(b"lrupd: ", sink)?;
+    put_round(&mut buffer, round, sink)?;
     put_cause(&mut buffer, cause, sink)?;
     buffer.put(b"\n", sink)?;
     buffer.flush(sink)
+}
+
+/// Puts what a line says of a round first, if its number isn't 1.
+fn put_round<W: Sink>(
+    buffer: &mut WriteBuffer,
+    round: u64,
+    sink: &mut W,
+) -> Result<(), WriteFault>
+    requires running { W.has_failed sink.old ≡ false }
+    ensures puts { PutsAll result (W.written sink.old) (W.written sink.new) buffer.old buffer.new
+        (of_round round) }
+    ensures failed { W.has_failed sink.new ≡ is_err result }
+{
+    if round == 1 {
+        return Ok(());
+    }
+    buffer.put(b"round ", sink)?;
+    buffer.put_number(round, sink)?;
+    buffer.put(b": ", sink)
 }
 
 fn put_cause<W: Sink>(

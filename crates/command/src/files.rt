@@ -1,5 +1,5 @@
 //! Where a formula, the assumed literals and the streams come from, and where a checkpoint goes to.
-ghost use Rattle.std.specs.Prelude.{◌≡◌, ℕ, Bool, List, [], Option, Err, IfOk, IsTrue, false};
+ghost use Rattle.std.specs.Prelude.{◌≡◌, ℕ, Bool, List, [], Option, None, Err, IfOk, IfSome, IsTrue, Ok, false};
 ghost use Rattle.std.specs.Option.{ForSome};
 
 use lrup_text::{Sink, Source, WriteFault};
@@ -56,6 +56,9 @@ pub trait Files {
     /// What an opening does: the files before it, the path, the file that is open then, and the files after it.
     ghost opens: { Self → List ℕ → Self.Input → Self → Type 0 } = { λ _ _ _ _. Unit {0} };
 
+    /// What is seen where a path has no file: the files before, the path, and the files after.
+    ghost lacks: { Self → List ℕ → Self → Type 0 } = { λ _ _ _. Unit {0} };
+
     /// What the creation of a file does: the files before it, the path, the new file, and the files after it.
     ghost creates: { Self → List ℕ → Self.Output → Self → Type 0 } = { λ _ _ _ _. Unit {0} };
 
@@ -68,6 +71,20 @@ pub trait Files {
             Self.Input.Source.left input ≡ tells self.old path.now) }
         ensures running { IfOk result (λ input. Self.Input.Source.has_failed input ≡ false) }
         ensures opens { IfOk result (λ input. opens self.old path.now input self.new) }
+        ensures refused { result ≡ Err OpenFault.NotOpened → IsTrue (may_refuse self.old path.now) }
+        ensures stays { tells self.new ≡ tells self.old }
+        ensures stays_refused { may_refuse self.new ≡ may_refuse self.old }
+        ensures stays_refused_new { may_refuse_new self.new ≡ may_refuse_new self.old };
+
+    /// Opens the file at a path, as `open` does, if there is one. An answer of none is no fault.
+    fn open_if_there(&mut self, path: &str) -> Result<Option<Self::Input>, OpenFault>
+        ensures left { IfOk result (λ found. IfSome found (λ input.
+            Self.Input.Source.left input ≡ tells self.old path.now)) }
+        ensures running { IfOk result (λ found. IfSome found (λ input.
+            Self.Input.Source.has_failed input ≡ false)) }
+        ensures opens { IfOk result (λ found. IfSome found (λ input.
+            opens self.old path.now input self.new)) }
+        ensures lacks { result ≡ Ok None → lacks self.old path.now self.new }
         ensures refused { result ≡ Err OpenFault.NotOpened → IsTrue (may_refuse self.old path.now) }
         ensures stays { tells self.new ≡ tells self.old }
         ensures stays_refused { may_refuse self.new ≡ may_refuse self.old }

@@ -4,13 +4,15 @@
 mod arguments;
 mod carrying;
 mod checking;
+mod course;
 mod fault;
 mod files;
 mod program;
 mod rounds;
+mod sizing;
+mod watching;
 
 pub use arguments::command_with_arguments;
 pub use checking::Asked;
 pub use files::{Files, OpenFault};
 pub use program::{check_formula, command};
-pub use rounds::RoundResult;

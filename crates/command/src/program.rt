@@ -5,20 +5,19 @@ ghost use Rattle.dimacs.specs.FormulaText.{IsFormulaText};
 ghost use Rattle.lrup_model.specs.Cube.{CubeValue, IsUnsatisfiableUnder};
 ghost use Rattle.lrup_model.specs.Entailment.{IsUnsatisfiable};
 ghost use Rattle.lrup_model.specs.Formula.{Cnf};
-ghost use Rattle.portfolio.specs.ReportText.{report_text};
 ghost use Rattle.command_line.specs.CommandLine.{AskToSave, HaveFault, IsCommandLineOf};
 ghost use Rattle.command.specs.Commands.{AreAssumed, EndsWithFault, EndsWithReport, NameCheckpoint, NameUnsatisfiable, rounds_at};
 ghost use Rattle.command.specs.Rounds.{Ends, EndsInRounds, last_text, round_text};
 ghost use Rattle.lrup_text.specs.Writing.{WritesText};
-ghost use Rattle.command.specs.Commands.{NameUnsatisfiableUnder, SaysOfReport, SinkTook, Text, WasLeftEmpty, WasRead, WasReadIn, WasSaved};
+ghost use Rattle.command.specs.Commands.{NameUnsatisfiableUnder, SaysOfRound, SinkTook, Text, WasLeftEmpty, WasRead, WasReadIn, WasSaved};
 ghost use Rattle.command.specs.Commands.{assumed_at, change, files_view, from_first, report_status};
-ghost use Rattle.command.specs.Faults.{status_of, error_text};
+ghost use Rattle.command.specs.Faults.{error_text, round_error_text, status_of};
 ghost use Rattle.stream_check.specs.Setting.{max_tries};
 
 use crate::checking::{Asked, RunResult, check_asked, read_asked};
 use crate::fault::CommandFault;
 use crate::files::Files;
-use crate::rounds::{RoundResult, check_rounds};
+use crate::rounds::check_rounds;
 use checkpoint::SaveFault;
 use lrup_text::{Sink, WriteBuffer, WriteFault};
 use portfolio::{Verdict, write_report};
@@ -147,6 +146,7 @@ fn check_once<T: Threads + Wait + Sync, C: Clock + Sync, F: Files, O: Sink, E: S
     requires err { E.has_failed err.old ≡ false }
     // The words allow no greater number.
     requires tries { asked.line.tries ≤ max_tries }
+    requires once { rounds_at asked.line ≡ None }
     ensures sound { result ≡ 0
         → (f : Cnf) × IsFormulaText asked.entry.formula.items f × IsUnsatisfiable f }
     ensures sound_under { let read = WasRead F.opens F.Input.Source.reads (F.tells files.old) in
@@ -164,7 +164,7 @@ fn check_once<T: Threads + Wait + Sync, C: Clock + Sync, F: Files, O: Sink, E: S
         ⊎ EndsWithFault view words output errors result }
 {
     match check_asked(threads, clock, alloc, asked, files) {
-        Ok(found) => report(&found, out, err),
+        Ok(found) => report(1, &found, out, err),
         Err(fault) => say(&fault, err),
     }
 }
@@ -183,8 +183,8 @@ fn check_in_rounds<T: Threads + Wait + Sync, C: Clock + Sync, F: Files, O: Sink,
     requires out { O.has_failed out.old ≡ false }
     requires err { E.has_failed err.old ≡ false }
     // The words allow no greater number.
-    requires folder { rounds_at asked.line ≡ Some folder.now }
     requires tries { asked.line.tries ≤ max_tries }
+    requires folder { rounds_at asked.line ≡ Some folder.now }
     ensures sound { result ≡ 0
         → (f : Cnf) × IsFormulaText asked.entry.formula.items f × IsUnsatisfiable f }
     ensures sound_under { let read = WasRead F.opens F.Input.Source.reads (F.tells files.old) in
@@ -198,64 +198,47 @@ fn check_in_rounds<T: Threads + Wait + Sync, C: Clock + Sync, F: Files, O: Sink,
         let errors = change (E.written err.old) (E.written err.new) (E.has_failed err.new) in
         IsCommandLineOf words asked.entry.line
         → WasReadIn view first asked.entry.line.formula.now asked.entry.formula.items files.old
-        → EndsInRounds view words output errors result }
+        → EndsWithFault view words output errors result
+        ⊎ EndsInRounds view words files.new output errors result }
 {
     match check_rounds(threads, clock, alloc, asked, folder, files) {
-        Ok(last) => report_round(&last, out, err),
-        Err(fault) => say(&fault, err),
+        Ok(last) => report(last.number, &last.found, out, err),
+        Err(failed) => say_of_round(failed.round, &failed.fault, err),
     }
 }
 
-/// Says why the checkpoint wasn't saved, where it wasn't, writes the report of what was found, and gives the status.
-fn report<O: Sink, E: Sink>(found: &RunResult, out: &mut O, err: &mut E) -> u8
+/// Says why the checkpoint wasn't saved, where it wasn't, writes the report of what was found in the last round, and gives the status. A
+/// run that isn't in rounds is round 1.
+fn report<O: Sink, E: Sink>(round: u64, found: &RunResult, out: &mut O, err: &mut E) -> u8
     requires out { O.has_failed out.old ≡ false }
     requires err { E.has_failed err.old ≡ false }
     ensures printed { SinkTook
         (change (O.written out.old) (O.written out.new) (O.has_failed out.new))
-        (report_text found.now.reports.items found.now.verdict) }
-    ensures said { SaysOfReport (O.has_failed out.new) found.now.unsaved
+        (last_text round found.now.reports.items found.now.verdict) }
+    ensures said { SaysOfRound round (O.has_failed out.new) found.now.unsaved
         (change (E.written err.old) (E.written err.new) (E.has_failed err.new)) }
     ensures status { result
         ≡ report_status (O.has_failed out.new) found.now.unsaved found.now.verdict }
 {
-    say_unsaved(found.unsaved, err);
-    match write_report(&found.reports, found.verdict, out) {
+    say_unsaved(round, found.unsaved, err);
+    match write_last(round, found, out) {
         Ok(()) => written_status(found),
         Err(WriteFault) => say_next(&CommandFault::Unwritten, err),
     }
 }
 
-/// As `report` does, of the last round.
-fn report_round<O: Sink, E: Sink>(last: &RoundResult, out: &mut O, err: &mut E) -> u8
-    requires out { O.has_failed out.old ≡ false }
-    requires err { E.has_failed err.old ≡ false }
-    ensures printed { SinkTook
-        (change (O.written out.old) (O.written out.new) (O.has_failed out.new))
-        (last_text last.now.number last.now.found.reports.items last.now.found.verdict) }
-    ensures said { SaysOfReport (O.has_failed out.new) last.now.found.unsaved
-        (change (E.written err.old) (E.written err.new) (E.has_failed err.new)) }
-    ensures status { result
-        ≡ report_status (O.has_failed out.new) last.now.found.unsaved last.now.found.verdict }
-{
-    say_unsaved(last.found.unsaved, err);
-    match write_last(last, out) {
-        Ok(()) => written_status(&last.found),
-        Err(_) => say_next(&CommandFault::Unwritten, err),
-    }
-}
-
 /// Writes the report of the last round, after its number where that isn't 1.
-fn write_last<O: Sink>(last: &RoundResult, out: &mut O) -> Result<(), WriteFault>
+fn write_last<O: Sink>(round: u64, found: &RunResult, out: &mut O) -> Result<(), WriteFault>
     requires running { O.has_failed out.old ≡ false }
     ensures text { WritesText result (O.written out.old) (O.written out.new)
-        (last_text last.now.number last.now.found.reports.items last.now.found.verdict) }
+        (last_text round found.now.reports.items found.now.verdict) }
     ensures failed { O.has_failed out.new ≡ is_err result }
 {
-    if last.number == 1 {
-        return write_report(&last.found.reports, last.found.verdict, out);
+    if round == 1 {
+        return write_report(&found.reports, found.verdict, out);
     }
-    match write_number(last.number, out) {
-        Ok(()) => write_report(&last.found.reports, last.found.verdict, out),
+    match write_number(round, out) {
+        Ok(()) => write_report(&found.reports, found.verdict, out),
         Err(WriteFault) => Err(WriteFault),
     }
 }
@@ -273,14 +256,14 @@ fn write_number<O: Sink>(number: u64, out: &mut O) -> Result<(), WriteFault>
     buffer.flush(out)
 }
 
-/// Says why the checkpoint wasn't saved, where it wasn't.
-fn say_unsaved<E: Sink>(unsaved: Option<SaveFault>, err: &mut E)
+/// Says why the checkpoint of a round wasn't saved, where it wasn't.
+fn say_unsaved<E: Sink>(round: u64, unsaved: Option<SaveFault>, err: &mut E)
     requires err { E.has_failed err.old ≡ false }
-    ensures { SaysOfReport false unsaved
+    ensures { SaysOfRound round false unsaved
         (change (E.written err.old) (E.written err.new) (E.has_failed err.new)) }
 {
     if let Some(fault) = unsaved {
-        let _ = say(&CommandFault::NotSaved(fault), err);
+        let _ = say_of_round(round, &CommandFault::NotSaved(fault), err);
     }
 }
 
@@ -319,6 +302,16 @@ pub fn say<E: Sink>(fault: &CommandFault, err: &mut E) -> u8
         (error_text fault.now) }
     ensures status { result ≡ status_of fault.now }
 {
-    let _ = fault.write(err);
+    say_of_round(1, fault, err)
+}
+
+/// Reports a fault of a round, likewise.
+fn say_of_round<E: Sink>(round: u64, fault: &CommandFault, err: &mut E) -> u8
+    requires err { E.has_failed err.old ≡ false }
+    ensures said { SinkTook (change (E.written err.old) (E.written err.new) (E.has_failed err.new))
+        (round_error_text round fault.now) }
+    ensures status { result ≡ status_of fault.now }
+{
+    let _ = fault.write(round, err);
     fault.status()
 }

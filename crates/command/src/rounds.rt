@@ -1,127 +1,133 @@
 //! Runs in rounds: each goes on with the clauses that the one before it saved.
-ghost use Rattle.std.specs.Prelude.{◌≡◌, ◌↔◌, ◌⊎◌, ◌<◌, ◌≤◌, ◌+◌, List, None, false, IfErr, IfOk, IfSome, IsTrue, Ok, Some, length, map, string_bytes};
+ghost use Rattle.std.specs.Prelude.{◌≡◌, ◌↔◌, ◌⊎◌, ◌<◌, ◌≤◌, ◌+◌, ◌∷◌, List, None, false, IfErr, IfOk, IfSome, IsTrue, Ok, Some, length, map, string_bytes};
 ghost use Rattle.std.specs.List.{AllByRecursion};
 ghost use Rattle.std.specs.Option.{ForSome};
+ghost use Rattle.dimacs.specs.FormulaText.{IsFormulaText};
 ghost use Rattle.lrup_model.specs.Cube.{CubeValue, IsUnsatisfiableUnder};
 ghost use Rattle.lrup_model.specs.Entailment.{IsUnsatisfiable};
 ghost use Rattle.lrup_model.specs.Formula.{Cnf};
-ghost use Rattle.dimacs.specs.FormulaText.{IsFormulaText};
-ghost use Rattle.command.specs.Commands.{AreAssumed, AreOpened, Text, WasRead, assumed_at, checkpoint_at};
-ghost use Rattle.command.specs.Rounds.{Carried, HaveEnded, IsBarred, IsFound, IsOfRounds, IsOver, IsRound, Stands, deeds, formula_path, plan_at, plan_of};
-ghost use Rattle.command.specs.Rounds.{round_of};
-ghost use Rattle.command.specs.Rounds.{stream_path, stream_paths};
+ghost use Rattle.command_line.specs.CommandLine.{IsCommandLineOf};
+ghost use Rattle.command.specs.Commands.{AreAssumed, AreOpened, IsCause, IsOpenCause, Text, WasRead, WasReadIn, assumed_at, files_view, from_first};
+ghost use Rattle.command.specs.Commands.{rounds_at};
+ghost use Rattle.command.specs.Paths.{formula_path, stream_path, stream_paths};
+ghost use Rattle.command.specs.Rounds.{GoesOn, HaveEnded, IsBarred, IsStartCause, StreamsOpened, WasChecked, deeds};
+ghost use Rattle.command_line.specs.declared.sizes.Sizes.{Sizes};
+ghost use Rattle.clap.specs.Walk.{texts};
+ghost use Rattle.command.specs.Standing.{EndsAt, FailsAt, IsAlone, IsLaterCause, IsReported, IsRoundsFault, IsUnchecked, Stands};
+ghost use Rattle.command.specs.Standing.{plan_of, round_of};
 ghost use Rattle.stream_check.specs.Setting.{max_tries};
 
 use crate::arguments::words_of;
 use crate::carrying::{CarriedRun, carry_streams};
 use crate::checking::{
-    Asked, RunResult, Setup, create_checkpoint, find_layout, keep_checkpoint, open_streams,
-    parse_text, read_assumed,
+    Asked, Beginning, RunResult, Setup, begin, create_checkpoint, find_layout, keep_checkpoint,
+    open_streams,
 };
+use crate::course::{Course, LastRound, OpenRound, RoundFault};
 use crate::fault::CommandFault;
-use crate::files::Files;
+use crate::files::{Files, OpenFault};
+use crate::sizing::sizes_of_round;
+use crate::watching::tell_begin;
 use checkpoint::SaveFault;
 use checkpoint::laws::{refutes_back, refutes_back_under};
-use lrup_model::{Cube, Formula};
-use portfolio::{Options, Verdict};
+use command_line::Sizes;
+use lrup_model::Formula;
+use portfolio::Verdict;
 use std::alloc::{AllocError, Global};
 use std::sync::Wait;
 use std::thread::Threads;
 use std::time::Clock;
 use stream_check::{Ending, Report};
 
-/// What a round found, what it made of its checkpoint, and what the next round goes on with, if there may be one.
+/// A round that was checked, and the formula of the round after it, if it goes on.
 #[derive(Drop)]
-pub struct RoundResult {
-    /// The round's number, from 1 on.
-    pub number: u64,
-    /// What it found.
-    pub found: RunResult,
-    /// The formula of the next round.
-    pub next: Option<Formula>,
+struct CheckedRound {
+    last: LastRound,
+    next: Option<Formula>,
 }
 
-/// What stays the same in all rounds.
-#[derive(Clone, Copy)]
-pub(crate) struct Course<'a> {
-    options: Options,
-    serial: bool,
-    watch: bool,
-    cube: &'a Cube,
-    folder: &'a str,
-    streams: usize,
-}
-
-/// Checks a round, saves its checkpoint, and gives the formula of the next one, where all streams ended and the checkpoint was saved.
+/// Checks the streams of a round, saves its checkpoint, and gives the next formula, if the round goes on. The round's formula is given
+/// back before that one is made.
 fn check_round<T: Threads + Wait + Sync, C: Clock + Sync, F: Files>(
     threads: &T,
     clock: &C,
     alloc: Global,
     course: &Course<'_>,
-    number: u64,
-    formula: &Formula,
-    readers: Vec<F::Input>,
+    round: OpenRound<F::Input>,
     files: &mut F,
-) -> Result<RoundResult, CommandFault>
-    requires running { AllByRecursion (λ r. F.Input.Source.has_failed r ≡ false) readers.items }
-    requires count { length readers.items ≡ course.now.streams }
-    requires number { number < u64.MAX }
-    ensures round { IfOk result (λ found. IsRound (deeds F.Files F.Input.Source F.Output.Sink)
-        (plan_of course.now) number
-        (round_of formula.now readers.items files.old found files.new)) }
+) -> Result<CheckedRound, CommandFault>
+    requires running { AllByRecursion (λ r. F.Input.Source.has_failed r ≡ false)
+        round.readers.items }
+    requires count { length round.readers.items ≡ round.sizes.streams }
+    requires number { round.number < u64.MAX }
+    ensures checked { IfOk result (λ found. WasChecked
+        (deeds F.Files F.Input.Source F.Output.Sink) (plan_of course.now)
+        (round_of round.formula round.readers.items files.old found.last files.new)) }
     ensures next { IfOk result (λ found. ForSome found.next
-        (Carried (deeds F.Files F.Input.Source F.Output.Sink) (plan_of course.now) number
-        (round_of formula.now readers.items files.old found files.new))) }
-    ensures number { IfOk result (λ found. found.number ≡ number) }
+        (GoesOn (deeds F.Files F.Input.Source F.Output.Sink) (plan_of course.now) round.number
+        (round_of round.formula round.readers.items files.old found.last files.new))) }
     ensures over { IfOk result (λ found. found.next ≡ None
-        → IsBarred (round_of formula.now readers.items files.old found files.new)) }
-    ensures fault { IfErr result IsOfRounds }
+        → IsBarred (deeds F.Files F.Input.Source F.Output.Sink) (plan_of course.now) round.number
+        (round_of round.formula round.readers.items files.old found.last files.new)) }
+    ensures number { IfOk result (λ found. found.last.number ≡ round.number) }
+    ensures sizes { IfOk result (λ found. found.last.sizes ≡ round.sizes) }
+    ensures cause { IfErr result (IsStartCause (deeds F.Files F.Input.Source F.Output.Sink)
+        (plan_of course.now) round.number round.formula round.sizes files.old) }
 {
+    let number = round.number;
+    let sizes = round.sizes;
     let setup = Setup {
-        formula,
+        formula: &round.formula,
         cube: course.cube,
-        options: course.options,
+        options: course.options(sizes),
         serial: course.serial,
     };
-    find_layout(&setup, readers.len())?;
+    find_layout(&setup, round.readers.len())?;
     let path = formula_path(alloc, course.folder, number + 1)?;
     let output = create_checkpoint(files, Some(path.as_str()))?;
     let watched = course.watch.then_some(&*files);
-    let checked = carry_streams(threads, clock, alloc, &setup, watched, readers, output)?;
+    let checked = carry_streams(threads, clock, alloc, course, round, watched, output)?;
     let CarriedRun {
         reports,
         verdict,
+        ended,
         saved,
         next,
     } = checked;
     let unsaved = keep_checkpoint(files, saved);
-    let next = go_on_with(&reports, unsaved, next);
-    Ok(RoundResult {
-        number,
-        found: RunResult {
-            reports,
-            verdict,
-            unsaved,
+    let next = next_of(&reports, verdict, unsaved, next);
+    Ok(CheckedRound {
+        last: LastRound {
+            number,
+            sizes,
+            found: RunResult {
+                reports,
+                verdict,
+                unsaved,
+            },
+            ended,
         },
         next,
     })
 }
 
-/// What the next round goes on with: nothing, where a stream didn't end or the checkpoint wasn't saved.
-fn go_on_with(
+/// The formula that a round goes on with: none, if its verdict isn't 'unknown', its checkpoint wasn't saved or a stream didn't end.
+fn next_of(
     reports: &[Report],
+    verdict: Verdict,
     unsaved: Option<SaveFault>,
     next: Option<Formula>,
 ) -> Option<Formula>
+    ensures verdict { IfSome result (λ f. verdict ≡ Verdict.Unknown) }
     ensures ended { IfSome result (λ f. HaveEnded reports.now) }
     ensures saved { IfSome result (λ f. unsaved ≡ None) }
     ensures next { IfSome result (λ f. next ≡ Some f) }
-    ensures none { result ≡ None → (next ≡ None)
-        ⊎ (((fault : SaveFault) × (unsaved ≡ Some fault)) ⊎ (¬ HaveEnded reports.now)) }
+    ensures none { result ≡ None → (next ≡ None) ⊎ ((¬ (verdict ≡ Verdict.Unknown))
+        ⊎ (((fault : SaveFault) × (unsaved ≡ Some fault)) ⊎ (¬ HaveEnded reports.now))) }
 {
-    match unsaved {
-        Some(_) => None,
-        None => { if have_ended(reports) { next } else { None } }
+    match (verdict, unsaved) {
+        (Verdict::Unknown, None) => { if have_ended(reports) { next } else { None } }
+        (_, _) => None,
     }
 }
 
@@ -142,18 +148,18 @@ fn formula_path(alloc: Global, folder: &str, number: u64) -> Result<String, Allo
 }
 
 /// The paths of a round's streams.
-fn round_paths(
+fn stream_paths(
     alloc: Global,
     folder: &str,
     number: u64,
-    count: usize,
+    count: u64,
 ) -> Result<Vec<String>, AllocError>
     ensures { IfOk result (λ paths.
         map string_bytes paths.items ≡ stream_paths folder.now number count) }
 {
-    let mut paths = Vec::with_capacity(alloc, count)?;
+    let mut paths = Vec::new(alloc);
     for before in 0..count {
-        paths.push_reserved(stream_path(alloc, folder, number, before as u64 + 1)?);
+        paths.push(stream_path(alloc, folder, number, before + 1)?)?;
     }
     Ok(paths)
 }
@@ -165,67 +171,111 @@ fn stream_path(alloc: Global, folder: &str, number: u64, stream: u64) -> Result<
     format!(in alloc; "{folder}/round-{number}.stream-{stream}")
 }
 
-/// Opens the streams of a round, if its stream 1 is there.
+/// Opens the streams of a round, if there is a file of its stream 1. It blocks while a file does.
 fn open_round<F: Files>(
     alloc: Global,
     files: &mut F,
-    course: &Course<'_>,
+    folder: &str,
     number: u64,
+    streams: u64,
 ) -> Result<Option<Vec<F::Input>>, CommandFault>
-    ensures opened { IfOk result (λ found. IfSome found (λ readers.
-        AreOpened F.opens files.old
-        (stream_paths course.now.folder.now number course.now.streams) readers.items files.new)) }
+    requires some { 0 < streams }
+    ensures opened { let its = deeds F.Files F.Input.Source F.Output.Sink in
+        IfOk result (λ found. IfSome found (λ readers. StreamsOpened its files.old
+        (stream_paths folder.now number streams) readers.items files.new)) }
     ensures running { IfOk result (λ found. IfSome found (λ readers.
         AllByRecursion (λ r. F.Input.Source.has_failed r ≡ false) readers.items)) }
     ensures count { IfOk result (λ found. IfSome found (λ readers.
-        length readers.items ≡ course.now.streams)) }
-    ensures none { result ≡ Ok None
-        → IsTrue (F.may_refuse files.old (stream_path course.now.folder.now number 1)) }
-    ensures fault { IfErr result IsOfRounds }
+        length readers.items ≡ streams)) }
+    ensures lacks { result ≡ Ok None
+        → F.lacks files.old (stream_path folder.now number 1) files.new }
+    ensures cause { IfErr result (IsOpenCause F.opens (F.may_refuse files.old) files.old
+        (stream_paths folder.now number streams)) }
 {
-    let paths = round_paths(alloc, course.folder, number, course.streams)?;
+    let paths = stream_paths(alloc, folder, number, streams)?;
     let words = words_of(alloc, &paths)?;
-    match open_streams(alloc, files, &words) {
-        Ok(readers) => Ok(Some(readers)),
-        Err(CommandFault::NotOpened(stream)) if stream == 1 => Ok(None),
-        Err(fault) => Err(fault),
+    match files.open_if_there(words[0]) {
+        Ok(None) => Ok(None),
+        Ok(Some(first)) => match open_others(alloc, files, first, &words[1..]) {
+            Ok(readers) => Ok(Some(readers)),
+            Err(fault) => Err(fault),
+        },
+        Err(OpenFault::NotOpened) => Err(CommandFault::NotOpened(1)),
+        Err(OpenFault::Memory) => Err(CommandFault::Memory),
     }
 }
 
-/// Opens the streams of the round after this one, if it went on, and checks them. None where the rounds are over.
+/// Opens the streams behind stream 1, in order.
+fn open_others<F: Files>(
+    alloc: Global,
+    files: &mut F,
+    first: F::Input,
+    paths: &[&str],
+) -> Result<Vec<F::Input>, CommandFault>
+    requires running { F.Input.Source.has_failed first ≡ false }
+    ensures readers { IfOk result (λ readers. (others : List F.Input)
+        × (readers.items ≡ first ∷ others)
+        × AreOpened F.opens files.old (texts paths.now) others files.new
+        × (map F.Input.Source.left others ≡ map (F.tells files.old) (texts paths.now))) }
+    ensures running { IfOk result (λ readers.
+        AllByRecursion (λ r. F.Input.Source.has_failed r ≡ false) readers.items) }
+    ensures cause { IfErr result
+        (IsLaterCause F.opens (F.may_refuse files.old) files.old (texts paths.now)) }
+{
+    let mut readers = match open_streams(alloc, files, paths) {
+        Ok(readers) => readers,
+        Err(CommandFault::NotOpened(stream)) => return Err(CommandFault::NotOpened(stream + 1)),
+        Err(fault) => return Err(fault),
+    };
+    match readers.insert(0, first) {
+        Ok(()) => Ok(readers),
+        Err(_) => Err(CommandFault::Memory),
+    }
+}
+
+/// Checks the round after the last one, if there is a file of its stream 1.
 fn next_round<T: Threads + Wait + Sync, C: Clock + Sync, F: Files>(
     threads: &T,
     clock: &C,
     alloc: Global,
     course: &Course<'_>,
-    last: &RoundResult,
-    number: u64,
+    last: &LastRound,
+    formula: Formula,
     files: &mut F,
-) -> Result<Option<RoundResult>, CommandFault>
-    requires last { number < u64.MAX }
-    ensures stands { (formula : Cnf) (first : F) (paths : List Text) → number ≡ last.now.number + 1
-        → Stands (deeds F.Files F.Input.Source F.Output.Sink) (plan_of course.now) formula first
-        paths last.now files.old → IfOk result (λ next. ForSome next (λ found.
-        Stands (deeds F.Files F.Input.Source F.Output.Sink) (plan_of course.now) formula first
-        paths found files.new)) }
-    ensures number { IfOk result (λ next. ForSome next (λ found. found.number ≡ number)) }
-    ensures over { result ≡ Ok None → (last.now.next ≡ None)
-        ⊎ IsTrue (F.may_refuse files.old (stream_path course.now.folder.now number 1)) }
-    ensures fault { IfErr result IsOfRounds }
+) -> Result<Option<CheckedRound>, CommandFault>
+    requires number { last.now.number + 1 < u64.MAX }
+    ensures stands { (given : Cnf) (sizes : Sizes) (first : F) (paths : List Text) →
+        Stands (deeds F.Files F.Input.Source F.Output.Sink) (plan_of course.now) given sizes first
+        paths last.now (Some formula) files.old → IfOk result (λ next. ForSome next (λ found.
+        Stands (deeds F.Files F.Input.Source F.Output.Sink) (plan_of course.now) given sizes first
+        paths found.last found.next files.new)) }
+    ensures number { IfOk result (λ next. ForSome next (λ found.
+        found.last.number ≡ last.now.number + 1)) }
+    ensures over { result ≡ Ok None → IsAlone (deeds F.Files F.Input.Source F.Output.Sink)
+        (plan_of course.now) last.now files.old files.new }
+    ensures cause { IfErr result (IsUnchecked (deeds F.Files F.Input.Source F.Output.Sink)
+        (plan_of course.now) last.now formula files.old) }
 {
-    let formula = match &last.next {
-        None => return Ok(None),
-        Some(formula) => formula,
-    };
-    let readers = match open_round(alloc, files, course, number) {
+    let number = last.number + 1;
+    let sizes = sizes_of_round(alloc, files, course.folder, number, last.sizes)?;
+    let readers = match open_round(alloc, files, course.folder, number, sizes.streams) {
         Ok(None) => return Ok(None),
         Ok(Some(readers)) => readers,
         Err(fault) => return Err(fault),
     };
-    let found = check_round(
-        threads, clock, alloc, course, number, formula, readers, files,
-    )?;
-    Ok(Some(found))
+    if course.watch {
+        tell_begin(clock, alloc, files, number, &formula, last.ended);
+    }
+    let round = OpenRound {
+        number,
+        sizes,
+        formula,
+        readers,
+    };
+    match check_round(threads, clock, alloc, course, round, files) {
+        Ok(found) => Ok(Some(found)),
+        Err(fault) => Err(fault),
+    }
 }
 
 /// Checks round 1, whose streams are open, and then one round after the other.
@@ -234,26 +284,46 @@ fn go_on<T: Threads + Wait + Sync, C: Clock + Sync, F: Files>(
     clock: &C,
     alloc: Global,
     course: &Course<'_>,
-    formula: Formula,
-    readers: Vec<F::Input>,
+    round: OpenRound<F::Input>,
     files: &mut F,
-) -> Result<RoundResult, CommandFault>
-    requires running { AllByRecursion (λ r. F.Input.Source.has_failed r ≡ false) readers.items }
-    requires count { length readers.items ≡ course.now.streams }
-    ensures stands { (first : F) (paths : List Text)
-        → AreOpened F.opens first paths readers.items files.old → IfOk result (λ last. (after : F)
-        × Stands (deeds F.Files F.Input.Source F.Output.Sink) (plan_of course.now) formula first
-        paths last after
-        × IsOver (deeds F.Files F.Input.Source F.Output.Sink) (plan_of course.now) last after) }
-    ensures fault { IfErr result IsOfRounds }
+) -> Result<LastRound, RoundFault>
+    requires running { AllByRecursion (λ r. F.Input.Source.has_failed r ≡ false)
+        round.readers.items }
+    requires count { length round.readers.items ≡ round.sizes.streams }
+    requires one { round.number ≡ 1 }
+    ensures over { (first : F) (paths : List Text) →
+        StreamsOpened (deeds F.Files F.Input.Source F.Output.Sink) first paths round.readers.items
+        files.old → IfOk result (λ last.
+        EndsAt (deeds F.Files F.Input.Source F.Output.Sink) (plan_of course.now) round.formula
+        round.sizes first paths last files.new) }
+    ensures cause { (first : F) (paths : List Text) →
+        StreamsOpened (deeds F.Files F.Input.Source F.Output.Sink) first paths round.readers.items
+        files.old → IfErr result (λ failed.
+        FailsAt (deeds F.Files F.Input.Source F.Output.Sink) (plan_of course.now) round.formula
+        round.sizes first paths files.old failed) }
 {
-    let mut last = check_round(threads, clock, alloc, course, 1, &formula, readers, files)?;
-    drop(formula);
-    for number in 2..u64::MAX {
-        match next_round(threads, clock, alloc, course, &last, number, files) {
-            Ok(Some(next)) => last = next,
+    let checked = match check_round(threads, clock, alloc, course, round, files) {
+        Ok(checked) => checked,
+        Err(fault) => return Err(RoundFault { round: 1, fault }),
+    };
+    let CheckedRound { mut last, mut next } = checked;
+    for _ in 2..u64::MAX {
+        let formula = match next {
+            None => return Ok(last),
+            Some(formula) => formula,
+        };
+        match next_round(threads, clock, alloc, course, &last, formula, files) {
+            Ok(Some(found)) => {
+                last = found.last;
+                next = found.next;
+            }
             Ok(None) => return Ok(last),
-            Err(fault) => return Err(fault),
+            Err(fault) => {
+                return Err(RoundFault {
+                    round: last.number + 1,
+                    fault,
+                });
+            }
         }
     }
     Ok(last)
@@ -261,24 +331,21 @@ fn go_on<T: Threads + Wait + Sync, C: Clock + Sync, F: Files>(
 
 /// Parses the formula, reads the assumed literals, and opens and checks the streams of one round after the other. It blocks while a
 /// file does.
-pub fn check_rounds<T: Threads + Wait + Sync, C: Clock + Sync, F: Files>(
+pub(crate) fn check_rounds<T: Threads + Wait + Sync, C: Clock + Sync, F: Files>(
     threads: &T,
     clock: &C,
     alloc: Global,
     asked: Asked<'_>,
     folder: &str,
     files: &mut F,
-) -> Result<RoundResult, CommandFault>
+) -> Result<LastRound, RoundFault>
     requires tries { asked.line.tries ≤ max_tries }
-    // What was read, and the rounds.
-    ensures rounds { let its = deeds F.Files F.Input.Source F.Output.Sink in
-        let read = WasRead F.opens F.Input.Source.reads (F.tells files.old) in
-        let line = asked.entry.line in
-        IfOk result (λ last. (f : Cnf) × (cube : CubeValue) × (later after : F)
-        × IsFormulaText asked.entry.formula.items f
-        × AreAssumed read f.vars files.old (assumed_at line) cube later
-        × Stands its (plan_at line cube folder.now) f later line.streams last after
-        × IsOver its (plan_at line cube folder.now) last after) }
+    requires folder { rounds_at asked.line ≡ Some folder.now }
+    ensures reported { (words : List Text) (first : F) →
+        let view = from_first (files_view F.Files F.Input.Source F.Output.Sink files.old) first in
+        IsCommandLineOf words asked.entry.line
+        → WasReadIn view first asked.entry.line.formula.now asked.entry.formula.items files.old
+        → IfOk result (λ last. IsReported view asked.entry.line folder.now last files.new) }
     ensures sound { IfOk result (λ last. last.found.verdict ≡ Verdict.Unsatisfiable
         → (f : Cnf) × IsFormulaText asked.entry.formula.items f × IsUnsatisfiable f) }
     ensures sound_under { let read = WasRead F.opens F.Input.Source.reads (F.tells files.old) in
@@ -287,29 +354,55 @@ pub fn check_rounds<T: Threads + Wait + Sync, C: Clock + Sync, F: Files>(
         × IsFormulaText asked.entry.formula.items f
         × AreAssumed read f.vars files.old (assumed_at asked.entry.line) cube after
         × IsUnsatisfiableUnder f cube) }
-    ensures fault { IfErr result IsOfRounds }
-    ensures alone { IfOk result (λ last. checkpoint_at asked.entry.line ≡ None) }
+    ensures cause { (words : List Text) (first : F) →
+        let view = from_first (files_view F.Files F.Input.Source F.Output.Sink files.old) first in
+        IsCommandLineOf words asked.entry.line
+        → WasReadIn view first asked.entry.line.formula.now asked.entry.formula.items files.old
+        → IfErr result (IsRoundsFault view words asked.entry.line folder.now) }
 {
     let Asked {
         line,
         formula: bytes,
     } = asked;
     if line.checkpoint.is_some() {
-        return Err(CommandFault::TwoCheckpoints);
+        return Err(of_first(CommandFault::TwoCheckpoints));
     }
     refutes_back();
     refutes_back_under();
-    let formula = parse_text(alloc, bytes)?;
-    let cube = read_assumed(threads, alloc, files, line.assume, &formula)?;
-    let options = Options::new(line.tries, line.lines, line.room).unwrap();
-    let readers = open_streams(alloc, files, line.streams.as_slice())?;
+    let begun = match begin(threads, alloc, &line, bytes, files) {
+        Ok(begun) => begun,
+        Err(fault) => return Err(of_first(fault)),
+    };
+    let Beginning {
+        formula,
+        cube,
+        readers,
+    } = begun;
     let course = Course {
-        options,
+        tries: line.tries,
         serial: line.serial,
         watch: line.watch,
         cube: &cube,
         folder,
-        streams: readers.len(),
     };
-    go_on(threads, clock, alloc, &course, formula, readers, files)
+    let sizes = Sizes {
+        streams: readers.len() as u64,
+        lines: line.lines,
+        room: line.room,
+    };
+    let round = OpenRound {
+        number: 1,
+        sizes,
+        formula,
+        readers,
+    };
+    go_on(threads, clock, alloc, &course, round, files)
+}
+
+/// A fault of round 1.
+fn of_first(fault: CommandFault) -> RoundFault
+    ensures round { result.round ≡ 1 }
+    ensures fault { result.fault ≡ fault }
+{
+    RoundFault { round: 1, fault }
 }

@@ -6,7 +6,7 @@ use command::{Files, OpenFault, command_with_arguments};
 use lrup_text::{Reading, WriteFault, Writing};
 use std::env;
 use std::fs::{File, OpenOptions};
-use std::io::Stderr;
+use std::io::{self, Stderr};
 use std::process::ExitCode;
 
 /// The machine's files, and its standard error for those who watch. No file tells its bytes, and each may be refused.
@@ -33,6 +33,16 @@ impl Files for MachineFiles<'_> {
 
     fn open(&mut self, path: &str) -> Result<Reading<File>, OpenFault> {
         Ok(Reading::new(File::open(self.rt, path)?))
+    }
+
+    fn open_if_there(&mut self, path: &str) -> Result<Option<Reading<File>>, OpenFault> {
+        match File::open(self.rt, path) {
+            Ok(file) => Ok(Some(Reading::new(file))),
+            Err(error) => match error.kind() {
+                io::ErrorKind::NotFound => Ok(None),
+                _ => Err(OpenFault::from(error)),
+            },
+        }
     }
 
     fn create(&mut self, path: &str) -> Result<Writing<File>, OpenFault> {

@@ -1,5 +1,7 @@
 use Rattle.std.proofs.Common.{◌∙◌, false, length, Err, None, Ok, refl, sym, subst, inr}
-use Rattle.command.specs.Commands.{IsRunCause, terms_on}
+use Rattle.command.specs.Commands.{IsRunCause}
+use Rattle.command.specs.Rounds.{terms_by}
+use Rattle.command.specs.Standing.{plan_of}
 use Rattle.command.proofs.CheckingLemmas.{err_given, has_layout, run_cause}
 use Rattle.command.proofs.SavingLemmas.{running_to_write, written_err, written_none}
 use Rattle.command.proofs.RoundLemmas.{next_saved, next_written, no_next, some_none, uncarried_none}
@@ -8,7 +10,7 @@ use Rattle.command.proofs.carrying.carry_in_threads.Goals as goal
 
 pub returns-in_err-outcome-clause-cause : goal.returns-in_err-outcome-clause-cause
 returns-in_err-outcome-clause-cause g c =
-    let p = (terms_on c.args.setup.now (length c.args.readers.items)).layout in
+    let p = (terms_by (plan_of c.args.course.now) c.args.round.formula c.args.round.sizes).layout in
     let cause = run_cause false p c.run.result c.in_err-outcome.field-0.0 c.in_err-outcome.was c.run.ensures.layout
     (λ stream is. (refl, c.run.ensures.spawn stream is)) (λ stream is. (refl, c.run.ensures.ring stream is)) in
     err_given c.from_residual-in_err-outcome.result _ (IsRunCause false p)
@@ -16,7 +18,7 @@ returns-in_err-outcome-clause-cause g c =
 
 pub returns-clause-checked : goal.returns-clause-checked
 returns-clause-checked g c =
-    let p = (terms_on c.args.setup.now (length c.args.readers.items)).layout in
+    let p = (terms_by (plan_of c.args.course.now) c.args.round.formula c.args.round.sizes).layout in
     let reports = c.in_ok-outcome.ensures.reports in
     record {
       layout = has_layout p c.run.result c.in_ok-outcome.outcome c.in_ok-outcome.was c.run.ensures.layout;
@@ -40,7 +42,7 @@ carry_live-requires-clause-running g c =
 pub returns-clause-written : goal.returns-clause-written
 returns-clause-written g c =
     let written = g.F.Output.Sink.written in
-    let formula = c.args.setup.now.formula.now in
+    let formula = c.args.round.formula in
     let verdict = c.in_ok-outcome.outcome.verdict in
     let history = rw (← c.in_ok-outcome.ensures.kept) at c.in_ok-outcome.ensures.history in
     elim c.match-to_write.branch [
@@ -57,7 +59,7 @@ returns-clause-written g c =
 pub returns-clause-next : goal.returns-clause-next
 returns-clause-next g c =
     let written = g.F.Output.Sink.written in
-    let formula = c.args.setup.now.formula.now in
+    let formula = c.args.round.formula in
     let verdict = c.in_ok-outcome.outcome.verdict in
     let history = rw (← c.in_ok-outcome.ensures.kept) at c.in_ok-outcome.ensures.history in
     elim c.match-to_write.branch [

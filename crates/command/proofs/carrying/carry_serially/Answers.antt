@@ -1,5 +1,7 @@
 use Rattle.std.proofs.Common.{◌∙◌, true, length, Err, None, Ok, sym, subst, inr, refl}
-use Rattle.command.specs.Commands.{IsRunCause, terms_on}
+use Rattle.command.specs.Commands.{IsRunCause}
+use Rattle.command.specs.Rounds.{terms_by}
+use Rattle.command.specs.Standing.{plan_of}
 use Rattle.command.proofs.CheckingLemmas.{err_given, has_layout, run_cause}
 use Rattle.command.proofs.SavingLemmas.{written_err, written_none}
 use Rattle.command.proofs.RoundLemmas.{next_saved, next_written, no_next, some_none, uncarried_none}
@@ -8,7 +10,7 @@ use Rattle.command.proofs.carrying.carry_serially.Goals as goal
 
 pub returns-in_err-outcome-clause-cause : goal.returns-in_err-outcome-clause-cause
 returns-in_err-outcome-clause-cause g c =
-    let p = (terms_on c.args.setup.now (length c.args.readers.items)).layout in
+    let p = (terms_by (plan_of c.args.course.now) c.args.round.formula c.args.round.sizes).layout in
     let cause = run_cause true p c.run_serial.result c.in_err-outcome.field-0.0 c.in_err-outcome.was c.run_serial.ensures.layout
     (λ stream is. absurd (c.run_serial.ensures.no_spawn stream is)) (λ stream is. absurd (c.run_serial.ensures.no_ring stream is)) in
     err_given c.from_residual-in_err-outcome.result _ (IsRunCause true p)
@@ -16,7 +18,7 @@ returns-in_err-outcome-clause-cause g c =
 
 pub returns-clause-checked : goal.returns-clause-checked
 returns-clause-checked g c =
-    let p = (terms_on c.args.setup.now (length c.args.readers.items)).layout in
+    let p = (terms_by (plan_of c.args.course.now) c.args.round.formula c.args.round.sizes).layout in
     let ordered = c.in_ok-outcome.ensures.ordered in
     record {
       layout = has_layout p c.run_serial.result c.in_ok-outcome.outcome c.in_ok-outcome.was c.run_serial.ensures.layout;
@@ -31,7 +33,7 @@ returns-clause-checked g c =
 pub returns-clause-written : goal.returns-clause-written
 returns-clause-written g c =
     let written = g.F.Output.Sink.written in
-    let formula = c.args.setup.now.formula.now in
+    let formula = c.args.round.formula in
     let verdict = c.in_ok-outcome.outcome.verdict in
     elim c.match-to_write.branch [
       | in-None w ↦ rw w.saved-is (written_none written formula verdict c.args.output (sym c.to_write.ensures ∙ w.in-None.is))
@@ -45,7 +47,7 @@ returns-clause-written g c =
 pub returns-clause-next : goal.returns-clause-next
 returns-clause-next g c =
     let written = g.F.Output.Sink.written in
-    let formula = c.args.setup.now.formula.now in
+    let formula = c.args.round.formula in
     let verdict = c.in_ok-outcome.outcome.verdict in
     elim c.match-to_write.branch [
       | in-None w ↦ rw w.saved-is (no_next written formula c.args.output (Ok None))

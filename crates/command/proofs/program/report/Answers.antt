@@ -1,6 +1,6 @@
 use Rattle.std.proofs.Common.{◌≡◌, ◌∙◌, Bool, true, ap, sym, subst}
 use Rattle.std.specs.Prelude.{is_err}
-use Rattle.command.specs.Commands.{SaysOfReport, change}
+use Rattle.command.specs.Commands.{SaysOfRound, change}
 use Rattle.command.proofs.WritingLemmas.{says_both}
 use Rattle.command.proofs.program.report.Goals as goal
 
@@ -8,11 +8,11 @@ pub returns-in-Err-clause-said : goal.returns-in-Err-clause-said
 returns-in-Err-clause-said g c =
     let written = g.E.Sink.written in
     let has_failed = g.E.Sink.has_failed in
+    let unsaved = c.args.found.now.unsaved in
     let err = change (written c.args.err.now) (written c.say_next.new.err) (has_failed c.say_next.new.err) in
-    let failed : g.O.Sink.has_failed c.write_report.new.sink ≡ true = c.write_report.ensures.failed ∙ ap is_err c.in-Err.is in
-    subst (λ (b : Bool). SaysOfReport b c.args.found.now.unsaved err) (sym failed)
-    (says_both (written c.args.err.now) (written c.say_unsaved.new.err) (written c.say_next.new.err) (has_failed c.say_unsaved.new.err)
-    (has_failed c.say_next.new.err) c.args.found.now.unsaved
-    c.say_unsaved.ensures
+    let failed : g.O.Sink.has_failed c.write_last.new.out ≡ true = c.write_last.ensures.failed ∙ ap is_err c.in-Err.is in
+    subst (λ (b : Bool). SaysOfRound c.args.round b unsaved err) (sym failed)
+    (says_both c.args.round (written c.args.err.now) (written c.say_unsaved.new.err) (written c.say_next.new.err)
+    (has_failed c.say_unsaved.new.err) (has_failed c.say_next.new.err) unsaved c.say_unsaved.ensures
     (λ broken. let same = c.say_next.ensures.failed broken in (ap written same, ap has_failed same ∙ broken))
     c.say_next.ensures.said)

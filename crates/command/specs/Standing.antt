@@ -1,0 +1,185 @@
+-- How the rounds stand while they go on: what private functions say of them (this project's own).
+use Rattle.std.specs.Prelude.{◌≡◌, ◌+◌, ◌∷◌, ◌⊎◌, ℕ, Bool, IsTrue, List, Option, None, Some, Result, Ok, Err, length, map, slice_get, take}
+use Rattle.std.specs.Io.KnownBytes.{Appends}
+use Rattle.std.specs.Option.{ForSome}
+use Rattle.lrup_model.specs.Cube.{CubeValue}
+use Rattle.lrup_model.specs.Formula.{Cnf}
+use Rattle.lrup_text.specs.ReadOut.{SourceView}
+use Rattle.lrup_text.specs.Reads.{Gave, GaveAll}
+use Rattle.portfolio.specs.declared.outcome.Verdict.{Verdict}
+use Rattle.portfolio.specs.declared.outcome.Verdict.TheVariants.{Unsatisfiable}
+use Rattle.checkpoint.specs.Checkpoints.{IsCheckpointOf}
+use Rattle.checkpoint.specs.declared.saving.SaveFault.{SaveFault}
+use Rattle.command_line.specs.Sizes.{HaveNoSizes, IsSizesText}
+use Rattle.command_line.specs.declared.sizes.Sizes.{Sizes}
+use Rattle.command_line.specs.declared.words.CommandLine.{CommandLine}
+use Rattle.command.specs.Commands.{AreAssumed, AreOpened, FilesView, HasBrokenOff, IsCause, Text, WasReadIn, assumed_at}
+use Rattle.command.specs.Paths.{sizes_path, stream_path}
+use Rattle.command.specs.Rounds.{AreRounds, AreSized, Deeds, GoesOn, IsBarred, IsNextCause, IsOver, IsRoundCause, IsStartCause, Plan}
+use Rattle.command.specs.Rounds.{Round, WereRounds, deeds_of, plan_at}
+use Rattle.command.specs.declared.fault.CommandFault.{CommandFault}
+use Rattle.command.specs.declared.fault.CommandFault.TheVariants as faults
+use Rattle.command.specs.declared.course.Course.{Course}
+use Rattle.command.specs.declared.course.LastRound.{LastRound}
+use Rattle.command.specs.declared.course.RoundFault.{RoundFault}
+
+-- What stays the same, as the program has it.
+abbrev pub plan_of : Course → Plan
+plan_of course = record {
+  tries = course.tries;
+  serial = course.serial;
+  cube = course.cube.now;
+  folder = course.folder.now;
+}
+
+-- a round of this formula, whose streams were opened as these readers, by what was found
+abbrev pub round_of : {F R : Type 0} → Cnf → List R → F → LastRound → F → Round F R
+round_of formula readers opened last after = record {
+  formula = formula;
+  sizes = last.sizes;
+  readers = readers;
+  opened = opened;
+  reports = last.found.reports.items;
+  verdict = last.found.verdict;
+  unsaved = last.found.unsaved;
+  after = after;
+}
+
+-- What was found of a round, and the next formula, where there is one, with which the round goes on.
+pub record IsFound (its : Deeds) (plan : Plan) (last : LastRound) (next : Option Cnf)
+    (round : Round its.State its.Reader) : Type 0 where
+  pub sizes : round.sizes ≡ last.sizes
+  pub reports : round.reports ≡ last.found.reports.items
+  pub verdict : round.verdict ≡ last.found.verdict
+  pub unsaved : round.unsaved ≡ last.found.unsaved
+  pub next : ForSome next (GoesOn its plan last.number round)
+  pub over : next ≡ None → IsBarred its plan last.number round
+
+-- The rounds up to this one, which was found so and left these files.
+pub record Stands (its : Deeds) (plan : Plan) (formula : Cnf) (sizes : Sizes) (first : its.State)
+    (paths : List Text) (last : LastRound) (next : Option Cnf) (after : its.State) : Type 0 where
+  pub round : Round its.State its.Reader
+  pub before : List (Round its.State its.Reader)
+  pub rounds : AreRounds its plan formula sizes first paths (round ∷ before)
+  pub number : last.number ≡ length (round ∷ before)
+  pub is_found : IsFound its plan last next round
+  pub left : after ≡ round.after
+
+-- There is no round after this one, which was to go on: the sizes of the next were read, and there is no file of its stream 1.
+abbrev pub IsAlone : (its : Deeds) → Plan → LastRound → its.State → its.State → Type 0
+IsAlone its plan last before after =
+    (sizes : Sizes) × (sized : its.State)
+    × AreSized its (sizes_path plan.folder (last.number + 1)) last.sizes before sizes sized
+    × its.lacks sized (stream_path plan.folder (last.number + 1) 1) after
+
+-- why the next round, of this formula, has no report
+abbrev pub IsUnchecked : (its : Deeds) → Plan → LastRound → Cnf → its.State → CommandFault → Type 0
+IsUnchecked its plan last next before fault =
+    IsRoundCause its plan last.number last.sizes next before fault
+
+-- The rounds ended with this one, and these are the files then.
+pub record EndsAt (its : Deeds) (plan : Plan) (formula : Cnf) (sizes : Sizes) (first : its.State)
+    (paths : List Text) (last : LastRound) (after : its.State) : Type 0 where
+  pub round : Round its.State its.Reader
+  pub before : List (Round its.State its.Reader)
+  pub rounds : AreRounds its plan formula sizes first paths (round ∷ before)
+  pub number : last.number ≡ length (round ∷ before)
+  pub reports : round.reports ≡ last.found.reports.items
+  pub verdict : round.verdict ≡ last.found.verdict
+  pub unsaved : round.unsaved ≡ last.found.unsaved
+  pub over : IsOver its plan (length (round ∷ before)) round after
+
+-- after these rounds the next one had no report
+pub record FailsAfter (its : Deeds) (plan : Plan) (formula : Cnf) (sizes : Sizes) (first : its.State)
+    (paths : List Text) (failed : RoundFault) : Type 0 where
+  pub last : Round its.State its.Reader
+  pub before : List (Round its.State its.Reader)
+  pub rounds : AreRounds its plan formula sizes first paths (last ∷ before)
+  pub number : failed.round ≡ length (last ∷ before) + 1
+  pub cause : IsNextCause its plan (length (last ∷ before)) last failed.fault
+
+-- a fault of round 1, whose streams were opened and left these files; or of a round after it
+abbrev pub FailsAt : (its : Deeds) → Plan → Cnf → Sizes → its.State → List Text → its.State
+    → RoundFault → Type 0
+FailsAt its plan formula sizes first paths opened failed =
+    ((failed.round ≡ 1) × IsStartCause its plan 1 formula sizes opened failed.fault)
+    ⊎ FailsAfter its plan formula sizes first paths failed
+
+-- what is known of the end of the rounds, by the command line
+pub record IsReported (files : FilesView) (given : CommandLine) (folder : Text) (last : LastRound)
+    (after : files.State) : Type 0 where
+  pub round : Round files.State files.Reader
+  pub before : List (Round files.State files.Reader)
+  pub were : WereRounds files given folder round before
+  pub number : last.number ≡ length (round ∷ before)
+  pub reports : round.reports ≡ last.found.reports.items
+  pub verdict : round.verdict ≡ last.found.verdict
+  pub unsaved : round.unsaved ≡ last.found.unsaved
+  pub over : IsOver (deeds_of files) (plan_at given were.cube folder) (length (round ∷ before))
+      round after
+
+-- what is known of a fault of the rounds, by the words
+pub record FailsLater (files : FilesView) (given : CommandLine) (folder : Text)
+    (failed : RoundFault) : Type 0 where
+  pub last : Round files.State files.Reader
+  pub before : List (Round files.State files.Reader)
+  pub were : WereRounds files given folder last before
+  pub number : failed.round ≡ length (last ∷ before) + 1
+  pub cause : IsNextCause (deeds_of files) (plan_at given were.cube folder)
+      (length (last ∷ before)) last failed.fault
+
+abbrev pub IsRoundsFault : FilesView → List Text → CommandLine → Text → RoundFault → Type 0
+IsRoundsFault files words given folder failed =
+    ((failed.round ≡ 1) × IsCause files words failed.fault) ⊎ FailsLater files given folder failed
+
+-- why not all of the streams at these paths were opened, which stand behind stream 1: of the one counted from 2
+abbrev pub IsLaterCause : {F R : Type 0} → (F → Text → R → F → Type 0) → (Text → Bool) → F
+    → List Text → CommandFault → Type 0
+IsLaterCause {F = F} {R = R} opens may_refuse before paths (faults.NotOpened stream) =
+    (place : ℕ) × (path : Text) × (readers : List R) × (after : F) × (stream ≡ place + 2)
+    × (slice_get paths place ≡ Some path) × AreOpened opens before (take place paths) readers after
+    × IsTrue (may_refuse path)
+IsLaterCause opens may_refuse before paths faults.Memory = Unit {0}
+IsLaterCause opens may_refuse before paths fault = ⊥
+
+-- What was read of a file of sizes, to its end.
+pub record GaveWhole {R : Type 0} (reading : SourceView R) (first : R)
+    (bytes : List ℕ) : Type 0 where
+  pub gave : GaveAll R reading.reads first bytes
+  pub told : ForSome (reading.left first) (λ all. all ≡ bytes)
+
+-- the sizes that it holds
+abbrev pub ReadsSizes : {R : Type 0} → SourceView R → R → Sizes → Type 0
+ReadsSizes reading first sizes = (bytes : List ℕ) × GaveWhole reading first bytes × IsSizesText bytes sizes
+
+-- why none were read
+abbrev pub IsUnsized : {R : Type 0} → SourceView R → R → CommandFault → Type 0
+IsUnsized reading first faults.SizesUnread = HasBrokenOff reading first
+IsUnsized {R = R} reading first faults.Sizes =
+    ((bytes : List ℕ) × GaveWhole reading first bytes × HaveNoSizes bytes)
+    ⊎ ((bytes : List ℕ) × (last : R) × Gave R reading.reads first bytes last × (length bytes ≡ 64))
+IsUnsized reading first faults.Memory = Unit {0}
+IsUnsized reading first fault = ⊥
+
+-- why nothing was carried on: the formula was refuted, or the saving failed
+abbrev pub IsUncarried : {W : Type 0} → Verdict → Option W → Result (Option W) SaveFault → Type 0
+IsUncarried verdict output saved =
+    (verdict ≡ Unsatisfiable)
+    ⊎ ((output ≡ None) ⊎ ((fault : SaveFault) × (saved ≡ Err fault)))
+
+-- The next formula was saved to the file, if one was written to: the bytes that went to it are a text of just this formula.
+abbrev pub CarriesTo : {W : Type 0} → (W → Option (List ℕ)) → Cnf → Option W
+    → Result (Option W) SaveFault → Cnf → Type 0
+CarriesTo {W = W} written formula output saved next =
+    (first last : W) × (output ≡ Some first) × (saved ≡ Ok (Some last))
+    × ((bytes : List ℕ) × Appends (written first) (written last) bytes
+    × IsCheckpointOf formula bytes next)
+
+-- What a run begins with: the assumed literals were read, and then the streams of the command line were opened.
+pub record HasBegun (files : FilesView) (given : CommandLine) (formula : Cnf) (cube : CubeValue)
+    (next : files.State) (readers : List files.Reader) (last : files.State) : Type 0 where
+  pub later : files.State
+  pub assumed : AreAssumed (WasReadIn files) formula.vars next (assumed_at given) cube later
+  pub opened : AreOpened files.opens later given.streams readers last
+  pub left : map files.reading.left readers ≡ map files.tells given.streams
+  pub told : files.tells_at later ≡ files.tells

@@ -1,0 +1,18 @@
+-- What those who watch are told of a round that begins (this project's own).
+use Rattle.std.specs.Prelude.{◌++◌, ℕ, List, codes}
+use Rattle.std.specs.Fmt.{decimal}
+
+-- with how many clauses and literals
+abbrev pub begins_with : ℕ → ℕ → ℕ → List ℕ → List ℕ
+begins_with number clauses literals rest =
+    codes "lrupd: round " ++ (decimal number ++ (codes ": " ++ (decimal clauses
+    ++ (codes " clauses, " ++ (decimal literals ++ rest)))))
+
+abbrev pub begin_line : ℕ → ℕ → ℕ → List ℕ
+begin_line number clauses literals = begins_with number clauses literals (codes " literals\n")
+
+-- and after how many milliseconds
+abbrev pub paused_line : ℕ → ℕ → ℕ → ℕ → List ℕ
+paused_line number clauses literals pause =
+    begins_with number clauses literals
+    (codes " literals, paused for " ++ (decimal pause ++ codes " ms\n"))

@@ -1,0 +1,62 @@
+//! What the rounds of a run have in common, and what one hands to the next.
+ghost use Rattle.std.specs.Prelude.{◌≡◌, ◌<◌, ◌≤◌};
+ghost use Rattle.stream_check.specs.Setting.{max_tries};
+ghost use Rattle.command.specs.Rounds.{options_by};
+
+use crate::checking::RunResult;
+use crate::fault::CommandFault;
+use command_line::Sizes;
+use lrup_model::{Cube, Formula};
+use portfolio::Options;
+use std::time::Instant;
+
+/// What stays the same in all rounds.
+#[derive(Clone, Copy)]
+pub(crate) struct Course<'a> {
+    pub(crate) tries: u64,
+    pub(crate) serial: bool,
+    pub(crate) watch: bool,
+    pub(crate) cube: &'a Cube,
+    pub(crate) folder: &'a str,
+    ghost few: { tries ≤ max_tries },
+}
+
+impl<'a> Course<'a> {
+    /// The options of a round of these sizes.
+    pub(crate) fn options(&self, sizes: Sizes) -> Options
+        ensures { result ≡ options_by self.now.tries sizes }
+    {
+        Options::new(self.tries, sizes.lines, sizes.room).unwrap()
+    }
+}
+
+/// A round whose streams are open.
+#[derive(Drop)]
+pub(crate) struct OpenRound<R: Drop> {
+    /// From 1 on.
+    pub(crate) number: u64,
+    pub(crate) sizes: Sizes,
+    pub(crate) formula: Formula,
+    /// As many as the sizes have streams.
+    pub(crate) readers: Vec<R>,
+}
+
+/// A round that was checked.
+#[derive(Drop)]
+pub(crate) struct LastRound {
+    /// From 1 on.
+    pub(crate) number: u64,
+    pub(crate) sizes: Sizes,
+    pub(crate) found: RunResult,
+    /// When its streams were over, where rounds are watched.
+    pub(crate) ended: Option<Instant>,
+    ghost some: { 0 < sizes.streams },
+}
+
+/// Why a round has no report.
+#[derive(Drop)]
+pub(crate) struct RoundFault {
+    /// The round's number, from 1 on.
+    pub(crate) round: u64,
+    pub(crate) fault: CommandFault,
+}

@@ -1,0 +1,70 @@
+//! The sizes of a round, from their file.
+ghost use Rattle.std.specs.Prelude.{◌≡◌, false, IfErr, IfNone, IfOk, IfSome, string_bytes};
+ghost use Rattle.command.specs.Commands.{readers_view};
+ghost use Rattle.command.specs.Paths.{sizes_path};
+ghost use Rattle.command.specs.Rounds.{AreSized, IsSizesCause, deeds};
+ghost use Rattle.command.specs.Standing.{IsUnsized, ReadsSizes};
+
+use crate::fault::CommandFault;
+use crate::files::{Files, OpenFault};
+use command_line::{Sizes, read_sizes};
+use lrup_text::{ReadFault, Source};
+use std::alloc::{AllocError, Global};
+
+/// More bytes than the text of any sizes has.
+const MOST: usize = 64;
+
+/// Reads the sizes of a round, if there is a file of them; else they stay as they are. It blocks while the file does.
+pub(crate) fn sizes_of_round<F: Files>(
+    alloc: Global,
+    files: &mut F,
+    folder: &str,
+    number: u64,
+    sizes: Sizes,
+) -> Result<Sizes, CommandFault>
+    ensures sized { let its = deeds F.Files F.Input.Source F.Output.Sink in
+        IfOk result (λ new.
+        AreSized its (sizes_path folder.now number) sizes files.old new files.new) }
+    ensures cause { let its = deeds F.Files F.Input.Source F.Output.Sink in
+        IfErr result (IsSizesCause its files.old (sizes_path folder.now number)) }
+{
+    let path = sizes_path(alloc, folder, number)?;
+    match files.open_if_there(path.as_str()) {
+        Ok(None) => Ok(sizes),
+        Ok(Some(mut source)) => sizes_in(alloc, &mut source),
+        Err(OpenFault::NotOpened) => Err(CommandFault::SizesUnread),
+        Err(OpenFault::Memory) => Err(CommandFault::Memory),
+    }
+}
+
+/// The path of a round's sizes.
+fn sizes_path(alloc: Global, folder: &str, number: u64) -> Result<String, AllocError>
+    ensures { IfOk result (λ path. string_bytes path ≡ sizes_path folder.now number) }
+{
+    format!(in alloc; "{folder}/round-{number}.sizes")
+}
+
+/// Reads sizes from a file, of which it reads 64 bytes at most.
+fn sizes_in<S: Source>(alloc: Global, source: &mut S) -> Result<Sizes, CommandFault>
+    requires running { S.has_failed source.old ≡ false }
+    ensures sizes { IfOk result (ReadsSizes (readers_view S.Source) source.old) }
+    ensures cause { IfErr result (IsUnsized (readers_view S.Source) source.old) }
+{
+    let mut bytes = Vec::with_capacity(alloc, MOST)?;
+    let mut buffer = [0; MOST];
+    while bytes.len() < MOST {
+        let piece = &mut buffer[bytes.len()..];
+        let count = match source.read(piece) {
+            Ok(count) => count,
+            Err(ReadFault) => return Err(CommandFault::SizesUnread),
+        };
+        if count == 0 {
+            return match read_sizes(bytes.as_slice()) {
+                Some(sizes) => Ok(sizes),
+                None => Err(CommandFault::Sizes),
+            };
+        }
+        bytes.extend_from_slice(&piece[..count])?;
+    }
+    Err(CommandFault::Sizes)
+}

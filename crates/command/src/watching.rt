@@ -1,0 +1,74 @@
+//! What is said on standard error as a round begins.
+ghost use Rattle.std.specs.Prelude.{◌≡◌, IfOk, string_bytes};
+ghost use Rattle.command.specs.Watching.{begin_line, paused_line};
+
+use crate::files::Files;
+use lrup_model::Formula;
+use lrup_text::write_all;
+use std::alloc::{AllocError, Global};
+use std::time::{Clock, Instant};
+
+/// The time, where it is asked for and the clock tells it.
+pub(crate) fn now_if<C: Clock + Sync>(clock: &C, asked: bool) -> Option<Instant> {
+    if asked { Instant::now(clock).ok() } else { None }
+}
+
+/// Reports on a watcher of the files that a round begins, with which formula, and how long after the end of the one before it. What the
+/// clock or the memory doesn't give is left out.
+pub(crate) fn tell_begin<C: Clock + Sync, F: Files>(
+    clock: &C,
+    alloc: Global,
+    files: &F,
+    number: u64,
+    formula: &Formula,
+    ended: Option<Instant>,
+) {
+    let clauses = formula.len();
+    let literals = formula.literals();
+    let line = match pause_since(clock, ended) {
+        None => begin_line(alloc, number, clauses, literals),
+        Some(pause) => paused_line(alloc, number, clauses, literals, pause),
+    };
+    if let Ok(line) = line {
+        let mut watcher = files.watcher();
+        let _ = write_all(line.as_bytes(), &mut watcher);
+    }
+}
+
+/// The milliseconds since then, where the clock tells them.
+fn pause_since<C: Clock + Sync>(clock: &C, ended: Option<Instant>) -> Option<u64> {
+    let ended = ended?;
+    let now = Instant::now(clock).ok()?;
+    let pause = now.duration_since(ended);
+    let milliseconds = u64::from(pause.subsec_nanos() / 1_000_000);
+    Some(pause.as_secs().saturating_mul(1_000).saturating_add(milliseconds))
+}
+
+/// The line of a round that begins, with so many clauses and literals.
+fn begin_line(
+    alloc: Global,
+    number: u64,
+    clauses: usize,
+    literals: usize,
+) -> Result<String, AllocError>
+    ensures { IfOk result (λ line. string_bytes line ≡ begin_line number clauses literals) }
+{
+    format!(in alloc; "lrupd: round {number}: {clauses} clauses, {literals} literals\n")
+}
+
+/// The same, after a pause of so many milliseconds.
+fn paused_line(
+    alloc: Global,
+    number: u64,
+    clauses: usize,
+    literals: usize,
+    pause: u64,
+) -> Result<String, AllocError>
+    ensures { IfOk result (λ line.
+        string_bytes line ≡ paused_line number clauses literals pause) }
+{
+    format!(
+        in alloc;
+        "lrupd: round {number}: {clauses} clauses, {literals} literals, paused for {pause} ms\n"
+    )
+}
