@@ -183,7 +183,7 @@ open_cause files words given f cube next later line at assumed (faults.NotOpened
 open_cause files words given f cube next later line at assumed faults.Memory cause = tt
 open_cause files words given f cube next later line at assumed fault cause = absurd cause
 
-line_cause : (files : FilesView) (words : List Text) (given : CommandLine) (f : Cnf) (cube : CubeValue) (next later : files.State)
+pub line_cause : (files : FilesView) (words : List Text) (given : CommandLine) (f : Cnf) (cube : CubeValue) (next later : files.State)
     → IsCommandLineOf words given
     → IsFormulaAt files given.formula.now f next → AreAssumed (WasReadIn files) f.vars next (assumed_at given) cube later
     → (fault : CommandFault) → IsRunCause given.serial (layout_at given f) fault → IsCause files words fault

@@ -1,10 +1,15 @@
 -- Rounds, one after the other.
 use Rattle.std.proofs.Common.{arith, ◌≡◌, ◌≤◌, ◌<◌, ◌^◌, ◌∙◌, ◌+◌, ◌++◌, add-one, Bool, IsTrue, inl, inr, slice_get, length, length-append, suc, zero, ℕ, List, [], ◌∷◌}
-use Rattle.std.proofs.Common.{Option, None, Some, Result, Ok, Err, refl, sym, ap, subst, ◌⊎◌, drop, map, take}
+use Rattle.std.proofs.Common.{ap₂, Option, None, Some, Result, Ok, Err, refl, sym, ap, subst, ◌⊎◌, drop, map, take}
+use Rattle.std.proofs.Common.{◌-◌, false, get_or, true}
+use Rattle.std.specs.Prelude.{is_some}
 use Rattle.std.proofs.lemmas.Bool.{cases_lt}
+use Rattle.std.proofs.lemmas.List.{take_all}
+use Rattle.std.specs.Borrow.{Bor}
+use Rattle.clap.specs.Walk.{texts}
 use Rattle.std.specs.Io.KnownBytes.{Appends}
 use Rattle.std.specs.Option.{ForSome}
-use Rattle.lrup_model.specs.Cube.{IsUnsatisfiableUnder}
+use Rattle.lrup_model.specs.Cube.{CubeValue, IsUnsatisfiableUnder}
 use Rattle.lrup_model.specs.Entailment.{IsUnsatisfiable}
 use Rattle.lrup_model.specs.Formula.{Cnf, max_clauses}
 use Rattle.lrup_model.specs.Literal.{max_variable}
@@ -17,16 +22,21 @@ use Rattle.checkpoint.specs.Checkpoints.{IsCheckpointOf}
 use Rattle.checkpoint.specs.Entails.{RefutesBack, RefutesBackUnder}
 use Rattle.checkpoint.specs.declared.saving.SaveFault.{SaveFault}
 use Rattle.command_line.specs.declared.sizes.Sizes.{Sizes}
-use Rattle.command.specs.Commands.{AreOpened, IsOpenCause, Text}
-use Rattle.command.specs.Paths.{sizes_path, stream_path, stream_paths}
-use Rattle.command.specs.Rounds.{AreRounds, AreSized, Deeds, GoesOn, HaveEnded, IsBarred, IsNextCause, IsOver, IsRoundCause, Plan, Round}
-use Rattle.command.specs.Rounds.{StreamsOpened, WasChecked}
+use Rattle.command_line.specs.CommandLine.{IsCommandLineOf}
+use Rattle.command_line.specs.declared.words.CommandLine.{CommandLine}
+use Rattle.command.specs.Commands.{AreAssumed, AreOpened, FilesView, IsCause, IsCreateCause, IsFormulaAt, IsOpenCause, Text, WasRead, WasReadIn}
+use Rattle.command.specs.Commands.{assumed_at, checkpoint_at, created_path, path_of, rounds_at}
+use Rattle.command.specs.Paths.{formula_path, sizes_path, stream_path, stream_paths}
+use Rattle.command.specs.Rounds.{AreRounds, AreSized, Deeds, GoesOn, HaveEnded, IsBarred, IsNextCause, IsOver, IsRoundCause, IsSizesCause, Plan, Round}
+use Rattle.command.specs.Rounds.{IsStartCause, StreamsOpened, WasChecked, deeds_of, options_by, plan_at, sizes_of, terms_by}
+use Rattle.portfolio.specs.Outcomes.{OptionsValue, terms_of}
 use Rattle.command.specs.Saving.{CreatesCheckpoint, KeepsCheckpoint, WritesCheckpoint, to_write}
-use Rattle.command.specs.Standing.{CarriesTo, EndsAt, FailsAfter, IsAlone, IsLaterCause, IsUncarried, IsUnchecked, Stands, round_of}
+use Rattle.command.specs.Standing.{CarriesTo, EndsAt, FailsAfter, IsAlone, IsLaterCause, IsUncarried, IsUnchecked, IsUnsized, Stands, round_of}
 use Rattle.command.specs.declared.course.LastRound.{LastRound}
 use Rattle.command.specs.declared.course.RoundFault.{RoundFault}
 use Rattle.command.specs.declared.fault.CommandFault.{CommandFault}
 use Rattle.command.specs.declared.fault.CommandFault.TheVariants as faults
+use Rattle.command.proofs.CheckingLemmas.{create_cause, line_cause}
 use Rattle.command.proofs.SavingLemmas.{written_ok}
 
 module _ {W : Type 0} (written : W → Option (List ℕ)) (f : Cnf) where
@@ -104,11 +114,11 @@ for_some P x is other same = let told : x ≡ other = cc in subst P told is
 pub some_streams : (layout : LayoutValue) → ((fault : LayoutFault) → IsFault layout fault → ⊥) → 0 < layout.streams
 some_streams layout none = elim (cases_lt 0 layout.streams) [
   | inl some ↦ some
-  | inr zero ↦ elim (cases_lt max_variable layout.vars) [
+  | inr no_more ↦ elim (cases_lt max_variable layout.vars) [
     | inl many ↦ absurd (none layouts.TooManyVariables many)
     | inr vars ↦ elim (cases_lt max_clauses layout.clauses) [
       | inl many ↦ absurd (none layouts.TooManyClauses (vars, many))
-      | inr clauses ↦ absurd (none layouts.BadStreamCount (vars, clauses, inl (omega (arith, zero))))
+      | inr clauses ↦ absurd (none layouts.BadStreamCount (vars, clauses, inl (omega (arith, no_more))))
     ]
   ]
 ]
@@ -134,7 +144,7 @@ module _ (its : Deeds) (plan : Plan) (formula : Cnf) (sizes : Sizes) (first : it
           reports = refl;
           verdict = refl;
           unsaved = refl;
-          next = subst (λ (n : ℕ). ForSome next (GoesOn its plan n round)) (sym number_is) goes;
+          goes_on = subst (λ (n : ℕ). ForSome next (GoesOn its plan n round)) (sym number_is) goes;
           over = subst (λ (n : ℕ). next ≡ None → IsBarred its plan n round) (sym number_is) over;
         };
         left = refl;
@@ -164,7 +174,7 @@ module _ (its : Deeds) (plan : Plan) (formula : Cnf) (sizes : Sizes) (first : it
         before = stands.round ∷ stands.before;
         rounds = (
           record {
-            goes_on = subst (λ (n : ℕ). GoesOn its plan n stands.round formula_now) stands.number (stands.is_found.next formula_now refl);
+            goes_on = subst (λ (n : ℕ). GoesOn its plan n stands.round formula_now) stands.number (stands.is_found.goes_on formula_now refl);
             sized = sized;
             sizes = subst (λ (n : ℕ). AreSized its (sizes_path plan.folder n) stands.round.sizes stands.round.after found.sizes sized)
                 number_is of_files;
@@ -180,7 +190,7 @@ module _ (its : Deeds) (plan : Plan) (formula : Cnf) (sizes : Sizes) (first : it
           reports = refl;
           verdict = refl;
           unsaved = refl;
-          next = subst (λ (n : ℕ). ForSome next (GoesOn its plan n round)) (sym found_is) goes;
+          goes_on = subst (λ (n : ℕ). ForSome next (GoesOn its plan n round)) (sym found_is) goes;
           over = subst (λ (n : ℕ). next ≡ None → IsBarred its plan n round) (sym found_is) over;
         };
         left = refl;
@@ -220,7 +230,7 @@ module _ (its : Deeds) (plan : Plan) (formula : Cnf) (sizes : Sizes) (first : it
       let of_sizes = subst (λ (s : Sizes). Alone k s before) (sym stands.is_found.sizes) number in
       let of_files = subst (λ (f : its.State). Alone k round.sizes f) stands.left of_sizes in
       ends_so last (Some next) before after stands
-      (inr (inl (next, subst (λ (n : ℕ). GoesOn its plan n round next) stands.number (stands.is_found.next next refl), of_files)))
+      (inr (inl (next, subst (λ (n : ℕ). GoesOn its plan n round next) stands.number (stands.is_found.goes_on next refl), of_files)))
 
   -- since the number of the next one would be too high
   pub ends_high : (last : LastRound) (next : Option Cnf) (after : its.State) → Stands its plan formula sizes first paths last next after
@@ -244,7 +254,7 @@ module _ (its : Deeds) (plan : Plan) (formula : Cnf) (sizes : Sizes) (first : it
         before = stands.before;
         rounds = stands.rounds;
         number = number_is ∙ ap (λ n. n + 1) stands.number;
-        cause = (next, subst (λ (n : ℕ). GoesOn its plan n round next) stands.number (stands.is_found.next next refl), of_files);
+        cause = (next, subst (λ (n : ℕ). GoesOn its plan n round next) stands.number (stands.is_found.goes_on next refl), of_files);
       }
 
   -- the last round was checked
@@ -305,3 +315,92 @@ barred_by creates written keeps before mid after path (Some w) saved unsaved ver
 barred_by {F} {W} creates written keeps before mid after path output saved unsaved verdict Ended created kept (inr (inr failed)) =
     let told = subst (λ (s : Result (Option W) SaveFault). KeepsCheckpoint keeps mid s unsaved after) failed.1 kept in
     inr (inl (failed.0, told.0))
+
+-- so much is true of streams that were opened behind stream 1
+pub opened_from : {F R : Type 0} (opens : F → Text → R → F → Type 0) (before next after : F) (first : R) (readers others : List R)
+    (paths rest : List Text) (path : Text) → paths ≡ path ∷ rest → readers ≡ first ∷ others → opens before path first next
+    → AreOpened opens next rest others after → AreOpened opens before paths readers after
+opened_from opens before next after first readers others paths rest path paths_are readers_are one more =
+    rw (paths_are, readers_are) (next, one, more)
+
+pub left_from : {R L : Type 0} (left : R → L) (tells later : Text → L) (first : R) (readers others : List R) (paths rest : List Text)
+    (path : Text) → paths ≡ path ∷ rest → readers ≡ first ∷ others → later ≡ tells → left first ≡ tells path
+    → map left others ≡ map later rest → map left readers ≡ map tells paths
+left_from left tells later first readers others paths rest path paths_are readers_are same one more =
+    let others_are = more ∙ ap (λ t. map t rest) same in
+    rw (paths_are, readers_are) (cc)
+
+-- the cause of a fault of one of those
+pub later_cause : {F R : Type 0} (opens : F → Text → R → F → Type 0) (may later : Text → Bool) (before next : F) (first : R)
+    (paths rest : List Text) (path : Text) → paths ≡ path ∷ rest → later ≡ may → opens before path first next
+    → (fault : CommandFault) → IsLaterCause opens later next rest fault → IsOpenCause opens may before paths fault
+later_cause opens may later before next first paths rest path paths_are same one (faults.NotOpened stream) cause = (
+  suc cause.0,
+  cause.1,
+  first ∷ cause.2,
+  cause.3,
+  omega (arith, cause.4),
+  rw paths_are cause.5,
+  rw paths_are (next, one, cause.6),
+  subst (λ (m : Text → Bool). IsTrue (m cause.1)) same cause.7,
+)
+later_cause opens may later before next first paths rest path paths_are same one faults.Memory cause = tt
+later_cause opens may later before next first paths rest path paths_are same one fault cause = absurd cause
+
+-- stream 1 was refused
+pub first_cause : {F R : Type 0} (opens : F → Text → R → F → Type 0) (may : Text → Bool) (before : F) (paths rest : List Text)
+    (path : Text) → paths ≡ path ∷ rest → IsTrue (may path) → IsOpenCause {R = R} opens may before paths (faults.NotOpened 1)
+first_cause {F} {R} opens may before paths rest path paths_are refused =
+    subst (λ (ps : List Text). IsOpenCause {R = R} opens may before ps (faults.NotOpened 1)) (sym paths_are)
+    (0, path, [], before, omega arith, refl, refl, refused)
+
+-- the first word, and those behind it
+pub first_word : (words : List (Bor Text)) (word : Bor Text) (path : Text) (rest : List Text) → texts words ≡ path ∷ rest
+    → word ≡ get_or words 0 word → word.now ≡ path
+first_word [] word path rest is at = absurd (let no : [] ≡ path ∷ rest = is in cc)
+first_word (w ∷ ws) word path rest is at = let one : w.now ∷ texts ws ≡ path ∷ rest = is in ap (λ b. b.now) at ∙ (cc)
+
+pub other_words : (words : List (Bor Text)) → texts (take (length words - 1) (drop 1 words)) ≡ drop 1 (texts words)
+other_words [] = refl
+other_words (w ∷ ws) =
+    let count : length (w ∷ ws) - 1 ≡ length ws = omega arith in
+    ap texts (take_all (length (w ∷ ws) - 1) ws (omega (arith, count)))
+
+-- a formula's terms, by the options and the count that the program has
+pub terms_same : (f : Cnf) (plan : Plan) (options : OptionsValue) (sizes : Sizes) (count : ℕ) → options ≡ options_by plan.tries sizes
+    → count ≡ sizes.streams → terms_of options plan.cube f count ≡ terms_by plan f sizes
+terms_same f plan options sizes count options_are count_is = ap₂ (λ o n. terms_of o plan.cube f n) options_are count_is
+
+-- why there are no sizes, of a file that was opened
+pub sizes_cause : (its : Deeds) (before : its.State) (path : Text) (reader : its.Reader) (after : its.State)
+    → its.opens before path reader after → its.reading.left reader ≡ its.tells before path
+    → (fault : CommandFault) → IsUnsized its.reading reader fault → IsSizesCause its before path fault
+sizes_cause its before path reader after opened left faults.SizesUnread cause =
+    inr (record { reader = reader; after = after; opened = opened; left = left; broken = cause })
+sizes_cause its before path reader after opened left faults.Sizes (inl (bytes, whole, none)) =
+    let read : WasRead its.opens its.reading.reads (its.tells before) before path bytes after =
+    record { reader = reader; opened = opened; gave = whole.gave; told = λ all told. whole.told all (left ∙ told) } in
+    record { reader = reader; after = after; opened = opened; bytes = bytes; holds = inl (read, none) }
+sizes_cause its before path reader after opened left faults.Sizes (inr (bytes, last, gave, is)) =
+    record { reader = reader; after = after; opened = opened; bytes = bytes; holds = inr (last, gave, is) }
+sizes_cause its before path reader after opened left faults.Memory cause = tt
+sizes_cause its before path reader after opened left fault cause = absurd cause
+
+-- why round 1, whose streams were opened, has no report, by the words
+pub start_cause : (files : FilesView) (words : List Text) (given : CommandLine) (folder : Text) (f : Cnf) (cube : CubeValue)
+    (next later opened : files.State) → IsCommandLineOf words given → IsFormulaAt files given.formula.now f next
+    → AreAssumed (WasReadIn files) f.vars next (assumed_at given) cube later
+    → (readers : List files.Reader) → AreOpened files.opens later given.streams readers opened → rounds_at given ≡ Some folder
+    → files.refuses_new opened ≡ files.may_refuse_new → (fault : CommandFault)
+    → IsStartCause (deeds_of files) (plan_at given cube folder) 1 f (sizes_of given) opened fault → IsCause files words fault
+start_cause files words given folder f cube next later opened line at assumed readers are asked same fault (inl runs) =
+    line_cause files words given f cube next later line at assumed fault runs
+start_cause files words given folder f cube next later opened line at assumed readers are asked same fault (inr (layout, create)) =
+    let may = subst (λ (m : Text → Bool). IsCreateCause m (Some (formula_path folder 2)) fault) same create in
+    let created = subst (λ (o : Option Text). IsCreateCause files.may_refuse_new (created_path o (checkpoint_at given)) fault) (sym asked) may in
+    create_cause files words given f cube next later line at assumed readers opened are layout fault created
+
+-- a path that isn't there
+pub no_path : (path : Option (Bor Text)) → false ≡ is_some path → path_of path ≡ None
+no_path None is = refl
+no_path (Some path) is = absurd (let no : false ≡ true = is in cc)

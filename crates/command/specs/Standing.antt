@@ -52,7 +52,7 @@ pub record IsFound (its : Deeds) (plan : Plan) (last : LastRound) (next : Option
   pub reports : round.reports ≡ last.found.reports.items
   pub verdict : round.verdict ≡ last.found.verdict
   pub unsaved : round.unsaved ≡ last.found.unsaved
-  pub next : ForSome next (GoesOn its plan last.number round)
+  pub goes_on : ForSome next (GoesOn its plan last.number round)
   pub over : next ≡ None → IsBarred its plan last.number round
 
 -- The rounds up to this one, which was found so and left these files.

@@ -117,11 +117,12 @@ pub fn check_asked<T: Threads + Wait + Sync, C: Clock + Sync, F: Files>(
         line,
         formula: bytes,
     } = asked;
+    let begun = begin(threads, alloc, &line, bytes, files)?;
     let Beginning {
         formula,
         cube,
         readers,
-    } = begin(threads, alloc, &line, bytes, files)?;
+    } = begun;
     let options = Options::new(line.tries, line.lines, line.room).unwrap();
     let setup = Setup {
         formula: &formula,

@@ -233,30 +233,31 @@ fn open_others<F: Files>(
     }
 }
 
-/// Checks the round after the last one, if there is a file of its stream 1.
+/// Checks the round with this number, which is the one after the last, if there is a file of its stream 1.
 fn next_round<T: Threads + Wait + Sync, C: Clock + Sync, F: Files>(
     threads: &T,
     clock: &C,
     alloc: Global,
     course: &Course<'_>,
     last: &LastRound,
+    number: u64,
     formula: Formula,
     files: &mut F,
 ) -> Result<Option<CheckedRound>, CommandFault>
-    requires number { last.now.number + 1 < u64.MAX }
+    requires after { number ≡ last.now.number + 1 }
+    requires number { number < u64.MAX }
     ensures stands { (given : Cnf) (sizes : Sizes) (first : F) (paths : List Text) →
         Stands (deeds F.Files F.Input.Source F.Output.Sink) (plan_of course.now) given sizes first
         paths last.now (Some formula) files.old → IfOk result (λ next. ForSome next (λ found.
         Stands (deeds F.Files F.Input.Source F.Output.Sink) (plan_of course.now) given sizes first
         paths found.last found.next files.new)) }
     ensures number { IfOk result (λ next. ForSome next (λ found.
-        found.last.number ≡ last.now.number + 1)) }
+        found.last.number ≡ number)) }
     ensures over { result ≡ Ok None → IsAlone (deeds F.Files F.Input.Source F.Output.Sink)
         (plan_of course.now) last.now files.old files.new }
     ensures cause { IfErr result (IsUnchecked (deeds F.Files F.Input.Source F.Output.Sink)
         (plan_of course.now) last.now formula files.old) }
 {
-    let number = last.number + 1;
     let sizes = sizes_of_round(alloc, files, course.folder, number, last.sizes)?;
     let readers = match open_round(alloc, files, course.folder, number, sizes.streams) {
         Ok(None) => return Ok(None),
@@ -307,12 +308,14 @@ fn go_on<T: Threads + Wait + Sync, C: Clock + Sync, F: Files>(
         Err(fault) => return Err(RoundFault { round: 1, fault }),
     };
     let CheckedRound { mut last, mut next } = checked;
-    for _ in 2..u64::MAX {
+    for number in 2..u64::MAX {
         let formula = match next {
             None => return Ok(last),
             Some(formula) => formula,
         };
-        match next_round(threads, clock, alloc, course, &last, formula, files) {
+        match next_round(
+            threads, clock, alloc, course, &last, number, formula, files,
+        ) {
             Ok(Some(found)) => {
                 last = found.last;
                 next = found.next;
@@ -320,7 +323,7 @@ fn go_on<T: Threads + Wait + Sync, C: Clock + Sync, F: Files>(
             Ok(None) => return Ok(last),
             Err(fault) => {
                 return Err(RoundFault {
-                    round: last.number + 1,
+                    round: number,
                     fault,
                 });
             }

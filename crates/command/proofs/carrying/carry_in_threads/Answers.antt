@@ -1,28 +1,42 @@
-use Rattle.std.proofs.Common.{◌∙◌, false, length, Err, None, Ok, refl, sym, subst, inr}
-use Rattle.command.specs.Commands.{IsRunCause}
+use Rattle.std.proofs.Common.{◌∙◌, ℕ, false, length, Err, None, Ok, refl, sym, subst, inr}
+use Rattle.portfolio.specs.Outcomes.{layout_of, terms_of}
+use Rattle.runs.specs.Streams.{TermsValue}
+use Rattle.command.specs.Commands.{AreChecked, IsRunCause, readers_view}
+use Rattle.command.specs.Faults.{of_run}
 use Rattle.command.specs.Rounds.{terms_by}
 use Rattle.command.specs.Standing.{plan_of}
 use Rattle.command.proofs.CheckingLemmas.{err_given, has_layout, run_cause}
 use Rattle.command.proofs.SavingLemmas.{running_to_write, written_err, written_none}
-use Rattle.command.proofs.RoundLemmas.{next_saved, next_written, no_next, some_none, uncarried_none}
+use Rattle.command.proofs.RoundLemmas.{next_saved, next_written, no_next, some_none, terms_same, uncarried_none}
 use Rattle.command.proofs.carrying.carry_in_threads.Goals.{in-None, in-Some, in-Ok, in-Err}
 use Rattle.command.proofs.carrying.carry_in_threads.Goals as goal
 
 pub returns-in_err-outcome-clause-cause : goal.returns-in_err-outcome-clause-cause
 returns-in_err-outcome-clause-cause g c =
-    let p = (terms_by (plan_of c.args.course.now) c.args.round.formula c.args.round.sizes).layout in
-    let cause = run_cause false p c.run.result c.in_err-outcome.field-0.0 c.in_err-outcome.was c.run.ensures.layout
+    let plan = plan_of c.args.course.now in
+    let round = c.args.round in
+    let terms = terms_same round.formula plan c.options-options.result round.sizes (length round.readers.items) c.options-options.ensures c.requires.count in
+    let fault = c.in_err-outcome.field-0.0 in
+    let cause = run_cause false (layout_of c.options-options.result round.formula (length round.readers.items)) c.run.result fault
+    c.in_err-outcome.was c.run.ensures.layout
     (λ stream is. (refl, c.run.ensures.spawn stream is)) (λ stream is. (refl, c.run.ensures.ring stream is)) in
-    err_given c.from_residual-in_err-outcome.result _ (IsRunCause false p)
-    (λ fault is. subst (IsRunCause false p) (sym is) cause) c.from_residual-in_err-outcome.ensures.1
+    let moved = subst (λ (t : TermsValue). IsRunCause false t.layout (of_run fault)) terms cause in
+    let Cause = IsRunCause false (terms_by plan round.formula round.sizes).layout in
+    err_given c.from_residual-in_err-outcome.result _ Cause (λ other is. subst Cause (sym is) moved) c.from_residual-in_err-outcome.ensures.1
 
 pub returns-clause-checked : goal.returns-clause-checked
 returns-clause-checked g c =
-    let p = (terms_by (plan_of c.args.course.now) c.args.round.formula c.args.round.sizes).layout in
+    let plan = plan_of c.args.course.now in
+    let round = c.args.round in
+    let outcome = c.in_ok-outcome.outcome in
+    let reading = readers_view g.F.Input.Source in
+    let count : ℕ = length round.readers.items in
+    let terms = terms_same round.formula plan c.options-options.result round.sizes count c.options-options.ensures c.requires.count in
+    let own = terms_of c.options-options.result c.args.course.now.cube.now round.formula count in
     let reports = c.in_ok-outcome.ensures.reports in
-    record {
-      layout = has_layout p c.run.result c.in_ok-outcome.outcome c.in_ok-outcome.was c.run.ensures.layout;
-      lasts = c.in_ok-outcome.outcome.readers.items;
+    let checked : AreChecked reading false round.formula own round.readers.items outcome.reports.items outcome.verdict = record {
+      layout = has_layout own.layout c.run.result outcome c.in_ok-outcome.was c.run.ensures.layout;
+      lasts = outcome.readers.items;
       reported = record {
         streams = reports.streams;
         are_told = reports.are_told;
@@ -32,7 +46,9 @@ returns-clause-checked g c =
       is_verdict = c.in_ok-outcome.ensures.verdict;
       sound = c.in_ok-outcome.ensures.sound;
       sound_under = c.in_ok-outcome.ensures.sound_under;
-    }
+    } in
+    subst (λ (t : TermsValue). AreChecked reading false round.formula t round.readers.items outcome.reports.items outcome.verdict)
+    terms checked
 
 pub carry_live-requires-clause-running : goal.carry_live-requires-clause-running
 carry_live-requires-clause-running g c =

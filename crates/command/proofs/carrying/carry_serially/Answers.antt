@@ -1,34 +1,54 @@
-use Rattle.std.proofs.Common.{◌∙◌, true, length, Err, None, Ok, sym, subst, inr, refl}
-use Rattle.command.specs.Commands.{IsRunCause}
+use Rattle.std.proofs.Common.{◌∙◌, ℕ, true, length, Err, None, Ok, sym, subst, inr, refl}
+use Rattle.portfolio.specs.Outcomes.{layout_of, terms_of}
+use Rattle.runs.specs.Streams.{TermsValue}
+use Rattle.command.specs.Commands.{AreChecked, IsRunCause, readers_view}
+use Rattle.command.specs.Faults.{of_run}
 use Rattle.command.specs.Rounds.{terms_by}
 use Rattle.command.specs.Standing.{plan_of}
 use Rattle.command.proofs.CheckingLemmas.{err_given, has_layout, run_cause}
 use Rattle.command.proofs.SavingLemmas.{written_err, written_none}
-use Rattle.command.proofs.RoundLemmas.{next_saved, next_written, no_next, some_none, uncarried_none}
+use Rattle.command.proofs.RoundLemmas.{next_saved, next_written, no_next, some_none, terms_same, uncarried_none}
 use Rattle.command.proofs.carrying.carry_serially.Goals.{in-None, in-Some+in-Ok, in-Some+in-Err}
 use Rattle.command.proofs.carrying.carry_serially.Goals as goal
 
 pub returns-in_err-outcome-clause-cause : goal.returns-in_err-outcome-clause-cause
 returns-in_err-outcome-clause-cause g c =
-    let p = (terms_by (plan_of c.args.course.now) c.args.round.formula c.args.round.sizes).layout in
-    let cause = run_cause true p c.run_serial.result c.in_err-outcome.field-0.0 c.in_err-outcome.was c.run_serial.ensures.layout
+    let plan = plan_of c.args.course.now in
+    let round = c.args.round in
+    let terms = terms_same round.formula plan c.options-options.result round.sizes (length round.readers.items) c.options-options.ensures c.requires.count in
+    let fault = c.in_err-outcome.field-0.0 in
+    let cause = run_cause true (layout_of c.options-options.result round.formula (length round.readers.items)) c.run_serial.result fault
+    c.in_err-outcome.was c.run_serial.ensures.layout
     (λ stream is. absurd (c.run_serial.ensures.no_spawn stream is)) (λ stream is. absurd (c.run_serial.ensures.no_ring stream is)) in
-    err_given c.from_residual-in_err-outcome.result _ (IsRunCause true p)
-    (λ fault is. subst (IsRunCause true p) (sym is) cause) c.from_residual-in_err-outcome.ensures.1
+    let moved = subst (λ (t : TermsValue). IsRunCause true t.layout (of_run fault)) terms cause in
+    let Cause = IsRunCause true (terms_by plan round.formula round.sizes).layout in
+    err_given c.from_residual-in_err-outcome.result _ Cause (λ other is. subst Cause (sym is) moved) c.from_residual-in_err-outcome.ensures.1
 
 pub returns-clause-checked : goal.returns-clause-checked
 returns-clause-checked g c =
-    let p = (terms_by (plan_of c.args.course.now) c.args.round.formula c.args.round.sizes).layout in
+    let plan = plan_of c.args.course.now in
+    let round = c.args.round in
+    let outcome = c.in_ok-outcome.outcome in
+    let reading = readers_view g.F.Input.Source in
+    let count : ℕ = length round.readers.items in
+    let terms = terms_same round.formula plan c.options-options.result round.sizes count c.options-options.ensures c.requires.count in
+    let own = terms_of c.options-options.result c.args.course.now.cube.now round.formula count in
     let ordered = c.in_ok-outcome.ensures.ordered in
-    record {
-      layout = has_layout p c.run_serial.result c.in_ok-outcome.outcome c.in_ok-outcome.was c.run_serial.ensures.layout;
-      lasts = c.in_ok-outcome.outcome.readers.items;
-      reported = record { streams = ordered.streams; are_told = ordered.are_told; judged = ordered.judged.0 };
+    let checked : AreChecked reading true round.formula own round.readers.items outcome.reports.items outcome.verdict = record {
+      layout = has_layout own.layout c.run_serial.result outcome c.in_ok-outcome.was c.run_serial.ensures.layout;
+      lasts = outcome.readers.items;
+      reported = record {
+        streams = ordered.streams;
+        are_told = ordered.are_told;
+        judged = ordered.judged.0;
+      };
       read = ordered.judged.1;
       is_verdict = c.in_ok-outcome.ensures.verdict;
       sound = c.in_ok-outcome.ensures.sound;
       sound_under = c.in_ok-outcome.ensures.sound_under;
-    }
+    } in
+    subst (λ (t : TermsValue). AreChecked reading true round.formula t round.readers.items outcome.reports.items outcome.verdict)
+    terms checked
 
 pub returns-clause-written : goal.returns-clause-written
 returns-clause-written g c =

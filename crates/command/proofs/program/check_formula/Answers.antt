@@ -2,6 +2,9 @@ use Rattle.std.proofs.Common.{◌≡◌, ◌∙◌, None, Some, ap, inl, inr, sy
 use Rattle.command.specs.Commands.{path_of}
 use Rattle.command.proofs.program.check_formula.Goals as goal
 
+pub check_once-requires-clause-once : goal.check_once-requires-clause-once
+check_once-requires-clause-once g c κs lives = ap path_of c.in-None.is
+
 pub returns-in-None-clause-ends : goal.returns-in-None-clause-ends
 returns-in-None-clause-ends g c words first good at = elim (c.check_once.ensures.ends words first good at) [
   | inl report ↦ inl (
@@ -15,3 +18,6 @@ returns-in-None-clause-ends g c words first good at = elim (c.check_once.ensures
 
 pub check_in_rounds-requires-clause-folder : goal.check_in_rounds-requires-clause-folder
 check_in_rounds-requires-clause-folder g c κs lives = ap path_of c.in-Some.is
+
+pub returns-in-Some-clause-ends : goal.returns-in-Some-clause-ends
+returns-in-Some-clause-ends g c words first good at = inr (c.check_in_rounds.ensures.ends words first good at)

@@ -1,0 +1,49 @@
+use Rattle.std.proofs.Common.{ℕ, inr, sym, subst}
+use Rattle.command_line.specs.declared.sizes.Sizes.{Sizes}
+use Rattle.command.specs.Paths.{sizes_path, stream_paths}
+use Rattle.command.specs.Rounds.{AreSized, IsStartCause, StreamsOpened, deeds}
+use Rattle.command.specs.Standing.{Stands, plan_of}
+use Rattle.command.proofs.RoundLemmas.{for_some, stands_next}
+use Rattle.command.proofs.rounds.next_round.Goals as goal
+
+pub returns-in-Ok-clause-stands : goal.returns-in-Ok-clause-stands
+returns-in-Ok-clause-stands g c given sizes first paths stands =
+    let its = deeds g.F.Files g.F.Input.Source g.F.Output.Sink in
+    let plan = plan_of c.args.course.now in
+    let before = c.args.files.now in
+    let sized = c.sizes_of_round.new.files in
+    let opened = c.open_round.new.files in
+    let number = c.args.number in
+    let found = c.in-Ok.found in
+    let of = c.in-Ok.ensures in
+    let readers = c.in-Ok-Some.readers.items in
+    let are_sized = subst (λ (s : Sizes). AreSized its (sizes_path plan.folder number) c.args.last.now.sizes before s sized) (sym of.sizes)
+    c.in_ok-sizes.ensures.sized in
+    let are : StreamsOpened its sized (stream_paths plan.folder number c.in_ok-sizes.sizes.streams) readers opened =
+    rw c.in-Ok-Some.field-0-is at c.in-Ok-Some.ensures.opened in
+    for_some (λ x. Stands its plan given sizes first paths x.last x.next c.check_round.new.files) found
+    (stands_next its plan given sizes first paths c.args.last.now found.last c.args.formula found.next before sized opened
+    c.check_round.new.files readers number c.requires.after stands are_sized
+    (subst (λ (s : Sizes). StreamsOpened its sized (stream_paths plan.folder number s.streams) readers opened) (sym of.sizes) are)
+    of.checked of.next of.over of.number)
+
+-- the streams of the round were opened, and then came the fault
+pub returns-in-Err-check_round-clause-cause : goal.returns-in-Err-check_round-clause-cause
+returns-in-Err-check_round-clause-cause g c =
+    let its = deeds g.F.Files g.F.Input.Source g.F.Output.Sink in
+    let plan = plan_of c.args.course.now in
+    let last = c.args.last.now in
+    let sized = c.sizes_of_round.new.files in
+    let sizes = c.in_ok-sizes.sizes in
+    let opened = c.open_round.new.files in
+    let readers = c.in-Ok-Some.readers.items in
+    let fault = c.in-Err-check_round.fault in
+    let number = c.requires.after in
+    let are : StreamsOpened its sized (stream_paths plan.folder c.args.number sizes.streams) readers opened =
+    rw c.in-Ok-Some.field-0-is at c.in-Ok-Some.ensures.opened in
+    let cause : IsStartCause its plan c.args.number c.args.formula sizes opened fault = c.in-Err-check_round.ensures.cause in
+    inr (sizes, sized,
+    subst (λ (n : ℕ). AreSized its (sizes_path plan.folder n) last.sizes c.args.files.now sizes sized) number c.in_ok-sizes.ensures.sized,
+    inr (readers, opened,
+    subst (λ (n : ℕ). StreamsOpened its sized (stream_paths plan.folder n sizes.streams) readers opened) number are,
+    subst (λ (n : ℕ). IsStartCause its plan n c.args.formula sizes opened fault) number cause))

@@ -1,0 +1,77 @@
+use Rattle.std.proofs.Common.{◌≡◌, ◌∙◌, ◌∷◌, ◌-◌, Err, IsTrue, List, Ok, ap, drop, length, map, string_bytes, sym, subst, take}
+use Rattle.clap.specs.Walk.{texts}
+use Rattle.command.specs.Commands.{AreOpened, Text}
+use Rattle.command.specs.Paths.{stream_paths}
+use Rattle.command.proofs.RoundLemmas.{first_cause, first_word, later_cause, left_from, opened_count, opened_from, other_words, path_and_rest}
+use Rattle.command.proofs.RoundLemmas.{paths_count}
+use Rattle.command.specs.Standing.{IsLaterCause}
+use Rattle.command.proofs.rounds.open_round.Goals as goal
+
+pub returns-in-Ok-None-clause-lacks : goal.returns-in-Ok-None-clause-lacks
+returns-in-Ok-None-clause-lacks g c = λ is.
+    let folder = c.args.folder.now in
+    let words = c.in_ok-words.words.items in
+    let same = c.in_ok-words.ensures ∙ ap (map string_bytes) c.deref.ensures.value ∙ c.in_ok-paths.ensures in
+    let split = path_and_rest folder c.args.number c.args.streams c.requires.some in
+    let path_is = first_word words c.index.result.now _ _ (same ∙ split) c.index.ensures in
+    subst (λ (p : Text). g.F.Files.lacks c.args.files.now p c.open_if_there.new.self) path_is
+    (c.open_if_there.ensures.lacks (c.in-Ok-None.is ∙ ap Ok c.in-Ok-None.field-0-is))
+
+pub returns-in-Ok-clause-opened : goal.returns-in-Ok-clause-opened
+returns-in-Ok-clause-opened g c =
+    let folder = c.args.folder.now in
+    let words = c.in_ok-words.words.items in
+    let same = c.in_ok-words.ensures ∙ ap (map string_bytes) c.deref.ensures.value ∙ c.in_ok-paths.ensures in
+    let split = path_and_rest folder c.args.number c.args.streams c.requires.some in
+    let path_is = first_word words c.index.result.now _ _ (same ∙ split) c.index.ensures in
+    let before = c.args.files.now in
+    let next = c.open_if_there.new.self in
+    let first = c.in-Ok-Some.first in
+    let readers = c.in-Ok.readers.items in
+    let others = c.in-Ok.ensures.readers in
+    let rest_is = ap (λ ws. texts (take (length ws - 1) (drop 1 ws))) c.deref-in-Ok-Some.ensures.value ∙ other_words words ∙ ap (drop 1) same in
+    let opens : g.F.Files.opens before c.index.result.now.now first next = rw c.in-Ok-Some.field-0-is at c.in-Ok-Some.ensures.opens in
+    let left : g.F.Input.Source.left first ≡ g.F.Files.tells before c.index.result.now.now =
+    rw c.in-Ok-Some.field-0-is at c.in-Ok-Some.ensures.left in
+    record {
+      opened = opened_from g.F.Files.opens before next c.open_others.new.files first readers others.0 _ _ _ split others.1
+          (subst (λ (p : Text). g.F.Files.opens before p first next) path_is opens)
+          (subst (λ (ps : List Text). AreOpened g.F.Files.opens next ps others.0 c.open_others.new.files) rest_is others.2);
+      left = left_from g.F.Input.Source.left (g.F.Files.tells before) (g.F.Files.tells next) first readers others.0 _ _ _ split others.1
+          c.in-Ok-Some.ensures.stays (left ∙ ap (g.F.Files.tells before) path_is)
+          (others.3 ∙ ap (map (g.F.Files.tells next)) rest_is);
+    }
+
+pub returns-in-Ok-clause-count : goal.returns-in-Ok-clause-count
+returns-in-Ok-clause-count g c =
+    opened_count g.F.Files.opens c.args.files.now (stream_paths c.args.folder.now c.args.number c.args.streams) c.in-Ok.readers.items
+    c.open_others.new.files (returns-in-Ok-clause-opened g c).opened
+    ∙ paths_count c.args.folder.now c.args.number c.args.streams
+
+pub returns-in-Ok-Some-clause-cause : goal.returns-in-Ok-Some-clause-cause
+returns-in-Ok-Some-clause-cause g c =
+    let folder = c.args.folder.now in
+    let words = c.in_ok-words.words.items in
+    let same = c.in_ok-words.ensures ∙ ap (map string_bytes) c.deref.ensures.value ∙ c.in_ok-paths.ensures in
+    let split = path_and_rest folder c.args.number c.args.streams c.requires.some in
+    let path_is = first_word words c.index.result.now _ _ (same ∙ split) c.index.ensures in
+    let before = c.args.files.now in
+    let next = c.open_if_there.new.self in
+    let first = c.in-Ok-Some.first in
+    let rest_is = ap (λ ws. texts (take (length ws - 1) (drop 1 ws))) c.deref-in-Ok-Some.ensures.value ∙ other_words words ∙ ap (drop 1) same in
+    let opens : g.F.Files.opens before c.index.result.now.now first next = rw c.in-Ok-Some.field-0-is at c.in-Ok-Some.ensures.opens in
+    let may = g.F.Files.may_refuse in
+    later_cause g.F.Files.opens (may before) (may next) before next first _ _ _ split c.in-Ok-Some.ensures.stays_refused
+    (subst (λ (p : Text). g.F.Files.opens before p first next) path_is opens) c.in-Err.fault
+    (subst (λ (ps : List Text). IsLaterCause g.F.Files.opens (may next) next ps c.in-Err.fault) rest_is c.in-Err.ensures.cause)
+
+pub returns-in-Err-NotOpened-clause-cause : goal.returns-in-Err-NotOpened-clause-cause
+returns-in-Err-NotOpened-clause-cause g c =
+    let folder = c.args.folder.now in
+    let words = c.in_ok-words.words.items in
+    let same = c.in_ok-words.ensures ∙ ap (map string_bytes) c.deref.ensures.value ∙ c.in_ok-paths.ensures in
+    let split = path_and_rest folder c.args.number c.args.streams c.requires.some in
+    let path_is = first_word words c.index.result.now _ _ (same ∙ split) c.index.ensures in
+    let refused = c.open_if_there.ensures.refused (c.in-Err-NotOpened.is ∙ ap Err c.in-Err-NotOpened.field-0-is) in
+    first_cause g.F.Files.opens (g.F.Files.may_refuse c.args.files.now) c.args.files.now _ _ _ split
+    (subst (λ (p : Text). IsTrue (g.F.Files.may_refuse c.args.files.now p)) path_is refused)
