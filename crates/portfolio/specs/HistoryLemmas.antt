@@ -54,8 +54,8 @@ module _ {S : Type 0} (view : SourceView S) (formula : Cnf) (terms : TermsValue)
       × AreRead S view.reads firsts lasts streams
       × HaveDropped terms 1 streams reports (map (λ d. d.ids) dropped)
       × (plain_state plain ≡ state formula (events_in ordered.order.blocks))))
-      → StandsOnHistory view true formula terms (events_in ordered.judged.0.order.blocks) firsts lasts
-      reports dropped
+      → StandsOnHistory view true formula terms (events_in ordered.judged.0.order.blocks) firsts
+      lasts reports dropped
   stands_by_turns plain ordered =
       let order = ordered.judged.0.order in
       record {
@@ -88,7 +88,8 @@ module _ {S : Type 0} (view : SourceView S) (formula : Cnf) (terms : TermsValue)
     have_dropped = said.judged.3;
   }
 
-  -- what a run on one thread carries, by the clauses `ordered` and `kept` of `run_serial` and `carries` of `carry_plain`
+  -- what a run on one thread carries, by the clauses `ordered` and `kept` of `run_serial` and
+  -- `carries` of `carry_plain`
   pub carried_by_turns : {W : Type 0} (written : W → Option (List ℕ)) (plain : Plain)
       → StandsOnStreams (tellings view firsts lasts)
       (λ streams. (ordered : IsOrderedByTurns formula terms streams reports)
@@ -104,12 +105,14 @@ module _ {S : Type 0} (view : SourceView S) (formula : Cnf) (terms : TermsValue)
     dropped = dropped;
     stands = stands_by_turns plain ordered;
     carries = subst (λ (p : LayoutValue). CarriesState written result
-        (state formula (events_in ordered.judged.0.order.blocks)) p (is_wanted dropped) first last) layout
-        (subst (λ (slots : State). CarriesState written result slots plain.layout (is_wanted dropped)
-        first last) ordered.judged.3 carries);
+        (state formula (events_in ordered.judged.0.order.blocks)) p (is_wanted dropped) first
+        last) layout
+        (subst (λ (slots : State). CarriesState written result slots plain.layout
+        (is_wanted dropped) first last) ordered.judged.3 carries);
   }
 
-  -- what one with threads does, by the clauses `history`, `reports` and `kept` of `run` and `carries` of `carry_live`
+  -- what one with threads does, by the clauses `history`, `reports` and `kept` of `run` and
+  -- `carries` of `carry_live`
   pub carried_in_threads : {W : Type 0} (written : W → Option (List ℕ)) (history : History)
       (passes : List View) → HaveOneHistory formula terms.layout history passes
       → StandsOnStreams (tellings view firsts lasts)
@@ -122,13 +125,14 @@ module _ {S : Type 0} (view : SourceView S) (formula : Cnf) (terms : TermsValue)
       → ((f : Cnf) (h : History) → HaveOneHistory f layout h passes
       → CarriesState written result (state f h) layout (is_wanted dropped) first last)
       → CarriesRun view written false formula terms firsts reports result first last
-  carried_in_threads written history passes one said layout same result first last carries = record {
-    history = history;
-    lasts = lasts;
-    dropped = dropped;
-    stands = stands_in_threads history passes one said;
-    carries = subst (λ (p : LayoutValue). CarriesState written result (state formula history) p
-        (is_wanted dropped) first last) same
-        (carries formula history
-        (subst (λ (p : LayoutValue). HaveOneHistory formula p history passes) (sym same) one));
-  }
+  carried_in_threads written history passes one said layout same result first last carries =
+      record {
+        history = history;
+        lasts = lasts;
+        dropped = dropped;
+        stands = stands_in_threads history passes one said;
+        carries = subst (λ (p : LayoutValue). CarriesState written result (state formula history) p
+            (is_wanted dropped) first last) same
+            (carries formula history
+            (subst (λ (p : LayoutValue). HaveOneHistory formula p history passes) (sym same) one));
+      }

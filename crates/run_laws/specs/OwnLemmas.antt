@@ -24,7 +24,8 @@ own_all P (e ∷ h) s all = elim (cases_eq (stream_of e) s) [
 ]
 
 -- a stream's own events are those of its blocks
-own-blocks : (p : LayoutValue) (set : ℕ → Bool) (s : ℕ) (bs : List Block) → AllByRecursion (IsBlockWithin p set) bs
+own-blocks : (p : LayoutValue) (set : ℕ → Bool) (s : ℕ) (bs : List Block)
+    → AllByRecursion (IsBlockWithin p set) bs
     → own (events_in bs) s ≡ joined (blocks_of s bs)
 own-blocks p set s [] all = refl
 own-blocks p set s (b ∷ bs) all =
@@ -39,8 +40,10 @@ own-blocks p set s (b ∷ bs) all =
     ]
 
 -- streams that are judged by their blocks are judged by their own events of them all
-pub ordered_judged : (terms : TermsValue) (all set : ℕ → Bool) (bs : List Block) (s : ℕ) (streams : List Stream) (reports : List Report)
-    → AllByRecursion (IsBlockWithin terms.layout all) bs → AreJudged terms set (λ t events. events ≡ blocks_of t bs) s streams reports
+pub ordered_judged : (terms : TermsValue) (all set : ℕ → Bool) (bs : List Block) (s : ℕ)
+    (streams : List Stream) (reports : List Report)
+    → AllByRecursion (IsBlockWithin terms.layout all) bs
+    → AreJudged terms set (λ t events. events ≡ blocks_of t bs) s streams reports
     → AreJudgedIn terms set (events_in bs) s streams reports
 ordered_judged terms all set bs s [] [] within judged = tt
 ordered_judged terms all set bs s [] (r ∷ rs) within judged = absurd judged
