@@ -32,7 +32,8 @@ module _ (p : Place) (vars : ℕ) where
       → g ≡ record f { clauses = f.clauses ++ clip_clause p (get_or clips k d) ∷ [] }
       → g ≡ printed vars (entries_of p (take (k + 1) clips))
   printed_next clips k d f g within before next =
-      let more : clauses_of (entries_of p (take (k + 1) clips)) ≡ clauses_of (entries_of p (take k clips)) ++ clip_clause p (get_or clips k d) ∷ [] =
+      let more : clauses_of (entries_of p (take (k + 1) clips))
+      ≡ clauses_of (entries_of p (take k clips)) ++ clip_clause p (get_or clips k d) ∷ [] =
       ap clauses_of (map_more (entry_of p) clips k d within)
       ∙ map-append (λ (e : Entry). e.clause) (entries_of p (take k clips)) (entry_of p (get_or clips k d) ∷ []) in
       next ∙ ap (λ (h : Cnf). record h { clauses = h.clauses ++ clip_clause p (get_or clips k d) ∷ [] }) before

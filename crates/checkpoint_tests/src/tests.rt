@@ -13,6 +13,7 @@ use std::process::Abort;
 use std::test::Fail;
 use test_support::Paper;
 
+mod carrying;
 mod limits;
 mod worked;
 

@@ -18,6 +18,7 @@ use Rattle.lrup_model.specs.RunningLemmas.{own-append}
 use Rattle.lrup_model.specs.State.{State, Answers, opening, state}
 use Rattle.stream_check.specs.Checking.{IsFetch}
 use Rattle.checkpoint.specs.Live.{fetches}
+use Rattle.clause_store.specs.Passes.{AreOf, PassValue, StoreValue, store_of}
 use Rattle.runs.specs.Headline.{HaveOneHistory}
 use Rattle.run_laws.specs.OwnLemmas.{own_all}
 
@@ -179,3 +180,9 @@ fetched_so f p h vs v w replies us g one moves met saw =
           (subst (λ (k : History). AllByRecursion IsFetch k) (sym mine) (are_fetches s 1 replies))
     ] in
     answered_behind f p h more s replies legal owners mine
+
+-- the store's passes, of which the last is another
+pub other_last : (store : StoreValue) (ps : List PassValue) (p q : PassValue) → AreOf store (ps ++ p ∷ []) → store_of q ≡ store_of p
+    → AreOf store (ps ++ q ∷ [])
+other_last store [] p q all same = (same ∙ all.0, tt)
+other_last store (x ∷ ps) p q all same = (all.0, other_last store ps p q all.1 same)

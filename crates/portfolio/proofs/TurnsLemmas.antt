@@ -12,7 +12,7 @@ use Rattle.lrup_model.specs.Entailment.{IsUnsatisfiable}
 use Rattle.lrup_model.specs.Formula.{Cnf}
 use Rattle.lrup_model.specs.Layout.{LayoutValue, Fits, Owns, IsStream}
 use Rattle.lrup_model.specs.Event.{History, stream_of, own, published, spent}
-use Rattle.lrup_model.specs.State.{State, opening, run}
+use Rattle.lrup_model.specs.State.{State, opening, run, state}
 use Rattle.lrup_model.specs.History.{LegalFrom, IsLegal}
 use Rattle.lrup_model.specs.HistoryLemmas.{opening-owned}
 use Rattle.lrup_model.specs.RunningLemmas.{run-append, legal-append, spent-append}
@@ -432,28 +432,31 @@ module _ {S : Type 0} (view : SourceView S) where
         (dropped, others.4),
       )
 
-  -- the reports have an order of lines, by turns
+  -- the reports have an order of lines, by turns, whose events leave the map as it is
   pub ordered_over : EarlyIsDecided
       → (f : Cnf) (terms : TermsValue) (firsts : List S) (m : Plain) (ws : List (WorkerValue S)) (reports : List Report)
       → Runs view f terms firsts 0 m ws → HaveReports ws reports
       → (streams : List Stream) × AllZip IsTold (tellings view firsts (map (λ w. w.reader) ws)) streams
-      × AreRead S view.reads firsts (map (λ w. w.reader) ws) streams × IsOrderedByTurns f terms streams reports
-      × HaveDropped terms 1 streams reports (map (λ w. w.checker.dropped) ws)
+      × AreRead S view.reads firsts (map (λ w. w.reader) ws) streams × ((ordered : IsOrderedByTurns f terms streams reports)
+      × HaveDropped terms 1 streams reports (map (λ w. w.checker.dropped) ws) × (plain_state m ≡ state f (events_in ordered.order.blocks)))
   ordered_over law f terms firsts m ws reports runs have =
       let streams = streams_over law terms runs.blocks m 1 firsts ws reports runs.workers_are have in (
         streams.0,
         streams.1,
         streams.2,
-        record {
-          order = record {
-            blocks = runs.blocks;
-            within = runs.map_is.within;
-            legal = record { events = runs.map_is.legal; room = within_room f terms.layout runs.blocks m runs.map_is };
-            judged = streams.3;
-          };
-          turns = runs.in_round.turns;
-        },
-        streams.4,
+        (
+          record {
+            order = record {
+              blocks = runs.blocks;
+              within = runs.map_is.within;
+              legal = record { events = runs.map_is.legal; room = within_room f terms.layout runs.blocks m runs.map_is };
+              judged = streams.3;
+            };
+            turns = runs.in_round.turns;
+          },
+          streams.4,
+          runs.map_is.state,
+        ),
       )
 
 -- where one of the reports says 'empty', no assignment makes every clause of the formula true
@@ -480,17 +483,18 @@ pub run_ordered : {S : Type 0} (view : SourceView S) (law : EarlyIsDecided) (f :
     (ws : List (WorkerValue S)) → Runs view f terms firsts 0 m ws
     → (n : Plain) (reports : List Report) (lasts : List S) (dropped : List DroppedValue) → AreRun view m ws n reports lasts dropped
     → StandsOnStreams (tellings view firsts lasts)
-    (λ streams. IsOrderedByTurns f terms streams reports × AreRead S view.reads firsts lasts streams
-    × HaveDropped terms 1 streams reports (map (λ d. d.ids) dropped))
+    (λ streams. (ordered : IsOrderedByTurns f terms streams reports) × AreRead S view.reads firsts lasts streams
+    × HaveDropped terms 1 streams reports (map (λ d. d.ids) dropped) × (plain_state n ≡ state f (events_in ordered.order.blocks)))
 run_ordered {S} view law f terms firsts m ws begun n reports lasts dropped so =
     let ordered = ordered_over view law f terms firsts n so.ended reports (so.goes f terms firsts begun) so.reports_are in
     record {
       streams = ordered.0;
       are_told = subst (λ (ls : List S). AllZip IsTold (tellings view firsts ls) ordered.0) (sym so.readers_are) ordered.1;
       judged = (
-        ordered.3,
+        ordered.3.0,
         subst (λ (ls : List S). AreRead S view.reads firsts ls ordered.0) (sym so.readers_are) ordered.2,
-        subst (HaveDropped terms 1 ordered.0 reports) (sym so.dropped_are) ordered.4,
+        subst (HaveDropped terms 1 ordered.0 reports) (sym so.dropped_are) ordered.3.1,
+        ordered.3.2,
       );
     }
 

@@ -5,4 +5,6 @@ pub mod Working
 pub mod Saving
 pub mod Dropping
 pub mod Threads
+pub mod Histories
+pub mod HistoryLemmas
 pub mod ResultLemmas

@@ -6,7 +6,8 @@ ghost use Rattle.lrup_model.specs.Entailment.{IsUnsatisfiable};
 ghost use Rattle.lrup_model.specs.Event.{History};
 ghost use Rattle.lrup_model.specs.Layout.{IsFault, IsStream};
 ghost use Rattle.lrup_model.specs.declared.layout.LayoutFault.{LayoutFault};
-ghost use Rattle.lrup_model.specs.Plain.{PlainMoves, formula_of, free_at, plain_place};
+ghost use Rattle.lrup_model.specs.Plain.{PlainMoves, formula_of, free_at, plain_place, plain_state};
+ghost use Rattle.lrup_model.specs.State.{state};
 ghost use Rattle.stream_check.specs.Checker.{IsReadyAt};
 ghost use Rattle.stream_check.specs.Judging.{joined};
 ghost use Rattle.run_laws.specs.Groups.{AreIsolated, HaveReportsAlone};
@@ -14,7 +15,7 @@ ghost use Rattle.portfolio.specs.Dropping.{HaveDropped};
 ghost use Rattle.portfolio.specs.Outcomes.{layout_of, terms_of, verdict_of};
 ghost use Rattle.lrup_text.specs.ReadOut.{source_view};
 ghost use Rattle.runs.specs.Readings.{AreRead};
-ghost use Rattle.runs.specs.Streams.{IsOrdered, StandsOnStreams, tellings};
+ghost use Rattle.runs.specs.Streams.{IsOrdered, StandsOnStreams, events_in, tellings};
 ghost use Rattle.runs.specs.Turns.{IsOrderedByTurns};
 ghost use Rattle.portfolio.specs.Turns.{AreOver, AreRun, AreStarted, GoesOn, HaveReports, IsOverAt, IsRunning, Runs};
 ghost use Rattle.portfolio.specs.Working.{AreBlocksOfTurn, WorksOn};
@@ -53,14 +54,15 @@ pub fn run_serial<W: Wait, R: Source + Drop, G: Gate + Drop>(
     ensures no_ring { (stream : ℕ) → result ≢ Err (RunFault.Ring stream) }
     // Each stream is what its reader told, and what the reader's reads gave, and the reports have an
     // order of lines, which is by turns. Where a report says that its stream ended, or that a read
-    // failed, the stream dropped just what its lines drop.
+    // failed, the stream dropped just what its lines drop. The map has what the order leaves.
     ensures ordered { let terms = terms_of options cube.now formula.now (length readers.items) in
         IfOk result (λ outcome. StandsOnStreams
         (tellings (source_view R.left R.has_failed R.reads) readers.items outcome.readers.items)
-        (λ streams. IsOrderedByTurns formula.now terms streams outcome.reports.items
+        (λ streams. (ordered : IsOrderedByTurns formula.now terms streams outcome.reports.items)
         × AreRead _ R.reads readers.items outcome.readers.items streams
         × HaveDropped terms 1 streams outcome.reports.items
-        (map (λ d. d.ids) outcome.dropped.items))) }
+        (map (λ d. d.ids) outcome.dropped.items)
+        × (plain_state outcome.map ≡ state formula.now (events_in ordered.order.blocks)))) }
     // Groups of streams are isolated: the reports of a closed set of streams, where none tells that
     // memory ran out, are such as the set alone may have.
     ensures isolated { let terms = terms_of options cube.now formula.now (length readers.items) in

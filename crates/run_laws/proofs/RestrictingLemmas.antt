@@ -5,49 +5,18 @@ use Rattle.std.specs.List.{AllByRecursion, filter}
 use Rattle.std.proofs.lemmas.Bool.{cases_Bool, cases_eq, cond-true, cond-false, true≢false}
 use Rattle.std.proofs.lemmas.List.Elements.{filter-append}
 use Rattle.lrup_model.specs.Layout.{LayoutValue}
-use Rattle.lrup_model.specs.Event.{History, stream_of, own}
+use Rattle.lrup_model.specs.Event.{History, stream_of}
 use Rattle.lrup_model.specs.History.{IsLegal}
-use Rattle.lrup_model.specs.HistoryLemmas.{own-none, own-all}
-use Rattle.lrup_model.specs.CallerLemmas.{calls_differ}
-use Rattle.lrup_model.specs.RunningLemmas.{own-append}
 use Rattle.lrup_model.specs.Laws.{among}
 use Rattle.lrup_model.specs.RestrictionLemmas.{restriction_legal}
 use Rattle.stream_check.specs.declared.report.Report.{Report}
-use Rattle.stream_check.specs.Judging.{joined}
 use Rattle.stream_check.specs.Laws.{CitedFetched}
 use Rattle.runs.specs.Streams.{Stream, TermsValue, Block, blocks_of, events_in, IsBlockWithin, AreJudged}
-use Rattle.runs.specs.Headline.{AreJudgedIn}
 use Rattle.runs.specs.StreamLemmas.{blocks-same, blocks-other}
 use Rattle.run_laws.specs.GroupLaws.{ClosedIsGroup, OrderedIsGroup, OrderedRestricts}
+use Rattle.run_laws.specs.OwnLemmas.{ordered_judged}
 use Rattle.run_laws.proofs.Places.{judged_fewer}
 use Rattle.run_laws.proofs.GroupLemmas.{inside, is_inside, inside_is, closed_finds}
-
--- a stream's own events are those of its blocks
-own-blocks : (p : LayoutValue) (set : ℕ → Bool) (s : ℕ) (bs : List Block) → AllByRecursion (IsBlockWithin p set) bs
-    → own (events_in bs) s ≡ joined (blocks_of s bs)
-own-blocks p set s [] all = refl
-own-blocks p set s (b ∷ bs) all =
-    elim (cases_eq b.stream s) [
-      | inl mine ↦ own-append b.events (events_in bs) s
-          ∙ ap (λ (k : History). k ++ own (events_in bs) s) (own-all s b.events
-          (subst (λ (t : ℕ). AllByRecursion (λ e. stream_of e ≡ t) b.events) mine all.0.2))
-          ∙ ap (λ (k : History). b.events ++ k) (own-blocks p set s bs all.1) ∙ sym (ap joined (blocks-same b bs s mine))
-      | inr other ↦ own-append b.events (events_in bs) s
-          ∙ ap (λ (k : History). k ++ own (events_in bs) s) (own-none b.events s (calls_differ s b.stream b.events other all.0.2))
-          ∙ own-blocks p set s bs all.1 ∙ sym (ap joined (blocks-other b bs s other))
-    ]
-
--- streams that are judged by their blocks are judged by their own events of them all
-pub ordered_judged : (terms : TermsValue) (all set : ℕ → Bool) (bs : List Block) (s : ℕ) (streams : List Stream) (reports : List Report)
-    → AllByRecursion (IsBlockWithin terms.layout all) bs → AreJudged terms set (λ t events. events ≡ blocks_of t bs) s streams reports
-    → AreJudgedIn terms set (events_in bs) s streams reports
-ordered_judged terms all set bs s [] [] within judged = tt
-ordered_judged terms all set bs s [] (r ∷ rs) within judged = absurd judged
-ordered_judged terms all set bs s (t ∷ ts) [] within judged = absurd judged
-ordered_judged terms all set bs s (t ∷ ts) (r ∷ rs) within judged = (
-  λ member. let j = judged.0 member in (j.0, own-blocks terms.layout all s bs within ∙ ap joined (sym j.1), j.2),
-  ordered_judged terms all set bs (s + 1) ts rs within judged.1,
-)
 
 pub ordered_is_group : ClosedIsGroup → OrderedIsGroup
 ordered_is_group law f terms all set streams reports fits count sub o closed memory =

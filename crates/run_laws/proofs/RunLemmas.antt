@@ -26,7 +26,7 @@ use Rattle.run_laws.specs.GroupLaws.{SerialIsolated, ThreadsRun, SerialRun, Told
 use Rattle.run_laws.specs.GroupLaws.{SameBytesAgree}
 use Rattle.run_laws.proofs.Places.{has_place, judged_at, judged_fewer}
 use Rattle.runs.specs.StreamLemmas.{judged_count}
-use Rattle.run_laws.proofs.RestrictingLemmas.{ordered_judged}
+use Rattle.run_laws.specs.OwnLemmas.{ordered_judged}
 use Rattle.run_laws.specs.ReportLemmas.{only}
 use Rattle.run_laws.proofs.AloneLemmas.{ReadsTo, me, own-one}
 

@@ -16,16 +16,16 @@ use test_support::{Paper, four_clauses, lit};
 
 /// What stream 1 does, and what is wanted then.
 #[derive(Clone, Copy)]
-struct Case {
+pub(super) struct Case {
     /// The identity under which it publishes `2`, which the first two clauses show.
-    publishes: Option<Id>,
+    pub(super) publishes: Option<Id>,
     /// Does it retire that clause?
-    retires: bool,
-    wanted: Except,
+    pub(super) retires: bool,
+    pub(super) wanted: Except,
 }
 
 /// Publishes `2` under an identity of the caller's own, and may retire it.
-fn act<M: ClauseMap>(desk: &mut M, case: &Case)
+pub(super) fn act<M: ClauseMap>(desk: &mut M, case: &Case)
     requires { (M.place desk.old).caller.formula ≡ four }
     ensures { (M.place desk.new).caller ≡ (M.place desk.old).caller }
 {
@@ -60,7 +60,7 @@ fn save_after(
 }
 
 /// The worked formula's map of one stream with two identities, 5 and 6, and its layout.
-fn open_worked(alloc: Global) -> Result<(PlainMap, Layout), Fail>
+pub(super) fn open_worked(alloc: Global) -> Result<(PlainMap, Layout), Fail>
     ensures formula { IfOk result (λ opened. formula_of opened.0 ≡ four) }
     ensures layout { IfOk result (λ opened. opened.1 ≡ opened.0.layout) }
     ensures fits { IfOk result (λ opened. Fits opened.1 four) }

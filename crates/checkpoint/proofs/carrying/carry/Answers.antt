@@ -11,7 +11,8 @@ returns-in-Ok-save_clips-clause-next g c =
     let clips : List ClipValue = c.in_ok-clips.clips.items in
     let formula = rw (c.deref.ensures.value, c.vars.ensures.vars) at c.in-Ok.ensures.formula in
     let within = rw c.deref.ensures.value at c.in-Ok.ensures.within in
-    let text = rw (c.deref-in-Ok.ensures.value, c.vars-in-Ok.ensures.vars, c.next_formula.ensures.stays) at c.in-Ok-save_clips.ensures.saves in (
+    let text = rw (c.deref-in-Ok.ensures.value, c.vars-in-Ok.ensures.vars, c.next_formula.ensures.stays)
+    at c.in-Ok-save_clips.ensures.saves in (
       formula_text c.args.layout.now.vars (entries_of before clips),
       text,
       checkpoint_next (g.M.ClauseMap.place c.args.map.now).caller.formula c.args.layout.now.vars (entries_of before clips) c.in-Ok.next

@@ -21,7 +21,8 @@ push-requires-clause-clause g c =
     let is = c.deref.ensures.value ∙ c.in_ok-spell.ensures.items
     ∙ ap (λ (p : Place). clip_clause p c.clip-item.result) c.loop-clip.invariant.stays
     ∙ ap (clip_clause place) c.clip-item.is in
-    let clause = clause_at_clip place c.args.vars clips c.loop-clip.clip-index c.clip-item.result c.loop-clip-test.true c.requires.clauses in
+    let clause = clause_at_clip place c.args.vars clips c.loop-clip.clip-index c.clip-item.result c.loop-clip-test.true
+    c.requires.clauses in
     subst (λ (n : ℕ). IsFormulaClause n c.deref.result.now) (sym vars)
     (subst (λ (ls : Clause). IsFormulaClause c.args.vars ls) (sym is) clause)
 
@@ -32,7 +33,8 @@ loop-clip-preserved g c =
     ∙ ap (λ (p : Place). clip_clause p c.clip-item.result) c.loop-clip.invariant.stays
     ∙ ap (clip_clause place) c.clip-item.is in
     record {
-      formula = printed_next place c.args.vars c.args.clips.now c.loop-clip.clip-index c.clip-item.result c.loop-clip.formula c.push.new.self
+      formula = printed_next place c.args.vars c.args.clips.now c.loop-clip.clip-index c.clip-item.result c.loop-clip.formula
+          c.push.new.self
           c.loop-clip-test.true c.loop-clip.invariant.formula (rw (← is) c.in_ok-push.ensures.ok);
       event = g.met.M.ClauseMap.moves_append _ _ _ _ _ c.loop-clip.invariant.event c.in_ok-spell.ensures.event;
       stays = c.in_ok-spell.ensures.stays ∙ c.loop-clip.invariant.stays;

@@ -8,7 +8,7 @@ use Rattle.lrup_model.specs.Place.{Caller}
 use Rattle.clause_store.specs.Passes.{PassValue, StoreValue, AreOf, store_of, views}
 use Rattle.runs.specs.Headline.{HaveOneHistory}
 use Rattle.checkpoint.specs.Checkpoints.{IsCheckpoint}
-use Rattle.portfolio.proofs.SavingLemmas.{fetched_so, last_at}
+use Rattle.portfolio.proofs.SavingLemmas.{fetched_so, last_at, other_last}
 use Rattle.portfolio.proofs.saving.save_live.Goals as goal
 
 -- the last of the passes is at the history's formula
@@ -28,12 +28,6 @@ returns-clause-checkpoint g c = λ f h history.
     subst (λ (k : Cnf). IfOk c.save-saved.result (λ _. (bytes : List ℕ)
     × Appends (g.W.Sink.written c.args.sink.now) (g.W.Sink.written c.save-saved.new.sink) bytes × IsCheckpoint k bytes))
     formula c.save-saved.ensures.checkpoint
-
--- the store's passes, of which the last is another
-other_last : (store : StoreValue) (ps : List PassValue) (p q : PassValue) → AreOf store (ps ++ p ∷ []) → store_of q ≡ store_of p
-    → AreOf store (ps ++ q ∷ [])
-other_last store [] p q all same = (same ∙ all.0, tt)
-other_last store (x ∷ ps) p q all same = (all.0, other_last store ps p q all.1 same)
 
 pub meet_all-requires : goal.meet_all-requires
 meet_all-requires g c =
