@@ -184,13 +184,13 @@ fn assert_goes<T: Threads + Wait + Sync + Clock + Abort>(
     words: &[&str],
     row: &Row<'_>,
 ) -> Result<(), Fail> {
+    let done = joined(alloc, row.done)?;
+    let kept = joined(alloc, row.kept)?;
     let mut files = binder_of(alloc, row);
     let ran = run_on(rt, alloc, words, &mut files, 0, 0);
     let wrote = (ran.status, ran.out.as_slice(), ran.err.as_slice());
     let left = (files.shelf.opened.as_str(), files.kept.as_slice());
     let (status, out, err) = row.ends;
-    let done = joined(alloc, row.done)?;
-    let kept = joined(alloc, row.kept)?;
     let ends = (status, out.as_bytes(), err.as_bytes());
     let wanted = (done.as_str(), kept.as_str().as_bytes());
     same(rt, (words, wrote, left), (words, ends, wanted));
@@ -516,6 +516,7 @@ fn rounds_of_other_sizes(rt: HostRuntime) -> Result<(), Fail> {
     assert_rows(&rt, rt.alloc(), &NOT_SIZED)
 }
 
+/// The words of the first are refused once the formula's file was read.
 static REFUSED: [Row; 6] = [
     Row {
         words: &["--rounds=d", "--checkpoint=ck", "f", "1"],
