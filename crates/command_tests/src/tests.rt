@@ -20,6 +20,7 @@ mod checkpoints;
 mod devices;
 mod faults;
 mod readings;
+mod rounds;
 mod rows;
 mod told;
 mod watched;
@@ -76,7 +77,16 @@ struct FailingRead<'a> {
     number: usize,
 }
 
-/// Files, and the paths that were opened or asked for, in order, each followed by a space.
+/// Tells that something was done to a path: the sign of what, the path and a space.
+fn tell(done: &mut String, sign: &str, path: &str) -> Result<(), OpenFault> {
+    if done.push_str(sign).is_err() || done.push_str(path).is_err() || done.push(' ').is_err() {
+        return Err(OpenFault::Memory);
+    }
+    Ok(())
+}
+
+/// Files, and the paths that were opened or asked for, in order, each followed by a space. One that was looked for, and has no file,
+/// has `?` before it.
 #[derive(Drop)]
 struct Shelf<'a> {
     /// At `f`.
@@ -92,7 +102,7 @@ struct Shelf<'a> {
     /// Whether memory is out at each opening.
     is_full: bool,
     /// What is told to those who watch, if anybody does.
-    told: Option<&'a Told>,
+    told: Option<&'a Told<'a>>,
 }
 
 impl<'a> Shelf<'a> {
@@ -126,9 +136,10 @@ impl<'a> Files for Shelf<'a> {
     ghost may_refuse_new = { λ _ _. true };
 
     fn open(&mut self, path: &str) -> Result<OpenFile<'a>, OpenFault> {
-        if self.is_full || self.opened.push_str(path).is_err() || self.opened.push(' ').is_err() {
+        if self.is_full {
             return Err(OpenFault::Memory);
         }
+        tell(&mut self.opened, "", path)?;
         let Some(text) = self.text_at(path) else {
             return Err(OpenFault::NotOpened);
         };
@@ -138,6 +149,14 @@ impl<'a> Files for Shelf<'a> {
         } = self.failing;
         let fails_at = if path == failing { number } else { 0 };
         Ok(OpenFile(Pieces::new(text, self.most, fails_at)))
+    }
+
+    fn open_if_there(&mut self, path: &str) -> Result<Option<OpenFile<'a>>, OpenFault> {
+        if self.text_at(path).is_none() {
+            tell(&mut self.opened, "?", path)?;
+            return Ok(None);
+        }
+        Ok(Some(self.open(path)?))
     }
 
     fn create(&mut self, _path: &str) -> Result<Nowhere, OpenFault> {

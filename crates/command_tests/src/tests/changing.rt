@@ -58,6 +58,10 @@ impl<'a> Files for Changing<'a> {
         Ok(Account(Pieces::new(text, 3, 0)))
     }
 
+    fn open_if_there(&mut self, path: &str) -> Result<Option<Account<'a>>, OpenFault> {
+        Ok(Some(self.open(path)?))
+    }
+
     fn create(&mut self, _path: &str) -> Result<Nowhere, OpenFault> {
         Err(OpenFault::NotOpened)
     }

@@ -63,16 +63,6 @@ struct Folder<'a> {
 /// The one path that may be created.
 const PATH: &str = "ck";
 
-impl Folder<'_> {
-    fn tell(&mut self, sign: char, path: &str) -> Result<(), OpenFault> {
-        let told = &mut self.shelf.opened;
-        if told.push(sign).is_err() || told.push_str(path).is_err() || told.push(' ').is_err() {
-            return Err(OpenFault::Memory);
-        }
-        Ok(())
-    }
-}
-
 impl<'a> Files for Folder<'a> {
     type Input = OpenFile<'a>;
 
@@ -90,8 +80,12 @@ impl<'a> Files for Folder<'a> {
         self.shelf.open(path)
     }
 
+    fn open_if_there(&mut self, path: &str) -> Result<Option<OpenFile<'a>>, OpenFault> {
+        self.shelf.open_if_there(path)
+    }
+
     fn create(&mut self, path: &str) -> Result<Page<'a>, OpenFault> {
-        self.tell('+', path)?;
+        tell(&mut self.shelf.opened, "+", path)?;
         if self.manner.is_full {
             return Err(OpenFault::Memory);
         }
@@ -111,7 +105,7 @@ impl<'a> Files for Folder<'a> {
             text,
             taken: _,
         } = output;
-        if self.tell('=', path).is_err() || self.manner.is_lost {
+        if tell(&mut self.shelf.opened, "=", path).is_err() || self.manner.is_lost {
             return Err(WriteFault);
         }
         self.kept = text.bytes;
@@ -172,7 +166,7 @@ fn assert_leaves<T: Threads + Wait + Sync + Clock + Abort>(
 }
 
 /// The four clauses without the first, and the clause that the stream adds.
-const LESS: &str = "p cnf 2 4
+pub(super) const LESS: &str = "p cnf 2 4
 c id 2
 -1 2 0
 c id 3
@@ -184,10 +178,10 @@ c id 5
 ";
 
 /// All of them: each stands at the place of its identity.
-const ALL: &str = "p cnf 2 5\n1 2 0\n-1 2 0\n1 -2 0\n-1 -2 0\n2 0\n";
+pub(super) const ALL: &str = "p cnf 2 5\n1 2 0\n-1 2 0\n1 -2 0\n-1 -2 0\n2 0\n";
 
 /// Adds a clause, and drops the first.
-const DROPS: &str = "5 2 0 1 2 0\n7 d 1 0\n";
+pub(super) const DROPS: &str = "5 2 0 1 2 0\n7 d 1 0\n";
 
 const UNKNOWN_OF_DROPS: &str = "c stream 1: 1 added, 1 deleted, ended\ns UNKNOWN\n";
 

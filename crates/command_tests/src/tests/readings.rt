@@ -83,6 +83,13 @@ impl<'a> Files for FormulaAlone<'a> {
         })
     }
 
+    fn open_if_there(&mut self, path: &str) -> Result<Option<NotedFile<'a>>, OpenFault> {
+        if path != "f" {
+            return Ok(None);
+        }
+        Ok(Some(self.open(path)?))
+    }
+
     fn create(&mut self, _path: &str) -> Result<Nowhere, OpenFault> {
         Err(OpenFault::NotOpened)
     }

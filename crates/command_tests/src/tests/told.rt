@@ -40,6 +40,10 @@ impl<'a> Files for Told<'a> {
         Ok(Pieces::new(text, 3, 0))
     }
 
+    fn open_if_there(&mut self, path: &str) -> Result<Option<Pieces<'a>>, OpenFault> {
+        Ok(Some(self.open(path)?))
+    }
+
     fn create(&mut self, _path: &str) -> Result<Nowhere, OpenFault> {
         Err(OpenFault::NotOpened)
     }

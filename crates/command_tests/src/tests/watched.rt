@@ -6,42 +6,64 @@ use lrup_text::{Sink, WriteFault};
 use std::alloc::Global;
 use std::process::Abort;
 use std::sync::Wait;
-use std::sync::atomic::{AtomicU64, Ordering};
+use std::sync::atomic::{AtomicU64, AtomicUsize, Ordering};
 use std::thread::Threads;
 use std::time::Clock;
 
 /// How many sinks were made, and how many lines and writes they took.
 #[derive(Drop)]
-pub(super) struct Told {
+pub(super) struct Told<'a> {
     sinks: AtomicU64,
     lines: AtomicU64,
     writes: AtomicU64,
+    /// Lines that are waited for, in order, each in a write of its own.
+    awaited: &'a [&'a str],
+    /// How many of them came.
+    came: AtomicUsize,
 }
 
-impl Told {
-    pub(super) fn new() -> Told {
+impl<'a> Told<'a> {
+    pub(super) fn new(awaited: &'a [&'a str]) -> Told<'a> {
         Told {
             sinks: AtomicU64::new(0),
             lines: AtomicU64::new(0),
             writes: AtomicU64::new(0),
+            awaited,
+            came: AtomicUsize::new(0),
         }
     }
 
-    fn counts(&self) -> (u64, u64, u64) {
+    /// The sinks, lines and writes.
+    pub(super) fn counts(&self) -> (u64, u64, u64) {
         let sinks = self.sinks.load(Ordering::SeqCst);
         let lines = self.lines.load(Ordering::SeqCst);
         (sinks, lines, self.writes.load(Ordering::SeqCst))
+    }
+
+    /// How many came of the lines that were waited for.
+    pub(super) fn came(&self) -> usize {
+        self.came.load(Ordering::SeqCst)
+    }
+
+    fn hear(&self, bytes: &[u8]) {
+        let lines = bytes.iter().filter(|byte| **byte == b'\n').count();
+        self.lines.fetch_add(lines as u64, Ordering::SeqCst);
+        self.writes.fetch_add(1, Ordering::SeqCst);
+        let awaited = self.awaited.get(self.came());
+        if awaited.is_some_and(|line| line.as_bytes() == bytes) {
+            self.came.fetch_add(1, Ordering::SeqCst);
+        }
     }
 }
 
 /// A sink that counts what it takes, where there is a place for the counts.
 #[derive(Clone, Copy)]
 pub(super) struct Ear<'a> {
-    told: Option<&'a Told>,
+    told: Option<&'a Told<'a>>,
 }
 
 impl<'a> Ear<'a> {
-    pub(super) fn new(told: Option<&'a Told>) -> Ear<'a> {
+    pub(super) fn new(told: Option<&'a Told<'a>>) -> Ear<'a> {
         if let Some(told) = told {
             told.sinks.fetch_add(1, Ordering::SeqCst);
         }
@@ -56,9 +78,7 @@ impl Sink for Ear<'_> {
 
     fn write(&mut self, bytes: &[u8]) -> Result<usize, WriteFault> {
         if let Some(told) = self.told {
-            let lines = bytes.iter().filter(|byte| **byte == b'\n').count();
-            told.lines.fetch_add(lines as u64, Ordering::SeqCst);
-            told.writes.fetch_add(1, Ordering::SeqCst);
+            told.hear(bytes);
         }
         Ok(bytes.len())
     }
@@ -91,7 +111,7 @@ fn assert_told<T: Threads + Wait + Sync + Clock + Abort>(
     words: &[&str],
     watched: u64,
 ) {
-    let told = Told::new();
+    let told = Told::new(&[]);
     let mut files = shelf_of(alloc, FOUR, STREAMS);
     files.told = Some(&told);
     let ran = run_on(rt, alloc, words, &mut files, 0, 0);
