@@ -70,6 +70,7 @@ live: $(BUILT) c-and-python ## check: four recorded solvers, line by line throug
 
 checkpoints: $(BUILT) solver ## check: what --checkpoint saves, lrup-chain, and streams that are cut into rounds for it
 	@python3 tests/program_checkpoints.py $(PROGRAM)
+	@python3 tests/program_rounds.py $(PROGRAM)
 	@python3 tests/lrup_chain.py $(PROGRAM)
 	@python3 tests/example_chain.py $(PROGRAM) $(SOLVER)
 
