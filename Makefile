@@ -19,7 +19,7 @@ FORMULA ?= examples/bmc.cnf
 STREAMS ?= $(addprefix examples/bmc-four.,1 2 3 4)
 OPTIONS ?= --tries 1000000
 
-.PHONY: run build install examples live checkpoints demo solver exact solve solver-test filter-test solve-test neighbours sweep
+.PHONY: run build install examples live checkpoints rounds demo solver exact solve solver-test filter-test solve-test neighbours sweep
 .PHONY: leaks instructions audit tables pages test toolchain c-and-python libcadical solve-objects mpicxx
 .PHONY: help try deb dist quick edits
 
@@ -70,9 +70,11 @@ live: $(BUILT) c-and-python ## check: four recorded solvers, line by line throug
 
 checkpoints: $(BUILT) solver ## check: what --checkpoint saves, lrup-chain, and streams that are cut into rounds for it
 	@python3 tests/program_checkpoints.py $(PROGRAM)
-	@python3 tests/program_rounds.py $(PROGRAM)
 	@python3 tests/lrup_chain.py $(PROGRAM)
 	@python3 tests/example_chain.py $(PROGRAM) $(SOLVER)
+
+rounds: $(BUILT) c-and-python ## check: runs in rounds: each end and fault, sizes, pipes, and what is saved
+	@python3 tests/program_rounds.py $(PROGRAM)
 
 demo: build solver ## try: four solvers that share their clauses, and the program beside them
 	@python3 examples/solver/demo.py $(PROGRAM) $(SOLVER)
@@ -178,7 +180,7 @@ edits: toolchain ## check: the edits that the gate leaves out, of CRATE=name or 
 # Side by side, those that take longest first, and two more than there are cores, since most of them wait now and then; what each
 # one prints comes when it has ended.
 TESTS := lrup_solve_rounds sweep filter_mutants lrup_solve lrup_solve_solvers filter_rounds lrup_solve_mpi leaks filter_streams \
-	checkpoints examples solver-test instructions neighbours live
+	checkpoints rounds examples solver-test instructions neighbours live
 SIDE_BY_SIDE := --output-sync=target -j $(shell expr $$(nproc) + 2)
 test: SHELL := /bin/bash
 test: toolchain pages solver exact ## check: the gate, 25 to 100 minutes: every proof, edit and test; has to pass before a push

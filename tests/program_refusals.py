@@ -167,9 +167,9 @@ def checkpoints(serial: List[str], files: Dict[str, Path], folder: Path) -> Iter
 
 def in_rounds(serial: List[str], folder: Path) -> Iterator[Input]:
     """Three rounds to the empty clause, and three that derive less."""
-    for name, proof in ("one", ONE), ("two", TWO), ("unknown", UNKNOWN):
+    for name, proof, more in ("one", ONE, []), ("two", TWO, []), ("unknown", UNKNOWN, []), ("watched", ONE, ["--watch"]):
         whole = " ".join(["three rounds,", name, *serial])
-        yield InRounds(whole, serial or ["--tries", "5000"], proof, folder / whole)
+        yield InRounds(whole, [*(serial or ["--tries", "5000"]), *more], proof, folder / whole)
 
 
 def inputs(folder: Path) -> Iterator[Input]:

@@ -20,7 +20,7 @@ from typing import Any, Callable, Dict, Iterator, List, Mapping, Optional, Seque
 sys.dont_write_bytecode = True
 from checkpoints import MOST_CLAUSES, most_clauses, printed
 from harness import (EXAMPLES, FOUR, LIMIT, Pieces, Ran, Row, Wanted, answered, answers, dimacs, example, held, piped, read_from,
-                     run, run_all, run_by_another, started, waiting, want, with_memory, within, words_given, written)
+                     run, run_all, run_by_another, started, until, waiting, want, with_memory, within, words_given, written)
 from rounds import ONE, SAVED, TWO, Texts, fault, first_words, last, round_files, saved_name, stream_name
 
 WAYS = ["", "--serial"]
@@ -235,6 +235,12 @@ def unopened() -> Iterator[Named]:
                         ("which lead through a file", f"ln -s ../formula/x {name}; ")):
             if number > 1:
                 yield from stopped(number, cause, 5, why, do=do)
+    # Of 4,095 bytes in a path that of round 2's formula has 4,095, or 4,093 and that of its sizes 4,095.
+    for cause, times in ("cannot read sizes", 2041), ("cannot open stream 1", 2040):
+        for way in WAYS:
+            words = [*way.split(), "--rounds", "d" + "/." * times, "formula", stream_name(1)]
+            yield f"{cause}, whose path is too long {way}", Wanted(words, 5, err=fault(2, cause), files=round_files(ONE.texts),
+                                                                   left={saved_name(2): SAVED, saved_name(3): None})
 
 
 def in_the_way() -> Iterator[Named]:
@@ -251,9 +257,10 @@ def in_the_way() -> Iterator[Named]:
                       others={saved_name(5): OTHER})
     given, said = round_files(ONE.texts), fault(1, "cannot create checkpoint")
     for way in WAYS:
-        for folder in "absent", "formula", "d/round-1.stream-1", "absent/d":
-            yield f"the folder '{folder}' {way}", Wanted([*way.split(), "--rounds", folder, "formula", stream_name(1)], 5, err=said,
-                                                         files=given, left={**given, saved_name(2): None, "absent": None})
+        for folder in "absent", "formula", "d/round-1.stream-1", "absent/d", "d" + "/." * 2042:
+            words = [*way.split(), "--rounds", folder, "formula", stream_name(1)]
+            yield f"the folder '{folder[:50]}' {way}", Wanted(words, 5, err=said, files=given,
+                                                              left={**given, saved_name(2): None, "absent": None})
         own = {**given, saved_name(2): FOUR}
         yield f"its own checkpoint for the formula {way}", Wanted([*way.split(), "--rounds", "d", saved_name(2), stream_name(1)], 5,
                                                                   err=said, files=own, left={**own, saved_name(3): None})
@@ -517,6 +524,7 @@ def late(name: str, text: str, seconds: float = 0.3) -> str:
 
 
 def lay(texts: Texts, work: Path) -> None:
+    work.mkdir(exist_ok=True)
     for name, text in round_files(texts).items():
         written(text, work, name)
 
@@ -566,7 +574,6 @@ def forged(forge: Callable[[Path], None], at: str, program: str, way: List[str],
     for texts, out, status in ((TWO.texts, last(3, TWO.said[2], 0), 0),
                                ([TWO.texts[0], [REFUTING_OTHER, ""]], last(2, unproved, 3), 3)):
         folder = work / str(status)
-        folder.mkdir()
         lay(texts, folder)
         held_back = folder / at
         text = held_back.read_bytes() if held_back.exists() else b"2 9 9\n"
@@ -590,6 +597,23 @@ def unended_sizes(size: int, program: str, way: List[str], work: Path) -> None:
         found = run([program, *way, *first_words(ONE.texts)], cwd=work)
         left = waiting(pipe.fileno())
     want((found, left), (Ran("", fault(2, "sizes"), 2), size - 64), "the answer, and how much wasn't read")
+
+
+def killed(program: str, way: List[str], work: Path) -> None:
+    """A run that is killed in round 2 leaves what round 1 saved, and another one goes on with that."""
+    texts, said, saved = TWO
+    lay([texts[0], ["", texts[1][1]]], work)
+    (work / stream_name(2)).unlink()
+    with held(work / stream_name(2)), started([program, *way, *first_words(texts)], cwd=work, **HEARD) as running:
+        until("the checkpoint of round 2 is created", (work / saved_name(3)).exists)
+        running.kill()
+        want(running.communicate(timeout=LIMIT), ("", ""), "what was said")
+    want([(work / saved_name(number)).read_text() for number in (2, 3)], [SAVED, ""], "what is left")
+    lay(texts[1:], work / "next")
+    shutil.move(work / saved_name(2), work / "next/formula")
+    found = run([program, *TRIES.split(), *way, *first_words(texts)], cwd=work / "next")
+    want(found, Ran(last(2, said[2], 0), "", 0), "the answer of the run that goes on")
+    want((work / "next" / saved_name(2)).read_text(), saved[1], "what it saved")
 
 
 # While it goes on.
@@ -692,6 +716,7 @@ def special_rows(way: List[str]) -> Iterator[Row]:
     for name, forge in FORGERIES.items():
         for at in "d/round-2.sizes", stream_name(2), stream_name(2, 2):
             yield f"held back at {at}, and {name}", forged, forge, at
+    yield "killed", killed
     for size in 64, 65, 1000:
         yield f"{size} bytes of sizes in a pipe that stays open", unended_sizes, size
     for proof, literals in (ONE, (7, 6)), (TWO, (7, 6)):

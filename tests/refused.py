@@ -71,6 +71,7 @@ class InRounds(Input):
         self.reports.append(last(self.count, proof.said[-1], self.status))
         self.reached = self.count + (self.status == 3)  # the last round that something is opened of
         self.singles = work / "saved"
+        self.told = 0 if "--watch" not in options else sum(map(len, proof.texts)) + self.count - 1  # lines of --watch
 
     def before(self, number: int, *more: str) -> Saved:
         """What was saved before a round, and what it created itself."""
@@ -132,7 +133,8 @@ class Machine:
         saved = tuple(path.read_text() if path.is_file() else None for path in checkpoints)
         answer = answer._replace(saved=saved if "--rounds" in words else saved[0] if saved else None)
         if "--watch" in words:
-            answer = without_watched_ends(answer, refuse, "--serial" not in words)
+            in_rounds = "--rounds" in words
+            answer = without_lines(answer) if in_rounds else without_watched_ends(answer, refuse, "--serial" not in words)
         return answer, self.mark.exists(), time.monotonic() - began
 
     def threads(self) -> str:
@@ -186,6 +188,12 @@ def without_watched_ends(answer: Answer, refuse: str, mixes: bool) -> Answer:
     if watched == reported or answer.status == 7 and watched > reported or fails and watched < reported:
         return answer._replace(err="".join(line for line in lines if line not in watched))
     return Answer(answer.out, f"watched {sorted(watched)}", None)
+
+
+def without_lines(answer: Answer) -> Answer:
+    """Without the lines of --watch on streams and on rounds, each of them whole."""
+    told = r"^lrupd: (stream \d+: .*|round \d+: \d+ clauses, \d+ literals, paused for \d+ ms)\n"
+    return answer._replace(err=re.sub(told, "", answer.err, flags=re.M))
 
 
 def is_cut(answer: Answer, ample: Answer) -> bool:
@@ -372,7 +380,7 @@ def is_right_in_rounds(kind: str, how: str, number: int, answer: Answer, ample: 
         unread = [given.stopped(place, "cannot read sizes", 5) for place in range(2, given.count + 1)]
         return (answer in [NO_FORMULA._replace(saved=given.before(1)), *unread]
                 or is_failed_stream(answer, "read failed", given, machine))
-    return is_cut(answer, ample) or answer in parts(given, "checkpoint not written")
+    return is_cut(answer, ample) or answer in parts(given, "checkpoint not written") or given.told > 0 and answer == ample
 
 
 def due_in_rounds(kind: str, how: str, given: InRounds) -> Set[str]:
@@ -397,6 +405,8 @@ def complaints_in_rounds(kind: str, how: str, ample: Answer, answers: List[Answe
         yield f"{len(answers)} calls refused, not {len(in_turn(kind, how, given))}"
     for said in due_in_rounds(kind, how, given) - {answer.err for answer in answers}:
         yield f"never said: {said!r}"
+    if kind == "write" and how not in SHORT and answers.count(ample) != given.told:
+        yield f"{answers.count(ample)} writes refused that change nothing, and not {given.told}"
 
 
 # The calls of a run.
