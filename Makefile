@@ -75,6 +75,7 @@ checkpoints: $(BUILT) solver ## check: what --checkpoint saves, lrup-chain, and 
 
 rounds: $(BUILT) c-and-python ## check: runs in rounds: each end and fault, sizes, pipes, and what is saved
 	@python3 tests/program_rounds.py $(PROGRAM)
+	@python3 tests/program_rounds_alone.py $(PROGRAM)
 
 demo: build solver ## try: four solvers that share their clauses, and the program beside them
 	@python3 examples/solver/demo.py $(PROGRAM) $(SOLVER)

@@ -5,9 +5,8 @@
 
 Each row is run by threads and by turns. Rounds end by each verdict, by wrong lines, and by each fault, in the first one and in
 later ones; sizes are spelled in each wrong way; streams and sizes are files and pipes, and what was saved is replaced between two
-rounds. Of recorded streams each file has the bytes that a run with --checkpoint saves of that round. It shows what is off; the
-last line is 'N passed, M failed', and ', K skipped' where the machine doesn't let something be tried. The status is 1 where a row
-failed.
+rounds. It shows what is off; the last line is 'N passed, M failed', and ', K skipped' where the machine doesn't let something be
+tried. The status is 1 where a row failed.
 """
 import re
 import shutil
@@ -19,8 +18,8 @@ from typing import Any, Callable, Dict, Iterator, List, Mapping, Optional, Seque
 
 sys.dont_write_bytecode = True
 from checkpoints import MOST_CLAUSES, most_clauses, printed
-from harness import (EXAMPLES, FOUR, LIMIT, Pieces, Ran, Row, Wanted, answered, answers, dimacs, example, held, piped, read_from,
-                     run, run_all, run_by_another, started, until, waiting, want, with_memory, within, words_given, written)
+from harness import (FOUR, LIMIT, Pieces, Ran, Row, Wanted, answered, answers, dimacs, held, piped, read_from, run, run_all,
+                     run_by_another, started, until, waiting, want, with_memory, within, words_given, written)
 from rounds import ONE, SAVED, TWO, Texts, fault, first_words, last, round_files, saved_name, stream_name
 
 WAYS = ["", "--serial"]
@@ -235,6 +234,9 @@ def unopened() -> Iterator[Named]:
                         ("which lead through a file", f"ln -s ../formula/x {name}; ")):
             if number > 1:
                 yield from stopped(number, cause, 5, why, do=do)
+        for device in "null", "zero":
+            if number > 1:
+                yield from stopped(number, "sizes", 2, f"which are /dev/{device}", do=f"ln -s /dev/{device} {name}; ")
     # Of 4,095 bytes in a path that of round 2's formula has 4,095, or 4,093 and that of its sizes 4,095.
     for cause, times in ("cannot read sizes", 2041), ("cannot open stream 1", 2040):
         for way in WAYS:
@@ -421,6 +423,7 @@ def full() -> Iterator[Named]:
     none, unwritten = 'trap "" XFSZ; ulimit -f 0; ', fault(1, "checkpoint not written")
     texts, said, saved = TWO
     yield from rounds("a full disk", 9, texts, last(1, said[0], 3), unwritten, [""], do=none)
+    yield from rounds("a full disk and a wrong line", 9, [[BAD], [""]], last(1, [BAD_SAID], 3), unwritten, [""], do=none)
     yield from rounds("a full disk, under assumptions", 9, texts, last(1, said[0], 8), unwritten, [""], "--assume cube",
                       {"cube": "-2 0\n"}, do=none)
     refuted = last(1, ["2 added, 0 deleted, ended"], 0)
@@ -659,12 +662,12 @@ def pause(program: str, way: List[str], work: Path) -> None:
     want((len(pauses), 1000 * held_back <= pauses[0] <= most, pauses[1] <= most), (2, True, True), f"{err}the pauses")
 
 
-# Many rounds, and recorded streams.
+# Many rounds.
 
 
-def many(count: int, program: str, way: List[str], work: Path) -> None:
+def many(count: int, limits: str, options: str, program: str, way: List[str], work: Path) -> None:
     """Of x1, and that each variable implies the next one, and not the last: round R derives the next one, and drops what that took.
-    No file stays open, and no memory is kept."""
+    No file stays open, and no memory is kept: there is enough for a few rounds."""
     texts, saved = [], []
     for number in range(1, count):
         clauses = count + 2 - number
@@ -675,36 +678,11 @@ def many(count: int, program: str, way: List[str], work: Path) -> None:
     formula = dimacs(count, [*([-variable, variable + 1] for variable in range(1, count)), [-count], [1]])
     lay(texts, work)
     written(formula, work, "formula")
-    shell = 'ulimit -n 32; exec "$@"'
-    found = answered(program, Wanted([*way, *first_words(texts)], 0, shell=shell), work)
+    words = [*way, *options.split(), *first_words(texts)]
+    found = answered(program, Wanted(words, 0, shell=f'{limits} && exec "$@"'), work)
     want(found, Ran(last(count, [ADDED], 0), "", 0), "the answer")
     left = [(work / saved_name(number)).read_text() for number in range(2, count + 2)]
     want(left, [*saved, ""], "what was saved")
-
-
-def beside_runs(formula: Path, names: Sequence[str], count: int, program: str, way: List[str], work: Path) -> None:
-    """Recorded streams, cut into rounds: what each round saves is what a run with --checkpoint does, to the byte."""
-    cut = run([sys.executable, EXAMPLES / "chain.py", count, formula, work / "d", *map(example, names)])
-    want(cut, Ran("", "", 0), "what chain.py says")
-    for path in (work / "d").glob("*.sizes"):
-        path.unlink()
-    shutil.copy(formula, work / "formula")
-    options = [*TRIES.split(), *way]
-    found = run([program, *options, *first_words([names])], cwd=work)
-    at = work / "formula"
-    for number in range(1, count + 1):
-        streams = [work / stream_name(number, stream) for stream in range(1, len(names) + 1)]
-        alone = run([program, *options, "--checkpoint", work / f"saved-{number}", at, *streams])
-        at = work / saved_name(number + 1)
-        want(at.read_bytes() == (work / f"saved-{number}").read_bytes(), True, f"whether round {number} saves what a run does")
-        want((alone.err, alone.status), ("", 0 if number == count else 3), f"what is said of round {number} alone")
-    want(found, Ran(f"c round {count}\n{alone.out}" if count > 1 else alone.out, "", 0), "the answer")
-
-
-RECORDED = [("four-clause.cnf", ["four-clause.lrup"], (1, 2)), ("pigeonhole.cnf", ["pigeonhole.lrup"], (2, 7)),
-            ("bmc.cnf", ["bmc.lrup"], (3, 9)), ("pigeonhole.cnf", ["pigeonhole-two.1", "pigeonhole-two.2"], (3,)),
-            ("bmc.cnf", [f"bmc-four.{number}" for number in range(1, 5)], (2, 7)),
-            ("two-groups.cnf", [f"two-groups.{number}" for number in range(1, 5)], (3,))]
 
 
 def special_rows(way: List[str]) -> Iterator[Row]:
@@ -725,10 +703,8 @@ def special_rows(way: List[str]) -> Iterator[Row]:
         yield (f"watched, {len(texts[0])}", told, texts, last(3, said[2], 0),
                [*lines_of(said[0]), lines[0], *lines_of(said[1]), lines[1], *lines_of(said[2])])
     yield "paused", pause
-    yield "200 rounds", many, 200
-    for formula, names, found in RECORDED:
-        for count in found if not way or len(names) == 1 else ():
-            yield f"{names[0]} in {count} rounds", beside_runs, example(formula), names, count
+    yield "200 rounds", many, 200, "ulimit -n 32", ""
+    yield "20 rounds in little memory", many, 20, "ulimit -s 8192 && ulimit -v 1000000", "--room 16000000"
 
 
 def rows(program: str) -> Iterator[Row]:
