@@ -514,7 +514,7 @@ def pipes() -> Iterator[Named]:
     for name, wrong in ("nothing", []), ("half", [b"2 9"]), ("too much", [b"2 9 9\n2"]):
         yield from rounds(f"{name} in a pipe of sizes", 2, texts, err=fault(2, "sizes"), saved=saved[:1],
                           pipes={"d/round-2.sizes": wrong})
-    # The writers come late, and the next pipes are made before a stream of the round before is closed.
+    # A writer comes late.
     for name in "d/round-2.sizes", "d/round-3.sizes", *(stream_name(number, stream) for number in (2, 3) for stream in (1, 2)):
         gone = [] if name.endswith("sizes") else [name]
         yield from rounds(f"{name} comes late", 0, texts, end, saved=saved, options=TRIES, do=late(name, "2 9 9"), gone=gone)
