@@ -175,9 +175,9 @@ edits: toolchain ## check: the edits that the gate leaves out, of CRATE=name or 
 
 # The whole gate: the pages; every proof from nothing, each edit that must be refused, each test, and the program as two compilers
 # build it; then, with the program that was built there, the examples, the live run, checkpoints, runs in rounds and chains, the
-# solver's streams and the filter's, mutated proofs, lrup-solve, a proof beside hostile streams, each call of the system refused in turn, of
-# the program and of tests, memory given back, and the instructions that lines take. The last line is rt's own, 'N passed, M
-# failed'.
+# solver's streams and the filter's, mutated proofs, lrup-solve, a proof beside hostile streams, each call of the system refused in
+# turn, of the program and of tests, memory given back, and the instructions that lines take. The last line is rt's own, 'N passed,
+# M failed'.
 # Side by side, those that take longest first, and two more than there are cores, since most of them wait now and then; what each
 # one prints comes when it has ended.
 TESTS := lrup_solve_rounds sweep filter_mutants lrup_solve lrup_solve_solvers filter_rounds lrup_solve_mpi leaks filter_streams \
