@@ -115,7 +115,9 @@ void Run::start_checker(Row wanted, bool saves) {
         words.insert(words.end(), { "--checkpoint", saved_path });
     }
     if (options.proofs) {
-        std::string sizes = std::to_string(wanted.lines) + " " + std::to_string(wanted.room) + "\n";
+        std::string sizes;
+        for (uint64_t number : { LOAD(shared->streams), wanted.lines, wanted.room }) sizes += std::to_string(number) + " ";
+        sizes.back() = '\n';
         std::string unwritten = write_file(shared->record + name_of_round(round) + ".sizes", sizes);
         if (!unwritten.empty()) refuse(unwritten);
     }
