@@ -265,6 +265,30 @@ def folder_removed(work: Path) -> None:
     want_cause(answer, r"^lrupd ended with status [459]$|^engine \d is lost: its filter stopped: cannot open ")
 
 
+def is_whole(path: Path) -> bool:
+    """Whether a formula has as many clauses as its header says."""
+    lines = [line for line in path.read_text().splitlines(True) if line[0] != "c"]
+    return bool(lines) and lines[0].endswith(f" {len(lines) - 1}\n")
+
+
+def forged(work: Path) -> None:
+    """A contradiction stands in the place of what lrupd has saved, before anybody has read that: the filters miss their clauses
+    there. lrupd doesn't read it, and no verdict rests on it."""
+    with Running(["-j", "2", generated("pigeons 11", work)], 1, work, True, FIRST_WORDS=50000) as running:
+        running.process.send_signal(signal.SIGSTOP)
+        running.go_on()
+        number, = running.rounds("sizes")
+        saved, = running.folder.glob(f"*/round-{number}.cnf")
+        until("it is saved", lambda: is_whole(saved))
+        saved.unlink()
+        written("p cnf 2 2\n1 0\n-1 0\n", saved.parent, saved.name)
+        running.process.send_signal(signal.SIGCONT)
+        answer = running.end()
+    want_answer(answer, 0)
+    lost = [re.search(r"lrupd hasn't saved the clause \d+, which the solver has$", line) is not None for line in answer.lost()]
+    want(lost, [True, True], f"why engines are lost in\n{answer.out}")
+
+
 def no_folder(work: Path) -> None:
     answer = solve(["-j", "2", generated("pigeons 11", work)], tested={**SMALL, "FIRST_WORDS": 50000},
                    env_more={"TMPDIR": str(work / "none")})
@@ -380,7 +404,7 @@ def what_happens() -> List[Row]:
                        ("a filter killed in a pause", killed_in_a_pause, ["filter 2"], 20, "engine 2 is lost"),
                        ("all filters killed in a pause", killed_in_a_pause, [f"filter {k}" for k in (1, 2, 3)], 0,
                         "no engine is left"),
-                       ("the folder removed", folder_removed), ("no folder", no_folder), ("a full disk", full),
+                       ("the folder removed", folder_removed), ("a forged formula", forged), ("no folder", no_folder), ("a full disk", full),
                        ("nothing grows", stays_small)]
     rows += [(f"signal {number} in round {at}, pause {pause}", ended_by, number, at, pause) for number in
              (signal.SIGINT, signal.SIGTERM, signal.SIGHUP, signal.SIGKILL) for at, pause in ((3, False), (1, True), (2, True))]
