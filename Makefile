@@ -95,11 +95,11 @@ solve: solve-objects ## build: lrup-solve, from a formula to a proved verdict, a
 	@$(CXX) -std=c++17 $(SOLVE_FLAGS) -Wall -Wextra -DVERSION='"$(VERSION)"' -o $(SOLVE).new $(ALONE) $(SOLVE).objects/*.o -lcadical && \
 	mv $(SOLVE).new $(SOLVE)
 
-# What both look for beside them is there, too: lrupd and lrup-chain.
+# What both look for beside them is there, too: lrupd.
 solve-objects: c-and-python libcadical
 	@mkdir -p $(SOLVE).objects
 	@cd $(SOLVE).objects && $(CC) -std=c11 -D_GNU_SOURCE $(SOLVE_FLAGS) -Wall -Wextra -c $(abspath $(wildcard tools/solve/*.c) $(FILTER))
-	@ln -sfr $(PROGRAM) $(dir $(SOLVE))lrupd && ln -sfr tools/lrup-chain $(dir $(SOLVE))lrup-chain
+	@ln -sfr $(PROGRAM) $(dir $(SOLVE))lrupd
 
 # It isn't installed: it goes with the MPI of where it was built.
 solve-mpi: solve-objects mpicxx ## build: lrup-solve-mpi, the same in several processes on one host or more; wants MPI, too
@@ -185,7 +185,7 @@ TESTS := lrup_solve_rounds sweep filter_mutants lrup_solve lrup_solve_solvers fi
 SIDE_BY_SIDE := --output-sync=target -j $(shell expr $$(nproc) + 2)
 test: SHELL := /bin/bash
 test: toolchain pages solver exact ## check: the gate, 25 to 100 minutes: every proof, edit and test; has to pass before a push
-	@rm -f $(addprefix $(dir $(SOLVE)),lrupd lrup-chain); set -o pipefail; log=$$(mktemp); trap 'rm -f "$$log"' EXIT; SECONDS=0; \
+	@rm -f $(dir $(SOLVE))lrupd; set -o pipefail; log=$$(mktemp); trap 'rm -f "$$log"' EXIT; SECONDS=0; \
 	$(RT) ci | tee "$$log" && proved=$$SECONDS && $(MAKE) --no-print-directory $(SIDE_BY_SIDE) BUILT= MPI= $(TESTS) && \
 	echo "rt ci took $$proved seconds, and the tests of programs $$((SECONDS - proved))" && tail -n 1 "$$log"
 

@@ -1,5 +1,5 @@
 #!/usr/bin/env python3
-"""Cuts recorded streams into the rounds of a chain, for lrup-chain to check.
+"""Cuts recorded streams into rounds, for lrupd --rounds to check.
 
     chain.py ROUNDS FORMULA FOLDER STREAM...
 
@@ -10,7 +10,7 @@ and the sizes of all rounds, and
 
     lrup-chain --tries 1000000 FORMULA FOLDER
 
-checks them. Nobody has to trust this script: what is wrong in a round is told there.
+has lrupd check them. Nobody has to trust this script: what is wrong in a round is told there.
 """
 import sys
 from collections import Counter
@@ -83,9 +83,9 @@ def text_of(line: Line) -> str:
 
 
 def sizes_of(streams: List[List[Line]]) -> str:
-    """The identities that a stream needs, and the literals."""
+    """The streams, the identities that each needs, and the literals."""
     derived = [[line for line in lines if line.kind == "a"] for lines in streams]
-    return f"{max(map(len, derived))} {max(sum(len(line.literals) for line in lines) for lines in derived)}\n"
+    return f"{len(streams)} {max(map(len, derived))} {max(sum(len(line.literals) for line in lines) for lines in derived)}\n"
 
 
 def live(streams: List[List[Line]], count: int) -> List[int]:

@@ -1,11 +1,11 @@
 #!/usr/bin/env python3
-"""Runs examples/chain.py, which cuts streams into the rounds of a chain, and lrup-chain over them, beside one run over the same.
+"""Runs examples/chain.py, which cuts streams into rounds, and lrup-chain over them, beside one run over the same.
 
     example_chain.py PROGRAM SOLVER
 
-Recorded streams and those of the example solver, with imports and deletions, are cut into one to nine rounds; all but the last
-have to end with 's UNKNOWN', and the last one with status 0, and the rounds' additions have to be those of the one run together.
-One run can't have all with the sizes of the largest round. Where a hint is left out the round with that line has to say so, and
+Recorded streams and those of the example solver, with imports and deletions, are cut into one to nine rounds; the last one has to
+end with status 0, and the rounds' additions have to be those of the one run together. A run without rounds can't have all with the
+sizes of the largest round. Where a hint is left out the round with that line has to say so, and
 no round comes after it. It shows what is off; the last line is 'N passed, M failed', and the status is 1 where a chain failed.
 """
 import os
@@ -15,7 +15,8 @@ from pathlib import Path
 from typing import List, NamedTuple, Sequence
 
 sys.dont_write_bytecode = True
-from harness import EXAMPLES, LRUP_CHAIN, ROOT, VERDICTS, Ran, Row, example, generated, run, run_all, want, words_given, written
+from harness import (EXAMPLES, LRUP_CHAIN, ROOT, VERDICTS, Ran, Row, added, example, generated, run, run_all, unwatched, want,
+                     watched_ends, words_given, written)
 
 CHAIN, USING = EXAMPLES / "chain.py", ROOT / "docs" / "USING.md"
 TRIES = ["--tries", "1000000"]
@@ -31,37 +32,34 @@ SOLVED = [("random 170 4", 3, 100, 4), ("pigeons 7", 2, 100, 5), ("order 15", 5,
 
 
 class Chained(NamedTuple):
-    """The reports of a chain's rounds, with how much the streams of each added, what was said beside them, and the status."""
-    reports: List[List[str]]
-    added: List[int]
+    """How many rounds there were, the report of the last one, what was said of the streams of all, and beside that; the status."""
+    rounds: int
+    report: List[str]
+    ends: List[str]
     err: str
     status: object
-
-
-def added(report: str) -> int:
-    return sum(map(int, re.findall(r"^c stream \d+: (\d+) added", report, re.M)))
 
 
 def chain(program: str, count: int, formula: Path, streams: Sequence[Path], options: List[str], work: Path) -> Chained:
     cut = run([sys.executable, CHAIN, count, formula, work / "rounds", *streams])
     want(cut, Ran("", "", 0), "what chain.py says")
-    done = run([LRUP_CHAIN, "--lrupd", program, *options, formula, work / "rounds"])
-    reports = re.split(r"^c round \d+\n", done.out, flags=re.M)[1:]
-    return Chained([report.splitlines() for report in reports], list(map(added, reports)), done.err, done.status)
+    done = run([LRUP_CHAIN, "--lrupd", program, "--watch", *options, formula, work / "rounds"])
+    ends = watched_ends(done.err)
+    return Chained(len(ends) // len(streams), done.out.splitlines(), ends, unwatched(done.err), done.status)
 
 
 def want_refuted(chained: Chained, count: int) -> None:
-    verdicts = ["s UNKNOWN"] * (count - 1) + ["s UNSATISFIABLE"]
-    found = [report[-1] for report in chained.reports], chained.err, chained.status
-    want(found, (verdicts, "", 0), "the verdicts and the status")
+    number = [f"c round {count}"] * (count > 1)
+    found = chained.report[:len(number)], chained.report[-1], chained.rounds, chained.err, chained.status
+    want(found, (number, "s UNSATISFIABLE", count, "", 0), "the number, the verdict and the status")
 
 
 def beside_one_run(program: str, formula: Path, streams: Sequence[Path], count: int, work: Path) -> None:
-    whole = run([program, *TRIES, formula, *streams])
-    want((whole.err, whole.status), ("", 0), "the run in one piece")
+    whole = run([program, *TRIES, "--watch", formula, *streams])
+    want((unwatched(whole.err), whole.status), ("", 0), "the run in one piece")
     chained = chain(program, count, formula, streams, TRIES, work)
     want_refuted(chained, count)
-    want(sum(chained.added), added(whole.out), "additions of all runs")
+    want(added(chained.ends), added(watched_ends(whole.err)), "additions of all rounds")
 
 
 def solved(program: str, solver: str, words: str, streams: int, share: int, count: int, work: Path) -> None:
@@ -71,11 +69,11 @@ def solved(program: str, solver: str, words: str, streams: int, share: int, coun
 
 
 def too_much_for_one_run(program: str, place: int, fault: str, count: int, work: Path) -> None:
-    """With the sizes that the rounds have the chain goes through, and one run with the largest of them stops: by turns, so that no
+    """With the sizes that the rounds have they go through, and one run with the largest of them stops: by turns, so that no
     stream is given up before one is full."""
     formula, streams = example("bmc.cnf"), list(map(example, FOUR_SOLVERS))
     want_refuted(chain(program, count, formula, streams, TRIES, work), count)
-    sizes = [path.read_text().split()[place] for path in (work / "rounds").glob("*.sizes")]
+    sizes = [path.read_text().split()[1 + place] for path in (work / "rounds").glob("*.sizes")]
     whole = run([program, "--serial", ("--lines", "--room")[place], max(sizes, key=int), formula, *streams])
     want((len(sizes), whole.status, fault in whole.out), (count, 3, True), f"{whole.out}the run in one piece")
 
@@ -89,32 +87,28 @@ def wrong_step(program: str, at: int, bad: int, work: Path) -> None:
     lines[at] = " ".join([*words[:end + 1], "0"]) + "\n"
     chained = chain(program, 3, example("bmc.cnf"), [written("".join(lines), work, "stream")], TRIES, work)
     before = [len(lines) * number // 3 for number in range(bad)]
-    said = f"lrup-chain: round {bad}: not all streams ended\n"
-    want((len(chained.reports), chained.err, chained.status), (bad, said, 3), "the rounds, what is said, and the status")
-    found = re.search(r"bad line (\d+) \(no conflict\)$", chained.reports[-1][0])
-    want(found and int(found[1]), at - before[-1] + 1, f"{chained.reports[-1]}: the bad line")
-    want([report[-1] for report in chained.reports], ["s UNKNOWN"] * bad, "the verdicts")
+    want((chained.rounds, chained.err, chained.status), (bad, "", 3), "the rounds, what is said, and the status")
+    found = re.search(r"bad line (\d+) \(no conflict\)$", chained.report[-2])
+    want(found and int(found[1]), at - before[-1] + 1, f"{chained.report}: the bad line")
 
 
 def under_assumptions(program: str, work: Path) -> None:
     """The last round has status 8."""
     options = ["--assume", str(example("assumed.cube"))]
     chained = chain(program, 2, example("assumed.cnf"), [example("assumed.lrup")], options, work)
-    verdicts = [report[-1] for report in chained.reports]
-    want((verdicts, chained.status), ([VERDICTS[3], VERDICTS[8]], 8), "the verdicts and the status")
+    want((chained.rounds, chained.report[-1], chained.status), (2, VERDICTS[8], 8), "the rounds, the verdict and the status")
 
 
 def never_derived(program: str, work: Path) -> None:
     """Streams that cite a clause of a stream that isn't there."""
     chained = chain(program, 3, example("bmc.cnf"), [example("bmc-four.1"), Path("/dev/null")], ["--tries", "10"], work)
-    want((len(chained.reports), chained.status, "missing" in chained.reports[-1][0]), (1, 3, True), f"{chained.reports}: the end")
+    want((chained.rounds, chained.status, "missing" in chained.report[0]), (1, 3, True), f"{chained.report}: the end")
 
 
 def in_using(program: str, work: Path) -> None:
-    """USING's example has the reports that its streams have in two rounds."""
+    """USING's example has the report of what its streams come to in two rounds."""
     chained = chain(program, 2, example("pigeonhole.cnf"), list(map(example, TWO)), TRIES, work)
-    lines = [line for number, report in enumerate(chained.reports, 1) for line in (f"c round {number}", *report)]
-    want("".join(f"    {line}\n" for line in lines) in USING.read_text(), True, f"{lines}: whether USING has them")
+    want("".join(f"    {line}\n" for line in chained.report) in USING.read_text(), True, f"{chained.report}: whether USING has it")
 
 
 def rows(program: str, solver: str) -> List[Row]:

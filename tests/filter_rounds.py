@@ -1,14 +1,14 @@
 #!/usr/bin/env python3
-"""Runs the filter with --rounds and lrup-chain beside it, with rows that are so small that proofs take many rounds.
+"""Runs the filter with --rounds and lrupd --rounds beside it, with rows that are so small that proofs take many rounds.
 
     filter_rounds.py PROGRAM
 
-Recorded proofs in each form, and those of CaDiCaL and CryptoMiniSat where they are on the PATH: each chain has to end with status 0,
-with as many additions as the proof has, and leave nothing. Then proofs that are cut, that have a wrong line, or go on behind the
-empty clause; formulas without clauses, or with no room in a row; folders that aren't empty; and either side killed at any time.
-Neither may wait for the other for ever. The filter is also built with -fsanitize=address,undefined, where the compiler can. It shows
-what is off; the last line is 'N passed, M failed', and ', K skipped' where something isn't there. The status is 1 where a run
-failed.
+Recorded proofs in each form, and those of CaDiCaL and CryptoMiniSat where they are on the PATH: each run has to end with status 0,
+with as many additions as the proof has, and leave nothing but an empty file. Then proofs that are cut, that have a wrong line, or go
+on behind the empty clause; formulas without clauses, or with no room in a row; folders that aren't empty; and either side killed at
+any time. Neither may wait for the other for ever. The filter is also built with -fsanitize=address,undefined, where the compiler can.
+It shows what is off; the last line is 'N passed, M failed', and ', K skipped' where something isn't there. The status is 1 where a
+run failed.
 """
 import contextlib
 import fcntl
@@ -23,37 +23,35 @@ import termios
 import threading
 import time
 from pathlib import Path
-from typing import IO, Dict, Iterator, List, NamedTuple, Optional, Sequence, Tuple, Union
+from typing import IO, Dict, Iterator, List, NamedTuple, Optional, Sequence, Set, Tuple, Union
 
 sys.dont_write_bytecode = True
-from harness import (FILTER, FOUR, LIMIT, LRUP_CHAIN, SANITIZE, SANITIZED, SANITIZING, Failure, Row, Skipped, dimacs, example,
-                     generated, is_sanitizing, piped, run, run_all, sanitized_filter, started, until, want, words_given, written)
+from harness import (FILTER, FOUR, LIMIT, LRUP_CHAIN, SANITIZE, SANITIZED, SANITIZING, Failure, Row, Skipped, added, dimacs,
+                     example, generated, is_sanitizing, piped, report, run, run_all, sanitized_filter, started, until, unwatched,
+                     want, watched_ends, words_given, written)
 from proof_forms import FORMS, Step, read_formula, read_steps
 from solving import in_place_of_lrupd, of_process
 
 PROGRAM, = words_given(__doc__)
 Text = Union[str, bytes]
 NO_ROOM = "the clauses that the solver has leave no room in a row of {} bytes: --memory says how large it is"
-GONE = "the reader of standard output, which runs lrup-chain, has ended before it read "
-NOT_ENDED = "lrup-chain: round {}: not all streams ended\n"
+GONE = "the reader of standard output, which runs lrupd, has ended before it read "
 
 
-class Chained(NamedTuple):
-    """The reports of a chain's rounds, what it said beside them, its status; and what the filter said, with its status."""
-    reports: List[List[str]]
+class Checked(NamedTuple):
+    """What lrupd says of each round's stream, its report, what else it says, its status; and what the filter says, with its status."""
+    rounds: List[str]
+    out: str
     said: str
     status: Optional[int]
     filter_said: str
     filter_status: Optional[int]
 
     def added(self) -> int:
-        return sum(int(found) for report in self.reports for found in re.findall(r": (\d+) added", report[0]))
+        return added(self.rounds)
 
-    def ends(self) -> List[str]:
-        return [report[0].split(" deleted, ")[1] for report in self.reports]
-
-    def verdicts(self) -> List[str]:
-        return [report[-1] for report in self.reports]
+    def ends(self) -> Set[str]:
+        return {words.split(" deleted, ")[1] for words in self.rounds}
 
 
 @contextlib.contextmanager
@@ -73,38 +71,42 @@ def end_of(running: "subprocess.Popen[bytes]") -> Tuple[str, Optional[int]]:
     return running.stderr.read().decode(), status
 
 
-def chain_beside(running: "subprocess.Popen[bytes]", formula: Path, work: Path, lrupd: object = PROGRAM) -> Chained:
-    """The chain begins when the filter says that it may, and has the filter's standard output, which ends with it."""
+def lrupd_words(formula: Path) -> List[object]:
+    return ["--rounds", "d", formula, "d/round-1.stream-1"]
+
+
+def check_beside(running: "subprocess.Popen[bytes]", formula: Path, work: Path, lrupd: object = PROGRAM) -> Checked:
+    """lrupd begins when the filter says that it may, and has the filter's standard output, which ends with it. Its report is that of
+    the last round."""
     assert running.stdout
     ready = running.stdout.readline()
     if not ready:
-        return Chained([], "", None, *end_of(running))
+        return Checked([], "", "", None, *end_of(running))
     want(ready, b"d/round-1.stream-1\n", "the line that the filter writes")
-    done = run([LRUP_CHAIN, "--lrupd", lrupd, formula, "d"], cwd=work, stdin=running.stdout)
-    reports = re.split(r"^c round \d+\n", done.out, flags=re.M)[1:]
-    return Chained([report.splitlines() for report in reports], done.err, done.status, *end_of(running))
+    done = run([lrupd, "--watch", *lrupd_words(formula)], cwd=work, stdin=running.stdout)
+    rounds = watched_ends(done.err)
+    if rounds:
+        number = f"c round {len(rounds)}\n" * (len(rounds) > 1)
+        want(done.out, number + report(rounds[-1:], done.status or 0), "the report of the last round")
+    return Checked(rounds, done.out, unwatched(done.err), done.status, *end_of(running))
 
 
-def chain(formula: Path, proof: Text, words: Sequence[object], work: Path, program: Path = FILTER, lrupd: object = PROGRAM) -> Chained:
+def check(formula: Path, proof: Text, words: Sequence[object], work: Path, program: Path = FILTER,
+          lrupd: object = PROGRAM) -> Checked:
     with open(written(proof, work, "a proof"), "rb") as file, filtering([*words, formula], work, file, program) as running:
-        return chain_beside(running, formula, work, lrupd)
-
-
-def before_lrupd(body: str, work: Path) -> Path:
-    """A program that does this, and goes on as lrupd."""
-    return in_place_of_lrupd(f'{body}\nexec {shlex.quote(PROGRAM)} "$@"', work)
+        return check_beside(running, formula, work, lrupd)
 
 
 def left(work: Path) -> List[str]:
     return sorted(os.listdir(work / "d"))
 
 
-def want_refuted(chained: Chained, least: int, most: int, work: Path) -> None:
-    """In so many rounds, and nothing is left."""
-    count = len(chained.reports)
-    found = chained.verdicts(), set(chained.ends()), chained[1:]
-    want(found, (["s UNKNOWN"] * (count - 1) + ["s UNSATISFIABLE"], {"ended"}, ("", 0, "", 0)), "the verdicts, and what is said")
-    want((least <= count <= most, left(work)), (True, []), f"{count} rounds, from {least} to {most}, and what is left")
+def want_refuted(checked: Checked, least: int, most: int, work: Path) -> None:
+    """In so many rounds. What is left is what lrupd would have saved."""
+    count = len(checked.rounds)
+    want((checked.ends(), checked[2:]), ({"ended"}, ("", 0, "", 0)), "the ends, and what is said")
+    want((least <= count <= most, left(work)), (True, [f"round-{count + 1}.cnf"]), f"{count} rounds, from {least} to {most}, and files")
+    want((work / "d" / f"round-{count + 1}.cnf").read_text(), "", "the file that is left")
 
 
 # Proofs that refute.
@@ -138,11 +140,11 @@ def proof_of(formula: str, stream: str, form: str) -> Tuple[bytes, str, int]:
 def recorded(name: str, stream: str, memory: str, least: int, most: int, form: str, told: bool, program: Path, work: Path) -> None:
     proof, word, count = proof_of(name, stream, form)
     words = ["--memory", memory, *(["--format", word] if told else [])]
-    chained = chain(example(name), proof, words, work, program)
-    if not told and form.startswith("binary") and "--format" in chained.filter_said:
-        return want((chained.filter_status, chained.status, chained.added()), (1, 3, 0), "the end, where the form isn't clear")
-    want_refuted(chained, least, most, work)
-    want(chained.added(), count, "additions of all rounds")
+    checked = check(example(name), proof, words, work, program)
+    if not told and form.startswith("binary") and "--format" in checked.filter_said:
+        return want((checked.filter_status, checked.status, checked.added()), (1, 3, 0), "the end, where the form isn't clear")
+    want_refuted(checked, least, most, work)
+    want(checked.added(), count, "additions of all rounds")
 
 
 # A solver's command, the form where it has to be said, what is generated, the memory, and the rounds.
@@ -165,7 +167,7 @@ def solved(command: str, form: str, words: str, memory: Optional[str], least: in
         if not live:
             want(solving.wait(LIMIT), 20, "the solver's status")
         with filtering(given, work) as running:
-            want_refuted(chain_beside(running, formula, work), least, most, work)
+            want_refuted(check_beside(running, formula, work), least, most, work)
         want(solving.wait(LIMIT), 20, "the solver's status")
 
 
@@ -173,29 +175,31 @@ def behind(work: Path) -> None:
     """What comes behind the empty clause needs no round, and is looked at."""
     formula = written(FOUR, work)
     proof = "2 0\n0\n" + "1 2 0\n" * 1000
-    want_refuted(chain(formula, proof, ["--memory", "1K"], work), 1, 1, work)
-    chained = chain(formula, proof + "3 0\n", ["--memory", "1K"], work)
-    want((chained.status, chained.filter_status, chained.filter_said),
+    want_refuted(check(formula, proof, ["--memory", "1K"], work), 1, 1, work)
+    (work / "d" / "round-2.cnf").unlink()
+    checked = check(formula, proof + "3 0\n", ["--memory", "1K"], work)
+    want((checked.status, checked.filter_status, checked.filter_said),
          (0, 1, "exact: line 1003: a variable that the formula doesn't have\n"), "the end of one with a wrong line there")
 
 
 def rows_grow(work: Path) -> None:
-    """The first one is small, and each next one has room for twice as much."""
+    """The first one is for clauses of 16 literals, and takes 2^20 words with one for each clause, if these have half as many; each
+    next one is for those that there were, 200 at most, and takes twice as many."""
     literals = list(range(3, 1003))
     formula = written(dimacs(1002, [[1, 2], [-1, 2], [1, -2], [-1, -2], literals]), work)
     text = " ".join(map(str, literals))
     proof = "".join(f"{number} {text} 0 5 0\n{number} d {number} 0\n" for number in range(6, 3206))
-    lrupd = before_lrupd('echo "$2 $4" >> sizes', work)
-    want_refuted(chain(formula, proof + "3206 2 0 1 2 0\n3207 0 3206 3 4 0\n", [], work, lrupd=lrupd), 3, 3, work)
-    found = [sum(map(int, line.split())) for line in (work / "sizes").read_text().splitlines()]
-    want(found, [1 << 20, 1 << 21, 1 << 22], "lines and room of the rounds")
+    checked = check(formula, proof + "3206 2 0 1 2 0\n3207 0 3206 3 4 0\n", [], work)
+    want_refuted(checked, 3, 3, work)
+    rooms = [words - int(words / (1 + length / 2)) for words, length in ((1 << 20, 16), (1 << 21, 200))]
+    fit = [room // len(literals) for room in rooms]
+    want([added([words]) for words in checked.rounds], [*fit, 3202 - sum(fit)], "additions of the rounds")
 
 
 def few_lines(formula: str, proof: str, status: int, said: str, work: Path) -> None:
-    chained = chain(written(formula, work), proof, [], work)
-    want((chained.verdicts(), chained.status, chained.filter_said), (["s UNSATISFIABLE" if status == 0 else "s UNKNOWN"], status, said),
-         "the answer")
-    want(left(work), [] if status == 0 else ["round-2.cnf"], "what is left")
+    checked = check(written(formula, work), proof, [], work)
+    want((len(checked.rounds), checked.status, checked.filter_said), (1, status, said), "the answer")
+    want(left(work), ["round-2.cnf"], "what is left")
 
 
 # Proofs that don't.
@@ -205,13 +209,13 @@ def cut(parts: int, form: str, work: Path) -> None:
     """All that is whole is checked; the last round has status 3."""
     proof, word, count = proof_of("bmc.cnf", "bmc.lrup", form)
     whole = proof[:len(proof) * parts // 10]
-    chained = chain(example("bmc.cnf"), whole, ["--memory", "48K", "--format", word], work)
-    rounds = len(chained.reports)
-    want((set(chained.verdicts()), set(chained.ends()), chained.said, chained.status), ({"s UNKNOWN"}, {"ended"}, "", 3), "the end")
-    want((1 < rounds < 50, 0 < chained.added() < count, left(work)), (True, True, [f"round-{rounds + 1}.cnf"]),
-         f"{rounds} rounds, {chained.added()} additions, and what is left")
-    if chained.filter_said:
-        want((chained.filter_status, "the proof ends within a step" in chained.filter_said), (1, True), chained.filter_said)
+    checked = check(example("bmc.cnf"), whole, ["--memory", "48K", "--format", word], work)
+    rounds = len(checked.rounds)
+    want((checked.ends(), checked.said, checked.status), ({"ended"}, "", 3), "the end")
+    want((1 < rounds < 50, 0 < checked.added() < count, left(work)), (True, True, [f"round-{rounds + 1}.cnf"]),
+         f"{rounds} rounds, {checked.added()} additions, and what is left")
+    if checked.filter_said:
+        want((checked.filter_status, "the proof ends within a step" in checked.filter_said), (1, True), checked.filter_said)
 
 
 def wrong(form: str, at: int, work: Path) -> None:
@@ -221,40 +225,40 @@ def wrong(form: str, at: int, work: Path) -> None:
     before = make(formula, steps[:at])
     place = f"byte {len(b''.join(before)) + 1}" if form.startswith("binary") else f"line {len(before) + 1}"
     steps[at:at] = [Step("a", steps[at].identity, [1], [])]
-    chained = chain(example("bmc.cnf"), b"".join(make(formula, steps)), ["--memory", "48K", "--format", word], work)
-    want((chained.status, set(chained.ends()), chained.filter_status), (3, {"ended"}, 1), "the end")
+    checked = check(example("bmc.cnf"), b"".join(make(formula, steps)), ["--memory", "48K", "--format", word], work)
+    want((checked.status, checked.ends(), checked.filter_status), (3, {"ended"}, 1), "the end")
     count = sum(step.kind == "a" for step in steps[:at])
-    want((chained.added(), len(chained.reports) > 2), (count, True), "additions before it, in more than two rounds")
-    if not chained.filter_said.startswith(f"exact: {place}: no conflict"):
-        raise Failure(f"wanted a word on {place}, and not\n{chained.filter_said}")
+    want((checked.added(), len(checked.rounds) > 2), (count, True), "additions before it, in more than two rounds")
+    if not checked.filter_said.startswith(f"exact: {place}: no conflict"):
+        raise Failure(f"wanted a word on {place}, and not\n{checked.filter_said}")
 
 
 def no_room(work: Path) -> None:
     """At the beginning, for what is carried over, and for one clause."""
-    chained = chain(example("bmc.cnf"), "", ["--memory", "2K"], work)
+    checked = check(example("bmc.cnf"), "", ["--memory", "2K"], work)
     said = "exact: the formula leaves no room in a row of 2000 bytes: --memory says how large it is\n"
-    want((chained, left(work)), (Chained([], "", None, said, 1), []), "the end")
+    want((checked, left(work)), (Checked([], "", "", None, said, 1), []), "the end")
     proof = "".join(line for line in example("bmc.lrup").read_text().splitlines(True) if " d " not in line)
-    chained = chain(example("bmc.cnf"), proof, ["--memory", "32K"], work)
-    found = re.fullmatch(r"exact: line (\d+): " + NO_ROOM.format(32000) + "\n", chained.filter_said)
-    want((chained.status, chained.filter_status, found and int(found[1])), (3, 1, chained.added() + 1), chained.filter_said)
+    checked = check(example("bmc.cnf"), proof, ["--memory", "32K"], work)
+    found = re.fullmatch(r"exact: line (\d+): " + NO_ROOM.format(32000) + "\n", checked.filter_said)
+    want((checked.status, checked.filter_status, found and int(found[1])), (3, 1, checked.added() + 1), checked.filter_said)
 
 
 def no_room_for_one(work: Path) -> None:
     literals = " ".join(map(str, range(1, 201)))
     formula = written(f"p cnf 201 2\n{literals} 201 0\n-201 0\n", work)
-    chained = chain(formula, f"{literals} 0\n", ["--memory", "3K"], work)
+    checked = check(formula, f"{literals} 0\n", ["--memory", "3K"], work)
     said = "exact: line 1: a clause of 200 literals has no room in the row: --memory says how large it is\n"
-    want((chained.status, chained.filter_status, chained.filter_said), (3, 1, said), "the end")
+    want((checked.status, checked.filter_status, checked.filter_said), (3, 1, said), "the end")
     shutil.rmtree(work / "d")
-    want_fits = chain(formula, f"{literals} 0\n", ["--memory", "5K"], work)
-    want((want_fits.added(), want_fits[1:]), (1, ("", 3, "", 0)), "with more memory")
+    fits = check(formula, f"{literals} 0\n", ["--memory", "5K"], work)
+    want((fits.added(), fits[2:]), (1, ("", 3, "", 0)), "with more memory")
 
 
 def imported(work: Path) -> None:
     """As for lrup-solve, of a solver that is alone."""
-    chained = chain(written(FOUR, work), "1 i 1 2 0\n", [], work)
-    want((chained.status, chained.filter_said), (3, "exact: line 1: an import, of a solver that shares nothing\n"), "the end")
+    checked = check(written(FOUR, work), "1 i 1 2 0\n", [], work)
+    want((checked.status, checked.filter_said), (3, "exact: line 1: an import, of a solver that shares nothing\n"), "the end")
 
 
 # The folder, and words.
@@ -264,22 +268,22 @@ def in_the_way(name: str, work: Path) -> None:
     """Nothing is touched."""
     (work / "d").mkdir()
     path = written("mine", work / "d", name)
-    chained = chain(written(FOUR, work), "0\n", [], work)
+    checked = check(written(FOUR, work), "0\n", [], work)
     said = f"exact: --rounds takes a folder without files of rounds; there is d/{name}\n"
-    want((chained, path.read_text(), left(work)), (Chained([], "", None, said, 1), "mine", [name]), "the end, and the file")
+    want((checked, path.read_text(), left(work)), (Checked([], "", "", None, said, 1), "mine", [name]), "the end, and the file")
 
 
 def beside_others(work: Path) -> None:
     """A folder that is there, with other files, one of them the formula."""
     (work / "d").mkdir()
     formula = written(FOUR, work / "d", "formula of round-1")
-    chained = chain(formula, "2 0\n0\n", [], work)
-    want((chained[1:], left(work)), (("", 0, "", 0), ["formula of round-1"]), "the end, and what is left")
+    checked = check(formula, "2 0\n0\n", [], work)
+    want((checked[2:], left(work)), (("", 0, "", 0), ["formula of round-1", "round-2.cnf"]), "the end, and what is left")
 
 
 def no_folder(work: Path) -> None:
     formula = written(FOUR, work, "d")
-    want(chain(formula, "0\n", [], work)[3:], ("exact: cannot read the folder d\n", 1), "where a file has the name")
+    want(check(formula, "0\n", [], work)[4:], ("exact: cannot read the folder d\n", 1), "where a file has the name")
     done = run([FILTER, "--rounds", "a/b", formula], cwd=work)
     want(done[:], ("", "exact: cannot make the folder a/b\n", 1), "where the folder above isn't there")
 
@@ -309,27 +313,23 @@ def gone(number: int) -> str:
     return GONE + f"d/round-{number}.stream-1\n"
 
 
-def chain_ends(number: int, body: str, status: int, said: str, awaited: int, work: Path) -> None:
-    """In this round, for a reason of its own. The filter hears of it while it waits at the FIFO of that round or the next one."""
+def lrupd_ends(body: str, status: int, awaited: int, work: Path) -> None:
+    """In round 1, for a reason of its own. The filter hears of it while it waits at the FIFO of that round or the next one."""
     proof, word, _ = proof_of("bmc.cnf", "bmc.lrup", "binary DRAT")
-    lrupd = before_lrupd(f"for stream; do :; done; case $stream in */round-{number}.stream-1) {body} ;; esac", work)
-    chained = chain(example("bmc.cnf"), proof, ["--memory", "48K", "--format", word], work, lrupd=lrupd)
-    found = chained.said.splitlines()[-1:], chained.status, chained.filter_status, len(chained.reports)
-    want(found, ([said], status, 1, number - (status != 3)), "the ends")
-    if not re.fullmatch("exact: byte [0-9]+: " + gone(awaited), chained.filter_said):
-        raise Failure(f"wanted '{gone(awaited)}', and not\n{chained.filter_said}")
-    want([name for name in left(work) if not name.endswith(".cnf")], [], "files that are left")
+    lrupd = in_place_of_lrupd(f"for stream; do :; done; {body}", work)
+    checked = check(example("bmc.cnf"), proof, ["--memory", "48K", "--format", word], work, lrupd=lrupd)
+    want((checked.status, checked.filter_status), (status, 1), "the ends")
+    if not re.fullmatch("exact: (byte [0-9]+: )?" + gone(awaited), checked.filter_said):
+        raise Failure(f"wanted '{gone(awaited)}', and not\n{checked.filter_said}")
+    want(left(work), [], "files that are left")
 
 
 class Sides(NamedTuple):
-    """The filter at a pipe that stays open, in the middle of a round, and lrup-chain beside it."""
+    """The filter at a pipe that stays open, in the middle of a round, and lrupd beside it."""
     running: "subprocess.Popen[bytes]"
-    chaining: "subprocess.Popen[str]"
+    checking: "subprocess.Popen[str]"
     pipe: IO[bytes]
     rest: bytes
-
-    def lrupd(self) -> int:
-        return int(Path(f"/proc/{self.chaining.pid}/task/{self.chaining.pid}/children").read_text())
 
     def go_on(self) -> None:
         """The rest of the proof, as far as anybody reads it."""
@@ -339,9 +339,9 @@ class Sides(NamedTuple):
         threading.Thread(target=write, daemon=True).start()
 
     def ends(self) -> Tuple[str, Optional[int], str, Optional[int]]:
-        """What the chain says last, its status, what the filter says, and its status."""
-        _, said = self.chaining.communicate(timeout=LIMIT)
-        return (said.splitlines() or [""])[-1], self.chaining.returncode, *end_of(self.running)
+        """What lrupd says, its status, what the filter says, and its status."""
+        _, said = self.checking.communicate(timeout=LIMIT)
+        return said, self.checking.returncode, *end_of(self.running)
 
 
 def waiting_in(pipe: IO[bytes]) -> int:
@@ -351,8 +351,7 @@ def waiting_in(pipe: IO[bytes]) -> int:
 def is_on(pipe: IO[bytes], work: Path) -> bool:
     """All is read, and the third round or a later one hasn't ended."""
     time.sleep(0.05)
-    names = left(work)
-    return waiting_in(pipe) == 0 and "round-2.cnf" not in names and all(name.endswith(".cnf") for name in names)
+    return waiting_in(pipe) == 0 and [int(re.sub(r"round-(\d+)\.cnf|.*", r"\1", name) or 0) > 3 for name in left(work)] == [True]
 
 
 @contextlib.contextmanager
@@ -364,39 +363,22 @@ def in_a_round(work: Path) -> Iterator[Sides]:
             open(path, "wb", buffering=0) as pipe:
         assert running.stdout
         want(running.stdout.readline(), b"d/round-1.stream-1\n", "the line that the filter writes")
-        with started([LRUP_CHAIN, "--lrupd", PROGRAM, example("bmc.cnf"), "d"], cwd=work, stdin=running.stdout,
-                     stdout=subprocess.DEVNULL, stderr=subprocess.PIPE, text=True) as chaining:
+        with started([PROGRAM, *lrupd_words(example("bmc.cnf"))], cwd=work, stdin=running.stdout, stdout=subprocess.DEVNULL,
+                     stderr=subprocess.PIPE, text=True) as checking:
             pipe.write(proof[:half])
             until("a round is on", lambda: all(is_on(pipe, work) for _ in range(5)))
-            yield Sides(running, chaining, pipe, proof[half:])
-
-
-def want_told(filter_said: str, can_write: bool) -> None:
-    """Nobody will read the next stream. One whose lrupd was killed can't be written, or was written just before that."""
-    unwritten = "" if can_write else "cannot write the stream: Broken pipe|"
-    if not re.fullmatch(rf"exact: ({unwritten}byte \d+: {GONE}d/round-\d+\.stream-1)\n", filter_said):
-        raise Failure(f"what the filter says: {filter_said}")
-
-
-def chain_killed(lrupd_too: bool, work: Path) -> None:
-    with in_a_round(work) as sides:
-        lrupd = sides.lrupd()
-        os.kill(sides.chaining.pid, signal.SIGKILL)
-        if lrupd_too:
-            os.kill(lrupd, signal.SIGKILL)
-        sides.go_on()
-        said, status, filter_said, filter_status = sides.ends()
-    want((status, filter_status), (-signal.SIGKILL, 1), f"the statuses, after\n{said}\n{filter_said}")
-    want_told(filter_said, not lrupd_too)
+            yield Sides(running, checking, pipe, proof[half:])
 
 
 def lrupd_killed(work: Path) -> None:
+    """Nobody will read the next stream. This one can't be written, or was written just before that."""
     with in_a_round(work) as sides:
-        os.kill(sides.lrupd(), signal.SIGKILL)
+        sides.checking.kill()
         sides.go_on()
         said, status, filter_said, filter_status = sides.ends()
-    want((said.endswith(": lrupd ended with status 137"), status, filter_status), (True, 137, 1), f"{said}\n{filter_said}")
-    want_told(filter_said, False)
+    want((said, status, filter_status), ("", -signal.SIGKILL, 1), f"the ends, after\n{filter_said}")
+    if not re.fullmatch(rf"exact: (cannot write the stream: Broken pipe|byte \d+: {GONE}d/round-\d+\.stream-1)\n", filter_said):
+        raise Failure(f"what the filter says: {filter_said}")
 
 
 def filter_killed(by: int, work: Path) -> None:
@@ -415,10 +397,9 @@ def ended_before_it_begins(by: int, work: Path) -> None:
         want((end_of(running), left(work)), (("", -by), []), "the end, and what is left")
 
 
-def child_sleeps(pid: int) -> bool:
+def sleeps(pid: int) -> bool:
     time.sleep(0.05)
-    children = of_process(pid, f"task/{pid}/children").split()
-    return [of_process(int(child), "stat").rsplit(")", 1)[-1].split()[:1] for child in children] == [["S"]]
+    return of_process(pid, "stat").rsplit(")", 1)[-1].split()[:1] == ["S"]
 
 
 def ended_while_lrupd_waits(by: int, work: Path) -> None:
@@ -428,18 +409,18 @@ def ended_while_lrupd_waits(by: int, work: Path) -> None:
         assert running.stdout
         running.stdout.readline()
         os.kill(running.pid, signal.SIGSTOP)
-        with started([LRUP_CHAIN, "--lrupd", PROGRAM, formula, "d"], cwd=work, stdin=subprocess.DEVNULL, stdout=subprocess.PIPE,
-                     stderr=subprocess.PIPE, text=True) as chaining:
-            until("lrupd is at the FIFO", lambda: all(child_sleeps(chaining.pid) for _ in range(6)))
+        with started([PROGRAM, *lrupd_words(formula)], cwd=work, stdin=subprocess.DEVNULL, stdout=subprocess.PIPE,
+                     stderr=subprocess.PIPE, text=True) as checking:
+            until("lrupd is at the FIFO", lambda: all(sleeps(checking.pid) for _ in range(6)))
             for number in (by, signal.SIGCONT):
                 os.kill(running.pid, number)
-            out, said = chaining.communicate(timeout=LIMIT)
-        want((out, said, chaining.returncode), ("c round 1\nc stream 1: 0 added, 0 deleted, ended\ns UNKNOWN\n", "", 3), "the chain")
+            out, said = checking.communicate(timeout=LIMIT)
+        want((out, said, checking.returncode), (report(["0 added, 0 deleted, ended"], 3), "", 3), "what lrupd says")
         want((end_of(running), left(work)), (("", -by), ["round-2.cnf"]), "the end, and what is left")
 
 
 def nobody(work: Path) -> None:
-    """Who read standard output goes away before there is a chain."""
+    """Who read standard output goes away before lrupd begins."""
     with filtering([example("bmc.cnf"), "/dev/null"], work) as running:
         assert running.stdout
         running.stdout.readline()
@@ -449,7 +430,7 @@ def nobody(work: Path) -> None:
 
 
 def without_a_pipe(work: Path) -> None:
-    """Standard output is a file: the chain begins once the first stream is there."""
+    """Standard output is a file, and lrup-chain begins once the first stream is there."""
     formula, proof = example("pigeonhole.cnf"), written(proof_of("pigeonhole.cnf", "pigeonhole.lrup", "LRAT text")[0], work, "proof")
     with open(work / "out", "wb") as out, started([FILTER, "--rounds=d", "--memory=3K", formula, proof], cwd=work, stdout=out) as running:
         until("the first stream", lambda: (work / "d" / "round-1.stream-1").exists())
@@ -501,8 +482,6 @@ FEW = [("no clauses", "p cnf 0 0\n", "", 3, ""), ("no clauses, and a step", "p c
        ("an empty clause, and no step", EMPTY, "", 3, ""), ("an empty clause", EMPTY, "0\n", 0, ""),
        ("the empty clause alone", "p cnf 0 1\n0\n", "0\n", 0, ""), ("four clauses", FOUR, "2 0\n0\n", 0, ""),
        ("no step", FOUR, "", 3, ""), ("one step", FOUR, "2 0\n", 3, "")]
-NINE = "cat $stream > /dev/null; exit 9"
-NOT_WHOLE = "cat $stream > /dev/null; echo 'c stream 1: 1 added, 0 deleted, bad line 2 (no conflict)'; echo s UNKNOWN; exit 3"
 
 
 def rows() -> List[Row]:
@@ -519,11 +498,8 @@ def rows() -> List[Row]:
     found += [(f"{name} is there", in_the_way, name)
               for name in ("round-1.stream-1", "round-1.stream-2", "round-1.sizes", "round-2.cnf", "round-7.sizes")]
     found += [(f"exact {words}", usage, words, cause) for words, cause in USAGE]
-    ended = "lrup-chain: round {}: lrupd ended with status {}"
-    found += [("status 9", chain_ends, 3, NINE, 9, ended.format(3, 9), 4),
-              ("not opened", chain_ends, 3, "exit 6", 6, ended.format(3, 6), 3),
-              ("not whole", chain_ends, 3, NOT_WHOLE, 3, NOT_ENDED.format(3)[:-1], 4)]
-    found += [("lrup-chain killed", chain_killed, False), ("all of the chain killed", chain_killed, True), ("lrupd killed", lrupd_killed)]
+    found += [("status 9", lrupd_ends, "cat $stream > /dev/null; exit 9", 9, 2), ("not opened", lrupd_ends, "exit 6", 6, 1),
+              ("lrupd killed", lrupd_killed)]
     for by in (signal.SIGTERM, signal.SIGINT, signal.SIGHUP):
         found += [(f"ended by {by} before it begins", ended_before_it_begins, by),
                   (f"ended by {by} while lrupd waits", ended_while_lrupd_waits, by)]

@@ -22,7 +22,7 @@ from pathlib import Path
 from typing import IO, Any, Callable, Dict, Iterable, List, Sequence, Tuple, Union
 
 sys.dont_write_bytecode = True
-from harness import (FILTER, FOUR, LIMIT, LRUP_CHAIN, ROOT, TESTS, Failure, Ran, Row, Skipped, example, generated, piped, report,
+from harness import (FILTER, FOUR, LIMIT, ROOT, TESTS, Failure, Ran, Row, Skipped, example, generated, piped, report,
                      run, run_all, started, want, words_given, written)
 from proof_forms import FORMS, Step, code, codes, read_formula, read_steps, varint
 
@@ -604,7 +604,8 @@ lrupd formula.cnf <(tools/exact/out/exact --stream 1 --streams 2 --format binary
 """
 IN_ROUNDS = """\
 cadical -q formula.cnf proof > answer &
-tools/exact/out/exact --rounds live --format binary-drat formula.cnf proof | { read ready && lrup-chain formula.cnf live; }
+tools/exact/out/exact --rounds live --format binary-drat formula.cnf proof |
+    { read ready && lrupd --rounds live formula.cnf live/round-1.stream-1; }
 """
 COMMANDS = [("CaDiCaL", CADICAL), ("two of CaDiCaL", CADICAL_TWICE), ("CryptoMiniSat", CRYPTOMINISAT),
             ("two of CryptoMiniSat", CRYPTOMINISAT_TWICE), ("CaDiCaL and CryptoMiniSat", BOTH)]
@@ -626,7 +627,6 @@ def in_bash(program: str, commands: str, work: Path) -> Ran:
     """The outputs of the commands, in a folder that has the repository's tools."""
     os.symlink(ROOT / "tools", work / "tools")
     os.symlink(program, work / "lrupd")
-    os.symlink(LRUP_CHAIN, work / "lrup-chain")
     for pipe in ("proof", "proof1", "proof2"):
         piped(work / pipe)
     path = os.pathsep.join([str(work), os.environ["PATH"]])
@@ -650,14 +650,15 @@ def beside(program: str, commands: str, words: str, work: Path) -> None:
     want([line.endswith(", ended") for line in lines], [True] * commands.count("tools/exact"), "streams that ended")
 
 
-def beside_a_chain(program: str, memory: str, rounds: int, work: Path) -> None:
+def in_rounds(program: str, memory: str, rounds: int, work: Path) -> None:
     """USING's command, in this number of rounds or more."""
     wanted_on_path(IN_ROUNDS)
     make_formula("random 180 3", work)
-    out, said, status = in_bash(program, IN_ROUNDS.replace("--rounds live", f"--rounds live --memory {memory}"), work)
-    reports = re.split(r"^c round \d+\n", out, flags=re.M)[1:]
-    want((said, status, list((work / "live").iterdir())), ("", 0, []), "what is said, the status, and what is left")
-    want((len(reports) >= rounds, {report.splitlines()[0][-7:] for report in reports}), (True, {", ended"}), f"{out}: the rounds")
+    out, said, status = in_bash(program, IN_ROUNDS.replace("exact --rounds live", f"exact --rounds live --memory {memory}"), work)
+    found = re.fullmatch(r"(?:c round (\d+)\n)?c stream 1: \d+ added, \d+ deleted, ended\ns UNSATISFIABLE\n", out)
+    number = int((found and found[1]) or 1)
+    want((bool(found), number >= rounds, said, status), (True, True, "", 0), f"{out}: the report, the rounds, and the status")
+    want(os.listdir(work / "live"), [f"round-{number + 1}.cnf"], "what is left")
 
 
 def in_using(commands: str, work: Path) -> None:
@@ -697,7 +698,7 @@ def solvers(program: str) -> List[Row]:
     runs: List[Row] = [(f"{name}, {words}", beside, program, commands, words) for name, commands in COMMANDS for words in formulas]
     runs += [(f"USING, {name}", in_using, commands) for name, commands in COMMANDS]
     runs += [("USING, a chain of runs", chained, program, "random 150 1", 1000), ("USING, in rounds", in_using, IN_ROUNDS)]
-    runs += [(f"in rounds with {memory}", beside_a_chain, program, memory, rounds) for memory, rounds in (("500K", 3), ("512M", 1))]
+    runs += [(f"in rounds with {memory}", in_rounds, program, memory, rounds) for memory, rounds in (("500K", 3), ("512M", 1))]
     return runs + [("CaDiCaL writes while it runs", while_it_runs, CADICAL, "random 200 3"),
                    ("CryptoMiniSat writes while it runs", while_it_runs, CRYPTOMINISAT, "random 200 3")]
 

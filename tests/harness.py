@@ -254,6 +254,21 @@ def report(said: Sequence[str], status: int) -> str:
     return "".join(f"c stream {number}: {words}\n" for number, words in enumerate(said, 1)) + VERDICTS[status] + "\n"
 
 
+def watched_ends(err: str) -> List[str]:
+    """What --watch says of each stream that ended, in all rounds."""
+    return re.findall(r"^lrupd: stream \d+: (\d+ added, \d+ deleted, .*)$", err, re.M)
+
+
+def unwatched(err: str) -> str:
+    """Standard error without what --watch says."""
+    return re.sub(r"^lrupd: (stream \d+: .*|round \d+: \d+ clauses?, \d+ literals?, paused for \d+ ms)\n", "", err, flags=re.M)
+
+
+def added(said: Iterable[str]) -> int:
+    """By all streams of which this is said."""
+    return sum(int(words.split(" added, ")[0]) for words in said)
+
+
 class Wanted(NamedTuple):
     """Words, the status and what is written, in a folder with these files and pipes; and what some files are in the end."""
     words: Words

@@ -101,7 +101,7 @@ def exchanges(work: Path) -> None:
 
 
 def in_rounds(processes: int, words: str, size: int, options: List[str], status: int, work: Path) -> None:
-    """Several rounds over all processes; the record is checked once more, as a chain."""
+    """Several rounds over all processes; the record is checked once more."""
     formula, kept = named(words, work), work / "a record"
     answer = solve(processes, ["-v", "-j", "1", "--proofs", kept, *options, formula], {**SMALL, "FIRST_WORDS": size})
     want_answer(answer, status, formula)

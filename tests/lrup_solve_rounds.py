@@ -3,16 +3,16 @@
 
     lrup_solve_rounds.py PROGRAM [FLAGS]
 
-One to four engines, with and without sharing, each answer; the record, which lrup-chain checks once more; a child killed in a
-round or in the pause after one, checkpoints that can't be written, signals; that nothing grows from round to round. What sharing
+One to four engines, with and without sharing, each answer; the record, which lrupd checks once more, and lrup-chain; a child killed
+in a round or in the pause after one, checkpoints that can't be written, signals; that nothing grows from round to round. What sharing
 rests on there is left out, one thing at a time. The flags, and what is shown, are as of lrup_solve.py.
 """
+import contextlib
 import glob
 import os
 import random
 import re
 import resource
-import shlex
 import shutil
 import signal
 import subprocess
@@ -21,9 +21,10 @@ from pathlib import Path
 from typing import Any, Dict, List, Mapping, Sequence
 
 sys.dont_write_bytecode = True
-from harness import (LIMIT, Failure, Ran, Row, dimacs, example, generated, random_clauses, run, until, want, words_given, written)
-from solving import (EARLY, PROGRAM, Answer, before_lrupd, check_again, children_of, command, end_group, in_environment,
-                     in_place_of_lrupd, is_alive, kill_children, of_process, random_formula, run_built, solve, want_answer)
+from harness import (LIMIT, LRUP_CHAIN, Failure, Ran, Row, dimacs, example, generated, random_clauses, run, until, want, words_given,
+                     written)
+from solving import (EARLY, PROGRAM, Answer, check_again, children_of, command, end_group, in_environment, in_place_of_lrupd,
+                     is_alive, kill_children, of_process, random_formula, run_built, solve, want_answer)
 
 words_given(__doc__, most=2)
 SMALL = {"SAME_WORDS": 1, "SLICE": 40}      # rows that don't grow
@@ -43,7 +44,7 @@ def named(words: str, work: Path) -> Path:
 
 
 def in_rounds(words: str, size: int, most: int, options: List[str], status: int, work: Path) -> None:
-    """Several rounds, and what they left is checked once more, as a chain."""
+    """Several rounds, and what they left is checked once more."""
     formula, kept = named(words, work), work / "a record"
     answer = solve(["-v", "--proofs", kept, *options, formula], tested={**SMALL, "FIRST_WORDS": size})
     want_answer(answer, status, formula)
@@ -57,6 +58,8 @@ def in_rounds(words: str, size: int, most: int, options: List[str], status: int,
         names = [f"round-{number}.{name}" for number in range(1, rounds + 1) for name in ("sizes", "stream-1")]
         want([name for name in names if not (kept / name).exists()], [], "files that aren't there")
         want((kept / f"round-{rounds + 1}.stream-1").exists(), False, "a round too many")
+        chained = run([LRUP_CHAIN, "--lrupd", PROGRAM, "--tries", "1000000", formula, kept])
+        want(chained, Ran((kept / "report").read_text(), "", 0), "what lrup-chain says")
 
 
 def plainly(options: List[str], work: Path) -> None:
@@ -86,7 +89,7 @@ def randomly(seed: int, work: Path) -> None:
 
 
 def assuming(engines: int, work: Path) -> None:
-    """The clause that contradicts the assumptions comes after some rounds; the formula alone is satisfiable. As a chain, too."""
+    """The clause that contradicts the assumptions comes after some rounds; the formula alone is satisfiable. In the record, too."""
     clauses = [[9999, *clause] for clause in random_clauses(random.Random(7), 130, 600)]
     formula = written(dimacs(9999, clauses), work)
     for literal, status in (("-9999", 20), ("9999", 10)):
@@ -139,25 +142,25 @@ def no_room_for_one_clause(work: Path) -> None:
 
 
 class Running:
-    """One that has come to a round: lrupd of that round, or of a later one, is to save round-N.cnf. With `pause` it has come to the
-    pause at the end of that round, which lasts until `go_on`; slices are long, so that much isn't taken over before. What hasn't
-    ended when the block is left is killed."""
+    """One that has come to a round: lrupd of that round, or of a later one, is to save round-N.cnf. With `pause` lrupd stands still
+    from then on, and the run has come to the pause at the end of the round, which lasts until `go_on`; slices are long, so that much
+    isn't taken over before. What hasn't ended when the block is left is killed."""
 
     def __init__(self, words: Sequence[object], number: int, work: Path, pause: bool = False, **tested: object) -> None:
         self.number, self.work, self.pause, self.folder = number, work, pause, work / "folder"
         self.folder.mkdir(exist_ok=True)
-        for name in ("paused", "go"):
-            (work / name).unlink(missing_ok=True)
         hooks = {"SLICE": 5000 if pause else 40, "SAME_WORDS": 1, **tested}
         more = {"TMPDIR": str(self.folder), "ASAN_OPTIONS": "quarantine_size_mb=1"}      # what is freed would be kept
-        words = [*(["--lrupd", waiting_lrupd(number, work)] if pause else []), "-v", *words]
-        self.process = subprocess.Popen(command(words, hooks), stdout=subprocess.PIPE, stderr=subprocess.PIPE, text=True,
+        self.process = subprocess.Popen(command(["-v", *words], hooks), stdout=subprocess.PIPE, stderr=subprocess.PIPE, text=True,
                                         env=in_environment(hooks, more), start_new_session=True)
         self.children: Dict[str, int] = {}
 
     def __enter__(self) -> "Running":
         try:
             until(f"round {self.number}, or the end", self.has_come)
+            if self.pause:
+                self.stop_lrupd()
+                until("the pause, or the end", lambda: bool(self.rounds("sizes")) or self.process.poll() is not None)
         except Failure:
             self.__exit__()
             raise
@@ -166,18 +169,22 @@ class Running:
     def __exit__(self, *_: object) -> None:
         end_group(self.process)
 
-    def last_saved(self) -> int:
-        """The number of the last file that lrupd has created."""
-        names = [name for place in (".rounds-*", "lrup-solve-*") for name in glob.glob(f"{self.work}/*/{place}/round-*.cnf")]
-        return max((int(re.findall(r"\d+", name)[-1]) for name in names), default=0)
+    def rounds(self, what: str) -> List[int]:
+        """Those that have a file of this name where lrupd goes from round to round."""
+        names = [name for place in (".rounds-*", "lrup-solve-*") for name in glob.glob(f"{self.work}/*/{place}/round-*.{what}")]
+        return [int(re.findall(r"\d+", name)[-1]) for name in names]
 
     def has_come(self) -> bool:
         self.children = {**self.children, **children_of(self.process.pid)}
-        there = (self.work / "paused").exists() if self.pause else self.last_saved() > self.number
-        return there or self.process.poll() is not None
+        return max(self.rounds("cnf"), default=0) > self.number or self.process.poll() is not None
+
+    def stop_lrupd(self, number: int = signal.SIGSTOP) -> None:
+        with contextlib.suppress(ProcessLookupError, KeyError):
+            os.kill(self.children["lrupd"], number)
 
     def go_on(self) -> None:
-        (self.work / "go").touch()
+        if self.pause:
+            self.stop_lrupd(signal.SIGCONT)
 
     def end(self, limit: float = LIMIT) -> Answer:
         """What it said; no child of it is left, and no file."""
@@ -185,19 +192,6 @@ class Running:
         until("its children end", lambda: not any(map(is_alive, self.children.values())))
         until("its files are removed", lambda: not os.listdir(self.folder))
         return Answer(Ran(out, said, self.process.returncode))
-
-
-def waiting_lrupd(number: int, work: Path) -> Path:
-    """In that round it reads the streams to their ends, which is when all filters wait for what it saves; then it waits itself."""
-    return before_lrupd(f"""case "$*" in */round-{number + 2}.cnf*) ;; */round-{number + 1}.cnf*)
-    for word in "$@"; do
-        case $word in /dev/fd/*) cat "$word" > '{work}'/"${{word##*/}}"; word='{work}'/${{word##*/}} ;; esac
-        shift
-        set -- "$@" "$word"
-    done
-    : > '{work}/paused'
-    until [ -e '{work}/go' ]; do sleep 0.01; done ;;
-esac""", work)
 
 
 def says(answer: Answer, cause: str) -> bool:
@@ -258,16 +252,41 @@ def ended_by(number: int, round_number: int, pause: bool, work: Path) -> None:
 
 
 def folder_removed(work: Path) -> None:
-    """Checkpoints can't be created any more."""
+    """Nothing can be created there any more."""
     with Running(["-j", "2", generated("pigeons 11", work)], 2, work, FIRST_WORDS=50000) as running:
         for folder in running.folder.iterdir():
             while folder.exists():
                 shutil.rmtree(folder, ignore_errors=True)
         answer = running.end()
-    if answer.status == 1:      # what was saved was gone before it was read
-        return want((answer.answers, "cannot open" in answer.said), ([], True), f"what is said: {answer.said}")
+    if answer.status == 1:      # the next round's files
+        return want((answer.answers, re.search(r"cannot (open|make) \S*/round-\d+\.", answer.said) is not None), ([], True),
+                    f"what is said: {answer.said}")
     want_answer(answer, 0)
     want_cause(answer, r"^lrupd ended with status [459]$|^engine \d is lost: its filter stopped: cannot open ")
+
+
+def is_whole(path: Path) -> bool:
+    """Whether a formula has as many clauses as its header says."""
+    lines = [line for line in path.read_text().splitlines(True) if line[0] != "c"]
+    return bool(lines) and lines[0].endswith(f" {len(lines) - 1}\n")
+
+
+def forged(work: Path) -> None:
+    """A contradiction stands in the place of what lrupd has saved, before anybody has read that: the filters miss their clauses
+    there. lrupd doesn't read it, and no verdict rests on it."""
+    with Running(["-j", "2", generated("pigeons 11", work)], 1, work, True, FIRST_WORDS=50000) as running:
+        running.process.send_signal(signal.SIGSTOP)
+        running.go_on()
+        number, = running.rounds("sizes")
+        saved, = running.folder.glob(f"*/round-{number}.cnf")
+        until("it is saved", lambda: is_whole(saved))
+        saved.unlink()
+        written("p cnf 2 2\n1 0\n-1 0\n", saved.parent, saved.name)
+        running.process.send_signal(signal.SIGCONT)
+        answer = running.end()
+    want_answer(answer, 0)
+    lost = [re.search(r"lrupd hasn't saved the clause \d+, which the solver has$", line) is not None for line in answer.lost()]
+    want(lost, [True, True], f"why engines are lost in\n{answer.out}")
 
 
 def no_folder(work: Path) -> None:
@@ -284,7 +303,7 @@ def full(work: Path) -> None:
     limit = lambda: resource.setrlimit(resource.RLIMIT_FSIZE, (500000, 500000))
     answer = solve(["-j", "2", formula], tested={**SMALL, "FIRST_WORDS": 20000}, preexec_fn=limit)
     want_answer(answer, 0)
-    want_cause(answer, "^lrupd: checkpoint not written")
+    want_cause(answer, "^lrupd: (round [0-9]+: )?checkpoint not written")
     want_cause(answer, "^lrupd ended with status 9$")
 
 
@@ -293,12 +312,13 @@ def read(path: Path) -> List[List[int]]:
 
 
 def impostor(body: str, status: int, cause: str, work: Path) -> None:
-    """Another program in lrupd's place, which is lrupd in the first round alone. `$saved` is where it is to save."""
-    path = in_place_of_lrupd(f"""case "$*" in *' /dev/null') exit 3;; */round-3.cnf*) ;; *) exec {shlex.quote(PROGRAM)} "$@";; esac
-while [ "$1" != --checkpoint ]; do shift; done
-saved=$2 formula=$3; shift 3
+    """Another program in lrupd's place, which reads the streams of round 1. It may save `$saved`, and wait for the next round."""
+    path = in_place_of_lrupd("""case "$*" in *' /dev/null') exit 3;; esac
+while [ "$1" != --rounds ]; do shift; done
+next=$2/round-2 formula=$3; shift 3
 cat "$@" > /dev/null
-{body}""", work)
+saved=$next.cnf
+""" + body, work)
     answer = solve(["--lrupd", path, "-j", "2", generated("pigeons 11", work)], tested={**SMALL, "FIRST_WORDS": 50000})
     want((answer.status, answer.answers), (status, ["s UNKNOWN"] * (status == 0)), f"the answer {answer.said}")
     found = [line for line in [*answer.comments, answer.said] if re.search(cause, line)]
@@ -384,21 +404,17 @@ def what_happens() -> List[Row]:
                        ("a filter killed in a pause", killed_in_a_pause, ["filter 2"], 20, "engine 2 is lost"),
                        ("all filters killed in a pause", killed_in_a_pause, [f"filter {k}" for k in (1, 2, 3)], 0,
                         "no engine is left"),
-                       ("the folder removed", folder_removed), ("no folder", no_folder), ("a full disk", full),
+                       ("the folder removed", folder_removed), ("a forged formula", forged), ("no folder", no_folder), ("a full disk", full),
                        ("nothing grows", stays_small)]
     rows += [(f"signal {number} in round {at}, pause {pause}", ended_by, number, at, pause) for number in
              (signal.SIGINT, signal.SIGTERM, signal.SIGHUP, signal.SIGKILL) for at, pause in ((3, False), (1, True), (2, True))]
-    whole = 'printf "c stream 1: 9 added, 0 deleted, ended\\nc stream 2: 9 added, 0 deleted, ended\\ns UNKNOWN\\n"'
-    untaken = "^lrupd hasn't taken the proof$"
-    alone = whole.replace("c stream 2: 9 added, 0 deleted, ended\\n", "")
+    untaken, waits = "^lrupd hasn't taken the proof$", "exec sleep 1000 < $next.sizes"
     for body, status, cause in (("exit 3", 0, untaken), ("exit 9", 0, "ended with status 9"),
                                 ("kill -9 $$", 0, "ended by a signal"),
-                                (whole.replace("2: 9 added, 0 deleted, ended", "2: 9 added, 0 deleted, bad line 7 (missing 3)") +
-                                 "; cp $formula $saved; exit 3", 0, untaken),
-                                (alone + "; cp $formula $saved; exit 3", 0, untaken),
-                                (whole + "; exit 3", 1, "cannot open .*/round-3.cnf"),
-                                (whole + "; echo p cnf 2 1 > $saved; exit 3", 1, "no checkpoint: .*/round-3.cnf"),
-                                (whole + "; cp $formula $saved; exit 3", 0, "lrupd hasn't saved the clause|no engine is left")):
+                                ("cp $formula $saved; exit 3", 0, untaken),
+                                (waits, 1, "cannot open .*/round-2.cnf"),
+                                (f"echo p cnf 2 1 > $saved; {waits}", 1, "no checkpoint: .*/round-2.cnf"),
+                                (f"cp $formula $saved; {waits}", 0, "lrupd hasn't saved the clause|no engine is left")):
         rows.append((f"another lrupd: {body}", impostor, body, status, cause))
     return rows
 

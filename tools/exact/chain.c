@@ -1,6 +1,7 @@
-// Unverified, as all of this filter. --rounds: a stream for each round of lrup-chain, through FIFOs. That of the next round is there
-// before a stream ends, since lrup-chain looks for it then. Once lrupd has opened it, nothing looks for its name or its sizes again,
-// and both are removed. So the folder has files of a round that isn't over only while lrupd is awaited.
+// Unverified, as all of this filter. --rounds: a stream for each round of lrupd --rounds, through FIFOs. That of the next round is
+// there before a stream ends, since lrupd looks for it then. Once lrupd has opened it, nothing looks for its name or its sizes again,
+// and both are removed, as is what lrupd has saved once it is read. So the folder has files of a round that isn't over only while
+// lrupd is awaited.
 #define _POSIX_C_SOURCE 200809L
 #include <dirent.h>
 #include <errno.h>
@@ -15,6 +16,7 @@
 #include "exact.h"
 
 enum { LONGEST_PATH = 4096, LONGEST_NAME = 64, PAUSE = 5 };     // milliseconds
+enum { USUAL_LINES = 65536 };       // lrupd's without words; a first row's room is never above lrupd's
 #define OF_A_ROUND "round-"
 
 static const char *folder;
@@ -27,7 +29,7 @@ static volatile sig_atomic_t is_awaited;    // lrupd, at the FIFO
 static int file;
 static bool refuted, over;
 
-// The folder. Any file of a round is in the way: lrup-chain would take it, or lrupd not write over it.
+// The folder. Any file of a round is in the way: lrupd would take it, or not write over it.
 void chain_open(const char *path) {
     folder = path;
     if (strlen(folder) > LONGEST_PATH - LONGEST_NAME) fail("too long a name:", folder);
@@ -46,10 +48,10 @@ static void name_file(char path[LONGEST_PATH], const char *what) {
     snprintf(path, LONGEST_PATH, "%s/" OF_A_ROUND "%llu.%s", folder, (unsigned long long)round_number, what);
 }
 
-// The sizes come first: lrup-chain takes them as soon as there is a stream.
+// The sizes come first: lrupd takes them as soon as there is a stream.
 static void make_files(void) {
     char text[LONGEST_NAME];
-    int length = snprintf(text, sizeof text, "%llu %llu\n", (unsigned long long)rows.row.lines, (unsigned long long)rows.row.room);
+    int length = snprintf(text, sizeof text, "1 %llu %llu\n", (unsigned long long)rows.row.lines, (unsigned long long)rows.row.room);
     name_file(sizes, "sizes");
     name_file(stream, "stream-1");
     int out = open(sizes, O_WRONLY | O_CREAT | O_EXCL, 0666);
@@ -83,7 +85,7 @@ static void take_signals(void) {
         if (signal(numbers[k], end_by_signal) == SIG_IGN) signal(numbers[k], SIG_IGN);
 }
 
-// Waits until lrupd opens it, too. Where standard output is a pipe whose reader, which runs lrup-chain, has ended, it never will.
+// Waits until lrupd opens it, too. Where standard output is a pipe whose reader, which runs lrupd, has ended, it never will.
 static void open_stream(void) {
     struct pollfd reader = { .fd = STDOUT_FILENO };
     while ((file = open(stream, O_WRONLY | O_NONBLOCK)) < 0) {
@@ -91,7 +93,7 @@ static void open_stream(void) {
         if (poll(&reader, 1, PAUSE) <= 0) continue;
         if (reader.revents & POLLERR) {
             remove_files();
-            stop("the reader of standard output, which runs lrup-chain, has ended before it read %s", stream);
+            stop("the reader of standard output, which runs lrupd, has ended before it read %s", stream);
         }
         reader.fd = -1;
     }
@@ -113,6 +115,7 @@ static void take_checkpoint(void) {
     Checkpoint checkpoint;
     name_file(path, "cnf");
     checkpoint_read(&checkpoint, path);
+    unlink(path);
     round_begin(filter, &checkpoint, 1, 1);
     checkpoint_free(&checkpoint);
 }
@@ -121,7 +124,7 @@ static void size_round(uint64_t clauses, uint64_t literals, uint64_t wanted, con
     if (!rows_size(&rows, 1, clauses, literals, used, wanted))
         stop("%s no room in a row of %llu bytes: --memory says how large it is", holds, (unsigned long long)rows.memory);
     used = (Row){0};
-    round_number++;
+    if (++round_number == 1 && rows.row.lines > USUAL_LINES) rows.row.lines = USUAL_LINES;
     make_files();
 }
 
@@ -156,7 +159,7 @@ static void derived(const Filter *one) {
 
 static bool never_ends(void) { return false; }
 
-// After the formula is read. Standard output says when lrup-chain may begin.
+// After the formula is read. Standard output says when lrupd may begin.
 void chain_begin(Filter *one, uint64_t memory) {
     static const Hooks hooks = { .ends = never_ends, .derives = derives, .derived = derived };
     filter = one;

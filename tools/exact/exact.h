@@ -244,7 +244,7 @@ uint64_t round_clauses(const Filter *filter, uint64_t *literals);
 void round_make_room(const Filter *filter, bool (*has_room)(uint64_t literals), void (*next_round)(uint64_t literals));
 void round_begin(Filter *filter, const Checkpoint *checkpoint, uint64_t stream, uint64_t streams);
 
-// chain.c: a stream for each round of lrup-chain.
+// chain.c: a stream for each round of lrupd --rounds.
 void chain_open(const char *folder);
 void chain_begin(Filter *filter, uint64_t memory);
 void chain_end(void);

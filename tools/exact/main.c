@@ -7,7 +7,7 @@
 // PROOF, or standard input, is LRAT, DRUP, DRAT or FRAT text, or binary LRAT or DRAT. The stream goes to standard output, with
 // the identities of stream S of N (1 of 1). The hints that are given are tried first, in any order. Where they don't do, a chain is
 // looked for by unit propagation among all clauses that the proof has at that point. A clause of another stream has an import in
-// the proof, or is read where it is cited, as --other 2=proof2. With --rounds there is a stream for each round of lrup-chain.
+// the proof, or is read where it is cited, as --other 2=proof2. With --rounds there is a stream for each round of lrupd.
 #include <errno.h>
 #include <signal.h>
 #include <stdarg.h>
@@ -67,7 +67,8 @@ static const char usage[] =
     "usage: exact [--stream S --streams N] [--other T=STREAM]... [--format FORM] FORMULA [PROOF]\n"
     "       exact --rounds DIR [--memory SIZE] [--format FORM] FORMULA [PROOF]\n"
     "FORM is lrat, drat, frat, binary-lrat or binary-drat; without it the first bytes of the proof tell the form.\n"
-    "lrup-chain FORMULA DIR reads what --rounds writes; SIZE is the most that lrupd may take for a round, as 500M or 2G.\n";
+    "lrupd --rounds DIR FORMULA DIR/round-1.stream-1 reads what --rounds writes; SIZE is the most that lrupd may take for a round,\n"
+    "as 500M or 2G.\n";
 
 static _Noreturn void refuse(const char *cause, const char *word) {
     fprintf(stderr, "%sexact: error: %s %s\n", usage, cause, word);

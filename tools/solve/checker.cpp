@@ -74,12 +74,8 @@ std::string find_checker(const char *given) {
     return absolute(found);
 }
 
-// Only the record's command needs it.
-std::string find_chain(const std::string &checker) {
-    for (const std::string &folder : { folder_of_this(), checker.substr(0, checker.rfind('/') + 1) })
-        if (is_program(folder + "lrup-chain")) return folder + "lrup-chain";
-    std::string found = on_the_path("lrup-chain");
-    return found.empty() ? "lrup-chain" : absolute(found);
+std::string sizes_text(size_t streams, Row row) {
+    return std::to_string(streams) + " " + std::to_string(row.lines) + " " + std::to_string(row.room) + "\n";
 }
 
 std::string tries() {
@@ -89,13 +85,15 @@ std::string tries() {
 
 void Checker::start(const std::string &program, std::vector<std::string> words, std::vector<int> kept,
                     const std::vector<int> &files) {
+    std::vector<int> readers;
     for (int file : files) {
         Pipe pipe = make_pipe(STREAM_PIPE);
         fcntl(pipe.write, F_SETFL, O_NONBLOCK);
-        streams.push_back({ file, pipe, 0, 0 });
+        streams.push_back({ file, pipe.write, "" });
         words.push_back("/dev/fd/" + std::to_string(pipe.read));
-        kept.push_back(pipe.read);
+        readers.push_back(pipe.read);
     }
+    kept.insert(kept.end(), readers.begin(), readers.end());
     out = make_pipe(0);
     err = make_pipe(0);
     std::vector<int> all = kept;
@@ -104,47 +102,64 @@ void Checker::start(const std::string &program, std::vector<std::string> words, 
         for (int file : kept) fcntl(file, F_SETFD, 0);      // lrupd opens them by their numbers
         run_program(program, words, out.write, err.write);
     }
-    for (Stream &stream : streams) close_file(stream.pipe.read);
+    for (int &file : readers) close_file(file);
     close_file(out.write);
     close_file(err.write);
     for (int file : { out.read, err.read }) fcntl(file, F_SETFL, O_NONBLOCK);
 }
 
-double Checker::stop() {
-    child.signal(SIGKILL);
-    wait_for(child);
-    double seconds = child.seconds;
-    for (Stream &stream : streams) close_file(stream.pipe.read), close_file(stream.pipe.write);
-    close_file(out.read);
-    close_file(err.read);
-    *this = Checker();
-    return seconds;
+// Between rounds lrupd opens the sizes first, and then the streams, in order. Each open waits for somebody who writes.
+void Checker::expect_round(const std::string &path) {
+    next = path;
+    create_pipe(next + ".sizes");
+}
+
+bool Checker::awaits_sizes() {
+    sizes = open_pipe(next + ".sizes", 0);
+    return sizes >= 0;
+}
+
+// Where lrupd has ended meanwhile that is seen soon.
+void Checker::begin_round(Row row, const std::vector<int> &files) {
+    streams.clear();
+    for (int file : files) {
+        streams.push_back({ file, -1, next + ".stream-" + std::to_string(streams.size() + 1) });
+        create_pipe(streams.back().path);
+    }
+    std::string text = sizes_text(files.size(), row);
+    if (write(sizes, text.data(), text.size()) < 0 && errno != EPIPE) refuse("cannot write the sizes of a round: " + error_text());
+    close_file(sizes);
 }
 
 // What the pipe takes. Memory of what was fed is given back, but where it is kept.
 bool Checker::feed(size_t number, uint64_t bytes, bool drop) {
     Stream &stream = streams[number];
     static std::vector<char> piece(PIECE);
-    while (stream.pipe.write >= 0 && stream.fed < bytes) {
+    if (!stream.path.empty()) {
+        stream.pipe = open_pipe(stream.path, STREAM_PIPE);
+        if (stream.pipe < 0) return false;
+        stream.path.clear();
+    }
+    while (stream.pipe >= 0 && stream.fed < bytes) {
         size_t wanted = size_t(std::min<uint64_t>(piece.size(), bytes - stream.fed));
         ssize_t got = pread(stream.file, piece.data(), wanted, off_t(stream.fed));
         if (got <= 0) refuse("cannot read a stream again: " + (got < 0 ? error_text() : "it is cut"));
-        ssize_t count = write(stream.pipe.write, piece.data(), size_t(got));
+        ssize_t count = write(stream.pipe, piece.data(), size_t(got));
         if (count < 0 && errno == EAGAIN) break;
-        if (count < 0 && errno != EINTR) close_file(stream.pipe.write);     // lrupd has ended
+        if (count < 0 && errno != EINTR) close_file(stream.pipe);       // lrupd has ended
         if (count > 0) stream.fed += uint64_t(count);
     }
     if (drop && stream.fed - stream.dropped > DROPPED) {
         fallocate(stream.file, FALLOC_FL_PUNCH_HOLE | FALLOC_FL_KEEP_SIZE, 0, off_t(stream.fed / PAGE * PAGE));
         stream.dropped = stream.fed;
     }
-    return stream.pipe.write < 0 || stream.fed == bytes;
+    return stream.pipe < 0 || stream.fed == bytes;
 }
 
 uint64_t Checker::read_of(size_t number) const {
     const Stream &stream = streams[number];
     int waiting = 0;
-    if (stream.pipe.write < 0 || ioctl(stream.pipe.write, FIONREAD, &waiting) != 0) return stream.fed;
+    if (stream.pipe < 0 || ioctl(stream.pipe, FIONREAD, &waiting) != 0) return stream.fed;
     return stream.fed - std::min<uint64_t>(stream.fed, uint64_t(waiting));
 }
 

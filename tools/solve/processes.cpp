@@ -11,6 +11,7 @@
 #include <sys/mman.h>
 #include <sys/prctl.h>
 #include <sys/resource.h>
+#include <sys/stat.h>
 #include <sys/wait.h>
 #include <time.h>
 #include <unistd.h>
@@ -87,6 +88,18 @@ int create_file(const std::string &path) {
     return kept_open(file);
 }
 
+void create_pipe(const std::string &path) {
+    if (mkfifo(path.c_str(), 0600) != 0) refuse("cannot make " + path + ": " + error_text());
+}
+
+int open_pipe(const std::string &path, int bytes) {
+    int file = open(path.c_str(), O_WRONLY | O_NONBLOCK | O_CLOEXEC);
+    if (file < 0) return -1;
+    unlink(path.c_str());
+    if (bytes > 0) fcntl(file, F_SETPIPE_SZ, bytes);
+    return kept_open(file);
+}
+
 std::string write_file(const std::string &path, const std::string &text) {
     std::string begun = unfinished(path), cause;
     int file = new_file(begun);
@@ -120,7 +133,7 @@ void copy_file(int file, const std::string &name, int copy) {
     }
 }
 
-// All that is in it is lrupd's.
+// All that is in it is lrupd's, or pipes to it.
 static bool remove_folder() {
     if (DIR *list = opendir(folder.c_str())) {
         while (const dirent *entry = readdir(list)) unlink((folder + "/" + entry->d_name).c_str());

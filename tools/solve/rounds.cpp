@@ -1,9 +1,6 @@
 // Unverified, as all of this solver. Rounds: a row of lrupd's is made before it reads a line, and doesn't grow. Where it is full all
-// streams end after a whole line, lrupd saves the clauses that are there, and the next one reads them as its formula.
-// tools/exact/row.c has the sizes of rows; the filters do the rest (filtering.c).
-//
-// An answer rests on this: each lrupd but the last one ended with status 3, all its streams whole, and its checkpoint, in a folder
-// that is this process's alone, is the file that the next one read.
+// streams end after a whole line, and lrupd goes on in a new one, with the clauses that are there for its formula. It has saved them,
+// too: filters read there which identities they have from then on (filtering.c). tools/exact/row.c has the sizes of rows.
 #include <algorithm>
 #include <csignal>
 #include <cstdlib>
@@ -15,20 +12,10 @@
 namespace {
 
 const uint64_t SHORT_STREAMS = UINT64_C(1) << 20;   // bytes of all streams, that don't want lrupd yet
-const int UNKNOWN_STATUS = 3;                       // of lrupd
 
 uint64_t number_from(const char *word, uint64_t usual) { return word ? strtoull(word, nullptr, 10) : usual; }
 
 std::string name_of_round(uint64_t number) { return "round-" + std::to_string(number); }
-
-// The report says of this number of streams that they ended, and no more.
-bool all_ended(const std::string &report, uint64_t streams) {
-    const std::string verdict = "s UNKNOWN\n", ending = ", ended";
-    size_t begin = 0;
-    for (size_t end; streams > 0 && (end = report.find('\n', begin)) != std::string::npos; begin = end + 1, streams--)
-        if (end - begin < ending.size() || report.compare(end - ending.size(), ending.size(), ending) != 0) return false;
-    return streams == 0 && report.compare(begin, std::string::npos, verdict) == 0;
-}
 
 }
 
@@ -50,7 +37,6 @@ bool Run::size_round(uint64_t clauses, uint64_t literals) {
 void Run::first_round() {
     rows_open(&rows, options.memory, teams.size());
     rows.words = std::min(number_from(test_word("LRUP_SOLVE_FIRST_WORDS"), rows.words), MOST_WORDS);
-    round_formula = formula_path;
     if (!size_round(formula.clauses, formula.literals.length)) refuse("the formula leaves no room in a row of " + bytes_of_row());
 }
 
@@ -83,49 +69,46 @@ std::vector<std::string> Run::checker_words(Row sizes) const {
     return words;
 }
 
-static std::string line_of(const std::string &program, const std::vector<std::string> &words) {
-    std::string line = quoted(program);
+// Of round 1, with names that a record's streams have, from whatever folder it is run.
+std::string Run::command_of(const std::vector<std::string> &words) const {
+    std::string line = quoted(checker_program);
     for (const std::string &word : words) line += " " + quoted(word);
+    line += " " + quoted(absolute(formula_path));
+    for (size_t k = 0; k < teams.size(); k++) line += " " + quoted(stream_path(k));
     return line;
 }
 
-// lrupd's, without what it saves.
-std::string Run::command_of_round() const {
-    std::vector<std::string> words = checker_words(rows.row);
-    words.push_back(absolute(round_formula));
-    for (size_t k = 0; k < teams.size(); k++)
-        if (LOAD(shared->parts[k].stream)) words.push_back(stream_path(k));
-    return line_of(checker_program, words);
-}
-
-// Checks all of it once more, from whatever folder it is run.
+// Of all rounds. lrupd leaves what it saves.
 std::string Run::command_again() const {
-    if (round == 1) return command_of_round();
-    std::vector<std::string> words = { "--lrupd", checker_program, "--tries", tries() };
-    if (options.assume) words.insert(words.end(), { "--assume", absolute(assume_path) });
-    words.insert(words.end(), { absolute(formula_path), absolute(options.proofs) });
-    return line_of(find_chain(checker_program), words);
+    std::string folder = quoted(absolute(options.proofs));
+    return round == 1 ? command : command + " --rounds " + folder + "; status=$?; rm -f " + folder + "/round-[0-9]*.cnf; exit $status";
 }
 
-void Run::start_checker(Row wanted, bool saves) {
-    rows.row = wanted;
-    std::vector<std::string> words = checker_words(wanted);
-    if (saves) {
-        saved_path = folder_of_rounds() + "/" + name_of_round(round + 1) + ".cnf";
-        words.insert(words.end(), { "--checkpoint", saved_path });
-    }
-    if (options.proofs) {
-        std::string sizes = std::to_string(wanted.lines) + " " + std::to_string(wanted.room) + "\n";
-        std::string unwritten = write_file(shared->record + name_of_round(round) + ".sizes", sizes);
-        if (!unwritten.empty()) refuse(unwritten);
-    }
-    if (options.verbose) words.push_back("--watch");
-    words.push_back(round_formula);
+// In the record.
+void Run::keep_sizes() const {
+    if (!options.proofs) return;
+    std::string text = sizes_text(LOAD(shared->streams), rows.row);
+    std::string unwritten = write_file(shared->record + name_of_round(round) + ".sizes", text);
+    if (!unwritten.empty()) refuse(unwritten);
+}
+
+std::vector<int> Run::stream_files() const {
     std::vector<int> files;
     for (size_t k = 0; k < teams.size(); k++)
         if (LOAD(shared->parts[k].stream)) files.push_back(teams[k].stream);
-    checker.start(checker_program, words, copies, files);
-    if (options.verbose) tell(command_of_round());
+    return files;
+}
+
+void Run::start_checker(Row wanted, bool goes_on) {
+    rows.row = wanted;
+    std::vector<std::string> words = checker_words(wanted);
+    command = command_of(words);
+    if (goes_on) words.insert(words.end(), { "--rounds", folder_of_rounds() });
+    if (options.verbose) words.push_back("--watch");
+    words.push_back(formula_path);
+    keep_sizes();
+    checker.start(checker_program, words, copies, stream_files());
+    if (options.verbose) tell(command);
 }
 
 // The first one starts once streams aren't short any more.
@@ -135,13 +118,14 @@ void Run::look_at_checker() {
     if (!checker.child.pid && all(&Part::bytes) >= least) start_checker(rows.row, true);
 }
 
-// Not while filters come to the next round: their counts are of either.
+// While filters come to the next round their counts are of either.
 void Run::feed() {
-    if (!checker.child.pid || phase == MAPPING || phase == DONE) return;
+    if (!checker.child.pid || phase == DONE) return;
     for (size_t k = 0; k < teams.size(); k++) {
         uint64_t number = LOAD(shared->parts[k].stream);
         if (number == 0) continue;
-        bool fed = checker.feed(number - 1, teams[k].silent ? 0 : LOAD(shared->parts[k].bytes), !options.proofs);
+        bool is_empty = phase == MAPPING || teams[k].silent;
+        bool fed = checker.feed(number - 1, is_empty ? 0 : LOAD(shared->parts[k].bytes), !options.proofs);
         STORE(shared->parts[k].fed, checker.fed(number - 1));
         if (fed && (phase == CHECKING || phase == SAVING)) checker.end_stream(number - 1);
     }
@@ -161,11 +145,12 @@ void Run::look_at_round() {
         if (LOAD(shared->parts[k].ended_round) == round) end_round();
     if (phase == ENDING_ROUND && have_all(&Part::ended_round, round)) {
         if (!checker.child.pid) start_checker(rows.row, true);
+        checker.expect_round(folder_of_rounds() + "/" + name_of_round(round + 1));
         phase = SAVING;
     }
-    if (phase == SAVING && checker.child.ended()) save_round();
+    if (phase == SAVING && checker.child.ended()) verdict();
+    if (phase == SAVING && checker.awaits_sizes()) map_round();
     if (phase == MAPPING && have_all(&Part::mapped_round, round - 1)) go_on();
-    if (phase == SOLVING && round > 1 && access(saved_path.c_str(), F_OK) == 0) unlink(round_formula.c_str());
 }
 
 // One has no room for a line more: all streams end. Those that stand still go on to their ends.
@@ -207,19 +192,14 @@ void Run::open_streams() {
     }
 }
 
-// lrupd has ended: the filters take the new identities, and meanwhile the next one begins.
-void Run::save_round() {
-    checker.read_on();
-    tell_lines();
-    if (!checker.child.ended_with(UNKNOWN_STATUS) || !all_ended(checker.report, shared->streams)) return verdict();
+// lrupd has saved: the filters take the new identities, and meanwhile it begins the next round.
+void Run::map_round() {
     cut_streams();
     number_streams();
-    copy_name(shared->checkpoint, saved_path);
+    copy_name(shared->checkpoint, folder_of_rounds() + "/" + name_of_round(round + 1) + ".cnf");
     STORE(shared->saved_round, round);
     phase = MAPPING;
-    spent += checker.stop();
-    if (round > 1) unlink(round_formula.c_str());
-    checkpoint_read(&saved, saved_path.c_str());
+    checkpoint_read(&saved, shared->checkpoint);
     round_said = words_of_the_round();
     uint64_t words = rows.words;
     rows_grow(&rows);
@@ -231,11 +211,11 @@ void Run::save_round() {
 
 void Run::begin_round() {
     round++;
-    round_formula = saved_path;
     lines_before = all(&Part::lines);
     literals_before = all(&Part::literals);
     open_streams();
-    start_checker(rows.row, true);
+    keep_sizes();
+    checker.begin_round(rows.row, stream_files());
 }
 
 // Clauses that a filter gave away which has died, or is on another host, may still be taken over.
@@ -245,6 +225,7 @@ void Run::go_on() {
         if (teams[k].filter.ended() || !is_here(k)) outbox_renew(shared, outboxes[k], int(k) + 1, &saved);
     }
     checkpoint_free(&saved);
+    unlink(shared->checkpoint);
     paused += now() - pause_begun;
     if (options.verbose) tell(round_said + format("; a pause of %.2f s", now() - pause_begun));
     phase = SOLVING;

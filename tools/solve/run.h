@@ -6,8 +6,8 @@
 
 enum Answer { UNKNOWN_ANSWER = 0, SATISFIABLE = 10, UNSATISFIABLE = 20 };
 
-// Of a round: solving, until a filter finds the row full; then all streams end, lrupd saves what it has, and filters take its
-// identities. Of the last one: the streams end, and lrupd is waited for.
+// Of a round: solving, until a filter finds the row full; then all streams end, lrupd saves what it has and goes on with it, and
+// filters take its identities. Of the last one: the streams end, and lrupd is waited for.
 enum Phase { SOLVING, ENDING_ROUND, SAVING, MAPPING, ENDING_STREAMS, CHECKING, DONE };
 
 struct Team {
@@ -38,7 +38,7 @@ protected:
     std::vector<Team> teams;
     std::vector<uint32_t *> outboxes;
     Checker probe, checker;
-    double spent = 0;                   // processor seconds of those before
+    std::string command;                // lrupd's, of a record
     Phase phase = SOLVING;
     Answer answer = UNKNOWN_ANSWER;
     std::string cause;
@@ -49,7 +49,6 @@ protected:
 
     // Of the round.
     uint64_t round = 1;
-    std::string round_formula, saved_path;      // what lrupd reads, and where it saves
     Rows rows = {};
     uint64_t lines_before = 0, literals_before = 0;     // of the rounds before
     double pause_begun = 0, paused = 0;         // seconds in all
@@ -96,7 +95,7 @@ protected:
     void look_at_checker();
     void look_at_round();
     void end_round();
-    void save_round();
+    void map_round();
     void begin_round();
     void go_on();
     void number_streams();
@@ -109,9 +108,11 @@ protected:
     std::string stream_path(size_t k) const;
     Row needed_row() const;
     std::vector<std::string> checker_words(Row sizes) const;
-    std::string command_of_round() const;
+    std::string command_of(const std::vector<std::string> &words) const;
     std::string command_again() const;
-    void start_checker(Row wanted, bool saves);
+    void keep_sizes() const;
+    std::vector<int> stream_files() const;
+    void start_checker(Row wanted, bool goes_on);
     void feed();
 
     // What is told (telling.cpp).

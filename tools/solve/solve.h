@@ -44,6 +44,8 @@ struct Pipe { int read = -1, write = -1; };
 Pipe make_pipe(int bytes);                              // so many, if the system gives them
 void close_file(int &file);
 int create_file(const std::string &path);               // a new one, whatever had the name
+void create_pipe(const std::string &path);
+int open_pipe(const std::string &path, int bytes);      // to write to it, without a name from then on; -1 where nobody reads yet
 std::string write_file(const std::string &path, const std::string &text);   // the cause, where it can't be written
 int file_in_memory();
 void *shared_bytes(size_t bytes);                       // with the children that come later
@@ -109,32 +111,43 @@ std::string solver_command(const std::string &command, const std::string &formul
 class Checker {
 public:
     Child child;
-    Row row = { 0, 0 };
     std::string report, said;           // standard output, and standard error
 
-    // The words end with the streams, which are fed from these files.
+    // The words end with the streams of round 1, which are fed from these files.
     void start(const std::string &program, std::vector<std::string> words, std::vector<int> kept,
                const std::vector<int> &files);
+
+    // Before a round's streams end: its files' names in the folder of lrupd's rounds begin so. Then, once it has saved what the round
+    // came to, the sizes of the next one, whose streams are fed from these files.
+    void expect_round(const std::string &path);
+    bool awaits_sizes();
+    void begin_round(Row row, const std::vector<int> &files);
+
     bool feed(size_t stream, uint64_t bytes, bool drop);    // from the file, which has so many by now; true where all are fed
-    void end_stream(size_t stream) { close_file(streams[stream].pipe.write); }
+    void end_stream(size_t stream) { close_file(streams[stream].pipe); }
     uint64_t fed(size_t stream) const { return streams[stream].fed; }
     uint64_t read_of(size_t stream) const;                  // bytes that it has read
-    double stop();                                          // its processor seconds
     void read_on();                                         // what it says
     bool next_line(std::string &line);                      // of standard error, each once
     std::vector<pollfd> files() const;                      // to be waited for
     std::string last_line() const;                          // of standard error
 
 private:
-    struct Stream { int file; Pipe pipe; uint64_t fed, dropped; };
+    struct Stream {
+        int file, pipe;
+        std::string path;               // of a pipe that lrupd hasn't opened yet
+        uint64_t fed = 0, dropped = 0;
+    };
 
     std::vector<Stream> streams;
+    std::string next;                   // how the names of the next round's files begin
+    int sizes = -1;
     Pipe out, err;
     size_t told = 0;
 };
 
 std::string find_checker(const char *given);                    // refuses where there is none
-std::string find_chain(const std::string &checker);             // the script that goes on from round to round
+std::string sizes_text(size_t streams, Row row);                // as lrupd reads it from a file
 std::string tries();
 
 #endif

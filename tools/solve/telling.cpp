@@ -100,7 +100,7 @@ void Run::keep_report() {
     if (unkept.empty()) unkept = write_file(folder + "command", command_again() + "\n");
 }
 
-double Run::checker_seconds() const { return probe.child.seconds + checker.child.seconds + spent; }
+double Run::checker_seconds() const { return probe.child.seconds + checker.child.seconds; }
 
 double Run::processor_seconds(bool engines) const {
     double sum = 0;
