@@ -19,7 +19,7 @@ FORMULA ?= examples/bmc.cnf
 STREAMS ?= $(addprefix examples/bmc-four.,1 2 3 4)
 OPTIONS ?= --tries 1000000
 
-.PHONY: run build install examples live checkpoints demo solver exact solve solver-test filter-test solve-test neighbours sweep
+.PHONY: run build install examples live checkpoints rounds demo solver exact solve solver-test filter-test solve-test neighbours sweep
 .PHONY: leaks instructions audit tables pages test toolchain c-and-python libcadical solve-objects mpicxx
 .PHONY: help try deb dist quick edits
 
@@ -72,6 +72,10 @@ checkpoints: $(BUILT) solver ## check: what --checkpoint saves, lrup-chain, and 
 	@python3 tests/program_checkpoints.py $(PROGRAM)
 	@python3 tests/lrup_chain.py $(PROGRAM)
 	@python3 tests/example_chain.py $(PROGRAM) $(SOLVER)
+
+rounds: $(BUILT) c-and-python ## check: runs in rounds: each end and fault, sizes, pipes, and what is saved
+	@python3 tests/program_rounds.py $(PROGRAM)
+	@python3 tests/program_rounds_alone.py $(PROGRAM)
 
 demo: build solver ## try: four solvers that share their clauses, and the program beside them
 	@python3 examples/solver/demo.py $(PROGRAM) $(SOLVER)
@@ -170,14 +174,14 @@ edits: toolchain ## check: the edits that the gate leaves out, of CRATE=name or 
 	@sh gate/edits.sh $(RT) $(CRATE)
 
 # The whole gate: the pages; every proof from nothing, each edit that must be refused, each test, and the program as two compilers
-# build it; then, with the program that was built there, the examples, the live run, checkpoints and chains of runs, the solver's
-# streams and the filter's, mutated proofs, lrup-solve, a proof beside hostile streams, each call of the system refused in turn, of
-# the program and of tests, memory given back, and the instructions that lines take. The last line is rt's own, 'N passed, M
-# failed'.
+# build it; then, with the program that was built there, the examples, the live run, checkpoints, runs in rounds and chains, the
+# solver's streams and the filter's, mutated proofs, lrup-solve, a proof beside hostile streams, each call of the system refused in
+# turn, of the program and of tests, memory given back, and the instructions that lines take. The last line is rt's own, 'N passed,
+# M failed'.
 # Side by side, those that take longest first, and two more than there are cores, since most of them wait now and then; what each
 # one prints comes when it has ended.
 TESTS := lrup_solve_rounds sweep filter_mutants lrup_solve lrup_solve_solvers filter_rounds lrup_solve_mpi leaks filter_streams \
-	checkpoints examples solver-test instructions neighbours live
+	checkpoints rounds examples solver-test instructions neighbours live
 SIDE_BY_SIDE := --output-sync=target -j $(shell expr $$(nproc) + 2)
 test: SHELL := /bin/bash
 test: toolchain pages solver exact ## check: the gate, 25 to 100 minutes: every proof, edit and test; has to pass before a push

@@ -1,12 +1,14 @@
 """The checkpoint of a run, by the rules and not by the program."""
 import re
+import shutil
 from pathlib import Path
 from typing import Dict, Iterable, List, Sequence, Set, Tuple
 
-from harness import Failure, want
+from harness import Failure, Skipped, want
 from proof_forms import Clause, read_formula, read_steps
 
 Entry = Tuple[int, Clause]
+MOST_CLAUSES = 16_777_215  # of a formula
 
 
 def printed(variables: int, entries: Iterable[Entry]) -> str:
@@ -54,3 +56,15 @@ def sorted_literals(text: str) -> List[str]:
 def want_checkpoint(path: Path, wanted: str) -> None:
     """Each byte of it, but for the order of literals."""
     want(sorted_literals(path.read_text()), sorted_literals(wanted), "the checkpoint")
+
+
+def most_clauses(work: Path) -> Path:
+    """A formula that has as many."""
+    formula = work / "formula"
+    if shutil.disk_usage(work).free < 300_000_000:
+        raise Skipped("less than 300 MB are free for files")
+    with open(formula, "w") as file:
+        file.write(f"p cnf 1 {MOST_CLAUSES}\n")
+        for _ in range(15):
+            file.write("1 0\n" * (MOST_CLAUSES // 15))
+    return formula

@@ -3,14 +3,19 @@
 A test is a row: a name, a function and its arguments. The function gets a folder of its own as the last one.
 """
 import contextlib
+import fcntl
 import os
 import random
 import re
+import resource
 import shlex
+import shutil
 import signal
+import struct
 import subprocess
 import sys
 import tempfile
+import termios
 import threading
 import time
 from pathlib import Path
@@ -86,6 +91,30 @@ def started(words: Words, **how: Any) -> Iterator["subprocess.Popen[Any]"]:
             process.kill()
 
 
+def run_by_another(program: str, words: Words, work: Path) -> Ran:
+    """Runs a copy of the program in this folder; the superuser, whom nothing is forbidden, does so as another user."""
+    copy = shutil.copy(program, work / "lrupd")
+    work.chmod(0o755)
+
+    def become_another() -> None:
+        if os.getuid() == 0:
+            os.setuid(65534)
+
+    try:
+        return run([copy, *words], cwd=work, preexec_fn=become_another)
+    except subprocess.TimeoutExpired:
+        raise
+    except (PermissionError, subprocess.SubprocessError):
+        raise Skipped("the superuser can't become another user")
+
+
+def within(limit: Optional[int]) -> None:
+    """In a program that begins: a limit on the size of files, beyond which writes fail."""
+    if limit is not None:
+        signal.signal(signal.SIGXFSZ, signal.SIG_IGN)
+        resource.setrlimit(resource.RLIMIT_FSIZE, (limit, limit))
+
+
 def until(what: str, condition: Callable[[], bool], seconds: float = LIMIT) -> None:
     end = time.monotonic() + seconds
     while not condition():
@@ -109,6 +138,7 @@ def written(text: Union[str, bytes], folder: Path, name: str = "formula.cnf") ->
 
 
 def piped(path: Path) -> Path:
+    path.parent.mkdir(exist_ok=True)
     os.mkfifo(path)
     return path
 
@@ -116,6 +146,26 @@ def piped(path: Path) -> Path:
 def held(path: Path) -> IO[bytes]:
     """A pipe's writing end, which is there before anybody reads: the pipe is open until it is closed."""
     return os.fdopen(os.open(piped(path), os.O_RDWR), "wb", buffering=0)
+
+
+def read_from(path: Path) -> IO[bytes]:
+    """A pipe's writing end, as soon as somebody reads there."""
+    ends: List[int] = []
+
+    def is_open() -> bool:
+        with contextlib.suppress(OSError):
+            ends.append(os.open(path, os.O_WRONLY | os.O_NONBLOCK))
+        return bool(ends)
+
+    until(f"{path} is read", is_open)
+    os.set_blocking(ends[0], True)
+    return os.fdopen(ends[0], "wb", buffering=0)
+
+
+def waiting(pipe: int) -> int:
+    """How many bytes were written to a pipe and not read."""
+    count: int = struct.unpack("i", fcntl.ioctl(pipe, termios.FIONREAD, bytes(4)))[0]
+    return count
 
 
 def feed(path: Path, pieces: Pieces) -> threading.Thread:

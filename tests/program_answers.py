@@ -222,6 +222,8 @@ USAGE: List[Tuple[str, List[str]]] = [
     ("a word that is no UTF-8", ["\udcff", "absent"]),
     ("assumptions twice", ["--assume", "cube", "--assume", "cube", "formula", "one"]),
     ("watched twice", ["--watch", "--watch", "formula", "one"]),
+    ("rounds twice", ["--rounds", ".", "--rounds", ".", "formula", "one"]),
+    ("rounds without a stream", ["--rounds", ".", "formula"]),
 ]
 
 

@@ -9,18 +9,15 @@ of it, as a full disk leaves it, is none. It shows what is off; the last line is
 machine doesn't let something be tried. The status is 1 where a row failed.
 """
 import os
-import resource
 import shutil
-import signal
-import subprocess
 import sys
 from pathlib import Path
 from typing import Dict, Iterator, List, Optional, Sequence, Tuple
 
 sys.dont_write_bytecode = True
-from checkpoints import live, printed, variables_of, want_checkpoint
-from harness import (FOUR, Failure, Ran, Row, Skipped, Wanted, answered, answers, example, report, run, run_all, want, with_memory,
-                     words_given, written)
+from checkpoints import MOST_CLAUSES, live, most_clauses, printed, variables_of, want_checkpoint
+from harness import (FOUR, Failure, Ran, Row, Skipped, Wanted, answered, answers, example, report, run, run_all, run_by_another, want,
+                     with_memory, within, words_given, written)
 
 WAYS = ["", "--serial"]
 ONE, TWO = "5 2 0 1 2 0\n", "5 2 0 1 2 0\n6 0 5 3 4 0\n"
@@ -206,13 +203,6 @@ def torn(program: str, way: List[str], limit: Optional[int], work: Path) -> None
     want((again.out, again.err[:24], again.status), ("", "lrupd: formula refused: ", 4), "what is said of them")
 
 
-def within(limit: Optional[int]) -> None:
-    """A limit on the size of files, beyond which writes fail."""
-    if limit is not None:
-        signal.signal(signal.SIGXFSZ, signal.SIG_IGN)
-        resource.setrlimit(resource.RLIMIT_FSIZE, (limit, limit))
-
-
 def each_beginning(program: str, work: Path) -> None:
     """But for the last LF, no beginning of a checkpoint is a formula."""
     for size in range(len(SAVED_DROPPING) - 1):
@@ -220,36 +210,19 @@ def each_beginning(program: str, work: Path) -> None:
         want((found.out, found.err[:24], found.status), ("", "lrupd: formula refused: ", 4), f"what is said of {size} bytes")
 
 
-def become_another() -> None:
-    if os.getuid() == 0:
-        os.setuid(65534)
-
-
 def without_leave(program: str, work: Path) -> None:
-    """A folder where nobody may write; for the superuser, who may, by another user."""
+    """A folder where nobody may write."""
     folder = work / "folder"
-    copy = shutil.copy(program, work / "lrupd")
-    files = [written(text, work, name) for name, text in (("formula", FOUR), ("one", ONE))]
+    for name, text in ("formula", FOUR), ("one", ONE):
+        written(text, work, name).chmod(0o644)
     folder.mkdir(mode=0o555)
-    for path in [work, *files]:
-        path.chmod(0o755)
-    try:
-        found = run([copy, "--checkpoint", folder / "saved", *files], cwd="/", preexec_fn=become_another)
-    except (PermissionError, subprocess.SubprocessError):
-        raise Skipped("the superuser can't become another user")
+    found = run_by_another(program, ["--checkpoint", "folder/saved", "formula", "one"], work)
     want((found, os.listdir(folder)), (Ran("", NOT_CREATED, 5), []), "the answer, and what is there")
 
 
 def refused(fault: str, count: int, program: str, work: Path) -> None:
     """The most clauses that a formula has, and one more."""
-    clauses = 16_777_215
-    formula = work / "formula"
-    if shutil.disk_usage(work).free < 200_000_000:
-        raise Skipped("less than 200 MB are free for files")
-    with open(formula, "w") as file:
-        file.write(f"p cnf 1 {clauses}\n")
-        for _ in range(15):
-            file.write("1 0\n" * (clauses // 15))
+    formula, clauses = most_clauses(work), MOST_CLAUSES
     stream = written("".join(f"{clauses + number} 1 0 1 0\n" for number in range(1, count + 1)), work, "stream")
     found = run([program, "--lines", "10", "--room", "10", "--checkpoint", work / "saved", formula, stream])
     said = report([f"{count} added, 0 deleted, ended"], 3)

@@ -1,6 +1,6 @@
 #!/usr/bin/env python3
-"""Refuses each allocation, read, write, thread, creation of a file and flush of the program in turn, and compares each answer,
-with what was saved, with those that may be.
+"""Refuses each allocation, read, write, thread, opening, creation of a file and flush of the program in turn, and compares each
+answer, with what was saved, with those that may be.
 
     program_refusals.py PROGRAM [RT]
 
@@ -11,22 +11,22 @@ They are as `rt ci` built them; where there are none, RT, Rattle's command, make
 were have ended before that is said, and pipes that stay open are left alone, and hold nothing up; a program that waits for no
 thread has to be found wrong. Last, what a store took has to be given back.
 """
-import fcntl
 import itertools
 import os
 import re
 import resource
-import struct
 import subprocess
 import sys
 import tempfile
-import termios
 import time
 from pathlib import Path
-from typing import Dict, Iterator, List, NamedTuple, Optional, Sequence, Set, Tuple
+from typing import Dict, Iterator, List, NamedTuple, Optional, Set, Tuple
 
 sys.dont_write_bytecode = True
-from harness import EXAMPLES, FOUR, ROOT, TESTS, Words, compiled, piped, report, run, words_given, written
+from harness import EXAMPLES, FOUR, ROOT, TESTS, compiled, piped, report, run, waiting, words_given, written
+from refused import (ERRORS_OF_READS, FOUR_CLAUSE, SECONDS, SHORT, Answer, Input, InRounds, Machine, complaints,
+                     complaints_in_rounds, is_right, not_started)
+from rounds import ONE, TWO, Proof
 
 
 class Test(NamedTuple):
@@ -41,235 +41,19 @@ class Test(NamedTuple):
     last: Optional[int] = None
 
 
-class Answer(NamedTuple):
-    """The two outputs, the status, and the text of the checkpoint, if one was created."""
-    out: str
-    err: str
-    status: Optional[int]
-    saved: Optional[str] = None
-
-
-def stopped(status: int, cause: str, saved: Optional[str] = None) -> Answer:
-    return Answer("", f"lrupd: {cause}\n", status, saved)
-
-
-FOUR_CLAUSE = EXAMPLES / "four-clause.cnf"
 FOUR_SOLVERS = [EXAMPLES / f"bmc-four.{number}" for number in range(1, 5)]
-OUT_OF_MEMORY = stopped(6, "out of memory")
-NO_FORMULA = stopped(5, "cannot read formula")
-NO_ASSUMPTIONS = stopped(5, "cannot read assumptions")
-NOT_CREATED = stopped(5, "cannot create checkpoint")
-NOT_WRITTEN = "lrupd: checkpoint not written\n"
-NO_MEMORY_TO_SAVE = "lrupd: checkpoint not written: out of memory\n"
-ERRORS_OF_READS = ["EIO", "EINTR"]
 ERRORS_OF_WRITES = ["EIO", "ENOSPC", "EPIPE"]
+ERRORS_OF_OPENINGS = ["EACCES", "EMFILE", "ELOOP", "ENOENT"]
 ERRORS_OF_CREATIONS = ["EACCES", "EMFILE", "ENOSPC"]
 ERRORS_OF_FLUSHES = ["EIO", "ENOSPC"]
-SHORT = ["short", "half"]
 MANY = 5_000
 ONE_LINE, MANY_LINES = "a line and an import", f"{MANY} lines and imports"  # as many allocations: lines take none
 BURDENED = " under assumptions, after a drop"
 FEW_CLAUSES, MANY_CLAUSES = "two clauses", f"{MANY} clauses"
 GROWTHS = 100  # how many allocations more the many clauses may take, whose lists double as they grow: some thirty
 MOST = 1_000  # calls of a kind are refused of a run; none makes as many
-SECONDS = 20  # within which a run ends whose thread isn't started, and not a minute later, when the others' tries are over
-HANGS = 300  # seconds, after which a run hangs
-HELD = 100  # the same of one that waits for a pipe
-LATE = 50  # milliseconds that a thread takes to begin, where one isn't started
-VERY_LATE = 1000  # the same of a program that has to be found wrong, however late its own first thread is
-
-
-class Input:
-    """Words, which end with the streams, and what else than the ample answer may be said where something is refused."""
-
-    def __init__(self, name: str, words: Words, streams: int = 0, dropped: Sequence[Answer] = (), waits: bool = False,
-                 out: Optional[str] = None) -> None:
-        self.name, self.words, self.streams, self.out = name, list(map(str, words)), streams, out
-        self.dropped = dropped  # reports where the growth for a dropped identity is refused
-        self.waits = waits  # for a minute, where a stream that others cite fails
-        self.assumes = "--assume" in self.words
-        self.checkpoint = Path(self.words[self.words.index("--checkpoint") + 1]) if "--checkpoint" in self.words else None
-        self.created = "" if self.checkpoint else None  # what the checkpoint has before something is saved
-
-
-class Machine:
-    """Runs the program, with a call refused."""
-
-    def __init__(self, program: str, folder: Path, late: int = LATE) -> None:
-        self.program, self.mark, self.stump, self.late = program, folder / "mark", folder / "stump", late
-        self.shim = compiled(folder / "refuse.so", [TESTS / "refuse.c"], "-std=gnu11", "-O2", "-shared", "-fPIC")
-        self.ends: Dict[Tuple[Input, int, int], Answer] = {}
-
-    def run(self, words: Sequence[str], refuse: str = "", out: Optional[str] = None,
-            limit: float = HANGS) -> Tuple[Answer, bool, float]:
-        """The answer, whether a call was refused, and the seconds that it took. The lines of `--watch` are compared with the
-        report, and aren't in the answer where they are right."""
-        checkpoint = Path(words[words.index("--checkpoint") + 1]) if "--checkpoint" in words else None
-        for path in [self.mark, *([checkpoint] if checkpoint else [])]:
-            if path.is_file():
-                path.unlink()
-        surroundings = {"LD_PRELOAD": str(self.shim), "REFUSE": refuse, "MARK": str(self.mark), "PATH": os.environ["PATH"],
-                        "LATE": str(self.late if refuse.startswith("thread") else 0)}
-        began = time.monotonic()
-        with open(out or os.devnull, "wb") as full:
-            try:
-                where = full if out else subprocess.PIPE
-                answer = Answer(*run([self.program, *words], limit=limit, env=surroundings, stdout=where))
-            except subprocess.TimeoutExpired:
-                answer = Answer("", f"no end in {limit} seconds", None)
-        if checkpoint and checkpoint.is_file():
-            answer = answer._replace(saved=checkpoint.read_text())
-        if "--watch" in words:
-            answer = without_watched_ends(answer, refuse, "--serial" not in words)
-        return answer, self.mark.exists(), time.monotonic() - began
-
-    def threads(self) -> str:
-        """How many threads that were started before the one that was refused had begun, and had ended, in words."""
-        counts = self.mark.read_text().split() if self.mark.exists() else []
-        return "; of {} threads {} had begun, and {} ended".format(*counts) if counts else ""
-
-    def has_waited_for(self, count: int) -> bool:
-        """Were as many threads started before the one that was refused, and had they all begun, and ended, when that was said?"""
-        return self.mark.read_text().split() == [str(count)] * 3
-
-    def answer_without(self, given: Input, number: int, line: int) -> Answer:
-        """The answer where the reading of a stream fails in a line: the one of a stream that ends before that line."""
-        if (given, number, line) not in self.ends:
-            words, place = list(given.words), number - 1 - given.streams
-            before = Path(words[place]).read_bytes().splitlines(keepends=True)[:line - 1]
-            self.stump.write_bytes(b"".join(before))
-            words[place] = str(self.stump)
-            answer, _, _ = self.run(words)
-            ended = rf"(c stream {number}: .*), ended\n"
-            self.ends[given, number, line] = answer._replace(out=re.sub(ended, rf"\1, read failed at line {line}\n", answer.out))
-        return self.ends[given, number, line]
-
-
-def mixtures(lines: Sequence[str], how: str) -> Iterator[str]:
-    """Lines of threads, one of which the system took a part of at first, so that others went out before its rest."""
-    for cut, line in enumerate(lines):
-        length = 1 if how == "short" else len(line) // 2
-        for last in range(cut + 1, len(lines)):
-            yield "".join([*lines[:cut], line[:length], *lines[cut + 1:last + 1], line[length:], *lines[last + 1:]])
-
-
-def unmixed(err: str, watched: Set[str], how: str) -> str:
-    for lines in itertools.permutations(watched):
-        for mixture in mixtures(lines, how):
-            if err.startswith(mixture):
-                return "".join(lines) + err[len(mixture):]
-    return err
-
-
-def without_watched_ends(answer: Answer, refuse: str, mixes: bool) -> Answer:
-    """Without the lines of --watch on how each stream ended, where they say what the report does; else no answer. A report that is
-    cut may say less, and so may these lines where a write fails. Those of several threads may mix where the system takes a part of
-    a write, and only there."""
-    kind, _, how = (refuse.split(":") + ["", ""])[:3]
-    is_short, fails = kind == "write" and how in SHORT, kind == "write" and how not in SHORT
-    reported = {re.sub("^c", "lrupd:", line) for line in answer.out.splitlines(keepends=True) if line.startswith("c stream ")}
-    lines = (unmixed(answer.err, reported, how) if is_short and mixes else answer.err).splitlines(keepends=True)
-    watched = {line for line in lines if line.startswith("lrupd: stream ")}
-    if watched == reported or answer.status == 7 and watched > reported or fails and watched < reported:
-        return answer._replace(err="".join(line for line in lines if line not in watched))
-    return Answer(answer.out, f"watched {sorted(watched)}", None)
-
-
-def is_cut(answer: Answer, ample: Answer) -> bool:
-    """The report couldn't be written: what went out is a beginning of it. The checkpoint was there before."""
-    return (answer.status == 7 and answer.err == "lrupd: cannot write report\n" and ample.out.startswith(answer.out)
-            and answer.saved == ample.saved)
-
-
-def is_unsaved(answer: Answer, ample: Answer, cause: str) -> bool:
-    """The checkpoint couldn't be written: a beginning of it is there, and the report is as ever."""
-    wanted = ample._replace(err=cause + ample.err, status=7 if ample.status == 7 else 9, saved=answer.saved)
-    return (ample.status in [3, 7, 8] and answer == wanted and answer.saved is not None and ample.saved is not None
-            and ample.saved.startswith(answer.saved))
-
-
-def is_unopened(answer: Answer, given: Input) -> bool:
-    return answer == NO_FORMULA or answer == NO_ASSUMPTIONS and given.assumes or answer in [
-        stopped(5, f"cannot open stream {number}") for number in range(1, given.streams + 1)] or (
-        answer == NOT_CREATED and given.checkpoint is not None)
-
-
-def not_started(number: int, saved: Optional[str] = None) -> Answer:
-    return stopped(6, f"worker {number} not started", saved)
-
-
-def is_unstarted(answer: Answer, given: Input) -> bool:
-    return answer in [not_started(number, given.created) for number in range(1, given.streams + 1)]
-
-
-def calls(kind: str, ample: Answer, given: Input) -> int:
-    """How many threads a run starts: the checking thread of each stream in turn, and then the reading threads likewise; how many
-    checkpoints it creates; and how often it flushes one."""
-    goes_on = ample.status in [0, 3, 7, 8]
-    if kind == "thread":
-        return 2 * given.streams if "--serial" not in given.words and goes_on else 0
-    if kind == "create":
-        return int(given.checkpoint is not None and (goes_on or ample == NOT_CREATED))
-    return int(given.checkpoint is not None and bool(ample.saved))
-
-
-def is_refused_allocation(answer: Answer, ample: Answer, given: Input) -> bool:
-    return (answer in [OUT_OF_MEMORY, OUT_OF_MEMORY._replace(saved=given.created), *given.dropped]
-            or is_unopened(answer, given) or is_unstarted(answer, given) or is_cut(answer, ample)
-            or is_unsaved(answer, ample, NO_MEMORY_TO_SAVE))
-
-
-def is_failed_read(answer: Answer, given: Input, machine: Machine) -> bool:
-    """The formula or the assumptions weren't read; or one stream fails, and the others are as without the rest of it."""
-    if answer == NO_FORMULA or answer == NO_ASSUMPTIONS and given.assumes:
-        return True
-    failed = re.findall(r"^c stream (\d+): .*, read failed at line (\d+)$", answer.out, re.M)
-    return len(failed) == 1 and answer == machine.answer_without(given, int(failed[0][0]), int(failed[0][1]))
-
-
-def is_failed_write(answer: Answer, ample: Answer) -> bool:
-    """The checkpoint, standard output, or standard error fails, which changes no status."""
-    return is_cut(answer, ample) or is_unsaved(answer, ample, NOT_WRITTEN) and answer.saved != ample.saved or (
-        answer == ample._replace(err=answer.err) and ample.err.startswith(answer.err))
-
-
-def may_be_ample(kind: str, how: str, ample: Answer, given: Input) -> bool:
-    """May the answer be as if nothing had been refused? A call that fails is reported, but for a read of what follows a bad line,
-    and where the report goes to a full device anyway."""
-    if how in SHORT or kind == "allocate":
-        return True
-    return kind == "read" and "bad line" in ample.out or kind in ["read", "write"] and given.out is not None
-
-
-def are_due(kind: str, ample: Answer, given: Input) -> bool:
-    """Must there be such calls? Each run that gets to the formula reads, and each that says something writes."""
-    return kind in ["allocate", "write"] or kind == "read" and given.streams > 0 and ample != NO_ASSUMPTIONS
-
-
-def is_right(kind: str, how: str, number: int, answer: Answer, ample: Answer, given: Input, seconds: float,
-             machine: Machine) -> bool:
-    if kind == "thread":
-        return (answer == not_started((number - 1) % given.streams + 1, given.created) and seconds < SECONDS
-                and machine.has_waited_for(number - 1))
-    if kind == "create":
-        return answer == NOT_CREATED
-    if kind == "sync":
-        return is_unsaved(answer, ample, NOT_WRITTEN) and answer.saved == ample.saved
-    if answer == ample and may_be_ample(kind, how, ample, given):
-        return True
-    if kind == "allocate":
-        return is_refused_allocation(answer, ample, given) and (seconds < SECONDS or not is_unstarted(answer, given))
-    if how in SHORT:
-        return False
-    return is_failed_read(answer, given, machine) if kind == "read" else is_failed_write(answer, ample)
-
-
-def are_in_order(causes: List[str], ample: Answer, given: Input) -> bool:
-    """The files that standard error names for the first reads: the formula, then the assumptions, then none."""
-    wanted = [NO_FORMULA.err] + [NO_ASSUMPTIONS.err] * given.assumes + [ample.err]
-    found = [cause for cause, _ in itertools.groupby(causes)]
-    reads_assumptions = given.assumes and ample != NO_ASSUMPTIONS
-    return found == wanted[:len(found)] and (not found or len(found) > reads_assumptions)
+HELD = 100  # seconds, after which a run hangs that waits for a pipe
+VERY_LATE = 1000  # milliseconds that a thread of a program takes to begin that has to be found wrong, however late its first one is
 
 
 def run_twice(machine: Machine, given: Input, refuse: str) -> Tuple[Answer, bool, float]:
@@ -282,14 +66,12 @@ def sweep(machine: Machine, given: Input, kind: str, how: str) -> Tuple[int, Lis
     """How many calls were refused, and the answers that may not be."""
     ample, _, _ = run_twice(machine, given, "")
     wrong: List[str] = []
-    causes: List[str] = []
     answers: List[Answer] = []
     for number in itertools.count(1):
         refuse = f"{kind}:{number}" + (f":{how}" if how else "")
         answer, refused, seconds = run_twice(machine, given, refuse)
         if not refused:
             break
-        causes.append(answer.err)
         answers.append(answer)
         if not is_right(kind, how, number, answer, ample, given, seconds, machine):
             wrong.append(f"{given.name}, {refuse}, {seconds:.1f} s: {answer}{machine.threads()}")
@@ -297,18 +79,8 @@ def sweep(machine: Machine, given: Input, kind: str, how: str) -> Tuple[int, Lis
             return number, [*wrong, f"{given.name}, more calls than may be: {refuse}"]
     if answer != ample or answer.status is None:
         wrong.append(f"{given.name}, nothing refused: {answer}")
-    if number == 1 and are_due(kind, ample, given):
-        wrong.append(f"{given.name}, nothing of this kind is ever refused: {refuse}")
-    if kind == "allocate" and given.dropped and not any(answer in given.dropped for answer in answers):
-        wrong.append(f"{given.name}, the growth for a dropped identity is never refused")
-    fails = kind == "allocate" or kind == "write" and how not in SHORT
-    if ample.saved and fails and not any(NOT_WRITTEN[:-1] in cause for cause in causes):
-        wrong.append(f"{given.name}, the saving is never refused: {kind} {how}")
-    if kind in ["thread", "create", "sync"] and number - 1 != calls(kind, ample, given):
-        wrong.append(f"{given.name}, {number - 1} calls refused, not {calls(kind, ample, given)}: {kind}")
-    if how in ERRORS_OF_READS and kind == "read" and not are_in_order(causes, ample, given):
-        wrong.append(f"{given.name}, reads refused with {how}: {causes}")
-    return number - 1, wrong
+    told = complaints_in_rounds if isinstance(given, InRounds) else complaints
+    return number - 1, wrong + [f"{given.name}, {kind} {how}: {complaint}" for complaint in told(kind, how, ample, answers, given)]
 
 
 def clauses(count: int) -> str:
@@ -338,6 +110,11 @@ ASSUMED = [EXAMPLES / "assumed.cnf", EXAMPLES / "assumed.lrup"]
 LINES = [f"{number} 101 -107 -108 -109 0 487 490 0\n1 i 13 -1 5 0\n" for number in range(534, 534 + MANY)]
 DROP = "534 d 2 0\n"
 AT_ONCE = "0 added, 0 deleted, out of memory at line 1"
+
+
+# Rounds of which the last one drops a clause, and derives none.
+UNKNOWN = Proof([*ONE.texts[:2], ["5 d 2 0\n"]], [*ONE.said[:2], ["0 added, 1 deleted, ended"]],
+                [*ONE.saved[:2], "p cnf 2 3\n1 -2 0\nc id 3\n2 0\nc id 4\n1 0\n"])
 
 
 def dropped(*said: str, saved: Optional[str] = None) -> List[Answer]:
@@ -388,10 +165,18 @@ def checkpoints(serial: List[str], files: Dict[str, Path], folder: Path) -> Iter
     yield Input("a checkpoint and a missing stream" + kind, [*words, FOUR_CLAUSE, folder / "missing"], 1)
 
 
+def in_rounds(serial: List[str], folder: Path) -> Iterator[Input]:
+    """Three rounds to the empty clause, and three that derive less."""
+    for name, proof, more in ("one", ONE, []), ("two", TWO, []), ("unknown", UNKNOWN, []), ("watched", ONE, ["--watch"]):
+        whole = " ".join(["three rounds,", name, *serial])
+        yield InRounds(whole, [*(serial or ["--tries", "5000"]), *more], proof, folder / whole)
+
+
 def inputs(folder: Path) -> Iterator[Input]:
     """The inputs that are swept."""
     files = {name: written(text, folder, name) for name, text in FILES.items()}
     for options in "", "--serial":
+        yield from in_rounds(options.split(), folder)
         yield from inputs_of_way(options.split(), files, folder)
         yield from checkpoints(options.split(), files, folder)
     yield Input("help", ["--help"])
@@ -411,9 +196,12 @@ def kinds(given: Input) -> Iterator[Tuple[str, str]]:
         yield "read", how
     for how in SHORT + ERRORS_OF_WRITES:
         yield "write", how
-    for how in ERRORS_OF_CREATIONS if given.checkpoint else ERRORS_OF_CREATIONS[:1]:
+    saves = given.checkpoint or isinstance(given, InRounds)
+    for how in ERRORS_OF_OPENINGS if isinstance(given, InRounds) else ERRORS_OF_OPENINGS[:1]:
+        yield "open", how
+    for how in ERRORS_OF_CREATIONS if saves else ERRORS_OF_CREATIONS[:1]:
         yield "create", how
-    for how in ERRORS_OF_FLUSHES if given.checkpoint else ERRORS_OF_FLUSHES[:1]:
+    for how in ERRORS_OF_FLUSHES if saves else ERRORS_OF_FLUSHES[:1]:
         yield "sync", how
 
 
@@ -497,12 +285,6 @@ def unjoined(folder: Path) -> List[str]:
         if answer == not_started((number - 1) % 3 + 1) and not machine.has_waited_for(number - 1):
             found.append(number)
     return [] if found == [2, 3, 4, 5, 6] else [f"a program that waits for no thread is found wrong at {found}"]
-
-
-def waiting(pipe: int) -> int:
-    """How many bytes were written to a pipe and not read."""
-    count: int = struct.unpack("i", fcntl.ioctl(pipe, termios.FIONREAD, bytes(4)))[0]
-    return count
 
 
 def leave(machine: Machine, folder: Path, count: int) -> Tuple[int, List[str]]:

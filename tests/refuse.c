@@ -6,6 +6,7 @@
                     numbers: how many threads were started, how many of them had begun, and how many ended, ten seconds later at most
      read:N:HOW     read; HOW is EIO, EINTR, or short or half: one byte, or half of those asked for
      write:N:HOW    write; HOW is EIO, ENOSPC, EPIPE, or short or half
+     open:N:HOW     an open without O_CREAT; HOW is EACCES, EMFILE, ENOENT or ELOOP
      create:N:HOW   an open with O_EXCL; HOW is EACCES, EMFILE or ENOSPC
      sync:N:HOW     fsync and fdatasync; HOW is EIO or ENOSPC
    A test's tool, and no part of the program. */
@@ -26,7 +27,7 @@
 extern void *__libc_malloc(size_t), *__libc_calloc(size_t, size_t), *__libc_realloc(void *, size_t), *__libc_memalign(size_t, size_t);
 extern ssize_t __read(int, void *, size_t), __write(int, const void *, size_t);
 
-enum kind { NONE, ALLOCATE, THREAD, READ, WRITE, CREATE, SYNC };
+enum kind { NONE, ALLOCATE, THREAD, READ, WRITE, OPEN, CREATE, SYNC };
 static enum kind refused = NONE;
 static long number, late;
 static const char *how = "", *mark = "";
@@ -34,7 +35,7 @@ static atomic_long calls, started, begun, ended;
 static atomic_int to_be_told;
 
 __attribute__((constructor)) static void begin(void) {
-    static const char *const names[] = {"", "allocate", "thread", "read", "write", "create", "sync"};
+    static const char *const names[] = {"", "allocate", "thread", "read", "write", "open", "create", "sync"};
     const char *refuse = getenv("REFUSE");
     mark = getenv("MARK");
     if (refuse == NULL || mark == NULL) return;
@@ -125,7 +126,8 @@ static void tell_threads(void) {
 /* How many bytes the call may move, or -1 with errno. */
 static ssize_t allowed(size_t size) {
     static const struct { const char *name; int error; } errors[] = {
-        {"EIO", EIO}, {"EINTR", EINTR}, {"ENOSPC", ENOSPC}, {"EPIPE", EPIPE}, {"EACCES", EACCES}, {"EMFILE", EMFILE}};
+        {"EIO", EIO}, {"EINTR", EINTR}, {"ENOSPC", ENOSPC}, {"EPIPE", EPIPE}, {"EACCES", EACCES}, {"EMFILE", EMFILE},
+        {"ENOENT", ENOENT}, {"ELOOP", ELOOP}};
     for (size_t i = 0; i < sizeof errors / sizeof errors[0]; i++)
         if (strcmp(how, errors[i].name) == 0) {
             errno = errors[i].error;
@@ -149,6 +151,7 @@ ssize_t write(int file, const void *bytes, size_t size) {
 static int open_at(int folder, const char *path, int flags, va_list more) {
     int mode = flags & (O_CREAT | O_TMPFILE) ? va_arg(more, int) : 0;
     if ((flags & O_EXCL) && is_refused(CREATE)) return (int)allowed(0);
+    if (!(flags & O_CREAT) && is_refused(OPEN)) return (int)allowed(0);
     return (int)syscall(SYS_openat, folder, path, flags, mode);
 }
 

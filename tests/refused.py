@@ -1,0 +1,436 @@
+"""What the program may answer where a call of the system is refused, and a machine that refuses one."""
+import itertools
+import os
+import re
+import subprocess
+import time
+from pathlib import Path
+from typing import Dict, Iterator, List, NamedTuple, Optional, Sequence, Set, Tuple, Union
+
+from harness import EXAMPLES, FOUR, TESTS, Words, compiled, run, written
+from rounds import Proof, fault, last, round_files, saved_name, stream_name
+
+Saved = Union[None, str, Tuple[Optional[str], ...]]
+
+
+class Answer(NamedTuple):
+    """The two outputs, the status, and the text of the checkpoint, if one was created; in rounds those of all of them."""
+    out: str
+    err: str
+    status: Optional[int]
+    saved: Saved = None
+
+
+def stopped(status: int, cause: str, saved: Saved = None) -> Answer:
+    return Answer("", f"lrupd: {cause}\n", status, saved)
+
+
+FOUR_CLAUSE = EXAMPLES / "four-clause.cnf"
+OUT_OF_MEMORY = stopped(6, "out of memory")
+NO_FORMULA = stopped(5, "cannot read formula")
+NO_ASSUMPTIONS = stopped(5, "cannot read assumptions")
+NOT_CREATED = stopped(5, "cannot create checkpoint")
+NOT_WRITTEN = "lrupd: checkpoint not written\n"
+NO_MEMORY_TO_SAVE = "lrupd: checkpoint not written: out of memory\n"
+ERRORS_OF_READS = ["EIO", "EINTR"]
+SHORT = ["short", "half"]
+EACH = ["thread", "open", "create", "sync"]  # kinds of which each call has an answer of its own
+SECONDS = 20  # within which a run ends whose thread isn't started, and not a minute later, when the others' tries are over
+HANGS = 300  # seconds, after which a run hangs
+LATE = 50  # milliseconds that a thread takes to begin, where one isn't started
+
+
+class Input:
+    """Words, which end with the streams, and what else than the ample answer may be said where something is refused."""
+
+    def __init__(self, name: str, words: Words, streams: int = 0, dropped: Sequence[Answer] = (), waits: bool = False,
+                 out: Optional[str] = None) -> None:
+        self.name, self.words, self.streams, self.out = name, list(map(str, words)), streams, out
+        self.dropped = dropped  # reports where the growth for a dropped identity is refused
+        self.waits = waits  # for a minute, where a stream that others cite fails
+        self.assumes = "--assume" in self.words
+        self.checkpoint = Path(self.words[self.words.index("--checkpoint") + 1]) if "--checkpoint" in self.words else None
+        self.created = "" if self.checkpoint else None  # what the checkpoint has before something is saved
+
+
+class InRounds(Input):
+    """A run in rounds, with the sizes of each in a file."""
+
+    def __init__(self, name: str, options: Sequence[str], proof: Proof, work: Path) -> None:
+        self.proof, self.count, self.folder = proof, len(proof.texts), work / "d"
+        work.mkdir()
+        for number, streams in enumerate(proof.texts, 1):
+            written(f"{len(streams)} 100 100\n", work, f"d/round-{number}.sizes")
+        for path, text in round_files(proof.texts).items():
+            written(text, work, path)
+        streams = [work / stream_name(1, stream) for stream in range(1, len(proof.texts[0]) + 1)]
+        words = ["--lines", "100", "--room", "100", *options, "--rounds", self.folder, FOUR_CLAUSE, *streams]
+        super().__init__(name, words, len(streams))
+        self.status = 3 if proof.saved[-1] else 0
+        self.reports = [last(number, said, 3) for number, said in enumerate(proof.said[:-1], 1)]
+        self.reports.append(last(self.count, proof.said[-1], self.status))
+        self.reached = self.count + (self.status == 3)  # the last round that something is opened of
+        self.singles = work / "saved"
+        self.told = 0 if "--watch" not in options else sum(map(len, proof.texts)) + self.count - 1  # lines of --watch
+
+    def before(self, number: int, *more: str) -> Saved:
+        """What was saved before a round, and what it created itself."""
+        found = [*self.proof.saved[:number - 1], *more]
+        return tuple(found + [None] * (MOST_SAVED - len(found)))
+
+    def stopped(self, number: int, cause: str, status: int, *more: str) -> Answer:
+        """Without a report."""
+        return Answer("", fault(number, cause), status, self.before(number, *more))
+
+    def ended(self, number: int) -> Answer:
+        """A round is the last one."""
+        return Answer(self.reports[number - 1], "", 3 if number < self.count else self.status, self.before(number + 1))
+
+    def unsaved(self, number: int, cause: str, left: str) -> Answer:
+        return Answer(self.reports[number - 1], fault(number, cause), 9, self.before(number, left))
+
+    def saving(self) -> List[int]:
+        """The rounds that save something."""
+        return [number for number, text in enumerate(self.proof.saved, 1) if text]
+
+
+MOST_SAVED = 4  # checkpoints of a run in rounds that are looked for
+
+
+def places_of(words: Sequence[str]) -> List[Path]:
+    """Where something may be saved."""
+    if "--rounds" in words:
+        folder = Path(words[words.index("--rounds") + 1])
+        return [folder.parent / saved_name(number) for number in range(2, 2 + MOST_SAVED)]
+    return [Path(words[words.index("--checkpoint") + 1])] if "--checkpoint" in words else []
+
+
+class Machine:
+    """Runs the program, with a call refused."""
+
+    def __init__(self, program: str, folder: Path, late: int = LATE) -> None:
+        self.program, self.mark, self.stump, self.late = program, folder / "mark", folder / "stump", late
+        self.shim = compiled(folder / "refuse.so", [TESTS / "refuse.c"], "-std=gnu11", "-O2", "-shared", "-fPIC")
+        self.ends: Dict[Tuple[str, int, int, str], Answer] = {}
+
+    def run(self, words: Sequence[str], refuse: str = "", out: Optional[str] = None,
+            limit: float = HANGS) -> Tuple[Answer, bool, float]:
+        """The answer, whether a call was refused, and the seconds that it took. The lines of `--watch` are compared with the
+        report, and aren't in the answer where they are right."""
+        checkpoints = places_of(words)
+        for path in [self.mark, *checkpoints]:
+            if path.is_file():
+                path.unlink()
+        surroundings = {"LD_PRELOAD": str(self.shim), "REFUSE": refuse, "MARK": str(self.mark), "PATH": os.environ["PATH"],
+                        "LATE": str(self.late if refuse.startswith("thread") else 0)}
+        began = time.monotonic()
+        with open(out or os.devnull, "wb") as full:
+            try:
+                where = full if out else subprocess.PIPE
+                answer = Answer(*run([self.program, *words], limit=limit, env=surroundings, stdout=where))
+            except subprocess.TimeoutExpired:
+                answer = Answer("", f"no end in {limit} seconds", None)
+        saved = tuple(path.read_text() if path.is_file() else None for path in checkpoints)
+        answer = answer._replace(saved=saved if "--rounds" in words else saved[0] if saved else None)
+        if "--watch" in words:
+            in_rounds = "--rounds" in words
+            answer = without_lines(answer) if in_rounds else without_watched_ends(answer, refuse, "--serial" not in words)
+        return answer, self.mark.exists(), time.monotonic() - began
+
+    def threads(self) -> str:
+        """How many threads that were started before the one that was refused had begun, and had ended, in words."""
+        counts = self.mark.read_text().split() if self.mark.exists() else []
+        return "; of {} threads {} had begun, and {} ended".format(*counts) if counts else ""
+
+    def has_waited_for(self, count: int) -> bool:
+        """Were as many threads started before the one that was refused, and had they all begun, and ended, when that was said?"""
+        return self.mark.read_text().split() == [str(count)] * 3
+
+    def answer_without(self, given: Input, number: int, line: int, cause: str = "read failed") -> Answer:
+        """The answer where a stream fails in a line, as where it isn't read: the one of a stream that ends before that line."""
+        if (given.name, number, line, cause) not in self.ends:
+            words, place = list(given.words), number - 1 - given.streams
+            before = Path(words[place]).read_bytes().splitlines(keepends=True)[:line - 1]
+            self.stump.write_bytes(b"".join(before))
+            words[place] = str(self.stump)
+            answer, _, _ = self.run(words)
+            ended = rf"(c stream {number}: .*), ended\n"
+            out = re.sub(ended, rf"\1, {cause} at line {line}\n", answer.out)
+            self.ends[given.name, number, line, cause] = answer._replace(out=out)
+        return self.ends[given.name, number, line, cause]
+
+
+def mixtures(lines: Sequence[str], how: str) -> Iterator[str]:
+    """Lines of threads, one of which the system took a part of at first, so that others went out before its rest."""
+    for cut, line in enumerate(lines):
+        length = 1 if how == "short" else len(line) // 2
+        for last in range(cut + 1, len(lines)):
+            yield "".join([*lines[:cut], line[:length], *lines[cut + 1:last + 1], line[length:], *lines[last + 1:]])
+
+
+def unmixed(err: str, watched: Set[str], how: str) -> str:
+    for lines in itertools.permutations(watched):
+        for mixture in mixtures(lines, how):
+            if err.startswith(mixture):
+                return "".join(lines) + err[len(mixture):]
+    return err
+
+
+def without_watched_ends(answer: Answer, refuse: str, mixes: bool) -> Answer:
+    """Without the lines of --watch on how each stream ended, where they say what the report does; else no answer. A report that is
+    cut may say less, and so may these lines where a write fails. Those of several threads may mix where the system takes a part of
+    a write, and only there."""
+    kind, _, how = (refuse.split(":") + ["", ""])[:3]
+    is_short, fails = kind == "write" and how in SHORT, kind == "write" and how not in SHORT
+    reported = {re.sub("^c", "lrupd:", line) for line in answer.out.splitlines(keepends=True) if line.startswith("c stream ")}
+    lines = (unmixed(answer.err, reported, how) if is_short and mixes else answer.err).splitlines(keepends=True)
+    watched = {line for line in lines if line.startswith("lrupd: stream ")}
+    if watched == reported or answer.status == 7 and watched > reported or fails and watched < reported:
+        return answer._replace(err="".join(line for line in lines if line not in watched))
+    return Answer(answer.out, f"watched {sorted(watched)}", None)
+
+
+def without_lines(answer: Answer) -> Answer:
+    """Without the lines of --watch on streams and on rounds, each of them whole."""
+    told = r"^lrupd: (stream \d+: .*|round \d+: \d+ clauses, \d+ literals, paused for \d+ ms)\n"
+    return answer._replace(err=re.sub(told, "", answer.err, flags=re.M))
+
+
+def is_cut(answer: Answer, ample: Answer) -> bool:
+    """The report couldn't be written: what went out is a beginning of it. The checkpoint was there before."""
+    return (answer.status == 7 and answer.err == "lrupd: cannot write report\n" and ample.out.startswith(answer.out)
+            and answer.saved == ample.saved)
+
+
+def is_unsaved(answer: Answer, ample: Answer, cause: str) -> bool:
+    """The checkpoint couldn't be written: a beginning of it is there, and the report is as ever."""
+    wanted = ample._replace(err=cause + ample.err, status=7 if ample.status == 7 else 9, saved=answer.saved)
+    return (ample.status in [3, 7, 8] and answer == wanted and isinstance(answer.saved, str) and isinstance(ample.saved, str)
+            and ample.saved.startswith(answer.saved))
+
+
+def openings(given: Input) -> List[Answer]:
+    """The answers to each opening that is refused, in their order."""
+    streams = [stopped(5, f"cannot open stream {number}") for number in range(1, given.streams + 1)]
+    return [NO_FORMULA, *[NO_ASSUMPTIONS] * given.assumes, *streams]
+
+
+def is_unopened(answer: Answer, given: Input) -> bool:
+    return answer in openings(given) or answer == NOT_CREATED and given.checkpoint is not None
+
+
+def not_started(number: int, saved: Optional[str] = None) -> Answer:
+    return stopped(6, f"worker {number} not started", saved)
+
+
+def is_unstarted(answer: Answer, given: Input) -> bool:
+    return answer in [not_started(number, given.created) for number in range(1, given.streams + 1)]
+
+
+def calls(kind: str, ample: Answer, given: Input) -> int:
+    """How many threads a run starts: the checking thread of each stream in turn, and then the reading threads likewise; how many
+    files it opens; how many checkpoints it creates; and how often it flushes one."""
+    goes_on = ample.status in [0, 3, 7, 8]
+    if kind == "open":
+        files_opened = [answer.err for answer in openings(given)]
+        return 0 if ample.status == 2 else files_opened.index(ample.err) + 1 if ample.err in files_opened else (
+            len(files_opened) if goes_on or ample == NOT_CREATED else 1 + (ample.err.startswith("lrupd: assumptions")))
+    if kind == "thread":
+        return 2 * given.streams if "--serial" not in given.words and goes_on else 0
+    if kind == "create":
+        return int(given.checkpoint is not None and (goes_on or ample == NOT_CREATED))
+    return int(given.checkpoint is not None and bool(ample.saved))
+
+
+def is_refused_allocation(answer: Answer, ample: Answer, given: Input) -> bool:
+    return (answer in [OUT_OF_MEMORY, OUT_OF_MEMORY._replace(saved=given.created), *given.dropped]
+            or is_unopened(answer, given) or is_unstarted(answer, given) or is_cut(answer, ample)
+            or is_unsaved(answer, ample, NO_MEMORY_TO_SAVE))
+
+
+def is_failed_read(answer: Answer, given: Input, machine: Machine) -> bool:
+    """The formula or the assumptions weren't read; or one stream fails, and the others are as without the rest of it."""
+    if answer == NO_FORMULA or answer == NO_ASSUMPTIONS and given.assumes:
+        return True
+    failed = re.findall(r"^c stream (\d+): .*, read failed at line (\d+)$", answer.out, re.M)
+    return len(failed) == 1 and answer == machine.answer_without(given, int(failed[0][0]), int(failed[0][1]))
+
+
+def is_failed_write(answer: Answer, ample: Answer) -> bool:
+    """The checkpoint, standard output, or standard error fails, which changes no status."""
+    return is_cut(answer, ample) or is_unsaved(answer, ample, NOT_WRITTEN) and answer.saved != ample.saved or (
+        answer == ample._replace(err=answer.err) and ample.err.startswith(answer.err))
+
+
+def may_be_ample(kind: str, how: str, ample: Answer, given: Input) -> bool:
+    """May the answer be as if nothing had been refused? A call that fails is reported, but for a read of what follows a bad line,
+    and where the report goes to a full device anyway."""
+    if how in SHORT or kind == "allocate":
+        return True
+    return kind == "read" and "bad line" in ample.out or kind in ["read", "write"] and given.out is not None
+
+
+def are_due(kind: str, ample: Answer, given: Input) -> bool:
+    """Must there be such calls? Each run that gets to the formula reads, and each that says something writes."""
+    return kind in ["allocate", "write"] or kind == "read" and given.streams > 0 and ample != NO_ASSUMPTIONS
+
+
+def is_right(kind: str, how: str, number: int, answer: Answer, ample: Answer, given: Input, seconds: float,
+             machine: Machine) -> bool:
+    if isinstance(given, InRounds):
+        return is_right_in_rounds(kind, how, number, answer, ample, given, seconds, machine)
+    if kind == "open":
+        return number <= len(openings(given)) and answer == openings(given)[number - 1]
+    if kind == "thread":
+        return (answer == not_started((number - 1) % given.streams + 1, given.created) and seconds < SECONDS
+                and machine.has_waited_for(number - 1))
+    if kind == "create":
+        return answer == NOT_CREATED
+    if kind == "sync":
+        return is_unsaved(answer, ample, NOT_WRITTEN) and answer.saved == ample.saved
+    if answer == ample and may_be_ample(kind, how, ample, given):
+        return True
+    if kind == "allocate":
+        return is_refused_allocation(answer, ample, given) and (seconds < SECONDS or not is_unstarted(answer, given))
+    if how in SHORT:
+        return False
+    return is_failed_read(answer, given, machine) if kind == "read" else is_failed_write(answer, ample)
+
+
+# Runs in rounds.
+
+
+def failed_opening(number: int, stream: int, how: str, given: InRounds) -> Answer:
+    """A stream 1 of a later round that isn't there ends the run; each other cause, and each other stream, is a fault."""
+    if how == "ENOENT" and stream == 1 and number > 1:
+        return given.ended(number - 1)
+    return given.stopped(number, f"cannot open stream {stream}", 5)
+
+
+def in_turn(kind: str, how: str, given: InRounds) -> List[Answer]:
+    """The answers to each call of such a kind that is refused."""
+    numbers, streams = range(1, given.count + 1), range(1, given.streams + 1)
+    if kind == "thread":
+        started = [] if "--serial" in given.words else [*streams, *streams]
+        return [given.stopped(number, f"worker {stream} not started", 6, "") for number in numbers for stream in started]
+    if kind == "create":
+        return [given.stopped(number, "cannot create checkpoint", 5) for number in numbers]
+    if kind == "sync":
+        return [given.unsaved(number, "checkpoint not written", given.proof.saved[number - 1]) for number in given.saving()]
+    found = [given.stopped(1, "cannot read formula", 5)]
+    for number in range(1, given.reached + 1):
+        if number > 1:
+            # Where there are none those of the round before stay, and they are the same.
+            found.append(given.ended(given.count) if how == "ENOENT" else given.stopped(number, "cannot read sizes", 5))
+        found += [failed_opening(number, stream, how, given) for stream in streams if number <= given.count or stream == 1]
+    return found
+
+
+def parts(given: InRounds, cause: str) -> Iterator[Answer]:
+    """Where the saving fails: what is there is a beginning."""
+    for number in given.saving():
+        text = given.proof.saved[number - 1]
+        yield from (given.unsaved(number, cause, text[:length]) for length in range(len(text)))
+
+
+def without_memory(given: InRounds) -> Iterator[Answer]:
+    yield given.stopped(1, "cannot read formula", 5)
+    for number in range(1, given.reached + 1):
+        yield from (given.stopped(number, "out of memory", 6, *created) for created in ([], [""]))
+        yield given.stopped(number, "cannot create checkpoint", 5)
+        for stream in range(1, given.streams + 1):
+            yield given.stopped(number, f"cannot open stream {stream}", 5)
+            yield given.stopped(number, f"worker {stream} not started", 6, "")
+        if number > 1:
+            yield given.stopped(number, "cannot read sizes", 5)
+    yield from parts(given, NO_MEMORY_TO_SAVE[len("lrupd: "):-1])
+
+
+def is_failed_stream(answer: Answer, cause: str, given: InRounds, machine: Machine) -> bool:
+    """One stream ends for this cause in a line: then the answer, and what is saved, is that of a run of the round alone, with the
+    stream as it is before that line; and no round comes after it."""
+    failed = re.findall(rf"^c stream (\d+): .*, {cause} at line (\d+)$", answer.out, re.M)
+    number = int((re.findall(r"^c round (\d+)$", answer.out, re.M) or [1])[0])
+    if len(failed) != 1 or number > given.count:
+        return False
+    stream, line = map(int, failed[0])
+    formula = written([FOUR, *given.proof.saved][number - 1], given.folder.parent, "formula of the round")
+    streams = [given.folder.parent / stream_name(number, other) for other in range(1, given.streams + 1)]
+    place = given.words.index("--rounds")
+    words = [*given.words[:place], "--checkpoint", given.singles, formula, *streams]
+    alone = machine.answer_without(Input(f"{given.name}, round {number} alone", words, given.streams), stream, line, cause)
+    out = f"c round {number}\n" * (number > 1) + alone.out
+    return isinstance(alone.saved, str) and answer == alone._replace(out=out, saved=given.before(number, alone.saved))
+
+
+def is_right_in_rounds(kind: str, how: str, number: int, answer: Answer, ample: Answer, given: InRounds, seconds: float,
+                       machine: Machine) -> bool:
+    if kind in EACH:
+        wanted = in_turn(kind, how, given)
+        return (number <= len(wanted) and answer == wanted[number - 1] and seconds < SECONDS
+                and (kind != "thread" or machine.has_waited_for(number - 1)))
+    if answer == ample and may_be_ample(kind, how, ample, given):
+        return True
+    if how in SHORT:
+        return False
+    if kind == "allocate":
+        return (answer in without_memory(given) or is_cut(answer, ample)
+                or is_failed_stream(answer, "out of memory", given, machine)) and seconds < SECONDS
+    if kind == "read":
+        unread = [given.stopped(place, "cannot read sizes", 5) for place in range(2, given.count + 1)]
+        return (answer in [NO_FORMULA._replace(saved=given.before(1)), *unread]
+                or is_failed_stream(answer, "read failed", given, machine))
+    return is_cut(answer, ample) or answer in parts(given, "checkpoint not written") or given.told > 0 and answer == ample
+
+
+def due_in_rounds(kind: str, how: str, given: InRounds) -> Set[str]:
+    """What standard error has to have said where these calls were refused."""
+    numbers = range(1, given.count + 1)
+    if how in SHORT:
+        return set()
+    if kind == "allocate":
+        unsaved = {fault(number, NO_MEMORY_TO_SAVE[len("lrupd: "):-1]) for number in given.saving()}
+        return unsaved | {fault(number, "out of memory") for number in numbers}
+    if kind == "read":
+        return {NO_FORMULA.err, "", *(fault(number, "cannot read sizes") for number in numbers if number > 1)}
+    if kind == "write":
+        return {"lrupd: cannot write report\n", *(fault(number, "checkpoint not written") for number in given.saving())}
+    return set()
+
+
+def complaints_in_rounds(kind: str, how: str, ample: Answer, answers: List[Answer], given: InRounds) -> Iterator[str]:
+    if ample != given.ended(given.count):
+        yield f"{ample} where nothing is refused"
+    if kind in EACH and len(answers) != len(in_turn(kind, how, given)):
+        yield f"{len(answers)} calls refused, not {len(in_turn(kind, how, given))}"
+    for said in due_in_rounds(kind, how, given) - {answer.err for answer in answers}:
+        yield f"never said: {said!r}"
+    if kind == "write" and how not in SHORT and answers.count(ample) != given.told:
+        yield f"{answers.count(ample)} writes refused that change nothing, and not {given.told}"
+
+
+# The calls of a run.
+
+
+def are_in_order(causes: List[str], ample: Answer, given: Input) -> bool:
+    """The files that standard error names for the first reads: the formula, then the assumptions, then none."""
+    wanted = [NO_FORMULA.err] + [NO_ASSUMPTIONS.err] * given.assumes + [ample.err]
+    found = [cause for cause, _ in itertools.groupby(causes)]
+    reads_assumptions = given.assumes and ample != NO_ASSUMPTIONS
+    return found == wanted[:len(found)] and (not found or len(found) > reads_assumptions)
+
+
+def complaints(kind: str, how: str, ample: Answer, answers: List[Answer], given: Input) -> Iterator[str]:
+    """Where too few or too many calls were refused, or not all that there are."""
+    causes = [answer.err for answer in answers]
+    if not answers and are_due(kind, ample, given):
+        yield "nothing of this kind is ever refused"
+    if kind == "allocate" and given.dropped and not any(answer in given.dropped for answer in answers):
+        yield "the growth for a dropped identity is never refused"
+    fails = kind == "allocate" or kind == "write" and how not in SHORT
+    if ample.saved and fails and not any(NOT_WRITTEN[:-1] in cause for cause in causes):
+        yield "the saving is never refused"
+    if kind in EACH and len(answers) != calls(kind, ample, given):
+        yield f"{len(answers)} calls refused, not {calls(kind, ample, given)}"
+    if how in ERRORS_OF_READS and kind == "read" and not are_in_order(causes, ample, given):
+        yield f"{causes} are said where reads are refused"
