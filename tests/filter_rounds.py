@@ -4,11 +4,11 @@
     filter_rounds.py PROGRAM
 
 Recorded proofs in each form, and those of CaDiCaL and CryptoMiniSat where they are on the PATH: each run has to end with status 0,
-with as many additions as the proof has, and leave nothing but an empty file. Then proofs that are cut, that have a wrong line, or go on behind the
-empty clause; formulas without clauses, or with no room in a row; folders that aren't empty; and either side killed at any time.
-Neither may wait for the other for ever. The filter is also built with -fsanitize=address,undefined, where the compiler can. It shows
-what is off; the last line is 'N passed, M failed', and ', K skipped' where something isn't there. The status is 1 where a run
-failed.
+with as many additions as the proof has, and leave nothing but an empty file. Then proofs that are cut, that have a wrong line, or go
+on behind the empty clause; formulas without clauses, or with no room in a row; folders that aren't empty; and either side killed at
+any time. Neither may wait for the other for ever. The filter is also built with -fsanitize=address,undefined, where the compiler can.
+It shows what is off; the last line is 'N passed, M failed', and ', K skipped' where something isn't there. The status is 1 where a
+run failed.
 """
 import contextlib
 import fcntl
