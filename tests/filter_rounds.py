@@ -11,7 +11,6 @@ It shows what is off; the last line is 'N passed, M failed', and ', K skipped' w
 run failed.
 """
 import contextlib
-import fcntl
 import os
 import re
 import shlex
@@ -19,7 +18,6 @@ import shutil
 import signal
 import subprocess
 import sys
-import termios
 import threading
 import time
 from pathlib import Path
@@ -28,8 +26,9 @@ from typing import IO, Dict, Iterator, List, NamedTuple, Optional, Sequence, Set
 sys.dont_write_bytecode = True
 from harness import (FILTER, FOUR, LIMIT, LRUP_CHAIN, SANITIZE, SANITIZED, SANITIZING, Failure, Row, Skipped, added, dimacs,
                      example, generated, is_sanitizing, piped, report, run, run_all, sanitized_filter, started, until, unwatched,
-                     want, watched_ends, words_given, written)
+                     waiting, want, watched_ends, words_given, written)
 from proof_forms import FORMS, Step, read_formula, read_steps
+from rounds import last
 from solving import in_place_of_lrupd, of_process
 
 PROGRAM, = words_given(__doc__)
@@ -86,8 +85,7 @@ def check_beside(running: "subprocess.Popen[bytes]", formula: Path, work: Path, 
     done = run([lrupd, "--watch", *lrupd_words(formula)], cwd=work, stdin=running.stdout)
     rounds = watched_ends(done.err)
     if rounds:
-        number = f"c round {len(rounds)}\n" * (len(rounds) > 1)
-        want(done.out, number + report(rounds[-1:], done.status or 0), "the report of the last round")
+        want(done.out, last(len(rounds), rounds[-1:], done.status or 0), "the report of the last round")
     return Checked(rounds, done.out, unwatched(done.err), done.status, *end_of(running))
 
 
@@ -344,14 +342,10 @@ class Sides(NamedTuple):
         return said, self.checking.returncode, *end_of(self.running)
 
 
-def waiting_in(pipe: IO[bytes]) -> int:
-    return int.from_bytes(fcntl.ioctl(pipe, termios.FIONREAD, bytes(4)), sys.byteorder)
-
-
 def is_on(pipe: IO[bytes], work: Path) -> bool:
     """All is read, and the third round or a later one hasn't ended."""
     time.sleep(0.05)
-    return waiting_in(pipe) == 0 and [int(re.sub(r"round-(\d+)\.cnf|.*", r"\1", name) or 0) > 3 for name in left(work)] == [True]
+    return waiting(pipe.fileno()) == 0 and [int(re.sub(r"round-(\d+)\.cnf|.*", r"\1", name) or 0) > 3 for name in left(work)] == [True]
 
 
 @contextlib.contextmanager

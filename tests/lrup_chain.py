@@ -10,7 +10,6 @@ off; the last line is 'N passed, M failed', and the status is 1 where a row fail
 """
 import os
 import re
-import resource
 import shutil
 import signal
 import subprocess
@@ -21,16 +20,13 @@ from typing import Dict, Iterator, List, Mapping, Optional, Sequence, Tuple
 
 sys.dont_write_bytecode = True
 from harness import (FOUR, LIMIT, LRUP_CHAIN, ROOT, Failure, Ran, Row, Wanted, answers, held, outcome, piped, report, run,
-                     run_all, started, until, want, words_given, written)
+                     run_all, started, until, want, within, words_given, written)
+from rounds import ONE, fault, last, round_files, saved_name
 
 PROGRAM, = words_given(__doc__)
 SHELLS = [shell for shell in ("dash", "bash", "busybox") if shutil.which(shell)]
-# Of the four clauses the first round derives 2 and deletes clause 1, the second one derives 1, the third one the empty clause.
-ROUNDS = ["5 2 0 1 2 0\n5 d 1 0\n", "5 1 0 4 2 0\n5 d 1 0\n", "5 0 3 4 2 0\n"]
-SAVED = ["p cnf 2 4\nc id 2\n-1 2 0\nc id 3\n1 -2 0\nc id 4\n-1 -2 0\nc id 5\n2 0\n",
-         "p cnf 2 4\nc id 2\n1 -2 0\nc id 3\n-1 -2 0\nc id 4\n2 0\nc id 5\n1 0\n"]
-FOUND = "1 added, 1 deleted, ended"
-SAID = [report([FOUND], 3), report([FOUND], 3), report(["1 added, 0 deleted, ended"], 0)]
+ROUNDS, FOUND, SAVED = [streams for streams, in ONE.texts], ONE.said[0][0], ONE.saved
+REFUTED = last(3, ONE.said[2], 0)
 BAD, BAD_SAID = "5 1 0 0\n", "0 added, 0 deleted, bad line 1 (no conflict)"
 OTHER = "p cnf 1 2\n1 0\n-1 0\n"        # with another formula behind it, streams refute it
 REFUTING = "5 2 0 1 2 0\n7 0 5 3 4 0\n"
@@ -41,8 +37,8 @@ Named = Tuple[str, Wanted]
 
 
 def files(streams: Sequence[str], others: Mapping[str, str] = {}) -> Dict[str, str]:
-    """One stream a round, in the folder d."""
-    return {"formula": FOUR, **{f"d/round-{number}.stream-1": text for number, text in enumerate(streams, 1)}, **others}
+    """One stream a round."""
+    return {**round_files([[text] for text in streams]), **others}
 
 
 def lay(work: Path, streams: Sequence[str] = ROUNDS, others: Mapping[str, str] = {}) -> None:
@@ -50,14 +46,9 @@ def lay(work: Path, streams: Sequence[str] = ROUNDS, others: Mapping[str, str] =
         written(text, work, name)
 
 
-def last(number: int, text: str) -> str:
-    """What is said where this round is the last one."""
-    return f"c round {number}\n{text}" if number > 1 else text
-
-
 def left(saved: Mapping[int, str] = {}) -> Dict[str, Optional[str]]:
     """What the formulas of the rounds are in the end; others aren't there."""
-    return {"formula": FOUR, **{f"d/round-{number}.cnf": saved.get(number) for number in range(1, 6)}}
+    return {"formula": FOUR, **{saved_name(number): saved.get(number) for number in range(1, 6)}}
 
 
 def chain(name: str, status: int, streams: Sequence[str], out: str, err: str = "", saved: Mapping[int, str] = {},
@@ -69,42 +60,43 @@ def chain(name: str, status: int, streams: Sequence[str], out: str, err: str = "
 
 
 def ends() -> Iterator[Named]:
-    refuted, both = last(3, SAID[2]), {2: SAVED[0], 3: SAVED[1]}
-    yield chain("three rounds", 0, ROUNDS, refuted)
-    yield chain("three rounds kept", 0, ROUNDS, refuted, saved=both, words=["--keep"])
-    yield chain("rounds behind the last one", 0, [*ROUNDS, BAD], refuted)
-    yield chain("two rounds", 3, ROUNDS[:2], last(2, SAID[1]), saved={3: SAVED[1]})
-    yield chain("two rounds kept", 3, ROUNDS[:2], last(2, SAID[1]), saved=both, words=["--keep"])
-    yield chain("one round", 3, ROUNDS[:1], SAID[0], saved={2: SAVED[0]})
+    both = {2: SAVED[0], 3: SAVED[1]}
+    yield chain("three rounds", 0, ROUNDS, REFUTED)
+    yield chain("three rounds kept", 0, ROUNDS, REFUTED, saved=both, words=["--keep"])
+    yield chain("rounds behind the last one", 0, [*ROUNDS, BAD], REFUTED)
+    yield chain("two rounds", 3, ROUNDS[:2], last(2, [FOUND], 3), saved={3: SAVED[1]})
+    yield chain("two rounds kept", 3, ROUNDS[:2], last(2, [FOUND], 3), saved=both, words=["--keep"])
+    yield chain("one round", 3, ROUNDS[:1], report([FOUND], 3), saved={2: SAVED[0]})
     yield chain("refuted in one round", 0, [REFUTING.replace("7", "6")], report(["2 added, 0 deleted, ended"], 0))
-    yield chain("a round that is left out", 3, ROUNDS[:1], SAID[0], saved={2: SAVED[0]}, others={"d/round-3.stream-1": ROUNDS[2]})
+    yield chain("a round that is left out", 3, ROUNDS[:1], report([FOUND], 3), saved={2: SAVED[0]},
+                others={"d/round-3.stream-1": ROUNDS[2]})
     yield chain("no stream", 5, [], "", "lrupd: cannot open stream 1\n")
-    cube, under = {"cube": "-2 0\n"}, report(["1 added, 0 deleted, ended"], 8)
+    cube = {"cube": "-2 0\n"}
     yield chain("under assumptions", 8, ROUNDS, report([FOUND], 8), saved={2: SAVED[0]}, words=["--assume", "cube"], others=cube)
-    yield chain("under assumptions in the last round", 8, [ROUNDS[1].replace("4 2", "1 3"), "5 2 0 4 1 0\n"], last(2, under),
-                saved={3: "p cnf 2 5\n-1 2 0\n1 -2 0\n-1 -2 0\n1 0\n2 0\n"}, words=["--assume=cube"], others=cube)
+    yield chain("under assumptions in the last round", 8, [ROUNDS[1].replace("4 2", "1 3"), "5 2 0 4 1 0\n"],
+                last(2, ["1 added, 0 deleted, ended"], 8), words=["--assume=cube"], others=cube,
+                saved={3: "p cnf 2 5\n-1 2 0\n1 -2 0\n-1 -2 0\n1 0\n2 0\n"})
     plain = "".join(line + "\n" for line in SAVED[0].splitlines() if line[0] != "c")
-    yield chain("a wrong line", 3, [ROUNDS[0], BAD, ROUNDS[2]], last(2, report([BAD_SAID], 3)), saved={3: plain})
+    yield chain("a wrong line", 3, [ROUNDS[0], BAD, ROUNDS[2]], last(2, [BAD_SAID], 3), saved={3: plain})
     yield chain("a wrong line beside a refutation", 0, [REFUTING], report(["2 added, 0 deleted, ended", BAD_SAID], 0),
                 others={"d/round-1.stream-2": BAD.replace("5", "6")})
 
 
 def sizes() -> Iterator[Named]:
     """Of round 1; the others are lrupd's to read."""
-    refuted = last(3, SAID[2])
-    yield chain("sizes", 0, ROUNDS, refuted,
+    yield chain("sizes", 0, ROUNDS, REFUTED,
                 others={"d/round-1.sizes": "1 1 1\n", "d/round-2.sizes": "1 1 1\n", "d/round-3.sizes": "1 1 0\n"})
-    yield chain("sizes without a line feed", 0, ROUNDS, refuted, others={"d/round-1.sizes": "1 1 1"})
+    yield chain("sizes without a line feed", 0, ROUNDS, REFUTED, others={"d/round-1.sizes": "1 1 1"})
     yield chain("no line", 3, ROUNDS, report(["0 added, 0 deleted, bad line 1 (identity)"], 3), saved={2: FOUR},
                 others={"d/round-1.sizes": "1 0 1\n"})
     yield chain("no room", 3, ROUNDS, report(["0 added, 0 deleted, bad line 1 (no room)"], 3), saved={2: FOUR},
                 others={"d/round-1.sizes": "1 1 0\n"})
-    yield chain("sizes of round 2", 2, ROUNDS, "", "lrupd: round 2: sizes\n", {2: SAVED[0]}, others={"d/round-2.sizes": "1 1\n"})
-    yield chain("sizes by words", 0, ROUNDS, refuted, words=["--lines", "1", "--room=1", "--tries", "0", "--serial"])
+    yield chain("sizes of round 2", 2, ROUNDS, "", fault(2, "sizes"), {2: SAVED[0]}, others={"d/round-2.sizes": "1 1\n"})
+    yield chain("sizes by words", 0, ROUNDS, REFUTED, words=["--lines", "1", "--room=1", "--tries", "0", "--serial"])
     yield chain("too large", 2, ROUNDS, "", "lrupd: row too long\n", others={"d/round-1.sizes": "1 268435456 1"})
     yield chain("of an earlier lrup-chain", 2, ROUNDS, "", NO_SIZES, others={"d/round-1.sizes": "250 2000\n"})
     yield chain("no sizes", 2, ROUNDS, "", NO_SIZES, others={"d/round-1.sizes": ""})
-    yield "fewer streams", Wanted(["formula", "d"], 0, last(2, report(["1 added, 0 deleted, ended"], 0)), left=left(),
+    yield "fewer streams", Wanted(["formula", "d"], 0, last(2, ["1 added, 0 deleted, ended"], 0), left=left(),
                                   files=files([ROUNDS[0], "6 0 5 3 4 0\n"], {"d/round-1.stream-2": "", "d/round-2.sizes": "1 1 0\n"}))
 
 
@@ -120,16 +112,16 @@ SIZES = ["1 1 x", "1 x 1", "1 1 1 1", "1 -1 1", "1 1 -1", "1 1 1 --serial", "1 -
 
 def in_the_way() -> Iterator[Named]:
     """Where a checkpoint can't be created nothing is touched."""
-    refused = "lrupd: {}cannot create checkpoint\n"
-    yield chain("round-2.cnf is there", 5, ROUNDS, "", refused.format(""), {2: OTHER}, others={"d/round-2.cnf": OTHER})
-    yield chain("round-3.cnf is there", 5, ROUNDS, "", refused.format("round 2: "), {2: SAVED[0], 3: OTHER},
+    refused = "cannot create checkpoint"
+    yield chain("round-2.cnf is there", 5, ROUNDS, "", fault(1, refused), {2: OTHER}, others={"d/round-2.cnf": OTHER})
+    yield chain("round-3.cnf is there", 5, ROUNDS, "", fault(2, refused), {2: SAVED[0], 3: OTHER},
                 others={"d/round-3.cnf": OTHER})
-    yield chain("round-5.cnf is there", 0, ROUNDS, last(3, SAID[2]), saved={5: OTHER}, others={"d/round-5.cnf": OTHER})
-    yield "its own checkpoint for the formula", Wanted(["d/round-2.cnf", "d"], 5, err=refused.format(""), left=left({2: FOUR}),
+    yield chain("round-5.cnf is there", 0, ROUNDS, REFUTED, saved={5: OTHER}, others={"d/round-5.cnf": OTHER})
+    yield "its own checkpoint for the formula", Wanted(["d/round-2.cnf", "d"], 5, err=fault(1, refused), left=left({2: FOUR}),
                                                        files=files(ROUNDS, {"d/round-2.cnf": FOUR}))
     yield "a formula that isn't there", Wanted(["absent", "d"], 5, err="lrupd: cannot read formula\n", files=files(ROUNDS),
                                                left=left())
-    yield chain("a full disk", 9, ROUNDS, SAID[0], "lrupd: checkpoint not written\n", {2: ""},
+    yield chain("a full disk", 9, ROUNDS, report([FOUND], 3), "lrupd: checkpoint not written\n", {2: ""},
                 shell='trap "" XFSZ; ulimit -f 0; exec "$@"')
 
 
@@ -142,14 +134,12 @@ def unwritten(how: str, shell: str, script: Path, work: Path) -> None:
 
 def torn(shell: str, script: Path, work: Path) -> None:
     """The checkpoint of round 2 is larger than that of round 1, and than what a file may have."""
-    def within() -> None:
-        signal.signal(signal.SIGXFSZ, signal.SIG_IGN)
-        resource.setrlimit(resource.RLIMIT_FSIZE, (len(SAVED[0]), len(SAVED[0])))
     streams = [ROUNDS[0], "".join(f"{number} 2 0 4 0\n" for number in range(5, 25)), ROUNDS[2]]
     lay(work, streams)
-    done = run([shell, script, "--lrupd", PROGRAM, "formula", "d"], cwd=work, preexec_fn=within)
-    wanted = last(2, report(["20 added, 0 deleted, ended"], 3))
-    want(done, Ran(wanted, "lrupd: round 2: checkpoint not written\n", 9), "the answer")
+    done = run([shell, script, "--lrupd", PROGRAM, "formula", "d"], cwd=work,
+               preexec_fn=lambda: within(len(SAVED[0])))
+    wanted = last(2, ["20 added, 0 deleted, ended"], 3)
+    want(done, Ran(wanted, fault(2, "checkpoint not written"), 9), "the answer")
 
 
 # Words and names.
@@ -163,15 +153,14 @@ def words() -> Iterator[Named]:
                   ["--", "formula", "d"], ["--keep=1", "formula", "d"], ["", "formula", "d"],
                   ["other", "formula", "d"], ["other", "--serial", "formula", "d"], ["--tries", "1", "other", "formula", "d"]):
         yield f"words {given}", Wanted(given, 2, err=USAGE, files=other, left=left())
-    refuted = last(3, SAID[2])
     names = {"-f*o\n r": FOUR, **{f"-d\n *x/round-{number}.stream-1": text for number, text in enumerate(ROUNDS, 1)}}
-    yield "names", Wanted(["-f*o\n r", "-d\n *x"], 0, refuted, files=names)
-    yield "names kept", Wanted(["--keep", "-f*o\n r", "-d\n *x"], 0, refuted, files=names, left={"-d\n *x/round-2.cnf": SAVED[0]})
+    yield "names", Wanted(["-f*o\n r", "-d\n *x"], 0, REFUTED, files=names)
+    yield "names kept", Wanted(["--keep", "-f*o\n r", "-d\n *x"], 0, REFUTED, files=names, left={"-d\n *x/round-2.cnf": SAVED[0]})
     yield "a cube's name", Wanted(["--assume", "a *\nb", "formula", "d"], 8, report([FOUND], 8),
                                   files=files(ROUNDS[:1], {"a *\nb": "-2 0\n"}))
-    yield "standard input", Wanted(["/dev/stdin", "d"], 0, refuted, files=files(ROUNDS), given=FOUR)
-    yield "the folder of the formula", Wanted(["d/formula", "d/"], 0, refuted, files={**files(ROUNDS), "d/formula": FOUR})
-    yield "watched", Wanted(["--watch", "formula", "d"], 3, SAID[0], f"lrupd: stream 1: {FOUND}\n", files=files(ROUNDS[:1]))
+    yield "standard input", Wanted(["/dev/stdin", "d"], 0, REFUTED, files=files(ROUNDS), given=FOUR)
+    yield "the folder of the formula", Wanted(["d/formula", "d/"], 0, REFUTED, files={**files(ROUNDS), "d/formula": FOUR})
+    yield "watched", Wanted(["--watch", "formula", "d"], 3, report([FOUND], 3), f"lrupd: stream 1: {FOUND}\n", files=files(ROUNDS[:1]))
     many = {f"a b/round-1.stream-{number}": f"{number + 4} 2 0 1 2 0\n" for number in range(1, 13)}
     yield "twelve streams", Wanted(["formula", "a b"], 3, report(["1 added, 0 deleted, ended"] * 12, 3),
                                    files={"formula": FOUR, **many, "a b/round-1.sizes": "12 1 1\n"})
@@ -199,7 +188,7 @@ def where(shell: str, script: Path, work: Path) -> None:
     os.symlink(PROGRAM, work / "c" / "lrupd")
     for _ in range(2):
         done = run([shell, copy, "formula", "d"], cwd=work, env={**os.environ, "PATH": path})
-        want(done, Ran(last(3, SAID[2]), "", 0), "the answer")
+        want(done, Ran(REFUTED, "", 0), "the answer")
         (work / "c" / "lrupd").unlink()
         os.symlink("/bin/false", work / "c" / "lrupd")
         if not (work / "a b" / "lrupd").exists():
@@ -240,7 +229,7 @@ def killed(number: int, by: int, shell: str, script: Path, work: Path) -> None:
 
 LIVE = [["5 2 0 1 2 0\n", "6 -2 0 3 4 0\n"], ["7 d 4 3 2 1 0\n", "8 d 1 2 3 4 0\n"], ["", "4 0 1 2 0\n"]]
 LIVE_SAVED = {2: FOUR.replace("2 4", "2 6") + "2 0\n-2 0\n", 3: "p cnf 2 2\nc id 5\n2 0\nc id 6\n-2 0\n"}
-LIVE_SAID = last(3, report(["0 added, 0 deleted, ended", "1 added, 0 deleted, ended"], 0))
+LIVE_SAID = last(3, ["0 added, 0 deleted, ended", "1 added, 0 deleted, ended"], 0)
 
 
 def make_pipes(folder: Path, number: int) -> List[Path]:
@@ -308,7 +297,7 @@ def forged(formula: str, forgery: Optional[str], stream: str, status: int, endin
     done = run([shell, script, "--lrupd", PROGRAM, "--keep", written(formula, work), folder])
     forger.join(LIMIT)
     want(seen, [formula.replace(f"2 {count}", f"2 {count + 1}", 1) + "2 0\n"], "what was saved")
-    want(done, Ran(last(2, report([f"{int(status == 0)} added, 0 deleted, {ending}"], status)), "", status), "the answer")
+    want(done, Ran(last(2, [f"{int(status == 0)} added, 0 deleted, {ending}"], status), "", status), "the answer")
     want(saved.read_text() if saved.exists() else None, forgery, "the forged file")
 
 

@@ -24,6 +24,7 @@ std::vector<pid_t> alive;       // children that weren't waited for
 std::vector<pid_t> handing_on;  // those that hand signals on
 std::vector<int> opened;        // files of ours
 std::string folder;             // for this process alone, removed at its end
+pid_t cleaner = 0;              // which removes it where this process doesn't come to that
 const int CLEANING = 500;       // tries to remove it
 const unsigned LETTING_ANOTHER = 30;    // seconds
 
@@ -159,7 +160,7 @@ static void watch_folder() {
         for (int tries = 0; tries < CLEANING && !remove_folder(); tries++) usleep(20000);
         _exit(0);
     }
-    alive.push_back(pid);
+    cleaner = pid;
     close_file(pipe.read);
 }
 
@@ -248,5 +249,8 @@ void end_children() {
     for (pid_t pid : alive)
         while (waitpid(pid, nullptr, 0) < 0 && errno == EINTR) {}
     alive.clear();
-    if (!folder.empty()) remove_folder();
+    if (cleaner == 0) return;
+    remove_folder();
+    kill(cleaner, SIGKILL);
+    waitpid(cleaner, nullptr, 0);
 }
