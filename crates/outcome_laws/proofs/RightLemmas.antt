@@ -179,6 +179,8 @@ machine_status faults.Unwritten is = absurd is
 machine_status faults.NotCreated is = inl refl
 machine_status (faults.NotSaved fault) is = absurd is
 machine_status faults.TwoCheckpoints is = absurd is
+machine_status faults.SizesUnread is = absurd is
+machine_status faults.Sizes is = absurd is
 
 -- another stream than s owns the identity
 abbrev IsAnothers : LayoutValue → ℕ → ℕ → Type 0
@@ -333,9 +335,13 @@ module _ (one_formula : OneFormula) (no_fault : NoFormulaFault) (alike : SameWor
   never_unsaved before None vars fault cause = cause
   never_unsaved before (Some path) vars fault cause = cause
 
-  never_two : (before : files.State) (path : Option Text) (vars : ℕ) → ¬ IsAssumeCause files vars before path faults.TwoCheckpoints
-  never_two before None vars cause = cause
-  never_two before (Some path) vars cause = cause
+  no_sizes : (before : files.State) (path : Option Text) (vars : ℕ) → ¬ IsAssumeCause files vars before path faults.Sizes
+  no_sizes before None vars cause = cause
+  no_sizes before (Some path) vars cause = cause
+
+  no_sizes_unread : (before : files.State) (path : Option Text) (vars : ℕ) → ¬ IsAssumeCause files vars before path faults.SizesUnread
+  no_sizes_unread before None vars cause = cause
+  no_sizes_unread before (Some path) vars cause = cause
 
   never_unwritten : (before : files.State) (path : Option Text) (vars : ℕ) → ¬ IsAssumeCause files vars before path faults.Unwritten
   never_unwritten before None vars cause = cause
@@ -407,10 +413,21 @@ module _ (one_formula : OneFormula) (no_fault : NoFormulaFault) (alike : SameWor
       ]
   of_machine words ask faults.NotCreated cause = tt
   of_machine words ask faults.TwoCheckpoints cause =
+      let no : Some cause.0 ≡ None = sym cause.2.folder_is ∙ sym ask.command_line.said.rounds ∙ ask.once in
+      absurd (cc)
+  of_machine words ask faults.Sizes cause =
       elim cause.2 [
         | inl read ↦ read
         | inr later ↦ elim later.3 [
-          | inl assume ↦ never_two later.1 (assumed_at cause.0) later.0.vars assume
+          | inl assume ↦ no_sizes later.1 (assumed_at cause.0) later.0.vars assume
+          | inr last ↦ elim last.3 [ inl opens ↦ opens | inr more ↦ elim more [ inl runs ↦ runs | inr create ↦ create.4 ] ]
+        ]
+      ]
+  of_machine words ask faults.SizesUnread cause =
+      elim cause.2 [
+        | inl read ↦ read
+        | inr later ↦ elim later.3 [
+          | inl assume ↦ no_sizes_unread later.1 (assumed_at cause.0) later.0.vars assume
           | inr last ↦ elim last.3 [ inl opens ↦ opens | inr more ↦ elim more [ inl runs ↦ runs | inr create ↦ create.4 ] ]
         ]
       ]

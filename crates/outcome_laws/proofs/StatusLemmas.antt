@@ -1,5 +1,5 @@
 -- What the clause `ends` says of status 0.
-use Rattle.std.proofs.Common.{◌≡◌, Bool, true, false, Option, None, Some, inl, inr, refl}
+use Rattle.std.proofs.Common.{◌≡◌, Bool, true, false, Option, None, Some, inl, inr, refl, sym, ◌∙◌}
 use Rattle.lrup_model.specs.declared.layout.LayoutFault.{LayoutFault}
 use Rattle.lrup_model.specs.declared.layout.LayoutFault.TheVariants as layouts
 use Rattle.portfolio.specs.declared.outcome.Verdict.{Verdict}
@@ -9,7 +9,7 @@ use Rattle.command.specs.Commands.{FilesView, report_status}
 use Rattle.command.specs.Faults.{layout_status, status_of}
 use Rattle.command.specs.declared.fault.CommandFault.{CommandFault}
 use Rattle.command.specs.declared.fault.CommandFault.TheVariants as faults
-use Rattle.outcome_laws.specs.Laws.{Status0HasACommandLine}
+use Rattle.outcome_laws.specs.Laws.{PlainEnds, Status0HasACommandLine}
 
 pub refuted : (failed : Bool) (unsaved : Option SaveFault) (verdict : Verdict) → 0 ≡ report_status failed unsaved verdict
     → verdict ≡ Unsatisfiable
@@ -40,6 +40,16 @@ no_fault faults.Unwritten is = let no : 0 ≡ 7 = is in cc
 no_fault faults.NotCreated is = let no : 0 ≡ 5 = is in cc
 no_fault (faults.NotSaved fault) is = let no : 0 ≡ 9 = is in cc
 no_fault faults.TwoCheckpoints is = let no : 0 ≡ 2 = is in cc
+no_fault faults.SizesUnread is = let no : 0 ≡ 5 = is in cc
+no_fault faults.Sizes is = let no : 0 ≡ 2 = is in cc
+
+-- without rounds
+pub plain : (files : FilesView) → PlainEnds files
+plain files words after out err status once (inl report) = inl report.0
+plain files words after out err status once (inr (inl fault)) = inr fault
+plain files words after out err status once (inr (inr rounds)) =
+    let line = rounds.command_line in
+    absurd (once rounds.folder (record { good = line.good; folder_is = sym line.said.rounds ∙ rounds.asked }))
 
 pub status_0 : (files : FilesView) → Status0HasACommandLine files
 status_0 files words after out err (inl report) =

@@ -13,10 +13,11 @@ use Rattle.runs.specs.Streams.{Telling, TermsValue}
 use Rattle.run_laws.specs.Groups.{one, IsRun}
 use Rattle.portfolio.specs.ReportText.{stream_line}
 use Rattle.portfolio.specs.declared.outcome.Verdict.{Verdict}
-use Rattle.command_line.specs.CommandLine.{IsCommandLineOf}
+use Rattle.command_line.specs.CommandLine.{AskForRounds, IsCommandLineOf}
 use Rattle.command_line.specs.declared.words.CommandLine.{CommandLine}
 use Rattle.command.specs.Commands.{EndsWithFault, EndsWithReport, FilesView, IsOutcome, SinkChange, Text, WasReadIn}
 use Rattle.command.specs.Commands.{layout_at, options_of}
+use Rattle.command.specs.Rounds.{Ends}
 use Rattle.dimacs.specs.FormulaText.{IsFormulaText}
 use Rattle.lrup_model.specs.Entailment.{IsUnsatisfiable}
 use Rattle.outcome_laws.specs.Outcomes.{bare_setting, bare_report, SayTheSame, ReportsOn}
@@ -68,6 +69,12 @@ OutcomesAgree files others =
     → ReportsOn files a.given reports s whole report
     → ReportsOn others b.given other_reports s whole other_report
     → stream_line s report ≡ stream_line s other_report
+
+-- Where the words ask for no rounds, the program ends with the report of a single run, or without one, for a cause of such a run.
+abbrev pub PlainEnds : FilesView → Type 0
+PlainEnds files = (words : List Text) (after : files.State) (out err : SinkChange) (status : ℕ)
+    → ((folder : Text) → ¬ AskForRounds words folder) → Ends files words after out err status
+    → EndsWithReport files words after out err status ⊎ EndsWithFault files words out err status
 
 -- What the program's ending says of status 0: the words have a command line, and what was read at its FORMULA is a text of a formula
 -- that no assignment satisfies. So all that isn't in the clause `sound` of what the words say is in the clause `ends`.

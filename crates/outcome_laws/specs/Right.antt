@@ -18,7 +18,8 @@ use Rattle.run_laws.specs.Together.{Step, IsRightOrder, lines_by}
 use Rattle.portfolio.specs.declared.outcome.Verdict.{Verdict}
 use Rattle.command_line.specs.CommandLine.{AskToSave, IsCommandLineOf}
 use Rattle.command_line.specs.declared.words.CommandLine.{CommandLine}
-use Rattle.command.specs.Commands.{EndsWithFault, EndsWithReport, FilesView, IsCause, IsOutcome, SinkChange, Text, assumed_at, layout_at, terms_given}
+use Rattle.command.specs.Commands.{EndsWithFault, EndsWithReport, FilesView, IsCause, IsOutcome, SinkChange, Text, assumed_at, layout_at, rounds_at}
+use Rattle.command.specs.Commands.{terms_given}
 use Rattle.command.specs.Faults.{status_of}
 use Rattle.command.specs.declared.fault.CommandFault.{CommandFault}
 use Rattle.command.specs.declared.fault.CommandFault.TheVariants as faults
@@ -30,8 +31,8 @@ AreRightAssumptions files vars (Some path) =
     (bytes : List ℕ) × (files.tells path ≡ Some bytes)
     × ((fault : CubeFault) → fault ≢ cubes.Memory → ¬ IsCubeFault vars bytes fault)
 
--- The words ask for a formula whose file tells a text of it, for assumed literals that have no fault, if any, and for streams that
--- there is a layout for. Nothing is asked of the streams.
+-- The words ask for a formula whose file tells a text of it, for assumed literals that have no fault, if any, for streams that there
+-- is a layout for, and for no rounds. Nothing is asked of the streams.
 pub record AskWell (files : FilesView) (words : List Text) : Type 0 where
   pub given : CommandLine
   pub command_line : IsCommandLineOf words given
@@ -41,6 +42,7 @@ pub record AskWell (files : FilesView) (words : List Text) : Type 0 where
   pub is_text : IsFormulaText text formula
   pub layout : (fault : LayoutFault) → ¬ IsFault (layout_at given formula) fault
   pub assumptions : AreRightAssumptions files formula.vars (assumed_at given)
+  pub once : rounds_at given ≡ None
 
 -- The words ask well, and the file of stream s tells a right refutation of the formula. Nothing is asked of the other streams.
 pub record AskForRightRefutation (files : FilesView) (words : List Text)
@@ -83,6 +85,8 @@ IsOfMachine faults.Unwritten = ⊥
 IsOfMachine faults.NotCreated = Unit {0}
 IsOfMachine (faults.NotSaved fault) = ⊥
 IsOfMachine faults.TwoCheckpoints = ⊥
+IsOfMachine faults.SizesUnread = ⊥
+IsOfMachine faults.Sizes = ⊥
 
 -- memory ran out, or a read failed, in the first lines of stream s, so many; or one of them cites a clause of another stream that
 -- wasn't there, or wasn't any more; here the cube makes no difference

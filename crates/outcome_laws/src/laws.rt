@@ -3,7 +3,7 @@ ghost use Rattle.command.specs.Commands.{files_view};
 ghost use Rattle.outcome_laws.specs.Refuting.{OutcomesRefute, OutcomesRefuteUnder};
 ghost use Rattle.outcome_laws.specs.Right.{RightOrderSays, RightRefutationSays};
 ghost use Rattle.outcome_laws.specs.Serial.{RightTurnsSay, SerialOutcomesAgree};
-ghost use Rattle.outcome_laws.specs.Laws.{NoCubeJudgesAlike, SameBytesSayTheSame, SameWordsAskAlike, OutcomesAgree, Status0HasACommandLine};
+ghost use Rattle.outcome_laws.specs.Laws.{NoCubeJudgesAlike, SameBytesSayTheSame, SameWordsAskAlike, OutcomesAgree, PlainEnds, Status0HasACommandLine};
 
 use checkpoint::laws::{files_refute, files_refute_under};
 use command::Files;
@@ -45,6 +45,13 @@ pub fn outcomes_agree<F: Files, G: Files>(files: &F, others: &G)
     serial_run();
     same_bytes_say_the_same();
 }
+
+/// Where the words ask for no rounds, the clause `ends` of `command` says what the other laws take: a report of a single run, or none
+/// and the cause.
+pub fn plain_ends<F: Files>(files: &F)
+    ensures { let view = files_view F.Files F.Input.Source F.Output.Sink files.now in
+        PlainEnds view }
+{}
 
 /// With status 0 the words have a whole command line, and what was read at its FORMULA is a text of a formula that no assignment
 /// satisfies: the clause `ends` of `command` says so.
