@@ -1,5 +1,6 @@
 -- Rounds, one after the other.
-use Rattle.std.proofs.Common.{arith, ◌≡◌, ◌≤◌, ◌<◌, ◌^◌, ◌∙◌, ◌+◌, ◌++◌, add-one, Bool, IsTrue, inl, inr, slice_get, length, length-append, suc, zero, ℕ, List, [], ◌∷◌}
+use Rattle.std.proofs.Common.{arith, ◌≡◌, ◌<◌, ◌^◌, ◌∙◌, ◌+◌, ◌++◌, add-one, Bool, IsTrue, inl, inr, length, length-append, suc, zero, ℕ}
+use Rattle.std.proofs.Common.{List, [], ◌∷◌}
 use Rattle.std.proofs.Common.{ap₂, Option, None, Some, Result, Ok, Err, refl, sym, ap, subst, ◌⊎◌, drop, map, take}
 use Rattle.std.proofs.Common.{◌-◌, false, get_or, true}
 use Rattle.std.specs.Prelude.{is_some}
@@ -16,6 +17,10 @@ use Rattle.lrup_model.specs.Literal.{max_variable}
 use Rattle.lrup_model.specs.Layout.{IsFault, LayoutValue}
 use Rattle.lrup_model.specs.declared.layout.LayoutFault.{LayoutFault}
 use Rattle.lrup_model.specs.declared.layout.LayoutFault.TheVariants as layouts
+use Rattle.lrup_text.specs.ReadOut.{SourceView}
+use Rattle.runs.specs.Streams.{TermsValue}
+use Rattle.stream_check.specs.declared.report.Report.{Report}
+use Rattle.portfolio.specs.Histories.{CarriesRun}
 use Rattle.portfolio.specs.declared.outcome.Verdict.{Verdict}
 use Rattle.portfolio.specs.declared.outcome.Verdict.TheVariants.{Unsatisfiable, UnsatisfiableUnder, Unknown}
 use Rattle.checkpoint.specs.Checkpoints.{IsCheckpointOf}
@@ -24,14 +29,15 @@ use Rattle.checkpoint.specs.declared.saving.SaveFault.{SaveFault}
 use Rattle.command_line.specs.declared.sizes.Sizes.{Sizes}
 use Rattle.command_line.specs.CommandLine.{IsCommandLineOf}
 use Rattle.command_line.specs.declared.words.CommandLine.{CommandLine}
-use Rattle.command.specs.Commands.{AreAssumed, AreOpened, FilesView, IsCause, IsCreateCause, IsFormulaAt, IsOpenCause, Text, WasRead, WasReadIn}
+use Rattle.command.specs.Commands.{AreAssumed, AreOpened, FilesView, IsCause, IsCreateCause, IsFormulaAt, IsOpenCause, Text, WasRead}
+use Rattle.command.specs.Commands.{WasReadIn}
 use Rattle.command.specs.Commands.{assumed_at, checkpoint_at, created_path, path_of, rounds_at}
 use Rattle.command.specs.Paths.{formula_path, sizes_path, stream_path, stream_paths}
-use Rattle.command.specs.Rounds.{AreRounds, AreSized, Deeds, GoesOn, HaveEnded, IsBarred, IsNextCause, IsOver, IsRoundCause, IsSizesCause, Plan, Round}
+use Rattle.command.specs.Rounds.{AreRounds, AreSized, Deeds, CarriesOn, HaveEnded, IsBarred, IsNextCause, RoundsEnd, IsRoundCause, IsSizesCause, Plan, Round}
 use Rattle.command.specs.Rounds.{IsStartCause, StreamsOpened, WasChecked, deeds_of, options_by, plan_at, sizes_of, terms_by}
 use Rattle.portfolio.specs.Outcomes.{OptionsValue, terms_of}
 use Rattle.command.specs.Saving.{CreatesCheckpoint, KeepsCheckpoint, WritesCheckpoint, to_write}
-use Rattle.command.specs.Standing.{CarriesTo, EndsAt, FailsAfter, IsAlone, IsLaterCause, IsUncarried, IsUnchecked, IsUnsized, Stands, round_of}
+use Rattle.command.specs.Standing.{CarriesTo, EndsAt, FailsAfter, IsAlone, IsLaterCause, IsUncarried, IsUnchecked, IsUnsized, RoundsStand, round_of}
 use Rattle.command.specs.declared.course.LastRound.{LastRound}
 use Rattle.command.specs.declared.course.RoundFault.{RoundFault}
 use Rattle.command.specs.declared.fault.CommandFault.{CommandFault}
@@ -39,31 +45,36 @@ use Rattle.command.specs.declared.fault.CommandFault.TheVariants as faults
 use Rattle.command.proofs.CheckingLemmas.{create_cause, line_cause}
 use Rattle.command.proofs.SavingLemmas.{written_ok}
 
-module _ {W : Type 0} (written : W → Option (List ℕ)) (f : Cnf) where
-  -- there is no next formula
-  pub no_next : (output : Option W) (saved : Result (Option W) SaveFault) → ForSome None (CarriesTo written f output saved)
-  no_next output saved next is = absurd (let no : None ≡ Some next = is in cc)
+to_write_is : {W : Type 0} (verdict : Verdict) (output : Option W) (first : W) → to_write verdict output ≡ Some first → output ≡ Some first
+to_write_is Unsatisfiable output first is = absurd (let no : None ≡ Some first = is in cc)
+to_write_is UnsatisfiableUnder output first is = is
+to_write_is Unknown output first is = is
 
-  to_write_is : (verdict : Verdict) (output : Option W) (first : W) → to_write verdict output ≡ Some first → output ≡ Some first
-  to_write_is Unsatisfiable output first is = absurd (let no : None ≡ Some first = is in cc)
-  to_write_is UnsatisfiableUnder output first is = is
-  to_write_is Unknown output first is = is
+-- the formula that is carried on is a checkpoint
+pub next_written : {W : Type 0} (written : W → Option (List ℕ)) (f : Cnf) (verdict : Verdict) (output : Option W) (first last : W)
+    (next : Cnf) → to_write verdict output ≡ Some first
+    → (bytes : List ℕ) × Appends (written first) (written last) bytes × IsCheckpointOf f bytes next
+    → WritesCheckpoint written f verdict output (Ok (Some last))
+next_written written f verdict output first last next is wrote =
+    written_ok written f verdict output first last is
+    (wrote.0, wrote.1, record { formula = next; text = wrote.2.text; entails = wrote.2.entails })
+
+module _ {R W : Type 0} (reading : SourceView R) (written : W → Option (List ℕ)) (serial : Bool) (f : Cnf) (terms : TermsValue)
+    (readers : List R) (reports : List Report) where
+  -- there is no next formula
+  pub no_next : (output : Option W) (saved : Result (Option W) SaveFault)
+      → ForSome None (CarriesTo reading written serial f terms readers reports output saved)
+  no_next output saved next is = absurd (let no : None ≡ Some next = is in cc)
 
   -- the formula that is carried on was saved
   pub next_saved : (verdict : Verdict) (output : Option W) (first last : W) (next : Cnf) → to_write verdict output ≡ Some first
       → (bytes : List ℕ) × Appends (written first) (written last) bytes × IsCheckpointOf f bytes next
-      → ForSome (Some next) (CarriesTo written f output (Ok (Some last)))
-  next_saved verdict output first last next is wrote other same =
+      → CarriesRun reading written serial f terms readers reports (Ok next) first last
+      → ForSome (Some next) (CarriesTo reading written serial f terms readers reports output (Ok (Some last)))
+  next_saved verdict output first last next is wrote exactly other same =
       let told : next ≡ other = cc in
-      subst (CarriesTo written f output (Ok (Some last))) told (first, last, to_write_is verdict output first is, refl, wrote)
-
-  -- and it is a checkpoint
-  pub next_written : (verdict : Verdict) (output : Option W) (first last : W) (next : Cnf) → to_write verdict output ≡ Some first
-      → (bytes : List ℕ) × Appends (written first) (written last) bytes × IsCheckpointOf f bytes next
-      → WritesCheckpoint written f verdict output (Ok (Some last))
-  next_written verdict output first last next is wrote =
-      written_ok written f verdict output first last is
-      (wrote.0, wrote.1, record { formula = next; text = wrote.2.text; entails = wrote.2.entails })
+      subst (CarriesTo reading written serial f terms readers reports output (Ok (Some last))) told
+      (first, last, to_write_is verdict output first is, refl, wrote, exactly)
 
 -- the paths of one more stream
 pub paths_next : (folder : Text) (number k : ℕ)
@@ -128,9 +139,9 @@ module _ (its : Deeds) (plan : Plan) (formula : Cnf) (sizes : Sizes) (first : it
   pub stands_first : (last : LastRound) (next : Option Cnf) (opened after : its.State) (readers : List its.Reader) (number : ℕ) → number ≡ 1
       → StreamsOpened its first paths readers opened
       → WasChecked its plan (round_of formula readers opened last after)
-      → ForSome next (GoesOn its plan number (round_of formula readers opened last after))
+      → ForSome next (CarriesOn its plan number (round_of formula readers opened last after))
       → (next ≡ None → IsBarred its plan number (round_of formula readers opened last after))
-      → last.number ≡ number → last.sizes ≡ sizes → Stands its plan formula sizes first paths last next after
+      → last.number ≡ number → last.sizes ≡ sizes → RoundsStand its plan formula sizes first paths last next after
   stands_first last next opened after readers number one are checked goes over number_is sizes_are =
       let round = round_of formula readers opened last after in
       let count : 1 ≡ length (round ∷ []) = omega arith in
@@ -144,7 +155,7 @@ module _ (its : Deeds) (plan : Plan) (formula : Cnf) (sizes : Sizes) (first : it
           reports = refl;
           verdict = refl;
           unsaved = refl;
-          goes_on = subst (λ (n : ℕ). ForSome next (GoesOn its plan n round)) (sym number_is) goes;
+          goes_on = subst (λ (n : ℕ). ForSome next (CarriesOn its plan n round)) (sym number_is) goes;
           over = subst (λ (n : ℕ). next ≡ None → IsBarred its plan n round) (sym number_is) over;
         };
         left = refl;
@@ -153,13 +164,13 @@ module _ (its : Deeds) (plan : Plan) (formula : Cnf) (sizes : Sizes) (first : it
   -- a round after another
   pub stands_next : (last found : LastRound) (formula_now : Cnf) (next : Option Cnf) (before sized opened after : its.State)
       (readers : List its.Reader) (number : ℕ)
-      → number ≡ last.number + 1 → Stands its plan formula sizes first paths last (Some formula_now) before
+      → number ≡ last.number + 1 → RoundsStand its plan formula sizes first paths last (Some formula_now) before
       → AreSized its (sizes_path plan.folder number) last.sizes before found.sizes sized
       → StreamsOpened its sized (stream_paths plan.folder number found.sizes.streams) readers opened
       → WasChecked its plan (round_of formula_now readers opened found after)
-      → ForSome next (GoesOn its plan number (round_of formula_now readers opened found after))
+      → ForSome next (CarriesOn its plan number (round_of formula_now readers opened found after))
       → (next ≡ None → IsBarred its plan number (round_of formula_now readers opened found after))
-      → found.number ≡ number → Stands its plan formula sizes first paths found next after
+      → found.number ≡ number → RoundsStand its plan formula sizes first paths found next after
   stands_next last found formula_now next before sized opened after readers number is stands are_sized are checked goes over found_is =
       let round = round_of formula_now readers opened found after in
       let k : ℕ = length (stands.round ∷ stands.before) in
@@ -174,7 +185,7 @@ module _ (its : Deeds) (plan : Plan) (formula : Cnf) (sizes : Sizes) (first : it
         before = stands.round ∷ stands.before;
         rounds = (
           record {
-            goes_on = subst (λ (n : ℕ). GoesOn its plan n stands.round formula_now) stands.number (stands.is_found.goes_on formula_now refl);
+            goes_on = subst (λ (n : ℕ). CarriesOn its plan n stands.round formula_now) stands.number (stands.is_found.goes_on formula_now refl);
             sized = sized;
             sizes = subst (λ (n : ℕ). AreSized its (sizes_path plan.folder n) stands.round.sizes stands.round.after found.sizes sized)
                 number_is of_files;
@@ -190,7 +201,7 @@ module _ (its : Deeds) (plan : Plan) (formula : Cnf) (sizes : Sizes) (first : it
           reports = refl;
           verdict = refl;
           unsaved = refl;
-          goes_on = subst (λ (n : ℕ). ForSome next (GoesOn its plan n round)) (sym found_is) goes;
+          goes_on = subst (λ (n : ℕ). ForSome next (CarriesOn its plan n round)) (sym found_is) goes;
           over = subst (λ (n : ℕ). next ≡ None → IsBarred its plan n round) (sym found_is) over;
         };
         left = refl;
@@ -198,8 +209,8 @@ module _ (its : Deeds) (plan : Plan) (formula : Cnf) (sizes : Sizes) (first : it
 
   -- The rounds end.
   ends_so : (last : LastRound) (next : Option Cnf) (before after : its.State)
-      → (stands : Stands its plan formula sizes first paths last next before)
-      → IsOver its plan (length (stands.round ∷ stands.before)) stands.round after → EndsAt its plan formula sizes first paths last after
+      → (stands : RoundsStand its plan formula sizes first paths last next before)
+      → RoundsEnd its plan (length (stands.round ∷ stands.before)) stands.round after → EndsAt its plan formula sizes first paths last after
   ends_so last next before after stands over = record {
     round = stands.round;
     before = stands.before;
@@ -212,14 +223,14 @@ module _ (its : Deeds) (plan : Plan) (formula : Cnf) (sizes : Sizes) (first : it
   }
 
   -- since the last one doesn't go on
-  pub ends_barred : (last : LastRound) (after : its.State) → Stands its plan formula sizes first paths last None after
+  pub ends_barred : (last : LastRound) (after : its.State) → RoundsStand its plan formula sizes first paths last None after
       → EndsAt its plan formula sizes first paths last after
   ends_barred last after stands =
       ends_so last None after after stands
       (inl (subst (λ (n : ℕ). IsBarred its plan n stands.round) stands.number (stands.is_found.over refl), stands.left))
 
   -- since there is no stream 1
-  pub ends_alone : (last : LastRound) (next : Cnf) (before after : its.State) → Stands its plan formula sizes first paths last (Some next) before
+  pub ends_alone : (last : LastRound) (next : Cnf) (before after : its.State) → RoundsStand its plan formula sizes first paths last (Some next) before
       → IsAlone its plan last before after → EndsAt its plan formula sizes first paths last after
   ends_alone last next before after stands alone =
       let Alone : ℕ → Sizes → its.State → Type 0 = λ n s f. (read : Sizes) × (sized : its.State)
@@ -230,17 +241,17 @@ module _ (its : Deeds) (plan : Plan) (formula : Cnf) (sizes : Sizes) (first : it
       let of_sizes = subst (λ (s : Sizes). Alone k s before) (sym stands.is_found.sizes) number in
       let of_files = subst (λ (f : its.State). Alone k round.sizes f) stands.left of_sizes in
       ends_so last (Some next) before after stands
-      (inr (inl (next, subst (λ (n : ℕ). GoesOn its plan n round next) stands.number (stands.is_found.goes_on next refl), of_files)))
+      (inr (inl (next, subst (λ (n : ℕ). CarriesOn its plan n round next) stands.number (stands.is_found.goes_on next refl), of_files)))
 
   -- since the number of the next one would be too high
-  pub ends_high : (last : LastRound) (next : Option Cnf) (after : its.State) → Stands its plan formula sizes first paths last next after
+  pub ends_high : (last : LastRound) (next : Option Cnf) (after : its.State) → RoundsStand its plan formula sizes first paths last next after
       → 2 ^ 64 < last.number + 3 → EndsAt its plan formula sizes first paths last after
   ends_high last next after stands high =
       ends_so last next after after stands (inr (inr (subst (λ (n : ℕ). 2 ^ 64 < n + 3) stands.number high, stands.left)))
 
   -- the next one has no report
   pub fails_after : (last : LastRound) (next : Cnf) (before : its.State) (failed : RoundFault)
-      → Stands its plan formula sizes first paths last (Some next) before
+      → RoundsStand its plan formula sizes first paths last (Some next) before
       → IsUnchecked its plan last next before failed.fault → failed.round ≡ last.number + 1
       → FailsAfter its plan formula sizes first paths failed
   fails_after last next before failed stands cause number_is =
@@ -254,7 +265,7 @@ module _ (its : Deeds) (plan : Plan) (formula : Cnf) (sizes : Sizes) (first : it
         before = stands.before;
         rounds = stands.rounds;
         number = number_is ∙ ap (λ n. n + 1) stands.number;
-        cause = (next, subst (λ (n : ℕ). GoesOn its plan n round next) stands.number (stands.is_found.goes_on next refl), of_files);
+        cause = (next, subst (λ (n : ℕ). CarriesOn its plan n round next) stands.number (stands.is_found.goes_on next refl), of_files);
       }
 
   -- the last round was checked

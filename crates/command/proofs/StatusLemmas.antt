@@ -14,7 +14,7 @@ use Rattle.command.specs.Commands.{LeavesCheckpoint, NameCheckpoint, WasLeftEmpt
 use Rattle.command.specs.Faults.{status_of}
 use Rattle.command.specs.declared.fault.CommandFault.{CommandFault}
 use Rattle.command.specs.declared.fault.CommandFault.TheVariants as faults
-use Rattle.command.specs.Rounds.{Deeds, Ends, EndsInRounds, IsNextCause, Plan, Round, deeds_of}
+use Rattle.command.specs.Rounds.{Deeds, ProgramEnds, EndsInRounds, IsNextCause, Plan, Round, deeds_of}
 use Rattle.command.proofs.CheckingLemmas.{ask_for}
 
 -- the verdict of a report with this status
@@ -231,7 +231,7 @@ module _ (files : FilesView) (words : List Text) where
     )
   ]
 
-  pub all_unwritten : (after : files.State) (out err : SinkChange) (status : ℕ) → Ends files words after out err status
+  pub all_unwritten : (after : files.State) (out err : SinkChange) (status : ℕ) → ProgramEnds files words after out err status
       → IsTrue out.failed ↔ (status ≡ 7)
   all_unwritten after out err status (inl report) = ends_unwritten files words after out err status (inl report.0)
   all_unwritten after out err status (inr (inl fault)) = ends_unwritten files words after out err status (inr fault)
@@ -247,14 +247,14 @@ module _ (files : FilesView) (words : List Text) where
         | inr fails ↦ (let no : Some path ≡ None = sym asked ∙ fails.were.alone in cc)
       ]
 
-  pub all_saved : (after : files.State) (out err : SinkChange) (status : ℕ) → Ends files words after out err status
+  pub all_saved : (after : files.State) (out err : SinkChange) (status : ℕ) → ProgramEnds files words after out err status
       → (path : Text) → AskToSave words path → (status ≡ 3) ⊎ (status ≡ 8)
       → NameCheckpoint (WasReadIn files) (WasSavedIn files) files.first words path after
   all_saved after out err status (inl report) path ask is = ends_saved files words after out err status (inl report.0) path ask is
   all_saved after out err status (inr (inl fault)) path ask is = ends_saved files words after out err status (inr fault) path ask is
   all_saved after out err status (inr (inr rounds)) path ask is = absurd (not_both after out err status path ask rounds)
 
-  pub all_empty : (after : files.State) (out err : SinkChange) (status : ℕ) → Ends files words after out err status
+  pub all_empty : (after : files.State) (out err : SinkChange) (status : ℕ) → ProgramEnds files words after out err status
       → (path : Text) → AskToSave words path → status ≡ 0 → WasLeftEmpty files.creates files.written path after
   all_empty after out err status (inl report) path ask is = ends_empty files words after out err status (inl report.0) path ask is
   all_empty after out err status (inr (inl fault)) path ask is = ends_empty files words after out err status (inr fault) path ask is

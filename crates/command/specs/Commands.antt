@@ -23,6 +23,7 @@ use Rattle.lrup_text.specs.Cubes.{IsCubeFault, IsCubeText}
 use Rattle.lrup_text.specs.declared.cube.CubeFault.TheVariants as cubes
 use Rattle.stream_check.specs.declared.report.Report.{Report}
 use Rattle.runs.specs.Headline.{AreJudgedIn}
+use Rattle.portfolio.specs.Histories.{AreReported}
 use Rattle.portfolio.specs.Outcomes.{OptionsValue, layout_of, terms_of, verdict_of}
 use Rattle.portfolio.specs.ReportText.{report_text}
 use Rattle.runs.specs.Readings.{AreRead}
@@ -137,15 +138,6 @@ terms_given given cube formula = terms_of (options_of given) cube formula (lengt
 -- the same, of a setup and so many streams
 abbrev pub terms_on : Setup → ℕ → TermsValue
 terms_on setup streams = terms_of setup.options setup.cube.now setup.formula.now streams
-
--- what the reports say of the streams: on one thread they have an order of lines, by turns; with two threads for each, each was read to its
--- end or to a read that failed, and they are judged by their events of one legal history
-abbrev pub AreReported : Bool → Cnf → TermsValue → List Report → List Stream → Type 0
-AreReported true formula terms reports streams = IsOrderedByTurns formula terms streams reports
-AreReported false formula terms reports streams =
-    AllByRecursion (λ stream. IsSome stream.end) streams
-    × ((history : History) × IsLegal formula terms.layout history
-    × AreJudgedIn terms (λ s. true) history 1 streams reports)
 
 -- The reports and the verdict of a formula's streams. `firsts` are the readers of the streams as they were opened, and `lasts` those
 -- in the end, after reads that gave the streams.
@@ -295,7 +287,8 @@ LeavesBehind {W = W} creates written keeps (Some path) formula Unsatisfiable uns
 LeavesBehind creates written keeps (Some path) formula verdict None before after =
     (bytes : List ℕ) × WasSaved creates written keeps before path bytes after
     × IsCheckpoint formula bytes
-LeavesBehind {F = F} {W = W} creates written keeps (Some path) formula verdict (Some fault) before after =
+LeavesBehind {F = F} {W = W} creates written keeps (Some path) formula verdict (Some fault) before
+    after =
     (output : W) × (next : F) × creates before path output next
     × ((fault ≡ saves.Unwritten) ⊎ (after ≡ next))
 

@@ -1,5 +1,5 @@
 -- Runs in rounds: each goes on with what the one before it saved (this project's own).
-use Rattle.std.specs.Prelude.{◌≡◌, ◌==◌, if◌then◌else◌, ◌+◌, ◌++◌, ◌∷◌, ◌⊎◌, ◌<◌, ◌^◌, ℕ, Bool, List, [], Option, None, Some, codes, length, map, IsTrue}
+use Rattle.std.specs.Prelude.{◌≡◌, ◌==◌, if◌then◌else◌, ◌+◌, ◌++◌, ◌∷◌, ◌⊎◌, ◌<◌, ◌^◌, ℕ, Bool, List, [], Ok, Option, None, Some, codes, length, map, IsTrue}
 use Rattle.std.specs.Fmt.{decimal}
 use Rattle.std.specs.List.{AllByRecursion}
 use Rattle.std.specs.Option.{ForSome}
@@ -14,6 +14,7 @@ use Rattle.lrup_text.specs.Reads.{Gave}
 use Rattle.runs.specs.Streams.{TermsValue}
 use Rattle.stream_check.specs.declared.report.Ending.TheVariants as endings
 use Rattle.stream_check.specs.declared.report.Report.{Report}
+use Rattle.portfolio.specs.Histories.{CarriesRun}
 use Rattle.portfolio.specs.Outcomes.{OptionsValue, terms_of}
 use Rattle.portfolio.specs.ReportText.{report_text}
 use Rattle.portfolio.specs.declared.outcome.Verdict.{Verdict}
@@ -139,8 +140,9 @@ abbrev pub HaveEnded : List Report → Type 0
 HaveEnded reports = AllByRecursion (λ report. report.ending ≡ endings.Ended) reports
 
 -- The round with this number goes on: its verdict is 'unknown', its streams ended, and its checkpoint was saved, a text of just this
--- next formula, each clause of which follows from the round's.
-pub record GoesOn (its : Deeds) (plan : Plan) (number : ℕ) (round : Round its.State its.Reader)
+-- next formula, each clause of which follows from the round's. They are those that a history of the round leaves live, by which its
+-- streams are judged as reported, but for those that all streams dropped, and no others.
+pub record CarriesOn (its : Deeds) (plan : Plan) (number : ℕ) (round : Round its.State its.Reader)
     (next : Cnf) : Type 0 where
   pub verdict : round.verdict ≡ Unknown
   pub ended : HaveEnded round.reports
@@ -149,6 +151,9 @@ pub record GoesOn (its : Deeds) (plan : Plan) (number : ℕ) (round : Round its.
   pub saved : WasSaved its.creates its.written its.keeps round.opened
       (formula_path plan.folder (number + 1)) bytes round.after
   pub carried : IsCheckpointOf round.formula bytes next
+  pub exactly : CarriesRun its.reading its.written plan.serial round.formula
+      (terms_by plan round.formula round.sizes) round.readers round.reports (Ok next) saved.first
+      saved.last
 
 -- It doesn't: it has another verdict, its checkpoint wasn't saved, or a stream didn't end. It left a checkpoint, as a run with
 -- `--checkpoint` does.
@@ -170,9 +175,9 @@ AreSized its path old before new after =
 
 -- A round follows the one with this number: it has the formula that was carried on, its sizes were read, then its streams were opened,
 -- and they were checked.
-pub record Follows (its : Deeds) (plan : Plan) (number : ℕ)
+pub record ComesNext (its : Deeds) (plan : Plan) (number : ℕ)
     (before round : Round its.State its.Reader) : Type 0 where
-  pub goes_on : GoesOn its plan number before round.formula
+  pub goes_on : CarriesOn its plan number before round.formula
   pub sized : its.State
   pub sizes : AreSized its (sizes_path plan.folder (number + 1)) before.sizes before.after
       round.sizes sized
@@ -196,15 +201,15 @@ AreRounds its plan formula sizes first paths [] = ⊥
 AreRounds its plan formula sizes first paths (round ∷ []) =
     IsFirst its plan formula sizes first paths round
 AreRounds its plan formula sizes first paths (round ∷ before ∷ more) =
-    Follows its plan (length (before ∷ more)) before round
+    ComesNext its plan (length (before ∷ more)) before round
     × AreRounds its plan formula sizes first paths (before ∷ more)
 
 -- why there is no round after the last one, with this number, and what became of the files: it doesn't go on; or the sizes of the next
 -- one were read, and there is no file of its stream 1; or its number would be 2 ^ 64 - 1
-abbrev pub IsOver : (its : Deeds) → Plan → ℕ → Round its.State its.Reader → its.State → Type 0
-IsOver its plan number last after =
+abbrev pub RoundsEnd : (its : Deeds) → Plan → ℕ → Round its.State its.Reader → its.State → Type 0
+RoundsEnd its plan number last after =
     (IsBarred its plan number last × (after ≡ last.after))
-    ⊎ (((next : Cnf) × GoesOn its plan number last next
+    ⊎ (((next : Cnf) × CarriesOn its plan number last next
     × ((sizes : Sizes) × (sized : its.State)
     × AreSized its (sizes_path plan.folder (number + 1)) last.sizes last.after sizes sized
     × its.lacks sized (stream_path plan.folder (number + 1) 1) after))
@@ -267,7 +272,7 @@ IsRoundCause its plan number old formula before fault =
 abbrev pub IsNextCause : (its : Deeds) → Plan → ℕ → Round its.State its.Reader → CommandFault
     → Type 0
 IsNextCause its plan number last fault =
-    (next : Cnf) × GoesOn its plan number last next
+    (next : Cnf) × CarriesOn its plan number last next
     × IsRoundCause its plan number last.sizes next last.after fault
 
 -- What goes out.
@@ -302,7 +307,7 @@ pub record ReportsRounds (files : FilesView) (given : CommandLine) (folder : Tex
   pub last : Round files.State files.Reader
   pub before : List (Round files.State files.Reader)
   pub were : WereRounds files given folder last before
-  pub over : IsOver (deeds_of files) (plan_at given were.cube folder) (length (last ∷ before)) last
+  pub over : RoundsEnd (deeds_of files) (plan_at given were.cube folder) (length (last ∷ before)) last
       after
   pub printed : SinkTook out (last_text (length (last ∷ before)) last.reports last.verdict)
   pub said : SaysOfRound (length (last ∷ before)) out.failed last.unsaved err
@@ -334,9 +339,9 @@ pub record EndsInRounds (files : FilesView) (words : List Text) (after : files.S
 
 -- How the program ends: with a report of a single run, where the words ask for no rounds; without one, for a cause of a single run or
 -- of round 1; or in rounds.
-abbrev pub Ends : (files : FilesView) → List Text → files.State → SinkChange → SinkChange → ℕ
+abbrev pub ProgramEnds : (files : FilesView) → List Text → files.State → SinkChange → SinkChange → ℕ
     → Type 0
-Ends files words after out err status =
+ProgramEnds files words after out err status =
     (EndsWithReport files words after out err status
     × ((folder : Text) → ¬ AskForRounds words folder))
     ⊎ (EndsWithFault files words out err status ⊎ EndsInRounds files words after out err status)

@@ -6,6 +6,9 @@ use Rattle.lrup_model.specs.Cube.{CubeValue}
 use Rattle.lrup_model.specs.Formula.{Cnf}
 use Rattle.lrup_text.specs.ReadOut.{SourceView}
 use Rattle.lrup_text.specs.Reads.{Gave, GaveAll}
+use Rattle.runs.specs.Streams.{TermsValue}
+use Rattle.stream_check.specs.declared.report.Report.{Report}
+use Rattle.portfolio.specs.Histories.{CarriesRun}
 use Rattle.portfolio.specs.declared.outcome.Verdict.{Verdict}
 use Rattle.portfolio.specs.declared.outcome.Verdict.TheVariants.{Unsatisfiable}
 use Rattle.checkpoint.specs.Checkpoints.{IsCheckpointOf}
@@ -15,7 +18,7 @@ use Rattle.command_line.specs.declared.sizes.Sizes.{Sizes}
 use Rattle.command_line.specs.declared.words.CommandLine.{CommandLine}
 use Rattle.command.specs.Commands.{AreAssumed, AreOpened, FilesView, HasBrokenOff, IsCause, Text, WasReadIn, assumed_at}
 use Rattle.command.specs.Paths.{sizes_path, stream_path}
-use Rattle.command.specs.Rounds.{AreRounds, AreSized, Deeds, GoesOn, IsBarred, IsNextCause, IsOver, IsRoundCause, IsStartCause, Plan}
+use Rattle.command.specs.Rounds.{AreRounds, AreSized, Deeds, CarriesOn, IsBarred, IsNextCause, RoundsEnd, IsRoundCause, IsStartCause, Plan}
 use Rattle.command.specs.Rounds.{Round, WereRounds, deeds_of, plan_at}
 use Rattle.command.specs.declared.fault.CommandFault.{CommandFault}
 use Rattle.command.specs.declared.fault.CommandFault.TheVariants as faults
@@ -46,23 +49,23 @@ round_of formula readers opened last after = record {
 }
 
 -- What was found of a round, and the next formula, where there is one, with which the round goes on.
-pub record IsFound (its : Deeds) (plan : Plan) (last : LastRound) (next : Option Cnf)
+pub record WasFound (its : Deeds) (plan : Plan) (last : LastRound) (next : Option Cnf)
     (round : Round its.State its.Reader) : Type 0 where
   pub sizes : round.sizes ≡ last.sizes
   pub reports : round.reports ≡ last.found.reports.items
   pub verdict : round.verdict ≡ last.found.verdict
   pub unsaved : round.unsaved ≡ last.found.unsaved
-  pub goes_on : ForSome next (GoesOn its plan last.number round)
+  pub goes_on : ForSome next (CarriesOn its plan last.number round)
   pub over : next ≡ None → IsBarred its plan last.number round
 
 -- The rounds up to this one, which was found so and left these files.
-pub record Stands (its : Deeds) (plan : Plan) (formula : Cnf) (sizes : Sizes) (first : its.State)
+pub record RoundsStand (its : Deeds) (plan : Plan) (formula : Cnf) (sizes : Sizes) (first : its.State)
     (paths : List Text) (last : LastRound) (next : Option Cnf) (after : its.State) : Type 0 where
   pub round : Round its.State its.Reader
   pub before : List (Round its.State its.Reader)
   pub rounds : AreRounds its plan formula sizes first paths (round ∷ before)
   pub number : last.number ≡ length (round ∷ before)
-  pub is_found : IsFound its plan last next round
+  pub is_found : WasFound its plan last next round
   pub left : after ≡ round.after
 
 -- There is no round after this one, which was to go on: the sizes of the next were read, and there is no file of its stream 1.
@@ -87,11 +90,11 @@ pub record EndsAt (its : Deeds) (plan : Plan) (formula : Cnf) (sizes : Sizes) (f
   pub reports : round.reports ≡ last.found.reports.items
   pub verdict : round.verdict ≡ last.found.verdict
   pub unsaved : round.unsaved ≡ last.found.unsaved
-  pub over : IsOver its plan (length (round ∷ before)) round after
+  pub over : RoundsEnd its plan (length (round ∷ before)) round after
 
 -- after these rounds the next one had no report
-pub record FailsAfter (its : Deeds) (plan : Plan) (formula : Cnf) (sizes : Sizes) (first : its.State)
-    (paths : List Text) (failed : RoundFault) : Type 0 where
+pub record FailsAfter (its : Deeds) (plan : Plan) (formula : Cnf) (sizes : Sizes)
+    (first : its.State) (paths : List Text) (failed : RoundFault) : Type 0 where
   pub last : Round its.State its.Reader
   pub before : List (Round its.State its.Reader)
   pub rounds : AreRounds its plan formula sizes first paths (last ∷ before)
@@ -115,7 +118,7 @@ pub record IsReported (files : FilesView) (given : CommandLine) (folder : Text) 
   pub reports : round.reports ≡ last.found.reports.items
   pub verdict : round.verdict ≡ last.found.verdict
   pub unsaved : round.unsaved ≡ last.found.unsaved
-  pub over : IsOver (deeds_of files) (plan_at given were.cube folder) (length (round ∷ before))
+  pub over : RoundsEnd (deeds_of files) (plan_at given were.cube folder) (length (round ∷ before))
       round after
 
 -- what is known of a fault of the rounds, by the words
@@ -150,7 +153,8 @@ pub record GaveWhole {R : Type 0} (reading : SourceView R) (first : R)
 
 -- the sizes that it holds
 abbrev pub ReadsSizes : {R : Type 0} → SourceView R → R → Sizes → Type 0
-ReadsSizes reading first sizes = (bytes : List ℕ) × GaveWhole reading first bytes × IsSizesText bytes sizes
+ReadsSizes reading first sizes =
+    (bytes : List ℕ) × GaveWhole reading first bytes × IsSizesText bytes sizes
 
 -- why none were read
 abbrev pub IsUnsized : {R : Type 0} → SourceView R → R → CommandFault → Type 0
@@ -167,13 +171,15 @@ IsUncarried verdict output saved =
     (verdict ≡ Unsatisfiable)
     ⊎ ((output ≡ None) ⊎ ((fault : SaveFault) × (saved ≡ Err fault)))
 
--- The next formula was saved to the file, if one was written to: the bytes that went to it are a text of just this formula.
-abbrev pub CarriesTo : {W : Type 0} → (W → Option (List ℕ)) → Cnf → Option W
-    → Result (Option W) SaveFault → Cnf → Type 0
-CarriesTo {W = W} written formula output saved next =
+-- The next formula was saved to the file, if one was written to: the bytes that went to it are a text of just this formula, and it has
+-- just the clauses that the round carries.
+abbrev pub CarriesTo : {R W : Type 0} → SourceView R → (W → Option (List ℕ)) → Bool → Cnf → TermsValue
+    → List R → List Report → Option W → Result (Option W) SaveFault → Cnf → Type 0
+CarriesTo {W = W} reading written serial formula terms readers reports output saved next =
     (first last : W) × (output ≡ Some first) × (saved ≡ Ok (Some last))
     × ((bytes : List ℕ) × Appends (written first) (written last) bytes
     × IsCheckpointOf formula bytes next)
+    × CarriesRun reading written serial formula terms readers reports (Ok next) first last
 
 -- What a run begins with: the assumed literals were read, and then the streams of the command line were opened.
 pub record HasBegun (files : FilesView) (given : CommandLine) (formula : Cnf) (cube : CubeValue)

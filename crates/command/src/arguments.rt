@@ -8,7 +8,7 @@ ghost use Rattle.command_line.specs.CommandLine.{AskToSave, HaveFault};
 ghost use Rattle.command.specs.Arguments.{EndsWithoutArguments, not_utf8, refusal_status, refusal_text};
 ghost use Rattle.command.specs.Arguments.{words_after_name};
 ghost use Rattle.command.specs.Commands.{NameCheckpoint, NameUnsatisfiable};
-ghost use Rattle.command.specs.Rounds.{Ends};
+ghost use Rattle.command.specs.Rounds.{ProgramEnds};
 ghost use Rattle.command.specs.Commands.{NameUnsatisfiableUnder, Text, WasSaved};
 ghost use Rattle.command.specs.Commands.{SinkTook, WasRead, change, files_view};
 
@@ -58,7 +58,7 @@ pub fn command_with_arguments<
         let output = change (O.written out.old) (O.written out.new) (O.has_failed out.new) in
         let errors = change (E.written err.old) (E.written err.new) (E.has_failed err.new) in
         IfOk arguments (λ given.
-        Ends view (words_after_name given) files.new output errors (exit_status result)) }
+        ProgramEnds view (words_after_name given) files.new output errors (exit_status result)) }
     // With status 3 or 8, where the words ask for a checkpoint, what was saved there is a text of a formula each clause of which
     // follows from that of FORMULA.
     ensures saved { let read = WasRead F.opens F.Input.Source.reads (F.tells files.old) in
@@ -105,7 +105,7 @@ fn with_words<T: Threads + Wait + Sync, C: Clock + Sync, F: Files, O: Sink, E: S
     ensures ends { let view = files_view F.Files F.Input.Source F.Output.Sink files.old in
         let output = change (O.written out.old) (O.written out.new) (O.has_failed out.new) in
         let errors = change (E.written err.old) (E.written err.new) (E.has_failed err.new) in
-        Ends view (words_after_name arguments) files.new output errors result }
+        ProgramEnds view (words_after_name arguments) files.new output errors result }
     ensures saved { let read = WasRead F.opens F.Input.Source.reads (F.tells files.old) in
         let save = WasSaved F.creates F.Output.Sink.written F.keeps in
         (path : Text) → AskToSave (words_after_name arguments) path → (result ≡ 3) ⊎ (result ≡ 8)

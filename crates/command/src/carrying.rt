@@ -52,8 +52,10 @@ pub(crate) fn carry_streams<T: Threads + Wait + Sync, C: Clock + Sync, F: Files>
         round.formula terms round.readers.items found.reports.items found.verdict) }
     ensures written { IfOk result (λ found. WritesCheckpoint F.Output.Sink.written
         round.formula found.verdict output found.saved) }
-    ensures next { IfOk result (λ found. ForSome found.next (CarriesTo F.Output.Sink.written
-        round.formula output found.saved)) }
+    ensures next { let terms = terms_by (plan_of course.now) round.formula round.sizes in
+        IfOk result (λ found. ForSome found.next (CarriesTo (readers_view F.Input.Source)
+        F.Output.Sink.written course.now.serial round.formula terms round.readers.items
+        found.reports.items output found.saved)) }
     ensures none { IfOk result (λ found. found.next ≡ None
         → IsUncarried found.verdict output found.saved) }
     ensures cause { let terms = terms_by (plan_of course.now) round.formula round.sizes in
@@ -85,8 +87,10 @@ fn carry_serially<W: Wait, C: Clock + Sync, F: Files>(
         round.formula terms round.readers.items found.reports.items found.verdict) }
     ensures written { IfOk result (λ found. WritesCheckpoint F.Output.Sink.written
         round.formula found.verdict output found.saved) }
-    ensures next { IfOk result (λ found. ForSome found.next (CarriesTo F.Output.Sink.written
-        round.formula output found.saved)) }
+    ensures next { let terms = terms_by (plan_of course.now) round.formula round.sizes in
+        IfOk result (λ found. ForSome found.next (CarriesTo (readers_view F.Input.Source)
+        F.Output.Sink.written true round.formula terms round.readers.items
+        found.reports.items output found.saved)) }
     ensures none { IfOk result (λ found. found.next ≡ None
         → IsUncarried found.verdict output found.saved) }
     ensures cause { let terms = terms_by (plan_of course.now) round.formula round.sizes in
@@ -154,8 +158,10 @@ fn carry_in_threads<T: Threads + Wait + Sync, C: Clock + Sync, F: Files>(
         round.formula terms round.readers.items found.reports.items found.verdict) }
     ensures written { IfOk result (λ found. WritesCheckpoint F.Output.Sink.written
         round.formula found.verdict output found.saved) }
-    ensures next { IfOk result (λ found. ForSome found.next (CarriesTo F.Output.Sink.written
-        round.formula output found.saved)) }
+    ensures next { let terms = terms_by (plan_of course.now) round.formula round.sizes in
+        IfOk result (λ found. ForSome found.next (CarriesTo (readers_view F.Input.Source)
+        F.Output.Sink.written false round.formula terms round.readers.items
+        found.reports.items output found.saved)) }
     ensures none { IfOk result (λ found. found.next ≡ None
         → IsUncarried found.verdict output found.saved) }
     ensures cause { let terms = terms_by (plan_of course.now) round.formula round.sizes in

@@ -7,7 +7,7 @@ ghost use Rattle.lrup_model.specs.Entailment.{IsUnsatisfiable};
 ghost use Rattle.lrup_model.specs.Formula.{Cnf};
 ghost use Rattle.command_line.specs.CommandLine.{AskToSave, HaveFault, IsCommandLineOf};
 ghost use Rattle.command.specs.Commands.{AreAssumed, EndsWithFault, EndsWithReport, NameCheckpoint, NameUnsatisfiable, rounds_at};
-ghost use Rattle.command.specs.Rounds.{Ends, EndsInRounds, last_text, round_text};
+ghost use Rattle.command.specs.Rounds.{ProgramEnds, EndsInRounds, last_text, round_text};
 ghost use Rattle.lrup_text.specs.Writing.{WritesText};
 ghost use Rattle.command.specs.Commands.{NameUnsatisfiableUnder, SaysOfRound, SinkTook, Text, WasLeftEmpty, WasRead, WasReadIn, WasSaved};
 ghost use Rattle.command.specs.Commands.{assumed_at, change, files_view, from_first, report_status};
@@ -68,7 +68,7 @@ pub fn command<T: Threads + Wait + Sync, C: Clock + Sync, F: Files, O: Sink, E: 
     ensures ends { let view = files_view F.Files F.Input.Source F.Output.Sink files.old in
         let output = change (O.written out.old) (O.written out.new) (O.has_failed out.new) in
         let errors = change (E.written err.old) (E.written err.new) (E.has_failed err.new) in
-        Ends view (texts words.now) files.new output errors result }
+        ProgramEnds view (texts words.now) files.new output errors result }
     // With status 3 or 8, where the words ask for a checkpoint, what was saved there is a text of a formula each clause of which
     // follows from that of FORMULA.
     ensures saved { let read = WasRead F.opens F.Input.Source.reads (F.tells files.old) in
@@ -124,7 +124,7 @@ pub fn check_formula<T: Threads + Wait + Sync, C: Clock + Sync, F: Files, O: Sin
         let errors = change (E.written err.old) (E.written err.new) (E.has_failed err.new) in
         IsCommandLineOf words asked.entry.line
         → WasReadIn view first asked.entry.line.formula.now asked.entry.formula.items files.old
-        → Ends view words files.new output errors result }
+        → ProgramEnds view words files.new output errors result }
 {
     match asked.line.rounds {
         None => check_once(threads, clock, alloc, asked, files, out, err),

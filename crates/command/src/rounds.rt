@@ -10,10 +10,10 @@ ghost use Rattle.command_line.specs.CommandLine.{IsCommandLineOf};
 ghost use Rattle.command.specs.Commands.{AreAssumed, AreOpened, IsCause, IsOpenCause, Text, WasRead, WasReadIn, assumed_at, files_view, from_first};
 ghost use Rattle.command.specs.Commands.{rounds_at};
 ghost use Rattle.command.specs.Paths.{formula_path, stream_path, stream_paths};
-ghost use Rattle.command.specs.Rounds.{GoesOn, HaveEnded, IsBarred, IsStartCause, StreamsOpened, WasChecked, deeds};
+ghost use Rattle.command.specs.Rounds.{CarriesOn, HaveEnded, IsBarred, IsStartCause, StreamsOpened, WasChecked, deeds};
 ghost use Rattle.command_line.specs.declared.sizes.Sizes.{Sizes};
 ghost use Rattle.clap.specs.Walk.{texts};
-ghost use Rattle.command.specs.Standing.{EndsAt, FailsAt, IsAlone, IsLaterCause, IsReported, IsRoundsFault, IsUnchecked, Stands};
+ghost use Rattle.command.specs.Standing.{EndsAt, FailsAt, IsAlone, IsLaterCause, IsReported, IsRoundsFault, IsUnchecked, RoundsStand};
 ghost use Rattle.command.specs.Standing.{plan_of, round_of};
 ghost use Rattle.stream_check.specs.Setting.{max_tries};
 
@@ -64,7 +64,7 @@ fn check_round<T: Threads + Wait + Sync, C: Clock + Sync, F: Files>(
         (deeds F.Files F.Input.Source F.Output.Sink) (plan_of course.now)
         (round_of round.formula round.readers.items files.old found.last files.new)) }
     ensures next { IfOk result (λ found. ForSome found.next
-        (GoesOn (deeds F.Files F.Input.Source F.Output.Sink) (plan_of course.now) round.number
+        (CarriesOn (deeds F.Files F.Input.Source F.Output.Sink) (plan_of course.now) round.number
         (round_of round.formula round.readers.items files.old found.last files.new))) }
     ensures over { IfOk result (λ found. found.next ≡ None
         → IsBarred (deeds F.Files F.Input.Source F.Output.Sink) (plan_of course.now) round.number
@@ -247,9 +247,9 @@ fn next_round<T: Threads + Wait + Sync, C: Clock + Sync, F: Files>(
     requires after { number ≡ last.now.number + 1 }
     requires number { number < u64.MAX }
     ensures stands { (given : Cnf) (sizes : Sizes) (first : F) (paths : List Text) →
-        Stands (deeds F.Files F.Input.Source F.Output.Sink) (plan_of course.now) given sizes first
+        RoundsStand (deeds F.Files F.Input.Source F.Output.Sink) (plan_of course.now) given sizes first
         paths last.now (Some formula) files.old → IfOk result (λ next. ForSome next (λ found.
-        Stands (deeds F.Files F.Input.Source F.Output.Sink) (plan_of course.now) given sizes first
+        RoundsStand (deeds F.Files F.Input.Source F.Output.Sink) (plan_of course.now) given sizes first
         paths found.last found.next files.new)) }
     ensures number { IfOk result (λ next. ForSome next (λ found.
         found.last.number ≡ number)) }

@@ -17,7 +17,7 @@ use Rattle.command_line.specs.CommandLine.{AskForRounds, IsCommandLineOf}
 use Rattle.command_line.specs.declared.words.CommandLine.{CommandLine}
 use Rattle.command.specs.Commands.{EndsWithFault, EndsWithReport, FilesView, IsOutcome, SinkChange, Text, WasReadIn}
 use Rattle.command.specs.Commands.{layout_at, options_of}
-use Rattle.command.specs.Rounds.{Ends}
+use Rattle.command.specs.Rounds.{ProgramEnds}
 use Rattle.dimacs.specs.FormulaText.{IsFormulaText}
 use Rattle.lrup_model.specs.Entailment.{IsUnsatisfiable}
 use Rattle.outcome_laws.specs.Outcomes.{bare_setting, bare_report, SayTheSame, ReportsOn}
@@ -73,7 +73,7 @@ OutcomesAgree files others =
 -- Where the words ask for no rounds, the program ends with the report of a single run, or without one, for a cause of such a run.
 abbrev pub PlainEnds : FilesView → Type 0
 PlainEnds files = (words : List Text) (after : files.State) (out err : SinkChange) (status : ℕ)
-    → ((folder : Text) → ¬ AskForRounds words folder) → Ends files words after out err status
+    → ((folder : Text) → ¬ AskForRounds words folder) → ProgramEnds files words after out err status
     → EndsWithReport files words after out err status ⊎ EndsWithFault files words out err status
 
 -- What the program's ending says of status 0: the words have a command line, and what was read at its FORMULA is a text of a formula

@@ -1,7 +1,7 @@
 use Rattle.std.proofs.Common.{◌≡◌, ◌⊎◌, ℕ, sym, subst}
 use Rattle.command.specs.Arguments.{words_after_name}
 use Rattle.command.specs.Commands.{change, files_view}
-use Rattle.command.specs.Rounds.{Ends}
+use Rattle.command.specs.Rounds.{ProgramEnds}
 use Rattle.command.proofs.arguments.command_with_arguments.Goals as goal
 
 pub returns-in-Ok-clause-usage : goal.returns-in-Ok-clause-usage
@@ -15,5 +15,5 @@ returns-in-Ok-clause-ends g c =
     let err = c.with_words-status.new.err in
     let output = change (g.O.Sink.written c.args.out.now) (g.O.Sink.written out) (g.O.Sink.has_failed out) in
     let errors = change (g.E.Sink.written c.args.err.now) (g.E.Sink.written err) (g.E.Sink.has_failed err) in
-    rw c.in-Ok.is (subst (λ (n : ℕ). Ends files (words_after_name c.in-Ok.arguments) c.with_words-status.new.files output errors n)
+    rw c.in-Ok.is (subst (λ (n : ℕ). ProgramEnds files (words_after_name c.in-Ok.arguments) c.with_words-status.new.files output errors n)
     (sym c.from.ensures) c.with_words-status.ensures.ends)

@@ -3,7 +3,7 @@ use Rattle.clap.specs.Walk.{texts}
 use Rattle.command_line.specs.CommandLine.{AskToSave, HaveFault}
 use Rattle.command.specs.Arguments.{words_after_name}
 use Rattle.command.specs.Commands.{NameCheckpoint, NameUnsatisfiable, NameUnsatisfiableUnder, Text, WasRead, WasSaved, change, files_view}
-use Rattle.command.specs.Rounds.{Ends}
+use Rattle.command.specs.Rounds.{ProgramEnds}
 use Rattle.command.proofs.WordLemmas.{read_all}
 use Rattle.command.specs.declared.fault.CommandFault.TheVariants as faults
 use Rattle.command.proofs.arguments.with_words.Given
@@ -60,4 +60,4 @@ returns-clause-ends g c =
     let files = files_view g.F.Files g.F.Input.Source g.F.Output.Sink c.args.files.now in
     let output = change (g.O.Sink.written c.args.out.now) (g.O.Sink.written c.command.new.out) (g.O.Sink.has_failed c.command.new.out) in
     let errors = change (g.E.Sink.written c.args.err.now) (g.E.Sink.written c.command.new.err) (g.E.Sink.has_failed c.command.new.err) in
-    subst (λ (words : List Text). Ends files words c.command.new.files output errors c.command.result) (same_words g c) c.command.ensures.ends
+    subst (λ (words : List Text). ProgramEnds files words c.command.new.files output errors c.command.result) (same_words g c) c.command.ensures.ends

@@ -1,4 +1,6 @@
 use Rattle.std.proofs.Common.{◌∙◌, ℕ, false, length, Err, None, Ok, refl, sym, subst, inr}
+use Rattle.portfolio.specs.Histories.{CarriesRun}
+use Rattle.portfolio.specs.HistoryLemmas.{carried_in_threads}
 use Rattle.portfolio.specs.Outcomes.{layout_of, terms_of}
 use Rattle.runs.specs.Streams.{TermsValue}
 use Rattle.command.specs.Commands.{AreChecked, IsRunCause, readers_view}
@@ -15,14 +17,16 @@ pub returns-in_err-outcome-clause-cause : goal.returns-in_err-outcome-clause-cau
 returns-in_err-outcome-clause-cause g c =
     let plan = plan_of c.args.course.now in
     let round = c.args.round in
-    let terms = terms_same round.formula plan c.options-options.result round.sizes (length round.readers.items) c.options-options.ensures c.requires.count in
+    let terms = terms_same round.formula plan c.options-options.result round.sizes (length round.readers.items) c.options-options.ensures
+    c.requires.count in
     let fault = c.in_err-outcome.field-0.0 in
     let cause = run_cause false (layout_of c.options-options.result round.formula (length round.readers.items)) c.run.result fault
     c.in_err-outcome.was c.run.ensures.layout
     (λ stream is. (refl, c.run.ensures.spawn stream is)) (λ stream is. (refl, c.run.ensures.ring stream is)) in
     let moved = subst (λ (t : TermsValue). IsRunCause false t.layout (of_run fault)) terms cause in
     let Cause = IsRunCause false (terms_by plan round.formula round.sizes).layout in
-    err_given c.from_residual-in_err-outcome.result _ Cause (λ other is. subst Cause (sym is) moved) c.from_residual-in_err-outcome.ensures.1
+    err_given c.from_residual-in_err-outcome.result _ Cause (λ other is. subst Cause (sym is) moved)
+    c.from_residual-in_err-outcome.ensures.1
 
 pub returns-clause-checked : goal.returns-clause-checked
 returns-clause-checked g c =
@@ -74,17 +78,36 @@ returns-clause-written g c =
 
 pub returns-clause-next : goal.returns-clause-next
 returns-clause-next g c =
+    let reading = readers_view g.F.Input.Source in
     let written = g.F.Output.Sink.written in
+    let plan = plan_of c.args.course.now in
     let formula = c.args.round.formula in
-    let verdict = c.in_ok-outcome.outcome.verdict in
-    let history = rw (← c.in_ok-outcome.ensures.kept) at c.in_ok-outcome.ensures.history in
+    let firsts = c.args.round.readers.items in
+    let count : ℕ = length firsts in
+    let terms = terms_same formula plan c.options-options.result c.args.round.sizes count c.options-options.ensures c.requires.count in
+    let own = terms_of c.options-options.result c.args.course.now.cube.now formula count in
+    let outcome = c.in_ok-outcome.outcome in
+    let found = c.in_ok-outcome.ensures in
+    let reports = outcome.reports.items in
+    let verdict = outcome.verdict in
+    let by = terms_by plan formula c.args.round.sizes in
+    let history = rw (← found.kept) at found.history in
     elim c.match-to_write.branch [
-      | in-None w ↦ rw w.saved-is (no_next written formula c.args.output (Ok None))
+      | in-None w ↦ rw w.saved-is (no_next reading written false formula by firsts reports c.args.output (Ok None))
       | in-Some w ↦ elim w.match-carry_live.branch [
-        | in-Ok w' ↦ rw (w.saved-is, w'.saved-is)
-            (next_saved written formula verdict c.args.output w.in-Some.sink w.carry_live.new.sink w'.in-Ok.next
-            (sym c.to_write.ensures ∙ w.in-Some.is) (w'.in-Ok.ensures.next formula _ history))
-        | in-Err w' ↦ rw (w.saved-is, w'.saved-is) (no_next written formula c.args.output (Err w'.in-Err.fault))
+        | in-Ok w' ↦
+            let first = w.in-Some.sink in
+            let last = w.carry_live.new.sink in
+            let exactly = carried_in_threads reading formula own firsts outcome.readers.items reports outcome.dropped.items written _ _
+            found.history found.reports outcome.layout found.kept (Ok w'.in-Ok.next) first last
+            (λ f h one. rw w.deref.ensures.value at (w'.in-Ok.ensures.carries f h one)) in
+            rw (w.saved-is, w'.saved-is)
+            (next_saved reading written false formula by firsts reports verdict c.args.output first last w'.in-Ok.next
+            (sym c.to_write.ensures ∙ w.in-Some.is) (w'.in-Ok.ensures.next formula _ history)
+            (subst (λ (t : TermsValue). CarriesRun reading written false formula t firsts reports (Ok w'.in-Ok.next) first last) terms
+            exactly))
+        | in-Err w' ↦ rw (w.saved-is, w'.saved-is)
+            (no_next reading written false formula by firsts reports c.args.output (Err w'.in-Err.fault))
       ]
     ]
 

@@ -1,7 +1,7 @@
 use Rattle.std.proofs.Common.{ℕ, Bool, List, Option, inl, inr, rules, subst}
 use Rattle.clap.specs.Walk.{texts}
 use Rattle.command.specs.Commands.{FilesView, Text, WasReadIn, change, files_view}
-use Rattle.command.specs.Rounds.{Ends}
+use Rattle.command.specs.Rounds.{ProgramEnds}
 use Rattle.command.proofs.CheckingLemmas.{names_unsatisfiable, names_unsatisfiable_under}
 use Rattle.command.proofs.StatusLemmas.{all_empty, all_saved, all_unwritten}
 use Rattle.command.proofs.program.command.Goals as goal
@@ -35,7 +35,7 @@ returns-in-Ok-clause-ends g c =
     change (g.E.Sink.written c.args.err.now) (g.E.Sink.written c.check_formula.new.err) (g.E.Sink.has_failed c.check_formula.new.err) in
     let Told : (Text → Option (List ℕ)) → (Text → Bool) → (Text → Bool)
     → Type 0 = λ t m n. WasReadIn (view t m n) first asked.line.formula.now asked.formula.items next
-    → Ends (view t m n) words c.check_formula.new.files output errors c.check_formula.result in
+    → ProgramEnds (view t m n) words c.check_formula.new.files output errors c.check_formula.result in
     let ends = c.check_formula.ensures.ends words first c.in-Ok.ensures.line in
     let told = subst (λ t. Told t (g.F.Files.may_refuse next) (g.F.Files.may_refuse_new next)) c.in-Ok.ensures.stays ends in
     let refused = subst (λ m. Told (g.F.Files.tells first) m (g.F.Files.may_refuse_new next)) c.in-Ok.ensures.stays_refused told in

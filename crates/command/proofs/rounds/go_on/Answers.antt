@@ -1,7 +1,7 @@
 use Rattle.std.proofs.Common.{◌≡◌, ◌∙◌, Ok, Option, Some, ap, arith, inr, refl, subst, sym}
 use Rattle.lrup_model.specs.Formula.{Cnf}
 use Rattle.command.specs.Rounds.{deeds}
-use Rattle.command.specs.Standing.{Stands, plan_of}
+use Rattle.command.specs.Standing.{RoundsStand, plan_of}
 use Rattle.command.proofs.RoundLemmas.{ends_alone, ends_barred, ends_high, fails_after, stands_first}
 use Rattle.command.proofs.rounds.go_on.Goals as goal
 
@@ -26,7 +26,7 @@ returns-in-None-clause-over g c first paths opened =
     let now = c.loop-number in
     let round = c.args.round in
     ends_barred its plan round.formula round.sizes first paths now.last now.files
-    (subst (λ (n : Option Cnf). Stands its plan round.formula round.sizes first paths now.last n now.files) c.in-None.is
+    (subst (λ (n : Option Cnf). RoundsStand its plan round.formula round.sizes first paths now.last n now.files) c.in-None.is
     (now.invariant.stands first paths opened))
 
 -- there is no next one
@@ -37,7 +37,7 @@ returns-in-Ok-None-clause-over g c first paths opened =
     let now = c.loop-number in
     let round = c.args.round in
     ends_alone its plan round.formula round.sizes first paths now.last c.in-Some.formula now.files c.next_round.new.files
-    (subst (λ (n : Option Cnf). Stands its plan round.formula round.sizes first paths now.last n now.files) c.in-Some.is
+    (subst (λ (n : Option Cnf). RoundsStand its plan round.formula round.sizes first paths now.last n now.files) c.in-Some.is
     (now.invariant.stands first paths opened))
     (c.next_round.ensures.over (c.in-Ok-None.is ∙ ap Ok c.in-Ok-None.field-0-is))
 
@@ -49,7 +49,7 @@ returns-in-Err-next_round-clause-cause g c first paths opened =
     let now = c.loop-number in
     let round = c.args.round in
     inr (fails_after its plan round.formula round.sizes first paths now.last c.in-Some.formula now.files _
-    (subst (λ (n : Option Cnf). Stands its plan round.formula round.sizes first paths now.last n now.files) c.in-Some.is
+    (subst (λ (n : Option Cnf). RoundsStand its plan round.formula round.sizes first paths now.last n now.files) c.in-Some.is
     (now.invariant.stands first paths opened))
     c.in-Err-next_round.ensures.cause now.invariant.number)
 

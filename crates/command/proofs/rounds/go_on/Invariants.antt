@@ -1,7 +1,7 @@
 use Rattle.std.proofs.Common.{◌≡◌, ◌+◌, List}
 use Rattle.command.specs.Commands.{Text}
 use Rattle.command.specs.Rounds.{StreamsOpened, deeds}
-use Rattle.command.specs.Standing.{Stands, plan_of}
+use Rattle.command.specs.Standing.{RoundsStand, plan_of}
 use Rattle.command.proofs.rounds.go_on.Given as goal
 
 abbrev pub invariant-loop-number : goal.invariant-loop-number
@@ -9,7 +9,7 @@ invariant-loop-number g l =
     record {
       stands : (first : g.row.F.Denot) (paths : List Text)
           → StreamsOpened (deeds g.F.Files g.F.Input.Source g.F.Output.Sink) first paths l.fn.round.readers.items l.fn.files
-          → Stands (deeds g.F.Files g.F.Input.Source g.F.Output.Sink) (plan_of l.course) l.fn.round.formula l.fn.round.sizes first paths
+          → RoundsStand (deeds g.F.Files g.F.Input.Source g.F.Output.Sink) (plan_of l.course) l.fn.round.formula l.fn.round.sizes first paths
           l.last l.next l.files;
       number : l.number ≡ l.last.number + 1;
     }

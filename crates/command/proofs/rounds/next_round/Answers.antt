@@ -2,7 +2,7 @@ use Rattle.std.proofs.Common.{ℕ, inr, sym, subst}
 use Rattle.command_line.specs.declared.sizes.Sizes.{Sizes}
 use Rattle.command.specs.Paths.{sizes_path, stream_paths}
 use Rattle.command.specs.Rounds.{AreSized, IsStartCause, StreamsOpened, deeds}
-use Rattle.command.specs.Standing.{Stands, plan_of}
+use Rattle.command.specs.Standing.{RoundsStand, plan_of}
 use Rattle.command.proofs.RoundLemmas.{for_some, stands_next}
 use Rattle.command.proofs.rounds.next_round.Goals as goal
 
@@ -21,7 +21,7 @@ returns-in-Ok-clause-stands g c given sizes first paths stands =
     c.in_ok-sizes.ensures.sized in
     let are : StreamsOpened its sized (stream_paths plan.folder number c.in_ok-sizes.sizes.streams) readers opened =
     rw c.in-Ok-Some.field-0-is at c.in-Ok-Some.ensures.opened in
-    for_some (λ x. Stands its plan given sizes first paths x.last x.next c.check_round.new.files) found
+    for_some (λ x. RoundsStand its plan given sizes first paths x.last x.next c.check_round.new.files) found
     (stands_next its plan given sizes first paths c.args.last.now found.last c.args.formula found.next before sized opened
     c.check_round.new.files readers number c.requires.after stands are_sized
     (subst (λ (s : Sizes). StreamsOpened its sized (stream_paths plan.folder number s.streams) readers opened) (sym of.sizes) are)
