@@ -169,7 +169,7 @@ def in_rounds(serial: List[str], folder: Path) -> Iterator[Input]:
     """Three rounds to the empty clause, and three that derive less."""
     for name, proof, more in ("one", ONE, []), ("two", TWO, []), ("unknown", UNKNOWN, []), ("watched", ONE, ["--watch"]):
         whole = " ".join(["three rounds,", name, *serial])
-        yield InRounds(whole, [*(serial or ["--tries", "5000"]), *more], proof, folder / whole)
+        yield InRounds(whole, [*(serial or ["--tries", "20000"]), *more], proof, folder / whole)
 
 
 def inputs(folder: Path) -> Iterator[Input]:
