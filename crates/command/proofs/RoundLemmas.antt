@@ -1,7 +1,7 @@
 -- Rounds, one after the other.
 use Rattle.std.proofs.Common.{arith, ◌≡◌, ◌<◌, ◌^◌, ◌∙◌, ◌+◌, ◌++◌, add-one, Bool, IsTrue, inl, inr, length, length-append, suc, zero, ℕ}
 use Rattle.std.proofs.Common.{List, [], ◌∷◌}
-use Rattle.std.proofs.Common.{ap₂, Option, None, Some, Result, Ok, Err, refl, sym, ap, subst, ◌⊎◌, drop, map, take}
+use Rattle.std.proofs.Common.{ap₂, Option, None, Some, Result, Ok, refl, sym, ap, subst, ◌⊎◌, drop, map, take}
 use Rattle.std.proofs.Common.{◌-◌, false, get_or, true}
 use Rattle.std.specs.Prelude.{is_some}
 use Rattle.std.proofs.lemmas.Bool.{cases_lt}
@@ -33,11 +33,12 @@ use Rattle.command.specs.Commands.{AreAssumed, AreOpened, FilesView, IsCause, Is
 use Rattle.command.specs.Commands.{WasReadIn}
 use Rattle.command.specs.Commands.{assumed_at, checkpoint_at, created_path, path_of, rounds_at}
 use Rattle.command.specs.Paths.{formula_path, sizes_path, stream_path, stream_paths}
-use Rattle.command.specs.Rounds.{AreRounds, AreSized, Deeds, CarriesOn, HaveEnded, IsBarred, IsNextCause, RoundsEnd, IsRoundCause, IsSizesCause, Plan, Round}
-use Rattle.command.specs.Rounds.{IsStartCause, StreamsOpened, WasChecked, deeds_of, options_by, plan_at, sizes_of, terms_by}
+use Rattle.command.specs.Rounds.{AreRounds, AreSized, CarriesOn, Deeds, IsBarred, IsRoundCause, IsSizesCause, IsStartCause, Plan, Round}
+use Rattle.command.specs.Rounds.{RoundsEnd, StreamsOpened, WasChecked, deeds_of, options_by, plan_at, sizes_of, terms_by}
 use Rattle.portfolio.specs.Outcomes.{OptionsValue, terms_of}
 use Rattle.command.specs.Saving.{CreatesCheckpoint, KeepsCheckpoint, WritesCheckpoint, to_write}
-use Rattle.command.specs.Standing.{CarriesTo, EndsAt, FailsAfter, IsAlone, IsLaterCause, IsUncarried, IsUnchecked, IsUnsized, RoundsStand, round_of}
+use Rattle.command.specs.Standing.{CarriesTo, EndsAt, FailsAfter, IsAlone, IsLaterCause, IsUncarried, IsUnchecked, IsUnsized}
+use Rattle.command.specs.Standing.{RoundsStand, round_of}
 use Rattle.command.specs.declared.course.LastRound.{LastRound}
 use Rattle.command.specs.declared.course.RoundFault.{RoundFault}
 use Rattle.command.specs.declared.fault.CommandFault.{CommandFault}
@@ -185,7 +186,8 @@ module _ (its : Deeds) (plan : Plan) (formula : Cnf) (sizes : Sizes) (first : it
         before = stands.round ∷ stands.before;
         rounds = (
           record {
-            goes_on = subst (λ (n : ℕ). CarriesOn its plan n stands.round formula_now) stands.number (stands.is_found.goes_on formula_now refl);
+            goes_on = subst (λ (n : ℕ). CarriesOn its plan n stands.round formula_now) stands.number
+                (stands.is_found.goes_on formula_now refl);
             sized = sized;
             sizes = subst (λ (n : ℕ). AreSized its (sizes_path plan.folder n) stands.round.sizes stands.round.after found.sizes sized)
                 number_is of_files;
@@ -230,7 +232,8 @@ module _ (its : Deeds) (plan : Plan) (formula : Cnf) (sizes : Sizes) (first : it
       (inl (subst (λ (n : ℕ). IsBarred its plan n stands.round) stands.number (stands.is_found.over refl), stands.left))
 
   -- since there is no stream 1
-  pub ends_alone : (last : LastRound) (next : Cnf) (before after : its.State) → RoundsStand its plan formula sizes first paths last (Some next) before
+  pub ends_alone : (last : LastRound) (next : Cnf) (before after : its.State)
+      → RoundsStand its plan formula sizes first paths last (Some next) before
       → IsAlone its plan last before after → EndsAt its plan formula sizes first paths last after
   ends_alone last next before after stands alone =
       let Alone : ℕ → Sizes → its.State → Type 0 = λ n s f. (read : Sizes) × (sized : its.State)
@@ -244,7 +247,8 @@ module _ (its : Deeds) (plan : Plan) (formula : Cnf) (sizes : Sizes) (first : it
       (inr (inl (next, subst (λ (n : ℕ). CarriesOn its plan n round next) stands.number (stands.is_found.goes_on next refl), of_files)))
 
   -- since the number of the next one would be too high
-  pub ends_high : (last : LastRound) (next : Option Cnf) (after : its.State) → RoundsStand its plan formula sizes first paths last next after
+  pub ends_high : (last : LastRound) (next : Option Cnf) (after : its.State)
+      → RoundsStand its plan formula sizes first paths last next after
       → 2 ^ 64 < last.number + 3 → EndsAt its plan formula sizes first paths last after
   ends_high last next after stands high =
       ends_so last next after after stands (inr (inr (subst (λ (n : ℕ). 2 ^ 64 < n + 3) stands.number high, stands.left)))
@@ -408,7 +412,8 @@ start_cause files words given folder f cube next later opened line at assumed re
     line_cause files words given f cube next later line at assumed fault runs
 start_cause files words given folder f cube next later opened line at assumed readers are asked same fault (inr (layout, create)) =
     let may = subst (λ (m : Text → Bool). IsCreateCause m (Some (formula_path folder 2)) fault) same create in
-    let created = subst (λ (o : Option Text). IsCreateCause files.may_refuse_new (created_path o (checkpoint_at given)) fault) (sym asked) may in
+    let created = subst (λ (o : Option Text). IsCreateCause files.may_refuse_new (created_path o (checkpoint_at given)) fault) (sym asked)
+    may in
     create_cause files words given f cube next later line at assumed readers opened are layout fault created
 
 -- a path that isn't there

@@ -2,7 +2,6 @@
 use Rattle.std.specs.Prelude.{◌≡◌, ◌==◌, if◌then◌else◌, ◌+◌, ◌++◌, ◌∷◌, ◌⊎◌, ◌<◌, ◌^◌, ℕ, Bool, List, [], Ok, Option, None, Some, codes, length, map, IsTrue}
 use Rattle.std.specs.Fmt.{decimal}
 use Rattle.std.specs.List.{AllByRecursion}
-use Rattle.std.specs.Option.{ForSome}
 use Rattle.lrup_model.specs.Cube.{CubeValue}
 use Rattle.lrup_model.specs.Formula.{Cnf}
 use Rattle.lrup_model.specs.Layout.{IsFault}
@@ -307,8 +306,8 @@ pub record ReportsRounds (files : FilesView) (given : CommandLine) (folder : Tex
   pub last : Round files.State files.Reader
   pub before : List (Round files.State files.Reader)
   pub were : WereRounds files given folder last before
-  pub over : RoundsEnd (deeds_of files) (plan_at given were.cube folder) (length (last ∷ before)) last
-      after
+  pub over : RoundsEnd (deeds_of files) (plan_at given were.cube folder) (length (last ∷ before))
+      last after
   pub printed : SinkTook out (last_text (length (last ∷ before)) last.reports last.verdict)
   pub said : SaysOfRound (length (last ∷ before)) out.failed last.unsaved err
   pub status_is : status ≡ report_status out.failed last.unsaved last.verdict

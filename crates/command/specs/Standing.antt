@@ -59,8 +59,9 @@ pub record WasFound (its : Deeds) (plan : Plan) (last : LastRound) (next : Optio
   pub over : next ≡ None → IsBarred its plan last.number round
 
 -- The rounds up to this one, which was found so and left these files.
-pub record RoundsStand (its : Deeds) (plan : Plan) (formula : Cnf) (sizes : Sizes) (first : its.State)
-    (paths : List Text) (last : LastRound) (next : Option Cnf) (after : its.State) : Type 0 where
+pub record RoundsStand (its : Deeds) (plan : Plan) (formula : Cnf) (sizes : Sizes)
+    (first : its.State) (paths : List Text) (last : LastRound) (next : Option Cnf)
+    (after : its.State) : Type 0 where
   pub round : Round its.State its.Reader
   pub before : List (Round its.State its.Reader)
   pub rounds : AreRounds its plan formula sizes first paths (round ∷ before)
@@ -173,8 +174,8 @@ IsUncarried verdict output saved =
 
 -- The next formula was saved to the file, if one was written to: the bytes that went to it are a text of just this formula, and it has
 -- just the clauses that the round carries.
-abbrev pub CarriesTo : {R W : Type 0} → SourceView R → (W → Option (List ℕ)) → Bool → Cnf → TermsValue
-    → List R → List Report → Option W → Result (Option W) SaveFault → Cnf → Type 0
+abbrev pub CarriesTo : {R W : Type 0} → SourceView R → (W → Option (List ℕ)) → Bool → Cnf
+    → TermsValue → List R → List Report → Option W → Result (Option W) SaveFault → Cnf → Type 0
 CarriesTo {W = W} reading written serial formula terms readers reports output saved next =
     (first last : W) × (output ≡ Some first) × (saved ≡ Ok (Some last))
     × ((bytes : List ℕ) × Appends (written first) (written last) bytes

@@ -104,15 +104,7 @@ fn carry_serially<W: Wait, C: Clock + Sync, F: Files>(
     } = round;
     let gates = turn_gates(alloc, clock, watched, readers.len())?;
     let options = course.options(sizes);
-    let outcome = run_serial(
-        wait,
-        alloc,
-        &formula,
-        course.cube,
-        options,
-        readers,
-        gates,
-    )?;
+    let outcome = run_serial(wait, alloc, &formula, course.cube, options, readers, gates)?;
     // Before the next formula is made.
     drop(formula);
     let ended = now_if(clock, course.watch);

@@ -312,11 +312,7 @@ fn write_line<W: Sink>(round: u64, cause: &Cause<'_>, sink: &mut W) -> Result<()
 }
 
 /// Puts what a line says of a round first, if its number isn't 1.
-fn put_round<W: Sink>(
-    buffer: &mut WriteBuffer,
-    round: u64,
-    sink: &mut W,
-) -> Result<(), WriteFault>
+fn put_round<W: Sink>(buffer: &mut WriteBuffer, round: u64, sink: &mut W) -> Result<(), WriteFault>
     requires running { W.has_failed sink.old ≡ false }
     ensures puts { PutsAll result (W.written sink.old) (W.written sink.new) buffer.old buffer.new
         (of_round round) }

@@ -34,15 +34,18 @@ use std::time::Clock;
 /// `s UNSATISFIABLE`. Where the saving fails, `err` says why. Where there is no report, `out` gets
 /// nothing, and `err` the cause. Where the report can't be written, `out` has a beginning of it, and
 /// `err` says so. Where the words have `--watch`, progress is reported on a watcher for each stream.
-/// It blocks while a file does.
+/// Where they have `--rounds`, the checkpoint is the formula of round 2; a round whose verdict is
+/// 'unknown', whose streams ended and whose checkpoint was saved is followed by the next one, on the
+/// clauses that were saved, with the sizes and the streams in the folder, if stream 1 is there; and
+/// the report is that of the last round. It blocks while a file does.
 ///
 /// | status | where |
 /// |---|---|
 /// | 0 | the report says `s UNSATISFIABLE` |
-/// | 2 | the words have a mistake or ask for help; too many streams; the row would be too long |
+/// | 2 | the words have a mistake or ask for help; too many streams; the row would be too long; the sizes of a round have a mistake |
 /// | 3 | the report says `s UNKNOWN` |
 /// | 4 | the formula or the assumptions were refused for another cause than memory |
-/// | 5 | the file of the formula or of the assumptions wasn't opened or read; a stream's wasn't opened; the checkpoint's wasn't created |
+/// | 5 | the file of the formula, of the assumptions or of a round's sizes wasn't opened or read; a stream's wasn't opened; the checkpoint's wasn't created |
 /// | 6 | out of memory, outside a report and the saving; a thread couldn't be started; a stream's reading thread was gone before its mark |
 /// | 7 | the report couldn't be written |
 /// | 8 | the report says `s UNSATISFIABLE UNDER ASSUMPTIONS` |

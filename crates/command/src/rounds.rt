@@ -247,10 +247,10 @@ fn next_round<T: Threads + Wait + Sync, C: Clock + Sync, F: Files>(
     requires after { number ≡ last.now.number + 1 }
     requires number { number < u64.MAX }
     ensures stands { (given : Cnf) (sizes : Sizes) (first : F) (paths : List Text) →
-        RoundsStand (deeds F.Files F.Input.Source F.Output.Sink) (plan_of course.now) given sizes first
-        paths last.now (Some formula) files.old → IfOk result (λ next. ForSome next (λ found.
-        RoundsStand (deeds F.Files F.Input.Source F.Output.Sink) (plan_of course.now) given sizes first
-        paths found.last found.next files.new)) }
+        RoundsStand (deeds F.Files F.Input.Source F.Output.Sink) (plan_of course.now) given sizes
+        first paths last.now (Some formula) files.old → IfOk result (λ next. ForSome next (λ found.
+        RoundsStand (deeds F.Files F.Input.Source F.Output.Sink) (plan_of course.now) given sizes
+        first paths found.last found.next files.new)) }
     ensures number { IfOk result (λ next. ForSome next (λ found.
         found.last.number ≡ number)) }
     ensures over { result ≡ Ok None → IsAlone (deeds F.Files F.Input.Source F.Output.Sink)
@@ -313,9 +313,7 @@ fn go_on<T: Threads + Wait + Sync, C: Clock + Sync, F: Files>(
             None => return Ok(last),
             Some(formula) => formula,
         };
-        match next_round(
-            threads, clock, alloc, course, &last, number, formula, files,
-        ) {
+        match next_round(threads, clock, alloc, course, &last, number, formula, files) {
             Ok(Some(found)) => {
                 last = found.last;
                 next = found.next;

@@ -10,7 +10,11 @@ use std::time::{Clock, Instant};
 
 /// The time, where it is asked for and the clock tells it.
 pub(crate) fn now_if<C: Clock + Sync>(clock: &C, asked: bool) -> Option<Instant> {
-    if asked { Instant::now(clock).ok() } else { None }
+    if asked {
+        Instant::now(clock).ok()
+    } else {
+        None
+    }
 }
 
 /// Reports on a watcher of the files that a round begins, with which formula, and how long after the end of the one before it. What the
@@ -41,7 +45,12 @@ fn pause_since<C: Clock + Sync>(clock: &C, ended: Option<Instant>) -> Option<u64
     let now = Instant::now(clock).ok()?;
     let pause = now.duration_since(ended);
     let milliseconds = u64::from(pause.subsec_nanos() / 1_000_000);
-    Some(pause.as_secs().saturating_mul(1_000).saturating_add(milliseconds))
+    Some(
+        pause
+            .as_secs()
+            .saturating_mul(1_000)
+            .saturating_add(milliseconds),
+    )
 }
 
 /// The line of a round that begins, with so many clauses and literals.
@@ -67,8 +76,7 @@ fn paused_line(
     ensures { IfOk result (λ line.
         string_bytes line ≡ paused_line number clauses literals pause) }
 {
-    format!(
-        in alloc;
+    format!(in alloc;
         "lrupd: round {number}: {clauses} clauses, {literals} literals, paused for {pause} ms\n"
     )
 }

@@ -18,7 +18,8 @@ use Rattle.run_laws.specs.Groups.{IsRun}
 use Rattle.run_laws.specs.GroupLaws.{SerialRun}
 use Rattle.portfolio.specs.Outcomes.{OptionsValue, layout_of}
 use Rattle.portfolio.specs.ReportText.{ending_text, stream_line}
-use Rattle.command.specs.Commands.{AreReported, FilesView, IsFormulaAt, IsOutcome, Text, layout_at, options_of, terms_given}
+use Rattle.portfolio.specs.Histories.{AreReported}
+use Rattle.command.specs.Commands.{FilesView, IsFormulaAt, IsOutcome, Text, layout_at, options_of, terms_given}
 use Rattle.portfolio.specs.declared.outcome.Verdict.{Verdict}
 use Rattle.outcome_laws.specs.Outcomes.{SayTheSame}
 use Rattle.outcome_laws.specs.Laws.{SameBytesSayTheSame, OutcomesAgree}

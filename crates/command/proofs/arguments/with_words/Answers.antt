@@ -60,4 +60,5 @@ returns-clause-ends g c =
     let files = files_view g.F.Files g.F.Input.Source g.F.Output.Sink c.args.files.now in
     let output = change (g.O.Sink.written c.args.out.now) (g.O.Sink.written c.command.new.out) (g.O.Sink.has_failed c.command.new.out) in
     let errors = change (g.E.Sink.written c.args.err.now) (g.E.Sink.written c.command.new.err) (g.E.Sink.has_failed c.command.new.err) in
-    subst (λ (words : List Text). ProgramEnds files words c.command.new.files output errors c.command.result) (same_words g c) c.command.ensures.ends
+    subst (λ (words : List Text). ProgramEnds files words c.command.new.files output errors c.command.result) (same_words g c)
+    c.command.ensures.ends

@@ -1,4 +1,4 @@
-use Rattle.std.proofs.Common.{◌≡◌, ◌∙◌, List, map, refl, sym, ap, subst}
+use Rattle.std.proofs.Common.{◌∙◌, List, map, refl, sym, ap, subst}
 use Rattle.clap.specs.Walk.{texts}
 use Rattle.command.specs.Commands.{AreOpened, IsCause, IsFormulaAt, Text, assumed_at, files_view, from_first}
 use Rattle.command.proofs.CheckingLemmas.{assumed_cause, err_given, open_cause, open_moved}
@@ -46,6 +46,7 @@ returns-clause-begun g c =
       assumed = c.in_ok-cube.ensures.cube;
       opened = subst (λ (paths : List Text). AreOpened g.F.Files.opens later paths readers.readers.items c.open_streams.new.files)
           c.as_slice.ensures readers.ensures.opened;
-      left = readers.ensures.left ∙ ap (λ t. map t (texts c.as_slice.result.now)) c.in_ok-cube.ensures.stays ∙ ap (map tells) c.as_slice.ensures;
+      left = readers.ensures.left ∙ ap (λ t. map t (texts c.as_slice.result.now)) c.in_ok-cube.ensures.stays
+          ∙ ap (map tells) c.as_slice.ensures;
       told = c.in_ok-cube.ensures.stays;
     }

@@ -55,8 +55,8 @@ returns-in_err-output-clause-cause g c words first good at =
     c.in_ok-find_layout.ensures.found in
     let layout = layout_moved files line formula c.unwrap-options.result c.in_ok-begun.begun.readers.items
     (some_given _ c.unwrap-options.ensures c.new.ensures.some) left found in
-    let cause = create_cause files words line formula c.in_ok-begun.begun.cube c.args.files.now later good is_formula c.in_ok-begun.ensures.begun.assumed
-    readers last opened layout fault moved in
+    let cause = create_cause files words line formula c.in_ok-begun.begun.cube c.args.files.now later good is_formula
+    c.in_ok-begun.ensures.begun.assumed readers last opened layout fault moved in
     err_given c.from_residual-in_err-output.result _ (IsCause files words)
     (λ other is. subst (IsCause files words) (sym is) cause) c.from_residual-in_err-output.ensures.1
 

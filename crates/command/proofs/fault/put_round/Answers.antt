@@ -1,4 +1,4 @@
-use Rattle.std.proofs.Common.{codes, refl}
+use Rattle.std.proofs.Common.{codes}
 use Rattle.std.specs.Fmt.{decimal}
 use Rattle.lrup_text.specs.WritingLemmas.{at_err, breaks_more, breaks_then, puts_then, puts_all_next}
 use Rattle.command.proofs.WritingLemmas.{of_more}

@@ -90,8 +90,8 @@ returns-clause-sound g c =
     (λ last ends is. (
       begun.formula,
       c.in-Ok.ensures.formula,
-      ends_sound its plan begun.formula (sizes_of line) c.in-Ok.ensures.begun.later line.streams c.refutes_back.ensures last c.go_on.new.files
-          ends is,
+      ends_sound its plan begun.formula (sizes_of line) c.in-Ok.ensures.begun.later line.streams c.refutes_back.ensures last
+          c.go_on.new.files ends is,
     )) (over g c)
 
 pub returns-clause-sound_under : goal.returns-clause-sound_under

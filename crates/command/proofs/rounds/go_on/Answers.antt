@@ -1,4 +1,4 @@
-use Rattle.std.proofs.Common.{◌≡◌, ◌∙◌, Ok, Option, Some, ap, arith, inr, refl, subst, sym}
+use Rattle.std.proofs.Common.{◌∙◌, Ok, Option, ap, arith, inr, subst}
 use Rattle.lrup_model.specs.Formula.{Cnf}
 use Rattle.command.specs.Rounds.{deeds}
 use Rattle.command.specs.Standing.{RoundsStand, plan_of}

@@ -42,8 +42,14 @@ returns-in-Err-check_round-clause-cause g c =
     let are : StreamsOpened its sized (stream_paths plan.folder c.args.number sizes.streams) readers opened =
     rw c.in-Ok-Some.field-0-is at c.in-Ok-Some.ensures.opened in
     let cause : IsStartCause its plan c.args.number c.args.formula sizes opened fault = c.in-Err-check_round.ensures.cause in
-    inr (sizes, sized,
-    subst (λ (n : ℕ). AreSized its (sizes_path plan.folder n) last.sizes c.args.files.now sizes sized) number c.in_ok-sizes.ensures.sized,
-    inr (readers, opened,
-    subst (λ (n : ℕ). StreamsOpened its sized (stream_paths plan.folder n sizes.streams) readers opened) number are,
-    subst (λ (n : ℕ). IsStartCause its plan n c.args.formula sizes opened fault) number cause))
+    inr (
+      sizes,
+      sized,
+      subst (λ (n : ℕ). AreSized its (sizes_path plan.folder n) last.sizes c.args.files.now sizes sized) number c.in_ok-sizes.ensures.sized,
+      inr (
+        readers,
+        opened,
+        subst (λ (n : ℕ). StreamsOpened its sized (stream_paths plan.folder n sizes.streams) readers opened) number are,
+        subst (λ (n : ℕ). IsStartCause its plan n c.args.formula sizes opened fault) number cause,
+      ),
+    )

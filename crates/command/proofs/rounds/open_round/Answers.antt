@@ -1,9 +1,9 @@
-use Rattle.std.proofs.Common.{◌≡◌, ◌∙◌, ◌∷◌, ◌-◌, Err, IsTrue, List, Ok, ap, drop, length, map, string_bytes, sym, subst, take}
+use Rattle.std.proofs.Common.{◌≡◌, ◌∙◌, ◌-◌, Err, IsTrue, List, Ok, ap, drop, length, map, string_bytes, subst, take}
 use Rattle.clap.specs.Walk.{texts}
 use Rattle.command.specs.Commands.{AreOpened, Text}
 use Rattle.command.specs.Paths.{stream_paths}
-use Rattle.command.proofs.RoundLemmas.{first_cause, first_word, later_cause, left_from, opened_count, opened_from, other_words, path_and_rest}
-use Rattle.command.proofs.RoundLemmas.{paths_count}
+use Rattle.command.proofs.RoundLemmas.{first_cause, first_word, later_cause, left_from, opened_count, opened_from, other_words}
+use Rattle.command.proofs.RoundLemmas.{path_and_rest, paths_count}
 use Rattle.command.specs.Standing.{IsLaterCause}
 use Rattle.command.proofs.rounds.open_round.Goals as goal
 
@@ -29,7 +29,8 @@ returns-in-Ok-clause-opened g c =
     let first = c.in-Ok-Some.first in
     let readers = c.in-Ok.readers.items in
     let others = c.in-Ok.ensures.readers in
-    let rest_is = ap (λ ws. texts (take (length ws - 1) (drop 1 ws))) c.deref-in-Ok-Some.ensures.value ∙ other_words words ∙ ap (drop 1) same in
+    let rest_is = ap (λ ws. texts (take (length ws - 1) (drop 1 ws))) c.deref-in-Ok-Some.ensures.value ∙ other_words words
+    ∙ ap (drop 1) same in
     let opens : g.F.Files.opens before c.index.result.now.now first next = rw c.in-Ok-Some.field-0-is at c.in-Ok-Some.ensures.opens in
     let left : g.F.Input.Source.left first ≡ g.F.Files.tells before c.index.result.now.now =
     rw c.in-Ok-Some.field-0-is at c.in-Ok-Some.ensures.left in
@@ -58,7 +59,8 @@ returns-in-Ok-Some-clause-cause g c =
     let before = c.args.files.now in
     let next = c.open_if_there.new.self in
     let first = c.in-Ok-Some.first in
-    let rest_is = ap (λ ws. texts (take (length ws - 1) (drop 1 ws))) c.deref-in-Ok-Some.ensures.value ∙ other_words words ∙ ap (drop 1) same in
+    let rest_is = ap (λ ws. texts (take (length ws - 1) (drop 1 ws))) c.deref-in-Ok-Some.ensures.value ∙ other_words words
+    ∙ ap (drop 1) same in
     let opens : g.F.Files.opens before c.index.result.now.now first next = rw c.in-Ok-Some.field-0-is at c.in-Ok-Some.ensures.opens in
     let may = g.F.Files.may_refuse in
     later_cause g.F.Files.opens (may before) (may next) before next first _ _ _ split c.in-Ok-Some.ensures.stays_refused

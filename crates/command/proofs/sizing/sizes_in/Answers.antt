@@ -11,7 +11,8 @@ loop-buffer-preserved g c =
     let given = length-take-le _ _ read.bound in
     let invariant = c.loop-buffer.invariant in
     record {
-      gave = gave_more _ g.S.Source.reads _ _ _ _ _ _ _ invariant.gave read.reads (omega (arith, given, c.if-count-eq0.false)) extended.items;
+      gave = gave_more _ g.S.Source.reads _ _ _ _ _ _ _ invariant.gave read.reads (omega (arith, given, c.if-count-eq0.false))
+          extended.items;
       consumes = consumed_more _ _ _ _ _ _ invariant.consumes read.bytes.0 extended.items;
       running = read.failed;
       count = omega (arith, given, extended.len, read.bound);
