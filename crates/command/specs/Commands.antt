@@ -32,7 +32,7 @@ use Rattle.checkpoint.specs.declared.saving.SaveFault.TheVariants as saves
 use Rattle.command_line.specs.CommandLine.{AskFor, AskForRounds, AskToSave, HaveFault, IsCommandLineOf}
 use Rattle.command_line.specs.declared.words.CommandLine.{CommandLine}
 use Rattle.command.specs.Faults.{status_of, error_text, round_error_text}
-use Rattle.command.specs.Paths.{formula_path}
+use Rattle.command.specs.Paths as round_paths
 use Rattle.command.specs.declared.checking.Setup.{Setup}
 use Rattle.command.specs.declared.files.Files as Files
 use Rattle.command.specs.declared.fault.CommandFault.{CommandFault}
@@ -234,7 +234,7 @@ checkpoint_at given = path_of given.checkpoint
 -- of round 2
 abbrev pub created_path : Option Text → Option Text → Option Text
 created_path None checkpoint = checkpoint
-created_path (Some folder) checkpoint = Some (formula_path folder 2)
+created_path (Some folder) checkpoint = Some (round_paths.formula_path folder 2)
 
 abbrev pub created_at : CommandLine → Option Text
 created_at given = created_path (rounds_at given) (checkpoint_at given)
