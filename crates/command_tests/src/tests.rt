@@ -102,7 +102,7 @@ struct Shelf<'a> {
     /// Whether memory is out at each opening.
     is_full: bool,
     /// What is told to those who watch, if anybody does.
-    told: Option<&'a Told<'a>>,
+    told: Option<&'a Told>,
 }
 
 impl<'a> Shelf<'a> {
@@ -185,6 +185,16 @@ s UNSATISFIABLE
 
 /// The formula and the streams, which come three bytes a read.
 fn shelf_of<'a>(alloc: Global, formula: &'a str, streams: &'a [&'a str]) -> Shelf<'a> {
+    shelf_with(alloc, formula, streams, None)
+}
+
+/// The same, and whom those who watch tell.
+fn shelf_with<'a>(
+    alloc: Global,
+    formula: &'a str,
+    streams: &'a [&'a str],
+    told: Option<&'a Told>,
+) -> Shelf<'a> {
     Shelf {
         formula,
         streams,
@@ -196,7 +206,7 @@ fn shelf_of<'a>(alloc: Global, formula: &'a str, streams: &'a [&'a str]) -> Shel
         opened: String::new(alloc),
         most: 3,
         is_full: false,
-        told: None,
+        told,
     }
 }
 

@@ -157,6 +157,16 @@ struct Row<'a> {
 fn binder_of<'a>(alloc: Global, row: &Row<'a>) -> Binder<'a> {
     let mut shelf = shelf_of(alloc, FOUR, row.streams);
     shelf.assumed = "-2 0\n";
+    binder_with(alloc, row, shelf, None)
+}
+
+/// The files of a row over these, and the clock that goes on when a file is looked for.
+fn binder_with<'a>(
+    alloc: Global,
+    row: &Row<'a>,
+    shelf: Shelf<'a>,
+    clock: Option<&'a Moment>,
+) -> Binder<'a> {
     Binder {
         alloc,
         shelf,
@@ -164,7 +174,7 @@ fn binder_of<'a>(alloc: Global, row: &Row<'a>) -> Binder<'a> {
         broken: row.broken,
         lost: row.lost,
         kept: Vec::new(alloc),
-        clock: None,
+        clock,
     }
 }
 

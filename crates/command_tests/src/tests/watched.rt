@@ -1,7 +1,7 @@
 //! Runs that tell what goes on, on sinks of the tests' own.
 ghost use Rattle.std.specs.Prelude.{None, false};
 
-use super::{FOUR, run_on, same, shelf_of};
+use super::{FOUR, run_on, same, shelf_with};
 use lrup_text::{Sink, WriteFault};
 use std::alloc::Global;
 use std::process::Abort;
@@ -12,18 +12,18 @@ use std::time::Clock;
 
 /// How many sinks were made, and how many lines and writes they took.
 #[derive(Drop)]
-pub(super) struct Told<'a> {
+pub(super) struct Told {
     sinks: AtomicU64,
     lines: AtomicU64,
     writes: AtomicU64,
     /// Lines that are waited for, in order, each in a write of its own.
-    awaited: &'a [&'a str],
+    awaited: &'static [&'static str],
     /// How many of them came.
     came: AtomicUsize,
 }
 
-impl<'a> Told<'a> {
-    pub(super) fn new(awaited: &'a [&'a str]) -> Told<'a> {
+impl Told {
+    pub(super) fn new(awaited: &'static [&'static str]) -> Told {
         Told {
             sinks: AtomicU64::new(0),
             lines: AtomicU64::new(0),
@@ -59,11 +59,11 @@ impl<'a> Told<'a> {
 /// A sink that counts what it takes, where there is a place for the counts.
 #[derive(Clone, Copy)]
 pub(super) struct Ear<'a> {
-    told: Option<&'a Told<'a>>,
+    told: Option<&'a Told>,
 }
 
 impl<'a> Ear<'a> {
-    pub(super) fn new(told: Option<&'a Told<'a>>) -> Ear<'a> {
+    pub(super) fn new(told: Option<&'a Told>) -> Ear<'a> {
         if let Some(told) = told {
             told.sinks.fetch_add(1, Ordering::SeqCst);
         }
@@ -112,8 +112,7 @@ fn assert_told<T: Threads + Wait + Sync + Clock + Abort>(
     watched: u64,
 ) {
     let told = Told::new(&[]);
-    let mut files = shelf_of(alloc, FOUR, STREAMS);
-    files.told = Some(&told);
+    let mut files = shelf_with(alloc, FOUR, STREAMS, Some(&told));
     let ran = run_on(rt, alloc, words, &mut files, 0, 0);
     let wrote = (ran.out.as_slice(), ran.err.len(), ran.status);
     let wanted = (REPORT.as_bytes(), 0, 3);

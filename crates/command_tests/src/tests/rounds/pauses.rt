@@ -76,7 +76,7 @@ fn assert_heard<T: Threads + Wait + Sync + Abort>(
     alloc: Global,
     words: &[&str],
     delay: Option<u64>,
-    lines: &[&str],
+    lines: &'static [&'static str],
     count: u64,
 ) {
     let told = Told::new(lines);
@@ -84,9 +84,8 @@ fn assert_heard<T: Threads + Wait + Sync + Abort>(
         micros: AtomicU64::new(0),
         delay,
     };
-    let mut files = binder_of(alloc, &WATCHED);
-    files.shelf.told = Some(&told);
-    files.clock = Some(&clock);
+    let shelf = shelf_with(alloc, FOUR, WATCHED.streams, Some(&told));
+    let mut files = binder_with(alloc, &WATCHED, shelf, Some(&clock));
     let mut out = Paper::new(alloc, 7, 0);
     let mut err = Paper::new(alloc, 7, 0);
     let status = command(rt, &clock, alloc, words, &mut files, &mut out, &mut err);
