@@ -29,7 +29,7 @@ AUDIT_TOP = f"""# What there is to believe: status 0 and 8
 
 The prover shows that the code keeps its contracts. That the contracts say what one wants to rely on is for a reader to judge.
 This page has all that the clauses behind status 0 and 8, and behind checkpoints, rest on, down to names of libraries, which have
-a line each; whole runs are on [AUDIT-RUNS](AUDIT-RUNS.md). At each definition ask: is this what the words mean? [DEFINITIONS](DEFINITIONS.md) has
+a line each; whole runs, and rounds, are on [AUDIT-RUNS](AUDIT-RUNS.md). At each definition ask: is this what the words mean? [DEFINITIONS](DEFINITIONS.md) has
 examples.
 
 No clause says that something is answered: 'out of memory' may always come.
@@ -59,7 +59,10 @@ the words have no fault. But `command` hands the bytes
 that it has read to [[fn check_formula]], of which this is proved: [[fn check_formula.sound: result ≡ 0 → (f : Cnf) × IsFormulaText
 asked.entry.formula.items f × IsUnsatisfiable f]]. So one loop, `read_all`, which fills their list, is left to an argument: take
 any run, and files that play its calls back, where `opens` and `reads` hold of these calls alone. `command` would do the same
-with them, since it knows files only by the calls of their traits, and there only what was read can be meant."""
+with them, since it knows files only by the calls of their traits, and there only what was read can be meant.
+
+**And `--rounds`?** No definition here knows of rounds: however many there were, the clause speaks of FORMULA. No file of clauses is
+read again, and [AUDIT-RUNS](AUDIT-RUNS.md#runs-in-rounds) says what each round is to the next."""
 
 AUDIT_HOW = """## How to read it
 
@@ -127,10 +130,7 @@ CHECKPOINT_PHRASES: Rows = [
 
 CHECKPOINTS_ACCOUNT = """Of the machine's files all this is an argument, as with reads: they allow all that `creates` and `keeps` may
 be, and tell nothing of what was written. Take any run, and files that play its calls back: `command` would write the same to
-them.
-
-`lrup-chain`, a shell script of 60 lines, runs such a chain. Its status is 0 only where the last run's is, and each one before
-ended with 3 or 8 and had created the file that the next one read. So one believes it, too, and that files hold what was written."""
+them. Who chains runs by files believes, besides, that these hold what was written."""
 
 AUDIT_LIBRARIES = """## What the libraries define
 
@@ -158,6 +158,8 @@ GLOSSES = """
 `Append` each use of the argument adds to its values
 `Consumes old new bs` if `old` is `Some xs`, `new` is `Some ys`, and xs is `bs ++ ys`; of `None` it says nothing
 `Err e` a result that is the fault e
+`Ok x` a result that is x, and no fault
+`Result A E` `Ok` of an A, or `Err` of an E
 `FoldsTo R a xs b` steps that R allows lead from a to b, one for each element: `R a x c`, and so on from c; with none a is b
 `ForSome o P` if o is `Some x`, then P of x
 `IfErr r P` if r is `Err e`, then P of e
@@ -225,13 +227,13 @@ RUNS_TOP = f"""# What there is to believe: whole runs
 
 {MADE}
 
-Four passages of [PROOFS](PROOFS.md#what-is-proved) on whole runs: of each phrase the clause, the law and the definition that carry it;
+Five passages of [PROOFS](PROOFS.md#what-is-proved) on whole runs: of each phrase the clause, the law and the definition that carry it;
 then the contracts, the laws, and all definitions under them, each after one that uses it. What stands on [AUDIT](AUDIT.md) isn't
 repeated but for `Source`, which has more members here: formulas, assignments, clauses and literals, [how to read it](AUDIT.md#how-to-read-it), and
 [what one has to trust](AUDIT.md#what-one-has-to-trust).
 
 - **Run.** A call of [[fn run]], with two threads for each stream, or of [[fn run_serial]], on one thread; the program calls the
-  second with `--serial`, and else the first.
+  second with `--serial`, and else the first, once in each round.
 - **Stream.** The bytes that a reader gave, and how it ended, where that is known ([[Stream]]): lines that add a clause with its hints, delete
   clauses, or import one ([[StreamLine]]). Streams count from 1.
 - **Set.** A set of streams is a test on their numbers: `λ s. true` is all of them, [[one]] a single one.
@@ -436,6 +438,67 @@ RIGHT_PHRASES: Rows = [
      [of AUDIT](AUDIT.md#status-0), under 'Which reads?'."""),
 ]
 
+ROUNDS_TOP = """## Runs in rounds
+
+By the [[fn command.ends]], of the whole program over any files."""
+
+ROUNDS_PHRASES: Rows = [
+    ("With `--rounds`", """the words ask for rounds in a folder, [[EndsInRounds: asked : rounds_at given ≡ Some folder]]. By
+     [[ProgramEnds: EndsWithReport files words after out err status × ((folder : Text) → ¬ AskForRounds words folder)]] the report of a
+     single run then never comes."""),
+    ("a run that gave a report had one round or more, one after the other", """[[ReportsRounds: were : WereRounds files given folder last
+     before]], and [[WereRounds: rounds : AreRounds (deeds_of files) (plan_at given cube folder) formula (sizes_of given) later
+     given.streams (last ∷ before)]]: a list with the last round first ([[AreRounds]]). A [[Round]] has its formula, sizes and
+     readers, its reports and verdict, and the files after its streams were opened and after its end."""),
+    ("the report is that of the last", """[[ReportsRounds: printed : SinkTook out (last_text (length (last ∷ before)) last.reports
+     last.verdict)]], behind a line with the round's number if that isn't 1 ([[last_text]]). The status is of that round, too:
+     [[ReportsRounds: status_is : status ≡ report_status out.failed last.unsaved last.verdict]]."""),
+    ("Round 1 has the formula that was read, and the streams of the words", """[[AreRounds: IsFirst its plan formula sizes first paths
+     round]], with [[IsFirst: formula_is : round.formula ≡ formula]] of the one that is
+     [[WereRounds: is_formula : IsFormulaAt files given.formula.now formula next]], and
+     [[IsFirst: opened : StreamsOpened its first paths round.readers round.opened]] of the words' streams, behind the openings of
+     formula and assumptions."""),
+    ("Each later one has the formula that the one before carried on", """[[AreRounds: ComesNext its plan (length (before ∷ more)) before
+     round]]: one formula is that of the later round, and the one with which the round before goes on,
+     [[ComesNext: goes_on : CarriesOn its plan number before round.formula]]."""),
+    ("the sizes that were read of their file, or else those of the round before", """[[AreSized: (its.lacks before path after × (new ≡
+     old))]], or [[AreSized: IsSizesText bytes new]] of the bytes that were read at DIR/round-R.sizes ([[sizes_path]])."""),
+    ("the files of its number as its streams", """[[ComesNext: opened : StreamsOpened its sized (stream_paths plan.folder (number + 1)
+     round.sizes.streams) round.readers round.opened]]: DIR/round-R.stream-1 and so on ([[stream_path]]), each opened once, in order,
+     after the sizes ([[StreamsOpened]])."""),
+    ("just the clauses that a history of the round leaves live, but for those that all streams dropped",
+     """[[CarriesOn: exactly : CarriesRun its.reading its.written plan.serial round.formula (terms_by plan round.formula round.sizes)
+     round.readers round.reports (Ok next) saved.first saved.last]]: by [[CarriesRun: stands : StandsOnHistory view serial formula terms
+     history firsts lasts reports dropped]] the history judges the round's streams as reported, and what they dropped is what their lines
+     drop, since all ended; by [[CarriesRun: carries : CarriesState written result (state formula history) terms.layout (is_wanted dropped)
+     first last]] each identity was fetched once, and [[Carries: (next ≡ printed vars entries)]] of what was found live and
+     [[is_wanted]], in the order of the identities."""),
+    ("over the same variables, each clause of which follows from the round's", """[[CarriesOn: carried : IsCheckpointOf round.formula bytes
+     next]], and there [[IsCheckpointOf: entails : Entails original next]]."""),
+    ("a text of it went to its checkpoint, which was kept", """[[IsCheckpointOf: text : IsFormulaText bytes next]], of the bytes of
+     [[CarriesOn: saved : WasSaved its.creates its.written its.keeps round.opened (formula_path plan.folder (number + 1)) bytes
+     round.after]]: a file was created at DIR/round-(R+1).cnf ([[formula_path]]) once the round's streams were opened, and kept before
+     the files of the next round are opened."""),
+    ("The streams of each are checked as those of a single run", """[[WasChecked: AreChecked its.reading plan.serial round.formula
+     (terms_by plan round.formula round.sizes) round.readers round.reports round.verdict]]: with a layout, by one history or, with
+     `--serial`, one order of lines of its own. Tries, assumed literals and `--serial` are those of all rounds ([[Plan]])."""),
+    ("only if its verdict is 'unknown', all its streams ended, and its checkpoint was saved", """[[CarriesOn: verdict : round.verdict ≡
+     Unknown]], [[CarriesOn: ended : HaveEnded round.reports]] and [[CarriesOn: unsaved : round.unsaved ≡ None]]."""),
+    ("the last one isn't so, or the next had no file as its stream 1, or the numbers, below 2^64 - 1, are used up", """[[ReportsRounds: over : RoundsEnd (deeds_of files) (plan_at given
+     were.cube folder) (length (last ∷ before)) last after]]: [[IsBarred]] of it, or it goes on, and
+     [[RoundsEnd: its.lacks sized (stream_path plan.folder (number + 1) 1) after]], once the sizes were read; or
+     [[RoundsEnd: (2 ^ 64 < number + 3)]]. What became of the last checkpoint says [[IsBarred: checkpoint : LeavesBehind]], or what goes
+     on."""),
+    ("Where there is no report the cause is one of round 1, or of a round after such rounds", """[[ProgramEnds: EndsWithFault files words out
+     err status]], or [[FailsInRound: cause : IsNextCause (deeds_of files) (plan_at given were.cube folder) (length (last ∷ before))
+     last fault]]: of its sizes ([[IsSizesCause]]), of the opening of its streams, or of their start ([[IsStartCause]]), each once what
+     comes before it went well ([[IsRoundCause]]). What is said then has the round's number,
+     [[FailsInRound: said : SinkTook err (round_error_text (length (last ∷ before) + 1) fault)]]."""),
+]
+
+ROUNDS_ACCOUNT = """Of the machine's files this is an argument, as with single runs: they allow all that `opens`, `lacks`, `creates` and
+`keeps` may be."""
+
 RUNS_HOW = """## How to read it
 
 As [on AUDIT](AUDIT.md#how-to-read-it); and besides:
@@ -472,7 +535,8 @@ LAWS = """## The laws
 
 Each is the contract of a function that does nothing, and holds of every formula, layout and history."""
 
-PROGRAM = """And of the program. What an outcome is, a cause, and what goes out, is linked to in `command`, and not repeated here:
+PROGRAM = """And of the program, of which [AUDIT](AUDIT.md) has the other clauses. What an outcome is, a cause, and what goes out, is linked
+to in `command`, and not repeated here but for rounds:
 [DEFINITIONS](DEFINITIONS.md#12-command-a-run-of-the-program) has it in a table."""
 
 RUNS_LIBRARIES = """## What the libraries define
@@ -482,4 +546,5 @@ What isn't on [AUDIT](AUDIT.md#what-the-libraries-define)."""
 # The passages on whole runs, by the marks that they have, with their phrases.
 RUNS_PASSAGES: List[Tuple[str, Rows]] = [
     ("The headline.", HEADLINE_PHRASES), ("Groups of streams are isolated.", ISOLATION_PHRASES),
-    ("Lines are serializable.", SERIALIZABLE_PHRASES), ("Right proofs are accepted.", RIGHT_PHRASES)]
+    ("Lines are serializable.", SERIALIZABLE_PHRASES), ("Right proofs are accepted.", RIGHT_PHRASES),
+    ("Runs in rounds.", ROUNDS_PHRASES)]
