@@ -207,11 +207,13 @@ class Runs:
         self.traits = [whole(rust_type("lrup_text", "Source")), rust_type("stream_check", "Gate")]
         self.store_laws, self.group_laws = laws(english.STORE_LAWS), laws(english.GROUP_LAWS)
         self.right_laws, self.program_laws = laws(english.RIGHT_LAWS), laws(english.PROGRAM_LAWS)
+        self.ends = Contract("command/src/program.rt: command", ["ends"], commented=False)
         self.texts = [phrase_by_phrase(sentence("docs/PROOFS.md", mark), rows) for mark, rows in english.RUNS_PASSAGES]
 
     def linked(self, placed: Dict[Key, Thing]) -> List[Thing]:
-        """The things of the program's laws to which the page links in the sources."""
-        return [thing for thing in closure(of_all(self.program_laws)) if thing.key() not in placed and is_linked(thing)]
+        """The things of the program and its laws to which the page links in the sources."""
+        things = closure(of_all([self.ends, *self.program_laws]))
+        return [thing for thing in things if thing.key() not in placed and is_linked(thing)]
 
     def definitions(self, placed: Dict[Key, Thing]) -> List[Block]:
         """The definitions, under a title for each part of them."""
@@ -221,6 +223,7 @@ class Runs:
             "the reports": run.named_by(["reports"]),
             "isolated groups": run.named_by(["isolated", "alone"]) + of_all(self.group_laws),
             "serializable lines": run.named_by(["serializable"]), "right proofs": of_all(self.right_laws),
+            "rounds": [thing for thing in closure(of_all([self.ends])) if is_of_rounds(thing)],
             "the program": [thing for thing in of_all(self.program_laws) if thing.crate == "outcome_laws"],
             "the rest": of_all([run, self.serial, *self.asked])}
         blocks: List[Block] = []
@@ -238,15 +241,15 @@ def runs_page(audit: Page) -> Tuple[Page, Contract]:
     placed.update({thing.key(): thing for thing in linked})
     definitions = runs.definitions(placed)
     bare_laws = [*runs.store_laws, *runs.group_laws, *runs.right_laws]
-    things = [run, runs.serial, *runs.store, *runs.asked, *runs.traits, *bare_laws, *runs.program_laws]
+    things = [run, runs.serial, *runs.store, *runs.asked, *runs.traits, *bare_laws, runs.ends, *runs.program_laws]
     things += [block for block in definitions if not isinstance(block, str)]
     count = f"{len(definitions_of(things))} definitions stand here; they use {len(definitions_of(shared(things, audit)))} of AUDIT."
     blocks = [
         english.RUNS_TOP, *texts[0], english.ISOLATION_TOP, *texts[1], english.SERIALIZABLE_TOP, *texts[2],
-        english.SERIALIZABLE_VERDICT, english.RIGHT_TOP, *texts[3],
+        english.SERIALIZABLE_VERDICT, english.RIGHT_TOP, *texts[3], english.ROUNDS_TOP, *texts[4], english.ROUNDS_ACCOUNT,
         english.RUNS_HOW.replace("{constructors}", constructors(things)).replace("{twins}", twins(things)).strip(),
         english.CONTRACTS, run, runs.serial, english.CALLS, *runs.store, english.ASKED, *runs.traits, *runs.asked,
-        english.LAWS, *bare_laws, english.PROGRAM, *runs.program_laws, count, *definitions,
+        english.LAWS, *bare_laws, english.PROGRAM, runs.ends, *runs.program_laws, count, *definitions,
         english.RUNS_LIBRARIES, libraries(things, [audit])]
     blocks[0] = english.RUNS_TOP.replace("{contents}", contents(blocks))
     below = Contract("stream_threads/src/joining.rt: check_all", ["found"])
@@ -264,8 +267,13 @@ def of_all(contracts: Sequence[Contract]) -> List[Thing]:
 
 
 def is_linked(thing: Thing) -> bool:
-    """Whether the page on runs links to it in the sources: what the program's outcomes and causes are."""
-    return thing.crate in ("command", "command_line", "dimacs") or thing.name in ("IsCubeFault", "CubeFault")
+    """Whether the page on runs links to it in the sources: what the program's outcomes and causes are, but for rounds."""
+    in_command = thing.crate in ("command", "command_line", "dimacs") and not is_of_rounds(thing)
+    return in_command or thing.name in ("IsCubeFault", "CubeFault")
+
+
+def is_of_rounds(thing: Thing) -> bool:
+    return thing.crate == "command" and thing.path.name in ("Rounds.antt", "Paths.antt")
 
 
 def shared(things: Sequence[Thing], page: Page) -> List[Thing]:

@@ -59,7 +59,10 @@ the words have no fault. But `command` hands the bytes
 that it has read to [[fn check_formula]], of which this is proved: [[fn check_formula.sound: result ≡ 0 → (f : Cnf) × IsFormulaText
 asked.entry.formula.items f × IsUnsatisfiable f]]. So one loop, `read_all`, which fills their list, is left to an argument: take
 any run, and files that play its calls back, where `opens` and `reads` hold of these calls alone. `command` would do the same
-with them, since it knows files only by the calls of their traits, and there only what was read can be meant."""
+with them, since it knows files only by the calls of their traits, and there only what was read can be meant.
+
+**And `--rounds`?** No definition here knows of rounds: however many there were, the clause speaks of FORMULA. No file of clauses is
+read again, and [AUDIT-RUNS](AUDIT-RUNS.md#runs-in-rounds) says what each round is to the next."""
 
 AUDIT_HOW = """## How to read it
 
@@ -127,10 +130,7 @@ CHECKPOINT_PHRASES: Rows = [
 
 CHECKPOINTS_ACCOUNT = """Of the machine's files all this is an argument, as with reads: they allow all that `creates` and `keeps` may
 be, and tell nothing of what was written. Take any run, and files that play its calls back: `command` would write the same to
-them.
-
-`lrup-chain`, a shell script of 60 lines, runs such a chain. Its status is 0 only where the last run's is, and each one before
-ended with 3 or 8 and had created the file that the next one read. So one believes it, too, and that files hold what was written."""
+them. Who chains runs by files believes, besides, that these hold what was written."""
 
 AUDIT_LIBRARIES = """## What the libraries define
 
@@ -225,7 +225,7 @@ RUNS_TOP = f"""# What there is to believe: whole runs
 
 {MADE}
 
-Four passages of [PROOFS](PROOFS.md#what-is-proved) on whole runs: of each phrase the clause, the law and the definition that carry it;
+Five passages of [PROOFS](PROOFS.md#what-is-proved) on whole runs: of each phrase the clause, the law and the definition that carry it;
 then the contracts, the laws, and all definitions under them, each after one that uses it. What stands on [AUDIT](AUDIT.md) isn't
 repeated but for `Source`, which has more members here: formulas, assignments, clauses and literals, [how to read it](AUDIT.md#how-to-read-it), and
 [what one has to trust](AUDIT.md#what-one-has-to-trust).
@@ -436,6 +436,60 @@ RIGHT_PHRASES: Rows = [
      [of AUDIT](AUDIT.md#status-0), under 'Which reads?'."""),
 ]
 
+ROUNDS_TOP = """## Runs in rounds
+
+By the [[fn command.ends]], of the whole program over any files."""
+
+ROUNDS_PHRASES: Rows = [
+    ("With `--rounds`", """the words ask for rounds in a folder, [[EndsInRounds: asked : rounds_at given ≡ Some folder]]. By
+     [[Ends: EndsWithReport files words after out err status × ((folder : Text) → ¬ AskForRounds words folder)]] the report of a
+     single run then never comes."""),
+    ("a run that gave a report had one round or more, one after the other", """[[ReportsRounds: were : WereRounds files given folder last
+     before]], and [[WereRounds: rounds : AreRounds (deeds_of files) (plan_at given cube folder) formula (sizes_of given) later
+     given.streams (last ∷ before)]]: a list with the last round first ([[AreRounds]]). A [[Round]] has its formula, sizes and
+     readers, its reports and verdict, and the files after its streams were opened and after its end."""),
+    ("the report is that of the last", """[[ReportsRounds: printed : SinkTook out (last_text (length (last ∷ before)) last.reports
+     last.verdict)]], behind a line with the round's number if that isn't 1 ([[last_text]]). The status is of that round, too:
+     [[ReportsRounds: status_is : status ≡ report_status out.failed last.unsaved last.verdict]]."""),
+    ("Round 1 has the formula that was read, and the streams of the words", """[[AreRounds: IsFirst its plan formula sizes first paths
+     round]], with [[IsFirst: formula_is : round.formula ≡ formula]] of the one that is
+     [[WereRounds: is_formula : IsFormulaAt files given.formula.now formula next]], and
+     [[IsFirst: opened : StreamsOpened its first paths round.readers round.opened]] of the words' streams, behind the openings of
+     formula and assumptions."""),
+    ("Each later one has the formula that the one before carried on", """[[AreRounds: Follows its plan (length (before ∷ more)) before
+     round]]: one formula is that of the later round, and the one with which the round before goes on,
+     [[Follows: goes_on : GoesOn its plan number before round.formula]]."""),
+    ("the sizes that were read of their file, or else those of the round before", """[[AreSized: (its.lacks before path after × (new ≡
+     old))]], or [[AreSized: IsSizesText bytes new]] of the bytes that were read at DIR/round-R.sizes ([[sizes_path]])."""),
+    ("the files of its number as its streams", """[[Follows: opened : StreamsOpened its sized (stream_paths plan.folder (number + 1)
+     round.sizes.streams) round.readers round.opened]]: DIR/round-R.stream-1 and so on ([[stream_path]]), each opened once, in order,
+     after the sizes ([[StreamsOpened]])."""),
+    ("over the same variables, each clause of which follows from the round's", """[[GoesOn: carried : IsCheckpointOf round.formula bytes
+     next]], and there [[IsCheckpointOf: entails : Entails original next]]. Nothing says here that no clause is missing."""),
+    ("a text of it went to its checkpoint, which was kept", """[[IsCheckpointOf: text : IsFormulaText bytes next]], of the bytes of
+     [[GoesOn: saved : WasSaved its.creates its.written its.keeps round.opened (formula_path plan.folder (number + 1)) bytes
+     round.after]]: a file was created at DIR/round-(R+1).cnf ([[formula_path]]) once the round's streams were opened, and kept before
+     the files of the next round are opened."""),
+    ("The streams of each are checked as those of a single run", """[[WasChecked: AreChecked its.reading plan.serial round.formula
+     (terms_by plan round.formula round.sizes) round.readers round.reports round.verdict]]: with a layout, by one history or, with
+     `--serial`, one order of lines of its own. Tries, assumed literals and `--serial` are those of all rounds ([[Plan]])."""),
+    ("only if its verdict is 'unknown', all its streams ended, and its checkpoint was saved", """[[GoesOn: verdict : round.verdict ≡
+     Unknown]], [[GoesOn: ended : HaveEnded round.reports]] and [[GoesOn: unsaved : round.unsaved ≡ None]]."""),
+    ("the last one isn't so, or the next had no file as its stream 1", """[[ReportsRounds: over : IsOver (deeds_of files) (plan_at given
+     were.cube folder) (length (last ∷ before)) last after]]: it [[IsBarred]], or it goes on, and
+     [[IsOver: its.lacks sized (stream_path plan.folder (number + 1) 1) after]], once the sizes were read; or the numbers are used up,
+     [[IsOver: (2 ^ 64 < number + 3)]]. What became of the last checkpoint says [[IsBarred: checkpoint : LeavesBehind]], or what goes
+     on."""),
+    ("Where there is no report the cause is one of round 1, or of a round after such rounds", """[[Ends: EndsWithFault files words out
+     err status]], or [[FailsInRound: cause : IsNextCause (deeds_of files) (plan_at given were.cube folder) (length (last ∷ before))
+     last fault]]: of its sizes ([[IsSizesCause]]), of the opening of its streams, or of their start ([[IsStartCause]]), each once what
+     comes before it went well ([[IsRoundCause]]). What is said then has the round's number,
+     [[FailsInRound: said : SinkTook err (round_error_text (length (last ∷ before) + 1) fault)]]."""),
+]
+
+ROUNDS_ACCOUNT = """Of the machine's files this is an argument, as with single runs: they allow all that `opens`, `lacks`, `creates` and
+`keeps` may be."""
+
 RUNS_HOW = """## How to read it
 
 As [on AUDIT](AUDIT.md#how-to-read-it); and besides:
@@ -472,7 +526,8 @@ LAWS = """## The laws
 
 Each is the contract of a function that does nothing, and holds of every formula, layout and history."""
 
-PROGRAM = """And of the program. What an outcome is, a cause, and what goes out, is linked to in `command`, and not repeated here:
+PROGRAM = """And of the program, of which [AUDIT](AUDIT.md) has the other clauses. What an outcome is, a cause, and what goes out, is linked
+to in `command`, and not repeated here but for rounds:
 [DEFINITIONS](DEFINITIONS.md#12-command-a-run-of-the-program) has it in a table."""
 
 RUNS_LIBRARIES = """## What the libraries define
@@ -482,4 +537,5 @@ What isn't on [AUDIT](AUDIT.md#what-the-libraries-define)."""
 # The passages on whole runs, by the marks that they have, with their phrases.
 RUNS_PASSAGES: List[Tuple[str, Rows]] = [
     ("The headline.", HEADLINE_PHRASES), ("Groups of streams are isolated.", ISOLATION_PHRASES),
-    ("Lines are serializable.", SERIALIZABLE_PHRASES), ("Right proofs are accepted.", RIGHT_PHRASES)]
+    ("Lines are serializable.", SERIALIZABLE_PHRASES), ("Right proofs are accepted.", RIGHT_PHRASES),
+    ("Runs in rounds.", ROUNDS_PHRASES)]

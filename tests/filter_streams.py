@@ -667,19 +667,6 @@ def in_using(commands: str, work: Path) -> None:
         raise Failure(f"docs/USING.md doesn't have\n{commands}")
 
 
-def chained(program: str, words: str, conflicts: int, work: Path) -> None:
-    """USING's chain of runs, with so many conflicts a round in the place of minutes: the last run refutes the formula."""
-    wanted_on_path("cadical")
-    make_formula(words, work)
-    block = re.search(r"^    formula=formula\.cnf\n(?:    .*\n)*?    done\n", USING.read_text(), re.M)
-    commands = block[0].replace("-t 240", f"-c {conflicts}") if block else ""
-    want(commands.count(f"cadical -q -c {conflicts} "), 1, "runs of CaDiCaL in USING's chain")
-    out, said, _ = in_bash(program, commands, work)
-    reports = out.splitlines()
-    want((said, [line.endswith(", ended") for line in reports[::2]]), ("", [True] * (len(reports) // 2)), f"what is said of\n{out}")
-    want((len(reports) > 2, reports[1::2]), (True, ["s UNKNOWN"] * (len(reports) // 2 - 1) + ["s UNSATISFIABLE"]), "the verdicts")
-
-
 def while_it_runs(commands: str, words: str, work: Path) -> None:
     """The filter's first line comes while the solver runs: it writes more than the pipes hold, and nobody reads on."""
     wanted_on_path(commands)
@@ -697,7 +684,7 @@ def solvers(program: str) -> List[Row]:
     formulas = ("random 150 1", "pigeons 7", "order 15", "bmc.cnf")
     runs: List[Row] = [(f"{name}, {words}", beside, program, commands, words) for name, commands in COMMANDS for words in formulas]
     runs += [(f"USING, {name}", in_using, commands) for name, commands in COMMANDS]
-    runs += [("USING, a chain of runs", chained, program, "random 150 1", 1000), ("USING, in rounds", in_using, IN_ROUNDS)]
+    runs += [("USING, in rounds", in_using, IN_ROUNDS)]
     runs += [(f"in rounds with {memory}", in_rounds, program, memory, rounds) for memory, rounds in (("500K", 3), ("512M", 1))]
     return runs + [("CaDiCaL writes while it runs", while_it_runs, CADICAL, "random 200 3"),
                    ("CryptoMiniSat writes while it runs", while_it_runs, CRYPTOMINISAT, "random 200 3")]
