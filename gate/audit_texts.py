@@ -158,6 +158,8 @@ GLOSSES = """
 `Append` each use of the argument adds to its values
 `Consumes old new bs` if `old` is `Some xs`, `new` is `Some ys`, and xs is `bs ++ ys`; of `None` it says nothing
 `Err e` a result that is the fault e
+`Ok x` a result that is x, and no fault
+`Result A E` `Ok` of an A, or `Err` of an E
 `FoldsTo R a xs b` steps that R allows lead from a to b, one for each element: `R a x c`, and so on from c; with none a is b
 `ForSome o P` if o is `Some x`, then P of x
 `IfErr r P` if r is `Err e`, then P of e
@@ -442,7 +444,7 @@ By the [[fn command.ends]], of the whole program over any files."""
 
 ROUNDS_PHRASES: Rows = [
     ("With `--rounds`", """the words ask for rounds in a folder, [[EndsInRounds: asked : rounds_at given ≡ Some folder]]. By
-     [[Ends: EndsWithReport files words after out err status × ((folder : Text) → ¬ AskForRounds words folder)]] the report of a
+     [[ProgramEnds: EndsWithReport files words after out err status × ((folder : Text) → ¬ AskForRounds words folder)]] the report of a
      single run then never comes."""),
     ("a run that gave a report had one round or more, one after the other", """[[ReportsRounds: were : WereRounds files given folder last
      before]], and [[WereRounds: rounds : AreRounds (deeds_of files) (plan_at given cube folder) formula (sizes_of given) later
@@ -456,31 +458,38 @@ ROUNDS_PHRASES: Rows = [
      [[WereRounds: is_formula : IsFormulaAt files given.formula.now formula next]], and
      [[IsFirst: opened : StreamsOpened its first paths round.readers round.opened]] of the words' streams, behind the openings of
      formula and assumptions."""),
-    ("Each later one has the formula that the one before carried on", """[[AreRounds: Follows its plan (length (before ∷ more)) before
+    ("Each later one has the formula that the one before carried on", """[[AreRounds: ComesNext its plan (length (before ∷ more)) before
      round]]: one formula is that of the later round, and the one with which the round before goes on,
-     [[Follows: goes_on : GoesOn its plan number before round.formula]]."""),
+     [[ComesNext: goes_on : CarriesOn its plan number before round.formula]]."""),
     ("the sizes that were read of their file, or else those of the round before", """[[AreSized: (its.lacks before path after × (new ≡
      old))]], or [[AreSized: IsSizesText bytes new]] of the bytes that were read at DIR/round-R.sizes ([[sizes_path]])."""),
-    ("the files of its number as its streams", """[[Follows: opened : StreamsOpened its sized (stream_paths plan.folder (number + 1)
+    ("the files of its number as its streams", """[[ComesNext: opened : StreamsOpened its sized (stream_paths plan.folder (number + 1)
      round.sizes.streams) round.readers round.opened]]: DIR/round-R.stream-1 and so on ([[stream_path]]), each opened once, in order,
      after the sizes ([[StreamsOpened]])."""),
-    ("over the same variables, each clause of which follows from the round's", """[[GoesOn: carried : IsCheckpointOf round.formula bytes
-     next]], and there [[IsCheckpointOf: entails : Entails original next]]. Nothing says here that no clause is missing."""),
+    ("just the clauses that a history of the round leaves live, but for those that all streams dropped",
+     """[[CarriesOn: exactly : CarriesRun its.reading its.written plan.serial round.formula (terms_by plan round.formula round.sizes)
+     round.readers round.reports (Ok next) saved.first saved.last]]: by [[CarriesRun: stands : StandsOnHistory view serial formula terms
+     history firsts lasts reports dropped]] the history judges the round's streams as reported, and what they dropped is what their lines
+     drop, since all ended; by [[CarriesRun: carries : CarriesState written result (state formula history) terms.layout (is_wanted dropped)
+     first last]] each identity was fetched once, and [[Carries: (next ≡ printed vars entries)]] of what was found live and
+     [[is_wanted]], in the order of the identities."""),
+    ("over the same variables, each clause of which follows from the round's", """[[CarriesOn: carried : IsCheckpointOf round.formula bytes
+     next]], and there [[IsCheckpointOf: entails : Entails original next]]."""),
     ("a text of it went to its checkpoint, which was kept", """[[IsCheckpointOf: text : IsFormulaText bytes next]], of the bytes of
-     [[GoesOn: saved : WasSaved its.creates its.written its.keeps round.opened (formula_path plan.folder (number + 1)) bytes
+     [[CarriesOn: saved : WasSaved its.creates its.written its.keeps round.opened (formula_path plan.folder (number + 1)) bytes
      round.after]]: a file was created at DIR/round-(R+1).cnf ([[formula_path]]) once the round's streams were opened, and kept before
      the files of the next round are opened."""),
     ("The streams of each are checked as those of a single run", """[[WasChecked: AreChecked its.reading plan.serial round.formula
      (terms_by plan round.formula round.sizes) round.readers round.reports round.verdict]]: with a layout, by one history or, with
      `--serial`, one order of lines of its own. Tries, assumed literals and `--serial` are those of all rounds ([[Plan]])."""),
-    ("only if its verdict is 'unknown', all its streams ended, and its checkpoint was saved", """[[GoesOn: verdict : round.verdict ≡
-     Unknown]], [[GoesOn: ended : HaveEnded round.reports]] and [[GoesOn: unsaved : round.unsaved ≡ None]]."""),
-    ("the last one isn't so, or the next had no file as its stream 1", """[[ReportsRounds: over : IsOver (deeds_of files) (plan_at given
+    ("only if its verdict is 'unknown', all its streams ended, and its checkpoint was saved", """[[CarriesOn: verdict : round.verdict ≡
+     Unknown]], [[CarriesOn: ended : HaveEnded round.reports]] and [[CarriesOn: unsaved : round.unsaved ≡ None]]."""),
+    ("the last one isn't so, or the next had no file as its stream 1", """[[ReportsRounds: over : RoundsEnd (deeds_of files) (plan_at given
      were.cube folder) (length (last ∷ before)) last after]]: it [[IsBarred]], or it goes on, and
-     [[IsOver: its.lacks sized (stream_path plan.folder (number + 1) 1) after]], once the sizes were read; or the numbers are used up,
-     [[IsOver: (2 ^ 64 < number + 3)]]. What became of the last checkpoint says [[IsBarred: checkpoint : LeavesBehind]], or what goes
+     [[RoundsEnd: its.lacks sized (stream_path plan.folder (number + 1) 1) after]], once the sizes were read; or the numbers are used up,
+     [[RoundsEnd: (2 ^ 64 < number + 3)]]. What became of the last checkpoint says [[IsBarred: checkpoint : LeavesBehind]], or what goes
      on."""),
-    ("Where there is no report the cause is one of round 1, or of a round after such rounds", """[[Ends: EndsWithFault files words out
+    ("Where there is no report the cause is one of round 1, or of a round after such rounds", """[[ProgramEnds: EndsWithFault files words out
      err status]], or [[FailsInRound: cause : IsNextCause (deeds_of files) (plan_at given were.cube folder) (length (last ∷ before))
      last fault]]: of its sizes ([[IsSizesCause]]), of the opening of its streams, or of their start ([[IsStartCause]]), each once what
      comes before it went well ([[IsRoundCause]]). What is said then has the round's number,
