@@ -29,7 +29,7 @@ AUDIT_TOP = f"""# What there is to believe: status 0 and 8
 
 The prover shows that the code keeps its contracts. That the contracts say what one wants to rely on is for a reader to judge.
 This page has all that the clauses behind status 0 and 8, and behind checkpoints, rest on, down to names of libraries, which have
-a line each; whole runs are on [AUDIT-RUNS](AUDIT-RUNS.md). At each definition ask: is this what the words mean? [DEFINITIONS](DEFINITIONS.md) has
+a line each; whole runs, and rounds, are on [AUDIT-RUNS](AUDIT-RUNS.md). At each definition ask: is this what the words mean? [DEFINITIONS](DEFINITIONS.md) has
 examples.
 
 No clause says that something is answered: 'out of memory' may always come.
@@ -233,7 +233,7 @@ repeated but for `Source`, which has more members here: formulas, assignments, c
 [what one has to trust](AUDIT.md#what-one-has-to-trust).
 
 - **Run.** A call of [[fn run]], with two threads for each stream, or of [[fn run_serial]], on one thread; the program calls the
-  second with `--serial`, and else the first.
+  second with `--serial`, and else the first, once in each round.
 - **Stream.** The bytes that a reader gave, and how it ended, where that is known ([[Stream]]): lines that add a clause with its hints, delete
   clauses, or import one ([[StreamLine]]). Streams count from 1.
 - **Set.** A set of streams is a test on their numbers: `λ s. true` is all of them, [[one]] a single one.
