@@ -484,9 +484,9 @@ ROUNDS_PHRASES: Rows = [
      `--serial`, one order of lines of its own. Tries, assumed literals and `--serial` are those of all rounds ([[Plan]])."""),
     ("only if its verdict is 'unknown', all its streams ended, and its checkpoint was saved", """[[CarriesOn: verdict : round.verdict ≡
      Unknown]], [[CarriesOn: ended : HaveEnded round.reports]] and [[CarriesOn: unsaved : round.unsaved ≡ None]]."""),
-    ("the last one isn't so, or the next had no file as its stream 1", """[[ReportsRounds: over : RoundsEnd (deeds_of files) (plan_at given
-     were.cube folder) (length (last ∷ before)) last after]]: it [[IsBarred]], or it goes on, and
-     [[RoundsEnd: its.lacks sized (stream_path plan.folder (number + 1) 1) after]], once the sizes were read; or the numbers are used up,
+    ("the last one isn't so, or the next had no file as its stream 1, or the numbers, below 2^64 - 1, are used up", """[[ReportsRounds: over : RoundsEnd (deeds_of files) (plan_at given
+     were.cube folder) (length (last ∷ before)) last after]]: [[IsBarred]] of it, or it goes on, and
+     [[RoundsEnd: its.lacks sized (stream_path plan.folder (number + 1) 1) after]], once the sizes were read; or
      [[RoundsEnd: (2 ^ 64 < number + 3)]]. What became of the last checkpoint says [[IsBarred: checkpoint : LeavesBehind]], or what goes
      on."""),
     ("Where there is no report the cause is one of round 1, or of a round after such rounds", """[[ProgramEnds: EndsWithFault files words out
