@@ -101,10 +101,11 @@ abbrev pub sizes_of : CommandLine → Sizes
 sizes_of given =
     record { streams = length given.streams; lines = given.lines; room = given.room }
 
--- what the streams of a round are checked by
+-- the options of a round of these sizes
 abbrev pub options_by : ℕ → Sizes → OptionsValue
 options_by tries sizes = record { tries = tries; lines = sizes.lines; room = sizes.room }
 
+-- what the streams of a round are checked by
 abbrev pub terms_by : Plan → Cnf → Sizes → TermsValue
 terms_by plan formula sizes =
     terms_of (options_by plan.tries sizes) plan.cube formula sizes.streams
@@ -192,8 +193,8 @@ pub record IsFirst (its : Deeds) (plan : Plan) (formula : Cnf) (sizes : Sizes) (
   pub opened : StreamsOpened its first paths round.readers round.opened
   pub checked : WasChecked its plan round
 
--- Rounds, the last one first, and the first one so: each other follows the one before it. A round's number is how many there are up
--- to it.
+-- Rounds, the last one first. The first of them has this formula and these sizes, and its streams are those at these paths; each other
+-- comes next after the one before it. A round's number is how many there are up to it.
 abbrev pub AreRounds : (its : Deeds) → Plan → Cnf → Sizes → its.State → List Text
     → List (Round its.State its.Reader) → Type 0
 AreRounds its plan formula sizes first paths [] = ⊥

@@ -95,8 +95,8 @@ pub fn command<T: Threads + Wait + Sync, C: Clock + Sync, F: Files, O: Sink, E: 
 
 /// Checks the streams against a formula's text, as `command` does with what it has read. In this order: the text is parsed, and its
 /// memory given back, the file of the assumed literals is read and parsed, the streams are opened, the checkpoint's file is created
-/// if one is asked for, the streams are checked, the checkpoint is saved, and the report goes to `out`. The bytes are those of any
-/// source, so the clause `sound` knows of no file.
+/// if one is asked for, the streams are checked, the checkpoint is saved, other rounds follow if they are asked for, and the report
+/// goes to `out`. The bytes are those of any source, so the clause `sound` knows of no file.
 pub fn check_formula<T: Threads + Wait + Sync, C: Clock + Sync, F: Files, O: Sink, E: Sink>(
     threads: &T,
     clock: &C,
