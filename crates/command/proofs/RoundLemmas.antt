@@ -283,14 +283,14 @@ module _ (its : Deeds) (plan : Plan) (formula : Cnf) (sizes : Sizes) (first : it
       → AreRounds its plan formula sizes first paths (round ∷ before) → IsUnsatisfiable round.formula → IsUnsatisfiable formula
   rounds_refute law round [] rounds refuted = subst IsUnsatisfiable rounds.formula_is refuted
   rounds_refute law round (b ∷ more) rounds refuted =
-      rounds_refute law b more rounds.1 (law b.formula round.formula rounds.0.goes_on.carried.entails refuted)
+      rounds_refute law b more rounds.1 (law b.formula round.formula rounds.0.goes_on.saving.carried.entails refuted)
 
   rounds_refute_under : RefutesBackUnder → (round : Round its.State its.Reader) (before : List (Round its.State its.Reader))
       → AreRounds its plan formula sizes first paths (round ∷ before) → IsUnsatisfiableUnder round.formula plan.cube
       → IsUnsatisfiableUnder formula plan.cube
   rounds_refute_under law round [] rounds refuted = subst (λ (f : Cnf). IsUnsatisfiableUnder f plan.cube) rounds.formula_is refuted
   rounds_refute_under law round (b ∷ more) rounds refuted =
-      rounds_refute_under law b more rounds.1 (law b.formula round.formula plan.cube rounds.0.goes_on.carried.entails refuted)
+      rounds_refute_under law b more rounds.1 (law b.formula round.formula plan.cube rounds.0.goes_on.saving.carried.entails refuted)
 
   pub ends_sound : RefutesBack → (last : LastRound) (after : its.State) → EndsAt its plan formula sizes first paths last after
       → last.found.verdict ≡ Unsatisfiable → IsUnsatisfiable formula
@@ -391,13 +391,20 @@ pub sizes_cause : (its : Deeds) (before : its.State) (path : Text) (reader : its
     → its.opens before path reader after → its.reading.left reader ≡ its.tells before path
     → (fault : CommandFault) → IsUnsized its.reading reader fault → IsSizesCause its before path fault
 sizes_cause its before path reader after opened left faults.SizesUnread cause =
-    inr (record { reader = reader; after = after; opened = opened; left = left; broken = cause })
-sizes_cause its before path reader after opened left faults.Sizes (inl (bytes, whole, none)) =
+    inr (record { reader = reader; after = after; opened = opened; left = left; broken = cause.0; few = cause.1 })
+sizes_cause its before path reader after opened left faults.Sizes (inl (bytes, whole, none, few)) =
     let read : WasRead its.opens its.reading.reads (its.tells before) before path bytes after =
     record { reader = reader; opened = opened; gave = whole.gave; told = λ all told. whole.told all (left ∙ told) } in
-    record { reader = reader; after = after; opened = opened; bytes = bytes; holds = inl (read, none) }
+    record { reader = reader; after = after; opened = opened; bytes = bytes; few = few; holds = inl (read, none) }
 sizes_cause its before path reader after opened left faults.Sizes (inr (bytes, last, gave, is)) =
-    record { reader = reader; after = after; opened = opened; bytes = bytes; holds = inr (last, gave, is) }
+    record {
+      reader = reader;
+      after = after;
+      opened = opened;
+      bytes = bytes;
+      few = omega (arith, is);
+      holds = inr (last, gave, is);
+    }
 sizes_cause its before path reader after opened left faults.Memory cause = tt
 sizes_cause its before path reader after opened left fault cause = absurd cause
 
@@ -420,3 +427,36 @@ start_cause files words given folder f cube next later opened line at assumed re
 pub no_path : (path : Option (Bor Text)) → false ≡ is_some path → path_of path ≡ None
 no_path None is = refl
 no_path (Some path) is = absurd (let no : false ≡ true = is in cc)
+
+-- with a verdict that is saved and no fault of the saving, something was carried
+never : {F W : Type 0} (creates : F → Text → W → F → Type 0) (written : W → Option (List ℕ)) (keeps : F → W → F → Type 0)
+    (before mid after : F) (path : Text) (output : Option W) (saved : Result (Option W) SaveFault) (unsaved : Option SaveFault)
+    (verdict : Verdict) → CreatesCheckpoint creates written before (Some path) output mid
+    → KeepsCheckpoint keeps mid saved unsaved after → IsUncarried verdict output saved → unsaved ≡ None
+    → ¬ (verdict ≡ Unsatisfiable) → ⊥
+never creates written keeps before mid after path output saved unsaved verdict created kept (inl refuted) all other = other refuted
+never creates written keeps before mid after path None saved unsaved verdict created kept (inr (inl none)) all other = created
+never creates written keeps before mid after path (Some w) saved unsaved verdict created kept (inr (inl none)) all other =
+    some_none w ⊥ none
+never {F} {W} creates written keeps before mid after path output saved unsaved verdict created kept (inr (inr failed)) all other =
+    let told = subst (λ (s : Result (Option W) SaveFault). KeepsCheckpoint keeps mid s unsaved after) failed.1 kept in
+    some_none failed.0 ⊥ (sym told.0 ∙ all)
+
+-- what was to be written was carried, unless the saving failed
+pub carried_some : {F W : Type 0} (creates : F → Text → W → F → Type 0) (written : W → Option (List ℕ)) (keeps : F → W → F → Type 0)
+    (before mid after : F) (path : Text) (output : Option W) (saved : Result (Option W) SaveFault) (unsaved : Option SaveFault)
+    (verdict : Verdict) (next : Option Cnf)
+    → CreatesCheckpoint creates written before (Some path) output mid → KeepsCheckpoint keeps mid saved unsaved after
+    → (next ≡ None → IsUncarried verdict output saved) → unsaved ≡ None → ¬ (verdict ≡ Unsatisfiable)
+    → (f : Cnf) × (next ≡ Some f)
+carried_some creates written keeps before mid after path output saved unsaved verdict (Some f) created kept none all other = (f, refl)
+carried_some {F} {W} creates written keeps before mid after path output saved unsaved verdict None created kept none all other =
+    absurd (never creates written keeps before mid after path output saved unsaved verdict created kept (none refl) all other)
+
+-- a stream behind stream 1 isn't stream 1
+pub never_first : {F R : Type 0} (opens : F → Text → R → F → Type 0) (may : Text → Bool) (before : F) (paths : List Text)
+    (fault : CommandFault) → IsLaterCause opens may before paths fault → fault ≡ faults.NotOpened 1 → ⊥
+never_first {F} {R} opens may before paths fault cause one =
+    let at = subst (λ (f : CommandFault). IsLaterCause {F = F} {R = R} opens may before paths f) one cause in
+    let place : 1 ≡ at.0 + 2 = at.4 in
+    omega (arith, place)

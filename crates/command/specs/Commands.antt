@@ -172,6 +172,7 @@ pub record FilesView : Type 1 where
   pub written : Output → Option (List ℕ)
   pub tells_at : State → Text → Option (List ℕ)
   pub refuses : State → Text → Bool
+  pub fails : State → Text → Bool
   pub refuses_new : State → Text → Bool
 
 -- these, as the types of files, of their readers and of their sinks say them
@@ -193,6 +194,7 @@ files_view {F = F} {R = R} {W = W} its input output first = record {
   written = output.written;
   tells_at = its.tells;
   refuses = its.may_refuse;
+  fails = its.may_fail;
   refuses_new = its.may_refuse_new;
 }
 

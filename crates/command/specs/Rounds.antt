@@ -1,5 +1,5 @@
 -- Runs in rounds: each goes on with what the one before it saved (this project's own).
-use Rattle.std.specs.Prelude.{◌≡◌, ◌==◌, if◌then◌else◌, ◌+◌, ◌++◌, ◌∷◌, ◌⊎◌, ◌<◌, ◌^◌, ℕ, Bool, List, [], Ok, Option, None, Some, codes, length, map, IsTrue}
+use Rattle.std.specs.Prelude.{◌≡◌, ◌==◌, if◌then◌else◌, ◌+◌, ◌++◌, ◌∷◌, ◌⊎◌, ◌<◌, ◌≤◌, ◌^◌, ℕ, Bool, List, [], Ok, Option, None, Some, codes, length, map, IsTrue}
 use Rattle.std.specs.Fmt.{decimal}
 use Rattle.std.specs.List.{AllByRecursion}
 use Rattle.lrup_model.specs.Cube.{CubeValue}
@@ -17,7 +17,7 @@ use Rattle.portfolio.specs.Histories.{CarriesRun}
 use Rattle.portfolio.specs.Outcomes.{OptionsValue, terms_of}
 use Rattle.portfolio.specs.ReportText.{report_text}
 use Rattle.portfolio.specs.declared.outcome.Verdict.{Verdict}
-use Rattle.portfolio.specs.declared.outcome.Verdict.TheVariants.{Unknown}
+use Rattle.portfolio.specs.declared.outcome.Verdict.TheVariants.{Unknown, Unsatisfiable}
 use Rattle.checkpoint.specs.Checkpoints.{IsCheckpointOf}
 use Rattle.checkpoint.specs.declared.saving.SaveFault.{SaveFault}
 use Rattle.command_line.specs.CommandLine.{AskForRounds, IsCommandLineOf}
@@ -47,6 +47,7 @@ pub record Deeds : Type 1 where
   pub written : Output → Option (List ℕ)
   pub tells : State → Text → Option (List ℕ)
   pub refuses : State → Text → Bool
+  pub fails : State → Text → Bool
   pub refuses_new : State → Text → Bool
 
 -- as the types of files, of their readers and of their sinks say it
@@ -64,6 +65,7 @@ deeds {F = F} {R = R} {W = W} its input output = record {
   written = output.written;
   tells = its.tells;
   refuses = its.may_refuse;
+  fails = its.may_fail;
   refuses_new = its.may_refuse_new;
 }
 
@@ -81,6 +83,7 @@ deeds_of files = record {
   written = files.written;
   tells = files.tells_at;
   refuses = files.refuses;
+  fails = files.fails;
   refuses_new = files.refuses_new;
 }
 
@@ -139,14 +142,11 @@ pub record StreamsOpened (its : Deeds) (before : its.State) (paths : List Text)
 abbrev pub HaveEnded : List Report → Type 0
 HaveEnded reports = AllByRecursion (λ report. report.ending ≡ endings.Ended) reports
 
--- The round with this number goes on: its verdict is 'unknown', its streams ended, and its checkpoint was saved, a text of just this
--- next formula, each clause of which follows from the round's. They are those that a history of the round leaves live, by which its
--- streams are judged as reported, but for those that all streams dropped, and no others.
-pub record CarriesOn (its : Deeds) (plan : Plan) (number : ℕ) (round : Round its.State its.Reader)
-    (next : Cnf) : Type 0 where
-  pub verdict : round.verdict ≡ Unknown
-  pub ended : HaveEnded round.reports
-  pub unsaved : round.unsaved ≡ None
+-- The checkpoint of the round with this number was saved: a text of just this next formula, each clause of which follows from the round's.
+-- They are those that a history of the round leaves live, by which its streams are judged as reported, but for those that all streams
+-- dropped, and no others.
+pub record SavesRound (its : Deeds) (plan : Plan) (number : ℕ)
+    (round : Round its.State its.Reader) (next : Cnf) : Type 0 where
   pub bytes : List ℕ
   pub saved : WasSaved its.creates its.written its.keeps round.opened
       (formula_path plan.folder (number + 1)) bytes round.after
@@ -155,8 +155,16 @@ pub record CarriesOn (its : Deeds) (plan : Plan) (number : ℕ) (round : Round i
       (terms_by plan round.formula round.sizes) round.readers round.reports (Ok next) saved.first
       saved.last
 
--- It doesn't: it has another verdict, its checkpoint wasn't saved, or a stream didn't end. It left a checkpoint, as a run with
--- `--checkpoint` does.
+-- The round goes on: its verdict is 'unknown', its streams ended, and its checkpoint was saved.
+pub record CarriesOn (its : Deeds) (plan : Plan) (number : ℕ)
+    (round : Round its.State its.Reader) (next : Cnf) : Type 0 where
+  pub verdict : round.verdict ≡ Unknown
+  pub ended : HaveEnded round.reports
+  pub unsaved : round.unsaved ≡ None
+  pub saving : SavesRound its plan number round next
+
+-- It doesn't: it has another verdict, its checkpoint wasn't saved, or a stream didn't end. What it left is as of a run with
+-- `--checkpoint`; and where that is a checkpoint, it is the round's.
 pub record IsBarred (its : Deeds) (plan : Plan) (number : ℕ)
     (round : Round its.State its.Reader) : Type 0 where
   pub why : (¬ (round.verdict ≡ Unknown))
@@ -164,6 +172,8 @@ pub record IsBarred (its : Deeds) (plan : Plan) (number : ℕ)
   pub checkpoint : LeavesBehind its.creates its.written its.keeps
       (Some (formula_path plan.folder (number + 1))) round.formula round.verdict round.unsaved
       round.opened round.after
+  pub kept : round.unsaved ≡ None → ¬ (round.verdict ≡ Unsatisfiable)
+      → (next : Cnf) × SavesRound its plan number round next
 
 -- the sizes of the round after: those before, if there is no file of them; else what was read of the file is a text of them
 abbrev pub AreSized : (its : Deeds) → Text → Sizes → its.State → Sizes → its.State → Type 0
@@ -204,8 +214,8 @@ AreRounds its plan formula sizes first paths (round ∷ before ∷ more) =
     ComesNext its plan (length (before ∷ more)) before round
     × AreRounds its plan formula sizes first paths (before ∷ more)
 
--- why there is no round after the last one, with this number, and what became of the files: it doesn't go on; or the sizes of the next
--- one were read, and there is no file of its stream 1; or its number would be 2 ^ 64 - 1
+-- why there is no round after the last one, with this number, and what became of the files: it doesn't go on; or the next one has its
+-- sizes, and there is no file of its stream 1; or its number would be 2 ^ 64 - 1 or more
 abbrev pub RoundsEnd : (its : Deeds) → Plan → ℕ → Round its.State its.Reader → its.State → Type 0
 RoundsEnd its plan number last after =
     (IsBarred its plan number last × (after ≡ last.after))
@@ -217,33 +227,41 @@ RoundsEnd its plan number last after =
 
 -- Causes.
 
--- The file at the path was opened, and what it holds is no text of sizes: what was read of it to its end isn't, or there are 64 bytes,
--- which is more than the longest has.
+-- The file at the path was opened, and what it holds is no text of sizes: at most 64 bytes were read of it to its end, and they aren't; or
+-- it has 64 bytes, which is more than the longest has.
 pub record HoldsNoSizes (its : Deeds) (before : its.State) (path : Text) : Type 0 where
   pub reader : its.Reader
   pub after : its.State
   pub opened : its.opens before path reader after
   pub bytes : List ℕ
+  pub few : length bytes ≤ 64
   pub holds : (WasRead its.opens its.reading.reads (its.tells before) before path bytes after
       × HaveNoSizes bytes)
       ⊎ ((last : its.Reader) × Gave its.Reader its.reading.reads reader bytes last
       × (length bytes ≡ 64))
 
--- The file at the path was opened, and its reading failed.
+-- The file at the path was opened, and its reading failed, after 64 bytes at most.
 pub record BrokeOff (its : Deeds) (before : its.State) (path : Text) : Type 0 where
   pub reader : its.Reader
   pub after : its.State
   pub opened : its.opens before path reader after
   pub left : its.reading.left reader ≡ its.tells before path
   pub broken : HasBrokenOff its.reading reader
+  pub few : length broken.bytes ≤ 64
 
--- why the sizes at a path weren't read: their file was refused, or its reading failed, or it holds none
+-- why the sizes at a path weren't read: the opening of their file failed, or its reading did, or it holds none; or memory ran out
 abbrev pub IsSizesCause : (its : Deeds) → its.State → Text → CommandFault → Type 0
 IsSizesCause its before path faults.SizesUnread =
-    IsTrue (its.refuses before path) ⊎ BrokeOff its before path
+    IsTrue (its.fails before path) ⊎ BrokeOff its before path
 IsSizesCause its before path faults.Sizes = HoldsNoSizes its before path
 IsSizesCause its before path faults.Memory = Unit {0}
 IsSizesCause its before path fault = ⊥
+
+-- why not all streams of a round were opened: as of a run's; and of stream 1 only if it has a file
+abbrev pub IsStreamCause : (its : Deeds) → its.State → Text → ℕ → ℕ → CommandFault → Type 0
+IsStreamCause its before folder number streams fault =
+    IsOpenCause its.opens (its.refuses before) before (stream_paths folder number streams) fault
+    × (fault ≡ faults.NotOpened 1 → IsTrue (its.fails before (stream_path folder number 1)))
 
 -- why the streams of a round that were opened weren't checked: there is no layout, or one and a fault of the run, or of the creation of
 -- the next round's formula
@@ -262,8 +280,7 @@ IsRoundCause its plan number old formula before fault =
     IsSizesCause its before (sizes_path plan.folder (number + 1)) fault
     ⊎ ((sizes : Sizes) × (sized : its.State)
     × AreSized its (sizes_path plan.folder (number + 1)) old before sizes sized
-    × (IsOpenCause its.opens (its.refuses sized) sized
-    (stream_paths plan.folder (number + 1) sizes.streams) fault
+    × (IsStreamCause its sized plan.folder (number + 1) sizes.streams fault
     ⊎ ((readers : List its.Reader) × (opened : its.State)
     × StreamsOpened its sized (stream_paths plan.folder (number + 1) sizes.streams) readers opened
     × IsStartCause its plan (number + 1) formula sizes opened fault)))

@@ -1,5 +1,5 @@
 -- How the rounds stand while they go on: what private functions say of them (this project's own).
-use Rattle.std.specs.Prelude.{◌≡◌, ◌+◌, ◌∷◌, ◌⊎◌, ℕ, Bool, IsTrue, List, Option, None, Some, Result, Ok, Err, length, map, slice_get, take}
+use Rattle.std.specs.Prelude.{◌≡◌, ◌≤◌, ◌+◌, ◌∷◌, ◌⊎◌, ℕ, Bool, IsTrue, List, Option, None, Some, Result, Ok, Err, length, map, slice_get, take}
 use Rattle.std.specs.Io.KnownBytes.{Appends}
 use Rattle.std.specs.Option.{ForSome}
 use Rattle.lrup_model.specs.Cube.{CubeValue}
@@ -159,9 +159,10 @@ ReadsSizes reading first sizes =
 
 -- why none were read
 abbrev pub IsUnsized : {R : Type 0} → SourceView R → R → CommandFault → Type 0
-IsUnsized reading first faults.SizesUnread = HasBrokenOff reading first
+IsUnsized reading first faults.SizesUnread =
+    (broken : HasBrokenOff reading first) × (length broken.bytes ≤ 64)
 IsUnsized {R = R} reading first faults.Sizes =
-    ((bytes : List ℕ) × GaveWhole reading first bytes × HaveNoSizes bytes)
+    ((bytes : List ℕ) × GaveWhole reading first bytes × HaveNoSizes bytes × (length bytes ≤ 64))
     ⊎ ((bytes : List ℕ) × (last : R) × Gave R reading.reads first bytes last × (length bytes ≡ 64))
 IsUnsized reading first faults.Memory = Unit {0}
 IsUnsized reading first fault = ⊥

@@ -1,5 +1,5 @@
 //! Where a formula, the assumed literals and the streams come from, and where a checkpoint goes to.
-ghost use Rattle.std.specs.Prelude.{◌≡◌, ℕ, Bool, List, [], Option, None, Err, IfOk, IfSome, IsTrue, Ok, false};
+ghost use Rattle.std.specs.Prelude.{◌≡◌, ℕ, Bool, List, [], Option, None, Err, IfOk, IfSome, IsTrue, Ok, false, true};
 ghost use Rattle.std.specs.Option.{ForSome};
 
 use lrup_text::{Sink, Source, WriteFault};
@@ -50,6 +50,9 @@ pub trait Files {
     /// Whether the opening of a path may fail for another cause than memory.
     ghost may_refuse: { Self → List ℕ → Bool };
 
+    /// Whether the opening of a path that has a file may fail for another cause than memory.
+    ghost may_fail: { Self → List ℕ → Bool } = { λ _ _. true };
+
     /// Whether the creation of a file at a path may fail for another cause than memory.
     ghost may_refuse_new: { Self → List ℕ → Bool };
 
@@ -86,6 +89,7 @@ pub trait Files {
             opens self.old path.now input self.new)) }
         ensures lacks { result ≡ Ok None → lacks self.old path.now self.new }
         ensures refused { result ≡ Err OpenFault.NotOpened → IsTrue (may_refuse self.old path.now) }
+        ensures fails { result ≡ Err OpenFault.NotOpened → IsTrue (may_fail self.old path.now) }
         ensures stays { tells self.new ≡ tells self.old }
         ensures stays_refused { may_refuse self.new ≡ may_refuse self.old }
         ensures stays_refused_new { may_refuse_new self.new ≡ may_refuse_new self.old };

@@ -10,7 +10,7 @@ ghost use Rattle.command_line.specs.CommandLine.{IsCommandLineOf};
 ghost use Rattle.command.specs.Commands.{AreAssumed, AreOpened, IsCause, IsOpenCause, Text, WasRead, WasReadIn, assumed_at, files_view, from_first};
 ghost use Rattle.command.specs.Commands.{rounds_at};
 ghost use Rattle.command.specs.Paths.{formula_path, stream_path, stream_paths};
-ghost use Rattle.command.specs.Rounds.{CarriesOn, HaveEnded, IsBarred, IsStartCause, StreamsOpened, WasChecked, deeds};
+ghost use Rattle.command.specs.Rounds.{CarriesOn, HaveEnded, IsBarred, IsStartCause, IsStreamCause, StreamsOpened, WasChecked, deeds};
 ghost use Rattle.command_line.specs.declared.sizes.Sizes.{Sizes};
 ghost use Rattle.clap.specs.Walk.{texts};
 ghost use Rattle.command.specs.Standing.{EndsAt, FailsAt, IsAlone, IsLaterCause, IsReported, IsRoundsFault, IsUnchecked, RoundsStand};
@@ -189,8 +189,8 @@ fn open_round<F: Files>(
         length readers.items ≡ streams)) }
     ensures lacks { result ≡ Ok None
         → F.lacks files.old (stream_path folder.now number 1) files.new }
-    ensures cause { IfErr result (IsOpenCause F.opens (F.may_refuse files.old) files.old
-        (stream_paths folder.now number streams)) }
+    ensures cause { let its = deeds F.Files F.Input.Source F.Output.Sink in
+        IfErr result (IsStreamCause its files.old folder.now number streams) }
 {
     let paths = stream_paths(alloc, folder, number, streams)?;
     let words = words_of(alloc, &paths)?;

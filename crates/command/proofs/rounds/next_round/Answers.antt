@@ -1,7 +1,7 @@
-use Rattle.std.proofs.Common.{ℕ, inr, sym, subst}
+use Rattle.std.proofs.Common.{inl, inr, subst, sym, ℕ}
 use Rattle.command_line.specs.declared.sizes.Sizes.{Sizes}
 use Rattle.command.specs.Paths.{sizes_path, stream_paths}
-use Rattle.command.specs.Rounds.{AreSized, IsStartCause, StreamsOpened, deeds}
+use Rattle.command.specs.Rounds.{AreSized, IsStartCause, IsStreamCause, StreamsOpened, deeds}
 use Rattle.command.specs.Standing.{RoundsStand, plan_of}
 use Rattle.command.proofs.RoundLemmas.{for_some, stands_next}
 use Rattle.command.proofs.rounds.next_round.Goals as goal
@@ -53,3 +53,18 @@ returns-in-Err-check_round-clause-cause g c =
         subst (λ (n : ℕ). IsStartCause its plan n c.args.formula sizes opened fault) number cause,
       ),
     )
+
+-- the streams of the round weren't all opened
+pub returns-in-Err-clause-cause : goal.returns-in-Err-clause-cause
+returns-in-Err-clause-cause g c =
+    let its = deeds g.F.Files g.F.Input.Source g.F.Output.Sink in
+    let plan = plan_of c.args.course.now in
+    let sized = c.sizes_of_round.new.files in
+    let sizes = c.in_ok-sizes.sizes in
+    let fault = c.in-Err.fault in
+    let number = c.requires.after in
+    let cause : IsStreamCause its sized plan.folder c.args.number sizes.streams fault = c.in-Err.ensures.cause in
+    inr (sizes, sized,
+    subst (λ (n : ℕ). AreSized its (sizes_path plan.folder n) c.args.last.now.sizes c.args.files.now sizes sized) number
+    c.in_ok-sizes.ensures.sized,
+    inl (subst (λ (n : ℕ). IsStreamCause its sized plan.folder n sizes.streams fault) number cause))

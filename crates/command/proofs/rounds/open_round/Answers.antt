@@ -2,8 +2,8 @@ use Rattle.std.proofs.Common.{◌≡◌, ◌∙◌, ◌-◌, Err, IsTrue, List, 
 use Rattle.clap.specs.Walk.{texts}
 use Rattle.command.specs.Commands.{AreOpened, Text}
 use Rattle.command.specs.Paths.{stream_paths}
-use Rattle.command.proofs.RoundLemmas.{first_cause, first_word, later_cause, left_from, opened_count, opened_from, other_words}
-use Rattle.command.proofs.RoundLemmas.{path_and_rest, paths_count}
+use Rattle.command.proofs.RoundLemmas.{first_cause, first_word, later_cause, left_from, never_first, opened_count, opened_from}
+use Rattle.command.proofs.RoundLemmas.{other_words, path_and_rest, paths_count}
 use Rattle.command.specs.Standing.{IsLaterCause}
 use Rattle.command.proofs.rounds.open_round.Goals as goal
 
@@ -63,9 +63,11 @@ returns-in-Ok-Some-clause-cause g c =
     ∙ ap (drop 1) same in
     let opens : g.F.Files.opens before c.index.result.now.now first next = rw c.in-Ok-Some.field-0-is at c.in-Ok-Some.ensures.opens in
     let may = g.F.Files.may_refuse in
-    later_cause g.F.Files.opens (may before) (may next) before next first _ _ _ split c.in-Ok-Some.ensures.stays_refused
-    (subst (λ (p : Text). g.F.Files.opens before p first next) path_is opens) c.in-Err.fault
-    (subst (λ (ps : List Text). IsLaterCause g.F.Files.opens (may next) next ps c.in-Err.fault) rest_is c.in-Err.ensures.cause)
+    let cause = subst (λ (ps : List Text). IsLaterCause g.F.Files.opens (may next) next ps c.in-Err.fault) rest_is c.in-Err.ensures.cause in (
+      later_cause g.F.Files.opens (may before) (may next) before next first _ _ _ split c.in-Ok-Some.ensures.stays_refused
+          (subst (λ (p : Text). g.F.Files.opens before p first next) path_is opens) c.in-Err.fault cause,
+      λ one. absurd (never_first g.F.Files.opens (may next) next _ c.in-Err.fault cause one),
+    )
 
 pub returns-in-Err-NotOpened-clause-cause : goal.returns-in-Err-NotOpened-clause-cause
 returns-in-Err-NotOpened-clause-cause g c =
@@ -75,5 +77,8 @@ returns-in-Err-NotOpened-clause-cause g c =
     let split = path_and_rest folder c.args.number c.args.streams c.requires.some in
     let path_is = first_word words c.index.result.now _ _ (same ∙ split) c.index.ensures in
     let refused = c.open_if_there.ensures.refused (c.in-Err-NotOpened.is ∙ ap Err c.in-Err-NotOpened.field-0-is) in
-    first_cause g.F.Files.opens (g.F.Files.may_refuse c.args.files.now) c.args.files.now _ _ _ split
-    (subst (λ (p : Text). IsTrue (g.F.Files.may_refuse c.args.files.now p)) path_is refused)
+    let fails = c.open_if_there.ensures.fails (c.in-Err-NotOpened.is ∙ ap Err c.in-Err-NotOpened.field-0-is) in (
+      first_cause g.F.Files.opens (g.F.Files.may_refuse c.args.files.now) c.args.files.now _ _ _ split
+          (subst (λ (p : Text). IsTrue (g.F.Files.may_refuse c.args.files.now p)) path_is refused),
+      λ one. subst (λ (p : Text). IsTrue (g.F.Files.may_fail c.args.files.now p)) path_is fails,
+    )

@@ -1,7 +1,8 @@
-use Rattle.std.proofs.Common.{arith}
+use Rattle.std.proofs.Common.{arith, ℕ, subst, ◌≤◌}
 use Rattle.std.proofs.lemmas.List.{length-take-le}
 use Rattle.lrup_text.specs.ReadLemmas.{gave_more}
-use Rattle.command.proofs.ReadingLemmas.{consumed_more}
+use Rattle.command.specs.Commands.{HasBrokenOff, readers_view}
+use Rattle.command.proofs.ReadingLemmas.{consumed_begins, consumed_more}
 use Rattle.command.proofs.sizing.sizes_in.Goals as goal
 
 pub loop-buffer-preserved : goal.loop-buffer-preserved
@@ -17,3 +18,17 @@ loop-buffer-preserved g c =
       running = read.failed;
       count = omega (arith, given, extended.len, read.bound);
     }
+
+-- a read failed
+pub returns-in-Err-clause-cause : goal.returns-in-Err-clause-cause
+returns-in-Err-clause-cause g c =
+    let invariant = c.loop-buffer.invariant in
+    let read = c.in-Err.ensures in
+    let broken : HasBrokenOff (readers_view g.S.Source) c.args.source.now = record {
+      bytes = c.loop-buffer.bytes.items;
+      after = c.read.new.self;
+      read = record { last = c.loop-buffer.source; given = invariant.gave; ends = (_, read.reads) };
+      failed = read.failed;
+      told = consumed_begins _ _ c.loop-buffer.bytes.items invariant.consumes;
+    } in
+    (broken, subst (λ (n : ℕ). n ≤ 64) c.loop-buffer.bytes.ok.0 invariant.count)
