@@ -210,7 +210,7 @@ module _ (its : Deeds) (plan : Plan) (number : ℕ) (last : Round its.State its.
   -- no cause of a round is one of the writing of a report
   never_next : IsNextCause its plan number last faults.Unwritten → ⊥
   never_next (next, on, inl sizes) = sizes
-  never_next (next, on, inr (sizes, sized, are, inl opens)) = opens
+  never_next (next, on, inr (sizes, sized, are, inl opens)) = opens.0
   never_next (next, on, inr (sizes, sized, are, inr (readers, opened, were, inl runs))) = runs
   never_next (next, on, inr (sizes, sized, are, inr (readers, opened, were, inr create))) = create.1
 

@@ -64,7 +64,10 @@ returns-in-Err-clause-cause g c =
     let fault = c.in-Err.fault in
     let number = c.requires.after in
     let cause : IsStreamCause its sized plan.folder c.args.number sizes.streams fault = c.in-Err.ensures.cause in
-    inr (sizes, sized,
-    subst (λ (n : ℕ). AreSized its (sizes_path plan.folder n) c.args.last.now.sizes c.args.files.now sizes sized) number
-    c.in_ok-sizes.ensures.sized,
-    inl (subst (λ (n : ℕ). IsStreamCause its sized plan.folder n sizes.streams fault) number cause))
+    inr (
+      sizes,
+      sized,
+      subst (λ (n : ℕ). AreSized its (sizes_path plan.folder n) c.args.last.now.sizes c.args.files.now sizes sized) number
+          c.in_ok-sizes.ensures.sized,
+      inl (subst (λ (n : ℕ). IsStreamCause its sized plan.folder n sizes.streams fault) number cause),
+    )

@@ -63,7 +63,8 @@ returns-in-Ok-Some-clause-cause g c =
     ∙ ap (drop 1) same in
     let opens : g.F.Files.opens before c.index.result.now.now first next = rw c.in-Ok-Some.field-0-is at c.in-Ok-Some.ensures.opens in
     let may = g.F.Files.may_refuse in
-    let cause = subst (λ (ps : List Text). IsLaterCause g.F.Files.opens (may next) next ps c.in-Err.fault) rest_is c.in-Err.ensures.cause in (
+    let cause = subst (λ (ps : List Text). IsLaterCause g.F.Files.opens (may next) next ps c.in-Err.fault) rest_is
+    c.in-Err.ensures.cause in (
       later_cause g.F.Files.opens (may before) (may next) before next first _ _ _ split c.in-Ok-Some.ensures.stays_refused
           (subst (λ (p : Text). g.F.Files.opens before p first next) path_is opens) c.in-Err.fault cause,
       λ one. absurd (never_first g.F.Files.opens (may next) next _ c.in-Err.fault cause one),
