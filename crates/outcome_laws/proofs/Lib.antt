@@ -1,3 +1,4 @@
+mod CheckLemmas
 mod CubeLemmas
 mod RunLemmas
 mod WordLemmas

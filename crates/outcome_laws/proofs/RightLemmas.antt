@@ -1,17 +1,13 @@
 -- What the program says of a right refutation.
-use Rattle.std.proofs.Common.{◌≡◌, ◌⊎◌, ◌<◌, ◌≤◌, ◌-◌, ◌++◌, ℕ, eqb, ne_eqb, zero, suc, ℤ, Bool, true, false, List, [], ◌∷◌, length, map}
+use Rattle.std.proofs.Common.{◌≡◌, ◌⊎◌, ◌≤◌, ℕ, ℤ, Bool, true, false, List, [], ◌∷◌, length, map}
 use Rattle.std.proofs.Common.{Option, None, Some, inl, inr, refl, sym, ap, subst, ◌∙◌, arith}
-use Rattle.std.specs.Prelude.{IsTrue, slice_get, ◌||◌, if◌then◌else◌}
-use Rattle.std.specs.List.{AllByRecursion, flat_map, list_any}
-use Rattle.std.proofs.lemmas.Bool.{cases_eq, cond-true, cond-false, or_right}
-use Rattle.std.proofs.lemmas.Option.{slice_get_within, slice_get_cases}
+use Rattle.std.specs.List.{AllByRecursion}
 use Rattle.lrup_model.specs.Distinct.{distinct}
 use Rattle.lrup_model.specs.DistinctLemmas.{IsClause-distinct, length-distinct}
 use Rattle.lrup_model.specs.Formula.{Cnf, IsCnf, IsFormulaClause, max_clause_literals}
-use Rattle.lrup_model.specs.Layout.{LayoutValue, IsFault, IsStream}
+use Rattle.lrup_model.specs.Layout.{LayoutValue, IsFault}
 use Rattle.lrup_model.specs.Literal.{IsLiteral}
 use Rattle.lrup_model.specs.declared.layout.LayoutFault.{LayoutFault}
-use Rattle.lrup_text.specs.Lines.{StreamLine, line_text}
 use Rattle.lrup_text.specs.Cubes.{IsCubeFault}
 use Rattle.lrup_text.specs.declared.cube.CubeFault.{CubeFault}
 use Rattle.dimacs.specs.FormulaText.{IsFormulaText}
@@ -21,21 +17,18 @@ use Rattle.stream_check.specs.declared.report.Report.{Report}
 use Rattle.stream_check.specs.Setting.{side_of}
 use Rattle.stream_check.specs.declared.setting.Side.TheVariants as sides
 use Rattle.runs.specs.Closed.{IsOfStream}
-use Rattle.runs.specs.Streams.{Telling, TermsValue, setting_of}
-use Rattle.runs.specs.StreamLemmas.{judged_count, same_at, told_count}
-use Rattle.run_laws.specs.Groups.{IsRun}
+use Rattle.runs.specs.Streams.{setting_of}
 use Rattle.run_laws.specs.GroupLaws.{SerialRun}
-use Rattle.run_laws.specs.Together.{Step, IsRightOrder, HaveTexts, lines_by, TogetherBegins}
+use Rattle.run_laws.specs.Together.{IsRightOrder, lines_by, TogetherBegins}
 use Rattle.run_laws.specs.Right.{IsCutOffIn, IsRightBeginning}
 use Rattle.run_laws.specs.RightLaws.{RightBegins, RightEmpty}
-use Rattle.portfolio.specs.Outcomes.{OptionsValue, layout_of, verdict_of}
+use Rattle.portfolio.specs.Outcomes.{OptionsValue, layout_of}
 use Rattle.portfolio.specs.declared.outcome.Verdict.{Verdict}
 use Rattle.portfolio.specs.declared.outcome.Verdict.TheVariants.{Unsatisfiable, UnsatisfiableUnder, Unknown}
 use Rattle.command_line.specs.CommandLine.{AskToSave, IsCommandLineOf}
 use Rattle.command_line.specs.declared.words.CommandLine.{CommandLine}
 use Rattle.command.specs.Commands.{EndsWithFault, EndsWithReport, FilesView, IsAssumeCause, IsCause, IsFormulaAt, IsOutcome, IsReadCause}
 use Rattle.command.specs.Commands.{LeavesCheckpoint, SinkChange, Text, assumed_at, checkpoint_at, layout_at, options_of, report_status}
-use Rattle.command.specs.Commands.{terms_given}
 use Rattle.checkpoint.specs.declared.saving.SaveFault.{SaveFault}
 use Rattle.command.specs.Faults.{status_of}
 use Rattle.command.specs.declared.fault.CommandFault.{CommandFault}
@@ -43,7 +36,8 @@ use Rattle.command.specs.declared.fault.CommandFault.TheVariants as faults
 use Rattle.outcome_laws.specs.Right.{AreRightAssumptions, AskWell, AskForRightRefutation, AskForRightOrder, IsOfMachine, IsHeldUp}
 use Rattle.outcome_laws.specs.Right.{IsExcused, unwritten, no_report, lost, RightRefutationSays, RightOrderSays}
 use Rattle.outcome_laws.specs.Laws.{SameWordsAskAlike}
-use Rattle.outcome_laws.proofs.OutcomeLemmas.{OneFormula, text_of, is_text, told_in, run_of, telling_of_file}
+use Rattle.outcome_laws.proofs.CheckLemmas.{refutation_says as refutes, order_says as orders}
+use Rattle.outcome_laws.proofs.OutcomeLemmas.{OneFormula, text_of, is_text, check_of}
 
 -- The formula of a text
 
@@ -63,36 +57,6 @@ text_cnf bytes f is = record {
 }
 
 -- With a report
-
--- a report of the empty clause comes to 'unsatisfiable'
-one_says : (reports : List Report) (k : ℕ) (report : Report) → slice_get reports k ≡ Some report → report.empty ≡ true
-    → list_any (λ r. r.empty) reports ≡ true
-one_says [] k report at is = absurd (cc)
-one_says (r ∷ rs) zero report at is = let same : r ≡ report = cc in
-    ap (λ (x : Report). x.empty || list_any (λ y. y.empty) rs) same ∙ ap (λ (b : Bool). b || list_any (λ y. y.empty) rs) is
-one_says (r ∷ rs) (suc k) report at is = or_right r.empty (list_any (λ y. y.empty) rs) (one_says rs k report at is)
-
--- What streams have
-
--- what holds of the stream of each step holds of one that has a line
-pub of_some : (s : ℕ) (P : ℕ → Type 0) (steps : List Step) → AllByRecursion (λ step. P step.stream) steps
-    → 0 < length (lines_by s steps) → P s
-of_some s P [] all some = absurd (omega (arith, some))
-of_some s P (step ∷ steps) all some = elim (cases_eq step.stream s) [
-  | inl same ↦ subst P same all.0
-  | inr other ↦ of_some s P steps all.1 (subst (λ (ls : List StreamLine). 0 < length ls)
-      (cond-false (eqb step.stream s) (step.line ∷ lines_by s steps) (lines_by s steps) (ne_eqb step.stream s other)) some)
-]
-
--- a stream of a run has a report
-pub has_report : (f : Cnf) (terms : TermsValue) (told : List Telling) (reports : List Report) (r : IsRun f terms told reports) (s : ℕ)
-    → IsStream terms.layout s → (report : Report) × IsOfStream reports s report
-has_report f terms told reports r s is =
-    elim (slice_get_cases reports (s - 1)).1 [
-      | inl has ↦ (has.0, (is.0, has.2))
-      | inr past ↦
-          absurd (omega (arith, past.0, is.0, is.1, r.count, judged_count terms (λ t. true) r.history 1 r.streams reports r.judged))
-    ]
 
 module _ (files : FilesView) where
   -- with 'unsatisfiable' there is nothing to be saved
@@ -186,13 +150,6 @@ machine_status faults.Sizes is = absurd is
 abbrev IsAnothers : LayoutValue → ℕ → ℕ → Type 0
 IsAnothers p s id = side_of (setting_of (record { layout = p; cube = []; tries = 0 }) s) id ≡ sides.Foreign
 
--- A report of 'empty' comes to 'unsatisfiable'
-pub comes_to : (reports : List Report) (verdict : Verdict) (s : ℕ) (report : Report) → verdict ≡ verdict_of reports
-    → IsOfStream reports s report → report.empty ≡ true → verdict ≡ Unsatisfiable
-comes_to reports verdict s report is at says =
-    is ∙ cond-true (list_any (λ r. r.empty) reports) Unsatisfiable
-    (if list_any (λ r. r.within) reports then UnsatisfiableUnder else Unknown) (one_says reports (s - 1) report at.1 says)
-
 -- what the program says comes to one of these
 module _ (files : FilesView) (Lost : Report → Type 0) where
   with_report : (words : List Text) (after : files.State) (s : ℕ) (out err : SinkChange) (status : ℕ)
@@ -212,7 +169,6 @@ module _ (one_formula : OneFormula) (serial : SerialRun) (alike : SameWordsAskAl
     pub streams : a.given.streams ≡ asks.given.streams
     pub layouts : layout_at asks.given asks.formula ≡ layout_at a.given a.formula
     pub cnf : IsCnf a.formula
-    pub run : IsRun a.formula (terms_given a.given a.cube a.formula) (told_in files words reports verdict a) reports
 
   pub is_of : (words : List Text) (asks : AskWell files words) (reports : List Report) (verdict : Verdict)
       (a : IsOutcome files words reports verdict) → IsOf words asks reports verdict a
@@ -229,7 +185,6 @@ module _ (one_formula : OneFormula) (serial : SerialRun) (alike : SameWordsAskAl
             ∙ ap (λ (x : Cnf). layout_of (options_of a.given) x (length asks.given.streams)) (sym formulas)
             ∙ ap (λ (x : List Text). layout_of (options_of a.given) a.formula (length x)) (sym same.1);
         cnf = text_cnf asks.text a.formula (subst (IsFormulaText asks.text) (sym formulas) asks.is_text);
-        run = run_of serial files words reports verdict a;
       }
 
   refutation_says : RightBegins
@@ -244,35 +199,8 @@ module _ (one_formula : OneFormula) (serial : SerialRun) (alike : SameWordsAskAl
       subst (λ (x : Cnf). IsRightBeginning x (layout_at a.given a.formula) s ask.bytes lines) (sym is.formulas)
       (subst (λ (p : LayoutValue). IsRightBeginning asks.formula p s ask.bytes lines) is.layouts ask.right.right) in
       let names : IsOfStream a.given.streams s ask.path = subst (λ (x : List Text). IsOfStream x s ask.path) (sym is.streams) ask.names in
-      let terms = terms_given a.given a.cube a.formula in
-      let here = telling_of_file files words reports verdict a s ask.path ask.bytes names ask.tells in
-      let within = slice_get_within a.given.streams (s - 1) ask.path names.1 in
-      let stream : IsStream terms.layout s = (names.0, omega (arith, within, names.0)) in
-      let report = has_report a.formula terms (told_in files words reports verdict a) reports is.run s stream in
-      elim (begins a.formula terms s ask.bytes lines (told_in files words reports verdict a) here.0 reports report.0
-      is.cnf (record { vars = refl; clauses = refl; literals = refl }) stream right is.run here.1 here.2 report.1) [
-        | inl tells ↦
-            inl (comes_to reports verdict s report.0 a.checked.is_verdict report.1 (tells.empty ((empty terms s lines).1 ask.right.empty)))
-        | inr cut ↦ inr (report.0, report.1, cut)
-      ]
-
-  -- the file of each stream of the set begins with the texts of its lines
-  have_texts : (words : List Text) (s : ℕ) (ask : AskForRightOrder files words s) (reports : List Report) (verdict : Verdict)
-      (a : IsOutcome files words reports verdict) → IsOf words ask.asks reports verdict a
-      → HaveTexts ask.set ask.steps (told_in files words reports verdict a)
-  have_texts words s ask reports verdict a is t telling member at =
-      let told = told_in files words reports verdict a in
-      let within = slice_get_within told (t - 1) telling at.1 in
-      let first = at.0 in
-      elim (slice_get_cases a.given.streams (t - 1)).1 [
-        | inr past ↦ absurd (omega (arith, past.0, within, told_count told is.run.streams is.run.are_told, is.run.count))
-        | inl has ↦
-            let names : IsOfStream a.given.streams t has.0 = (first, has.2) in
-            let tells = ask.tells t has.0 member (subst (λ (x : List Text). IsOfStream x t has.0) is.streams names) in
-            let here =
-            telling_of_file files words reports verdict a t has.0 (flat_map line_text (lines_by t ask.steps) ++ tells.0) names tells.1 in
-            (tells.0, ap (λ (x : Telling). x.entry) (same_at told t telling here.0 at here.1) ∙ here.2)
-      ]
+      refutes files.reading (check_of files words reports verdict a) serial begins empty is.cnf s ask.path ask.bytes lines names ask.tells
+      right ask.right.empty
 
   order_says : TogetherBegins
       → (words : List Text) (s : ℕ) (ask : AskForRightOrder files words s) (reports : List Report) (verdict : Verdict)
@@ -282,23 +210,16 @@ module _ (one_formula : OneFormula) (serial : SerialRun) (alike : SameWordsAskAl
   order_says together words s ask reports verdict a =
       let asks = ask.asks in
       let is : IsOf words asks reports verdict a = is_of words asks reports verdict a in
-      let terms = terms_given a.given a.cube a.formula in
-      let order : IsRightOrder a.formula terms.layout ask.steps =
+      let order : IsRightOrder a.formula (layout_at a.given a.formula) ask.steps =
       subst (λ (x : Cnf). IsRightOrder x (layout_at a.given a.formula) ask.steps) (sym is.formulas)
       (subst (λ (p : LayoutValue). IsRightOrder asks.formula p ask.steps) is.layouts ask.order) in
-      let some : 0 < length (lines_by s ask.steps) = omega (arith, ask.empty.2) in
-      let stream : IsStream terms.layout s = of_some s (IsStream terms.layout) ask.steps order.streams some in
-      let member : IsTrue (ask.set s) = of_some s (λ t. IsTrue (ask.set t)) ask.steps ask.members some in
-      let report = has_report a.formula terms (told_in files words reports verdict a) reports is.run s stream in
-      elim (together a.formula terms ask.set ask.steps (told_in files words reports verdict a) reports s report.0 is.cnf
-      (record { vars = refl; clauses = refl; literals = refl }) order ask.members is.run (have_texts words s ask reports verdict a is)
-      member report.1) [
-        | inl tells ↦ inl (comes_to reports verdict s report.0 a.checked.is_verdict report.1
-            (tells.empty ((empty terms s (lines_by s ask.steps)).1 ask.empty)))
-        | inr (inl cut) ↦ inr (report.0, report.1, inl cut)
-        | inr (inr lacks) ↦ inr (
-          report.0,
-          report.1,
+      elim (orders files.reading (check_of files words reports verdict a) serial together empty is.cnf s ask.set ask.steps order ask.members
+      (λ t path member names. ask.tells t path member (subst (λ (x : List Text). IsOfStream x t path) is.streams names)) ask.empty) [
+        | inl says ↦ inl says
+        | inr (report, says, inl cut) ↦ inr (report, says, inl cut)
+        | inr (report, says, inr lacks) ↦ inr (
+          report,
+          says,
           inr (lacks.0, lacks.1, lacks.2, subst (λ (p : LayoutValue). IsAnothers p s lacks.1) (sym is.layouts) lacks.3, lacks.4),
         )
       ]
