@@ -157,7 +157,7 @@ module _ {R : Type 0} (reading : SourceView R) (c : Check reading) where
       let tells = begin t path.0 member path.1 in
       (tells.0, entry_at t telling path.0 (flat_map line_text (lines_by t steps) ++ tells.0) at path.1 tells.1)
 
-  -- A stream that adds the empty clause in a right order comes to 'unsatisfiable', or was cut off in its lines, or lacks a clause of another.
+  -- A stream that adds the empty clause in a right order comes to 'unsatisfiable', or was cut off in its lines, or lacks another's clause.
   pub order_says : SerialRun → TogetherBegins → RightEmpty → IsCnf c.formula → (s : ℕ) (set : ℕ → Bool) (steps : List Step)
       → IsRightOrder c.formula c.terms.layout steps → AllByRecursion (λ step. IsTrue (set step.stream)) steps
       → BeginSo set steps → Any AddsEmpty (lines_by s steps)

@@ -49,7 +49,7 @@ formula_clauses vars (ls ∷ written) literals sizes = (
   formula_clauses vars written literals.1 sizes.1,
 )
 
-text_cnf : (bytes : List ℕ) (f : Cnf) → IsFormulaText bytes f → IsCnf f
+pub text_cnf : (bytes : List ℕ) (f : Cnf) → IsFormulaText bytes f → IsCnf f
 text_cnf bytes f is = record {
   vars = is.few_variables;
   count = is.few_clauses;
@@ -128,7 +128,7 @@ module _ (files : FilesView) (Lost : Report → Type 0) where
 abbrev pub NoFormulaFault : Type 0
 NoFormulaFault = (bytes : List ℕ) (f : Cnf) (fault : DimacsFault) → IsFormulaText bytes f → ¬ IsFormulaFault bytes fault
 
-machine_status : (fault : CommandFault) → IsOfMachine fault → (status_of fault ≡ 5) ⊎ (status_of fault ≡ 6)
+pub machine_status : (fault : CommandFault) → IsOfMachine fault → (status_of fault ≡ 5) ⊎ (status_of fault ≡ 6)
 machine_status (faults.Usage text) is = absurd is
 machine_status faults.Unread is = inl refl
 machine_status (faults.Refused fault) is = absurd is
@@ -163,14 +163,14 @@ module _ (files : FilesView) (Lost : Report → Type 0) where
 
 module _ (one_formula : OneFormula) (serial : SerialRun) (alike : SameWordsAskAlike) (empty : RightEmpty) (files : FilesView) where
   -- what was asked for is what the outcome is of
-  pub record IsOf (words : List Text) (asks : AskWell files words) (reports : List Report) (verdict : Verdict)
+  pub record IsOf (words : List Text) (asks : AskWell files words None) (reports : List Report) (verdict : Verdict)
       (a : IsOutcome files words reports verdict) : Type 0 where
     pub formulas : a.formula ≡ asks.formula
     pub streams : a.given.streams ≡ asks.given.streams
     pub layouts : layout_at asks.given asks.formula ≡ layout_at a.given a.formula
     pub cnf : IsCnf a.formula
 
-  pub is_of : (words : List Text) (asks : AskWell files words) (reports : List Report) (verdict : Verdict)
+  pub is_of : (words : List Text) (asks : AskWell files words None) (reports : List Report) (verdict : Verdict)
       (a : IsOutcome files words reports verdict) → IsOf words asks reports verdict a
   is_of words asks reports verdict a =
       let same = alike words asks.given a.given asks.command_line a.command_line in
@@ -226,7 +226,7 @@ module _ (one_formula : OneFormula) (serial : SerialRun) (alike : SameWordsAskAl
 
 -- Without one
 
-module _ (one_formula : OneFormula) (no_fault : NoFormulaFault) (alike : SameWordsAskAlike) (files : FilesView) where
+module _ (one_formula : OneFormula) (no_fault : NoFormulaFault) (alike : SameWordsAskAlike) (files : FilesView) (folder : Option Text) where
   -- no file that was read is at fault
   not_refused : (path : Text) (text : List ℕ) (f : Cnf) (fault : DimacsFault) → files.tells path ≡ Some text → IsFormulaText text f
       → ¬ IsReadCause files path (faults.Refused fault)
@@ -269,21 +269,22 @@ module _ (one_formula : OneFormula) (no_fault : NoFormulaFault) (alike : SameWor
   never_unwritten before (Some path) vars cause = cause
 
   -- the formula that was read is the one that is told
-  formula_at : (words : List Text) (ask : AskWell files words) (given : CommandLine) (f : Cnf) (next : files.State)
+  pub formula_at : (words : List Text) (ask : AskWell files words folder) (given : CommandLine) (f : Cnf) (next : files.State)
       → IsCommandLineOf words given → IsFormulaAt files given.formula.now f next → f ≡ ask.formula
   formula_at words ask given f next line at =
       let same = alike words ask.given given ask.command_line line in
       one_formula ask.text f ask.formula (is_text files given.formula.now f next ask.text (ap files.tells same.2 ∙ ask.told) at) ask.is_text
 
-  of_machine : (words : List Text) (ask : AskWell files words) (fault : CommandFault) → IsCause files words fault → IsOfMachine fault
-  of_machine words ask (faults.Usage text) cause = cause ask.command_line.good
-  of_machine words ask faults.Unread cause = tt
-  of_machine words ask faults.CubeUnread cause = tt
-  of_machine words ask (faults.NotOpened stream) cause = tt
-  of_machine words ask (faults.Spawn stream) cause = tt
-  of_machine words ask (faults.Ring stream) cause = tt
-  of_machine words ask faults.Memory cause = tt
-  of_machine words ask (faults.Refused fault) cause =
+  pub of_machine : (words : List Text) (ask : AskWell files words folder) → ¬ IsCause files words faults.TwoCheckpoints
+      → (fault : CommandFault) → IsCause files words fault → IsOfMachine fault
+  of_machine words ask one (faults.Usage text) cause = cause ask.command_line.good
+  of_machine words ask one faults.Unread cause = tt
+  of_machine words ask one faults.CubeUnread cause = tt
+  of_machine words ask one (faults.NotOpened stream) cause = tt
+  of_machine words ask one (faults.Spawn stream) cause = tt
+  of_machine words ask one (faults.Ring stream) cause = tt
+  of_machine words ask one faults.Memory cause = tt
+  of_machine words ask one (faults.Refused fault) cause =
       let same = alike words ask.given cause.0 ask.command_line cause.1 in
       elim cause.2 [
         | inl read ↦ not_refused cause.0.formula.now ask.text ask.formula fault (ap files.tells same.2 ∙ ask.told) ask.is_text read
@@ -292,7 +293,7 @@ module _ (one_formula : OneFormula) (no_fault : NoFormulaFault) (alike : SameWor
           | inr last ↦ elim last.3 [ inl opens ↦ opens | inr more ↦ elim more [ inl runs ↦ runs | inr create ↦ create.4 ] ]
         ]
       ]
-  of_machine words ask (faults.CubeRefused fault) cause =
+  of_machine words ask one (faults.CubeRefused fault) cause =
       elim cause.2 [
         | inl read ↦ read
         | inr later ↦ elim later.3 [
@@ -305,7 +306,7 @@ module _ (one_formula : OneFormula) (no_fault : NoFormulaFault) (alike : SameWor
           | inr last ↦ elim last.3 [ inl opens ↦ opens | inr more ↦ elim more [ inl runs ↦ runs | inr create ↦ create.4 ] ]
         ]
       ]
-  of_machine words ask (faults.Layout fault) cause =
+  of_machine words ask one (faults.Layout fault) cause =
       elim cause.2 [
         | inl read ↦ read
         | inr later ↦ elim later.3 [
@@ -324,7 +325,7 @@ module _ (one_formula : OneFormula) (no_fault : NoFormulaFault) (alike : SameWor
           ]
         ]
       ]
-  of_machine words ask faults.Unwritten cause =
+  of_machine words ask one faults.Unwritten cause =
       elim cause.2 [
         | inl read ↦ read
         | inr later ↦ elim later.3 [
@@ -332,11 +333,9 @@ module _ (one_formula : OneFormula) (no_fault : NoFormulaFault) (alike : SameWor
           | inr last ↦ elim last.3 [ inl opens ↦ opens | inr more ↦ elim more [ inl runs ↦ runs | inr create ↦ create.4 ] ]
         ]
       ]
-  of_machine words ask faults.NotCreated cause = tt
-  of_machine words ask faults.TwoCheckpoints cause =
-      let no : Some cause.0 ≡ None = sym cause.2.folder_is ∙ sym ask.command_line.said.rounds ∙ ask.once in
-      absurd (cc)
-  of_machine words ask faults.Sizes cause =
+  of_machine words ask one faults.NotCreated cause = tt
+  of_machine words ask one faults.TwoCheckpoints cause = absurd (one cause)
+  of_machine words ask one faults.Sizes cause =
       elim cause.2 [
         | inl read ↦ read
         | inr later ↦ elim later.3 [
@@ -344,7 +343,7 @@ module _ (one_formula : OneFormula) (no_fault : NoFormulaFault) (alike : SameWor
           | inr last ↦ elim last.3 [ inl opens ↦ opens | inr more ↦ elim more [ inl runs ↦ runs | inr create ↦ create.4 ] ]
         ]
       ]
-  of_machine words ask faults.SizesUnread cause =
+  of_machine words ask one faults.SizesUnread cause =
       elim cause.2 [
         | inl read ↦ read
         | inr later ↦ elim later.3 [
@@ -352,7 +351,7 @@ module _ (one_formula : OneFormula) (no_fault : NoFormulaFault) (alike : SameWor
           | inr last ↦ elim last.3 [ inl opens ↦ opens | inr more ↦ elim more [ inl runs ↦ runs | inr create ↦ create.4 ] ]
         ]
       ]
-  of_machine words ask (faults.NotSaved fault) cause =
+  of_machine words ask one (faults.NotSaved fault) cause =
       elim cause.2 [
         | inl read ↦ read
         | inr later ↦ elim later.3 [
@@ -361,12 +360,18 @@ module _ (one_formula : OneFormula) (no_fault : NoFormulaFault) (alike : SameWor
         ]
       ]
 
-  pub without_report : (Lost : Report → Type 0) (words : List Text) (s : ℕ) (out err : SinkChange) (status : ℕ) → AskWell files words
-      → EndsWithFault files words out err status → IsExcused files words s Lost out status
-  without_report Lost words s out err status ask ends =
-      let machine = of_machine words ask ends.fault ends.cause in
-      no_report ends.fault ends.cause machine ends.status_is
-      (subst (λ (n : ℕ). (n ≡ 5) ⊎ (n ≡ 6)) (sym ends.status_is) (machine_status ends.fault machine))
+-- without rounds there aren't two checkpoints
+no_rounds : (files : FilesView) (words : List Text) → AskWell files words None → ¬ IsCause files words faults.TwoCheckpoints
+no_rounds files words ask cause =
+    let no : Some cause.0 ≡ None = sym cause.2.folder_is ∙ sym ask.command_line.said.rounds ∙ ask.rounds in cc
+
+pub without_report : OneFormula → NoFormulaFault → SameWordsAskAlike → (files : FilesView) (Lost : Report → Type 0) (words : List Text)
+    (s : ℕ) (out err : SinkChange) (status : ℕ) → AskWell files words None
+    → EndsWithFault files words out err status → IsExcused files words s Lost out status
+without_report one_formula no_fault alike files Lost words s out err status ask ends =
+    let machine = of_machine one_formula no_fault alike files None words ask (no_rounds files words ask) ends.fault ends.cause in
+    no_report ends.fault ends.cause machine ends.status_is
+    (subst (λ (n : ℕ). (n ≡ 5) ⊎ (n ≡ 6)) (sym ends.status_is) (machine_status ends.fault machine))
 
 pub right_refutation_says : OneFormula → NoFormulaFault → SerialRun → SameWordsAskAlike → RightBegins → RightEmpty
     → (files : FilesView) → RightRefutationSays files
