@@ -7,3 +7,5 @@ mod StatusLemmas
 mod RightLemmas
 mod SerialLemmas
 mod RefutingLemmas
+mod StreamLemmas
+mod RoundLemmas

@@ -84,7 +84,7 @@ by_ending (endings.ReadFailed line) report is = inl (inr (line, is))
 by_ending (endings.Memory line) report is = inl (inl (line, is))
 
 -- what became of one stream
-said_of : (report : Report) → IsCutOff report ⊎ ((¬ IsOfMemory report) × ¬ IsOfFailure report)
+pub said_of : (report : Report) → IsCutOff report ⊎ ((¬ IsOfMemory report) × ¬ IsOfFailure report)
 said_of report = by_ending report.ending report refl
 
 all_fine : (r : Report) (reports : List Report) → (¬ IsOfMemory r) × (¬ IsOfFailure r)
