@@ -1,6 +1,6 @@
 -- What right streams of a round come to.
-use Rattle.std.proofs.Common.{◌≡◌, ◌⊎◌, ◌<◌, ◌-◌, ◌+◌, ◌++◌, ℕ, Bool, true, List, [], ◌∷◌, length, zero, suc}
-use Rattle.std.proofs.Common.{Option, Some, inl, inr, refl, sym, ap, subst, ◌∙◌, arith}
+use Rattle.std.proofs.Common.{◌≡◌, ◌⊎◌, ◌-◌, ◌+◌, ℕ, true, List, [], ◌∷◌, length, zero, suc}
+use Rattle.std.proofs.Common.{Some, inl, inr, refl, sym, ap, subst, ◌∙◌, arith}
 use Rattle.std.specs.Prelude.{IsTrue, slice_get}
 use Rattle.std.specs.List.{AllByRecursion, flat_map}
 use Rattle.std.proofs.lemmas.List.{append-nil}
@@ -23,7 +23,7 @@ use Rattle.command.specs.Commands.{Text}
 use Rattle.command.specs.Rounds.{HaveEnded}
 use Rattle.outcome_laws.specs.RightRounds.{AreRightAlone, AreRightInOrder, IsRefutedAlone, IsRefutedInOrder, IsStopped, RoundAsk}
 use Rattle.outcome_laws.specs.Serial.{IsCutOff}
-use Rattle.outcome_laws.proofs.CheckLemmas.{Check, entry_at, have_texts, order_says, path_at, refutation_says, run_of, telling_of_file}
+use Rattle.outcome_laws.proofs.CheckLemmas.{Check, have_texts, order_says, refutation_says, run_of, telling_of_file}
 use Rattle.outcome_laws.proofs.CheckLemmas.{told_of}
 use Rattle.outcome_laws.proofs.SerialLemmas.{said_of}
 
@@ -120,9 +120,9 @@ module _ (serial : SerialRun) {R : Type 0} (reading : SourceView R) (c : Check r
             (all_true steps) (run_of reading c serial) (have_texts reading c (λ t. true) steps (λ t path member names.
             ([], right.2 t path names ∙ ap (λ (b : List ℕ). Some b) (sym (append-nil (flat_map line_text (lines_by t steps)))))))
             refl here.1 here.2 says fine.0 fine.1) [
-          | inl same ↦ inl (ap (λ (r : Report). r.ending) same)
-          | inr lacks ↦ inr (inr lacks)
-        ]
+              | inl same ↦ inl (ap (λ (r : Report). r.ending) same)
+              | inr lacks ↦ inr (inr lacks)
+            ]
       ]
 
 pub ends_alone : SerialRun → RightReported → EndsSo AreRightAlone (λ layout s report. IsCutOff report)
