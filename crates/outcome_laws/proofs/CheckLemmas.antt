@@ -1,19 +1,22 @@
 -- A check of streams, as an outcome has one, and each round.
 use Rattle.std.proofs.Common.{◌≡◌, ◌⊎◌, ◌<◌, ◌-◌, ◌++◌, ℕ, eqb, ne_eqb, Bool, true, false, List, [], ◌∷◌, length, map, zero, suc}
-use Rattle.std.proofs.Common.{Option, Some, inl, inr, sym, ap, subst, ◌∙◌, arith}
+use Rattle.std.proofs.Common.{◌+◌, Option, Some, refl, inl, inr, sym, ap, ap₂, subst, ◌∙◌, arith}
 use Rattle.std.specs.Prelude.{IsTrue, option_map, slice_get, ◌||◌, if◌then◌else◌}
 use Rattle.std.specs.List.{AllByRecursion, Any, flat_map, list_any}
 use Rattle.std.proofs.lemmas.Bool.{cases_eq, cond-true, cond-false, or_right}
 use Rattle.std.proofs.lemmas.List.{length-map}
 use Rattle.std.proofs.lemmas.Option.{slice_get-map, slice_get_within, slice_get_cases}
+use Rattle.lrup_model.specs.Event.{History}
 use Rattle.lrup_model.specs.Formula.{Cnf, IsCnf}
 use Rattle.lrup_model.specs.Layout.{Fits, IsStream}
 use Rattle.lrup_text.specs.Lines.{StreamLine, line_text}
 use Rattle.lrup_text.specs.ReadOut.{SourceView}
 use Rattle.stream_check.specs.declared.report.Report.{Report}
+use Rattle.stream_check.specs.Laws.{EmptyCubeReported}
+use Rattle.runs.specs.Headline.{AreJudgedIn}
 use Rattle.runs.specs.Closed.{IsOfStream}
-use Rattle.runs.specs.Streams.{Telling, TermsValue, StandsOnStreams, setting_of, tellings}
-use Rattle.runs.specs.StreamLemmas.{judged_count, same_at, told_as_many, told_count, telling_at}
+use Rattle.runs.specs.Streams.{Stream, Telling, TermsValue, StandsOnStreams, setting_of, tellings}
+use Rattle.runs.specs.StreamLemmas.{judged_count, same_at, told_as_many, told_count, telling_at, some_end}
 use Rattle.run_laws.specs.Blame.{LacksOfAnotherIn}
 use Rattle.run_laws.specs.Groups.{IsRun}
 use Rattle.run_laws.specs.GroupLaws.{SerialRun}
@@ -88,6 +91,25 @@ has_report f terms told reports r s is =
           absurd (omega (arith, past.0, is.0, is.1, r.count, judged_count terms (λ t. true) r.history 1 r.streams reports r.judged))
     ]
 
+-- without a cube just the empty clause is within it
+within_empty : EmptyCubeReported → (terms : TermsValue) → terms.cube ≡ [] → (h : History) (s : ℕ) (streams : List Stream)
+    (reports : List Report) → AreJudgedIn terms (λ t. true) h s streams reports
+    → list_any (λ r. r.within) reports ≡ list_any (λ r. r.empty) reports
+within_empty bare terms none h s [] [] judged = refl
+within_empty bare terms none h s [] (r ∷ rs) judged = absurd judged
+within_empty bare terms none h s (t ∷ ts) [] judged = absurd judged
+within_empty bare terms none h s (t ∷ ts) (r ∷ rs) judged =
+    let by = judged.0 refl in
+    let its = some_end (setting_of terms s) t by.0 r by.2 in
+    let same : r.within ≡ r.empty = bare (setting_of terms s) t.bytes its.0 by.0 r none its.1 in
+    ap₂ (λ (a b : Bool). a || b) same (within_empty bare terms none h (s + 1) ts rs judged.1)
+
+not_under : (empty within : Bool) → within ≡ empty
+    → ¬ ((if empty then Unsatisfiable else if within then UnsatisfiableUnder else Unknown) ≡ UnsatisfiableUnder)
+not_under true within same is = let no : Unsatisfiable ≡ UnsatisfiableUnder = is in cc
+not_under false true same is = let no : true ≡ false = same in cc
+not_under false false same is = let no : Unknown ≡ UnsatisfiableUnder = is in cc
+
 module _ {R : Type 0} (reading : SourceView R) (c : Check reading) where
   -- what the readers told
   abbrev pub told_of : List Telling
@@ -102,6 +124,13 @@ module _ {R : Type 0} (reading : SourceView R) (c : Check reading) where
   -- the reports are those of a run
   pub run_of : SerialRun → IsRun c.formula c.terms told_of c.reports
   run_of serial = is_run serial c.serial c.formula c.terms told_of c.reports (told_length ∙ c.count) c.checked.reported
+
+  -- without a cube there is nothing under it
+  pub never_under : SerialRun → EmptyCubeReported → c.terms.cube ≡ [] → ¬ (c.verdict ≡ UnsatisfiableUnder)
+  never_under serial bare none under =
+      let run = run_of serial in
+      let same = within_empty bare c.terms none run.history 1 run.streams c.reports run.judged in
+      not_under (list_any (λ r. r.empty) c.reports) (list_any (λ r. r.within) c.reports) same (sym c.checked.is_verdict ∙ under)
 
   -- what a file tells its reader had left at first
   pub telling_of_file : (s : ℕ) (path : Text) (whole : List ℕ) → IsOfStream c.paths s path → c.tells path ≡ Some whole

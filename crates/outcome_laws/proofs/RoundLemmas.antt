@@ -7,6 +7,7 @@ use Rattle.lrup_model.specs.Formula.{Cnf, IsCnf}
 use Rattle.lrup_model.specs.Layout.{LayoutValue}
 use Rattle.stream_check.specs.declared.report.Ending.TheVariants as endings
 use Rattle.stream_check.specs.declared.report.Report.{Report}
+use Rattle.stream_check.specs.Laws.{EmptyCubeReported}
 use Rattle.run_laws.specs.GroupLaws.{SerialRun}
 use Rattle.run_laws.specs.RightLaws.{RightBegins, RightEmpty, RightReported}
 use Rattle.run_laws.specs.Together.{RightTogether, TogetherBegins}
@@ -18,44 +19,32 @@ use Rattle.checkpoint.specs.declared.saving.SaveFault.{SaveFault}
 use Rattle.command_line.specs.CommandLine.{IsCommandLineOf}
 use Rattle.command_line.specs.declared.sizes.Sizes.{Sizes}
 use Rattle.command_line.specs.declared.words.CommandLine.{CommandLine}
+use Rattle.command.specs.Commands.{AreAssumed, WasReadIn, assumed_at}
 use Rattle.command.specs.Commands.{FilesView, IsCause, IsCreateCause, IsOpenCause, IsRunCause, SinkChange, Text, options_of, report_status}
 use Rattle.command.specs.Faults.{status_of}
 use Rattle.command.specs.Paths.{sizes_path, stream_paths}
-use Rattle.command.specs.Rounds.{AreSized, CarriesOn, Deeds, FailsInRound, HaveEnded, IsRoundCause, IsSizesCause, ProgramEnds, ReportsRounds, Round}
+use Rattle.command.specs.Rounds.{AreSized, CarriesOn, Deeds, FailsInRound, HaveEnded, IsRoundCause, IsSizesCause, ProgramEnds}
+use Rattle.command.specs.Rounds.{ReportsRounds, Round}
 use Rattle.command.specs.Rounds.{Plan, WasChecked, WereRounds, deeds_of, plan_at, sizes_of, terms_by}
 use Rattle.command.specs.declared.fault.CommandFault.{CommandFault}
 use Rattle.command.specs.declared.fault.CommandFault.TheVariants as faults
 use Rattle.outcome_laws.specs.Laws.{SameWordsAskAlike}
-use Rattle.outcome_laws.specs.RightRounds.{AreRightAlone, AreRightInOrder, AskForRightRounds, IsAskedOf, IsExcusedInRounds, IsOfMachineInRound}
-use Rattle.outcome_laws.specs.RightRounds.{IsProvided, IsRefutedAlone, IsRefutedInOrder, IsStopped, RightOrdersSay, RightRoundsSay, RoundAsk}
-use Rattle.outcome_laws.specs.RightRounds.{layout_in}
+use Rattle.outcome_laws.specs.RightRounds.{AreRightAlone, AreRightInOrder, AskForRightRounds, IsAskedOf, IsCutOffOf, IsExcusedInRounds}
+use Rattle.outcome_laws.specs.RightRounds.{IsOfMachineInRound, IsProvided, IsRefutedAlone, IsRefutedInOrder, IsStopped, IsStoppedOf, Loss}
+use Rattle.outcome_laws.specs.RightRounds.{RightOrdersSay, RightRoundsSay, RoundAsk, WasStopped, layout_in}
 use Rattle.outcome_laws.specs.RightRounds.{not_begun, not_gone_on, not_kept, not_printed, stopped, under_cube}
 use Rattle.outcome_laws.specs.Serial.{IsCutOff}
-use Rattle.outcome_laws.proofs.CheckLemmas.{Check}
+use Rattle.outcome_laws.proofs.CheckLemmas.{Check, never_under}
 use Rattle.outcome_laws.proofs.OutcomeLemmas.{OneFormula}
 use Rattle.outcome_laws.proofs.RightLemmas.{NoFormulaFault, formula_at, machine_status, of_machine, text_cnf}
 use Rattle.outcome_laws.proofs.StreamLemmas.{EndsSo, HaveLost, RefutesSo, cut_is_open, ended_at, ends_alone, ends_in_order}
-use Rattle.outcome_laws.proofs.StreamLemmas.{refutes_alone, refutes_in_order, stopped_is_open}
+use Rattle.outcome_laws.proofs.StreamLemmas.{cut_of_is_open, refutes_alone, refutes_in_order, stopped_is_open, stopped_of_is_open}
 
 -- Faults
 
 round_status : (fault : CommandFault) → IsOfMachineInRound fault → (status_of fault ≡ 5) ⊎ (status_of fault ≡ 6)
-round_status (faults.Usage text) is = absurd is
-round_status faults.Unread is = inl refl
-round_status (faults.Refused fault) is = absurd is
-round_status faults.CubeUnread is = inl refl
-round_status (faults.CubeRefused fault) is = absurd is
-round_status (faults.NotOpened stream) is = inl refl
-round_status (faults.Layout fault) is = absurd is
-round_status (faults.Spawn stream) is = inr refl
-round_status (faults.Ring stream) is = inr refl
-round_status faults.Memory is = inr refl
-round_status faults.Unwritten is = absurd is
-round_status faults.NotCreated is = inl refl
-round_status (faults.NotSaved fault) is = absurd is
-round_status faults.TwoCheckpoints is = absurd is
-round_status faults.SizesUnread is = inl refl
-round_status faults.Sizes is = absurd is
+round_status fault (inl machine) = machine_status fault machine
+round_status fault (inr sizes) = inl (ap status_of sizes)
 
 -- what a fault of a later round isn't of
 module _ (its : Deeds) (plan : Plan) (number : ℕ) (old : Sizes) (formula : Cnf) (before : its.State) where
@@ -81,30 +70,30 @@ module _ (its : Deeds) (plan : Plan) (number : ℕ) (old : Sizes) (formula : Cnf
 
     pub of_round : (fault : CommandFault) → Cause fault → IsOfMachineInRound fault
     of_round (faults.Usage text) cause =
-        none_so (faults.Usage text) (λ x. x) (λ F R o r f p x. x) (λ z s a x. x) (λ r p x. x) cause
-    of_round faults.Unread cause = tt
+        absurd (none_so (faults.Usage text) (λ x. x) (λ F R o r f p x. x) (λ z s a x. x) (λ r p x. x) cause)
+    of_round faults.Unread cause = inl tt
     of_round (faults.Refused fault) cause =
-        none_so (faults.Refused fault) (λ x. x) (λ F R o r f p x. x) (λ z s a x. x) (λ r p x. x) cause
-    of_round faults.CubeUnread cause = tt
+        absurd (none_so (faults.Refused fault) (λ x. x) (λ F R o r f p x. x) (λ z s a x. x) (λ r p x. x) cause)
+    of_round faults.CubeUnread cause = inl tt
     of_round (faults.CubeRefused fault) cause =
-        none_so (faults.CubeRefused fault) (λ x. x) (λ F R o r f p x. x) (λ z s a x. x) (λ r p x. x) cause
-    of_round (faults.NotOpened stream) cause = tt
+        absurd (none_so (faults.CubeRefused fault) (λ x. x) (λ F R o r f p x. x) (λ z s a x. x) (λ r p x. x) cause)
+    of_round (faults.NotOpened stream) cause = inl tt
     of_round (faults.Layout fault) cause =
-        none_so (faults.Layout fault) (λ x. x) (λ F R o r f p x. x)
-        (λ sizes sized are wrong. (provided.ready sizes sized are).layout fault wrong) (λ r p x. x) cause
-    of_round (faults.Spawn stream) cause = tt
-    of_round (faults.Ring stream) cause = tt
-    of_round faults.Memory cause = tt
+        absurd (none_so (faults.Layout fault) (λ x. x) (λ F R o r f p x. x)
+        (λ sizes sized are wrong. (provided.ready sizes sized are).layout fault wrong) (λ r p x. x) cause)
+    of_round (faults.Spawn stream) cause = inl tt
+    of_round (faults.Ring stream) cause = inl tt
+    of_round faults.Memory cause = inl tt
     of_round faults.Unwritten cause =
-        none_so faults.Unwritten (λ x. x) (λ F R o r f p x. x) (λ z s a x. x) (λ r p x. x) cause
-    of_round faults.NotCreated cause = tt
+        absurd (none_so faults.Unwritten (λ x. x) (λ F R o r f p x. x) (λ z s a x. x) (λ r p x. x) cause)
+    of_round faults.NotCreated cause = inl tt
     of_round (faults.NotSaved fault) cause =
-        none_so (faults.NotSaved fault) (λ x. x) (λ F R o r f p x. x) (λ z s a x. x) (λ r p x. x) cause
+        absurd (none_so (faults.NotSaved fault) (λ x. x) (λ F R o r f p x. x) (λ z s a x. x) (λ r p x. x) cause)
     of_round faults.TwoCheckpoints cause =
-        none_so faults.TwoCheckpoints (λ x. x) (λ F R o r f p x. x) (λ z s a x. x) (λ r p x. x) cause
-    of_round faults.SizesUnread cause = tt
+        absurd (none_so faults.TwoCheckpoints (λ x. x) (λ F R o r f p x. x) (λ z s a x. x) (λ r p x. x) cause)
+    of_round faults.SizesUnread cause = inr refl
     of_round faults.Sizes cause =
-        none_so faults.Sizes (λ none. provided.sizes none) (λ F R o r f p x. x) (λ z s a x. x) (λ r p x. x) cause
+        absurd (none_so faults.Sizes (λ none. provided.sizes none) (λ F R o r f p x. x) (λ z s a x. x) (λ r p x. x) cause)
 
 -- Rounds
 
@@ -156,9 +145,12 @@ before_them files given folder round b more were = record {
   rounds = were.rounds.1;
 }
 
-module _ (Before Last : RoundAsk) (Lost : LayoutValue → ℕ → Report → Type 0) (ends_so : EndsSo Before Lost) (refutes_so : RefutesSo Last Lost)
-    (unended : (layout : LayoutValue) (s : ℕ) (report : Report) → Lost layout s report → ¬ (report.ending ≡ endings.Ended))
-    (one_formula : OneFormula) (no_fault : NoFormulaFault) (alike : SameWordsAskAlike) (files : FilesView) (words : List Text) (folder : Text)
+module _ (Before Last : RoundAsk) (Early Late : Loss) (ends_so : EndsSo Before Early) (refutes_so : RefutesSo Last Late)
+    (early_open : (layout : LayoutValue) (s : ℕ) (report : Report) → Early layout s report → ¬ (report.ending ≡ endings.Ended))
+    (late_open : (layout : LayoutValue) (s : ℕ) (report : Report) → Late layout s report → ¬ (report.ending ≡ endings.Ended))
+    (serial : SerialRun) (bare : EmptyCubeReported)
+    (one_formula : OneFormula) (no_fault : NoFormulaFault) (alike : SameWordsAskAlike) (files : FilesView) (words : List Text)
+    (folder : Text)
     (last : ℕ) (ask : AskForRightRounds Before Last files words folder last) where
   -- the words ask for no checkpoint
   two_files : ¬ IsCause files words faults.TwoCheckpoints
@@ -175,7 +167,8 @@ module _ (Before Last : RoundAsk) (Lost : LayoutValue → ℕ → Report → Typ
       let asks = ask.asks in
       let same = alike words asks.given given asks.command_line line in
       let formulas : round.formula ≡ asks.formula =
-      first.formula_is ∙ formula_at one_formula no_fault alike files (Some folder) words asks given were.formula were.next line were.is_formula in
+      first.formula_is
+      ∙ formula_at one_formula no_fault alike files (Some folder) words asks given were.formula were.next line were.is_formula in
       let sizes : round.sizes ≡ sizes_of asks.given = first.sizes_are ∙ sizes_alike given asks.given same.0 same.1 in
       let one : 1 ≡ length (round ∷ []) = omega arith in
       record {
@@ -207,12 +200,23 @@ module _ (Before Last : RoundAsk) (Lost : LayoutValue → ℕ → Report → Typ
             (stream_paths folder (length (b ∷ more) + 1) round.sizes.streams)) number ready.streams;
       }
 
+  -- in the round with this number some stream was stopped
+  abbrev Lost : ℕ → Round files.State files.Reader → Type 0
+  Lost number round = HaveLost (WasStopped Early Late last number) (layout_in round.formula round.sizes) round.reports
+
+  -- who was stopped hasn't ended
+  unended : (number : ℕ) (round : Round files.State files.Reader) → Lost number round → ¬ HaveEnded round.reports
+  unended number round (s, report, says, inl early) ended =
+      early_open (layout_in round.formula round.sizes) s report early.1 (ended_at round.reports (s - 1) report says.1 ended)
+  unended number round (s, report, says, inr late) ended =
+      late_open (layout_in round.formula round.sizes) s report late.1 (ended_at round.reports (s - 1) report says.1 ended)
+
   -- what became of it
   fate : (given : CommandLine) → IsCommandLineOf words given
       → (round : Round files.State files.Reader) (before : List (Round files.State files.Reader))
       → WereRounds files given folder round before → length (round ∷ before) ≤ last
       → (HaveEnded round.reports × (length (round ∷ before) < last))
-      ⊎ ((round.verdict ≡ Unsatisfiable) ⊎ HaveLost Lost (layout_in round.formula round.sizes) round.reports)
+      ⊎ ((round.verdict ≡ Unsatisfiable) ⊎ Lost (length (round ∷ before)) round)
   fate given line round before were few =
       let its = deeds_of files in
       let plan = plan_at given were.cube folder in
@@ -222,11 +226,14 @@ module _ (Before Last : RoundAsk) (Lost : LayoutValue → ℕ → Report → Typ
       elim (cases_lt number last) [
         | inl below ↦ elim (ends_so files.Reader files.reading check is.cnf (is.asked.earlier below)) [
           | inl ended ↦ inl (ended, below)
-          | inr lost ↦ inr (inr lost)
+          | inr lost ↦ inr (inr (lost.0, lost.1, lost.2, inl (below, lost.3)))
         ]
         | inr above ↦
             let at_last : number ≡ last = omega (arith, above, few) in
-            inr (refutes_so files.Reader files.reading check is.cnf (is.asked.at_last at_last))
+            elim (refutes_so files.Reader files.reading check is.cnf (is.asked.at_last at_last)) [
+              | inl refuted ↦ inr (inl refuted)
+              | inr lost ↦ inr (inr (lost.0, lost.1, lost.2, inr (at_last, lost.3)))
+            ]
       ]
 
   -- one that goes on isn't the last
@@ -238,9 +245,7 @@ module _ (Before Last : RoundAsk) (Lost : LayoutValue → ℕ → Report → Typ
   goes_below given line round before were few next goes = elim (fate given line round before were few) [
     | inl (ended, below) ↦ below
     | inr (inl refuted) ↦ absurd (let no : Unsatisfiable ≡ Unknown = sym refuted ∙ goes.verdict in cc)
-    | inr (inr lost) ↦
-        absurd (unended (layout_in round.formula round.sizes) lost.0 lost.1 lost.3
-        (ended_at round.reports (lost.0 - 1) lost.1 lost.2.1 goes.ended))
+    | inr (inr lost) ↦ absurd (unended (length (round ∷ before)) round lost goes.ended)
   ]
 
   -- there are no more
@@ -261,13 +266,33 @@ module _ (Before Last : RoundAsk) (Lost : LayoutValue → ℕ → Report → Typ
       → CarriesOn (deeds_of files) (plan_at given were.cube folder) (length (round ∷ before)) round next
       → IsProvided Before Last last (deeds_of files) folder (length (round ∷ before) + 1) round.sizes next round.after
   provided_for given line round before were next goes =
-      ask.later given round before next line were (goes_below given line round before were (few_rounds given line round before were) next goes)
-      goes
+      let few = few_rounds given line round before were in
+      ask.later given round before next line were (goes_below given line round before were few next goes) goes
+
+  -- without assumed literals nothing is said of them
+  under_some : (given : CommandLine) → IsCommandLineOf words given
+      → (round : Round files.State files.Reader) (before : List (Round files.State files.Reader))
+      → (were : WereRounds files given folder round before) → (path : Option Text) → assumed_at given ≡ path
+      → AreAssumed (WasReadIn files) were.formula.vars were.next path were.cube were.later
+      → round.verdict ≡ UnsatisfiableUnder → (asked : Text) × (assumed_at given ≡ Some asked)
+  under_some given line round before were (Some path) is assumed under = (path, is)
+  under_some given line round before were None is assumed under =
+      let plan = plan_at given were.cube folder in
+      let number = length (round ∷ before) in
+      let asked = is_asked given line round before were (few_rounds given line round before were) in
+      absurd (never_under files.reading (check_in Before Last last (deeds_of files) plan number round asked) serial bare assumed.0 under)
+
+  asked_under : (given : CommandLine) → IsCommandLineOf words given
+      → (round : Round files.State files.Reader) (before : List (Round files.State files.Reader))
+      → WereRounds files given folder round before → round.verdict ≡ UnsatisfiableUnder
+      → (asked : Text) × (assumed_at given ≡ Some asked)
+  asked_under given line round before were under =
+      under_some given line round before were (assumed_at given) refl were.assumed under
 
   -- The rounds are over without an answer: a stream was stopped.
   lost_in : (given : CommandLine) → IsCommandLineOf words given → (after : files.State) (out err : SinkChange) (status : ℕ)
       → (ends : ReportsRounds files given folder after out err status) → ends.last.verdict ≡ Unknown → ends.last.unsaved ≡ None
-      → HaveLost Lost (layout_in ends.last.formula ends.last.sizes) ends.last.reports
+      → Lost (length (ends.last ∷ ends.before)) ends.last
   lost_in given line after out err status ends unknown saved =
       let few = few_rounds given line ends.last ends.before ends.were in
       elim (fate given line ends.last ends.before ends.were few) [
@@ -287,7 +312,7 @@ module _ (Before Last : RoundAsk) (Lost : LayoutValue → ℕ → Report → Typ
 
   module _ (after : files.State) (out err : SinkChange) (status : ℕ) where
     abbrev Goal : Type 0
-    Goal = (status ≡ 0) ⊎ IsExcusedInRounds files words folder Lost after out err status
+    Goal = (status ≡ 0) ⊎ IsExcusedInRounds files words folder Early Late last after out err status
 
     reported_so : (given : CommandLine) → IsCommandLineOf words given → (ends : ReportsRounds files given folder after out err status)
         → (failed : Bool) → out.failed ≡ failed → (unsaved : Option SaveFault) → ends.last.unsaved ≡ unsaved
@@ -295,7 +320,9 @@ module _ (Before Last : RoundAsk) (Lost : LayoutValue → ℕ → Report → Typ
     reported_so given line ends true failed unsaved u verdict v is = inr (not_printed failed is)
     reported_so given line ends false failed (Some fault) u verdict v is = inr (not_kept given line ends fault u is)
     reported_so given line ends false failed None u Unsatisfiable v is = inl is
-    reported_so given line ends false failed None u UnsatisfiableUnder v is = inr (under_cube given line ends v is)
+    reported_so given line ends false failed None u UnsatisfiableUnder v is =
+        let asked = asked_under given line ends.last ends.before ends.were v in
+        inr (under_cube given line ends asked.0 asked.1 v is)
     reported_so given line ends false failed None u Unknown v is =
         let lost = lost_in given line after out err status ends v u in
         inr (stopped given line ends lost.0 lost.1 lost.2 lost.3 is)
@@ -333,14 +360,16 @@ module _ (Before Last : RoundAsk) (Lost : LayoutValue → ℕ → Report → Typ
           | inr fails ↦ failed_so ends.given ends.command_line fails
         ]
 
-pub right_rounds_say : OneFormula → NoFormulaFault → SerialRun → SameWordsAskAlike → RightReported → RightBegins → RightEmpty
-    → (files : FilesView) → RightRoundsSay files
-right_rounds_say one_formula no_fault serial alike reported begins empty files words folder last s after out err status ask =
-    rounds_say AreRightAlone (IsRefutedAlone s) (λ layout t report. IsCutOff report) (ends_alone serial reported)
-    (refutes_alone serial begins empty s) cut_is_open one_formula no_fault alike files words folder last ask after out err status
+pub right_rounds_say : OneFormula → NoFormulaFault → SerialRun → EmptyCubeReported → SameWordsAskAlike → RightReported → RightBegins
+    → RightEmpty → (files : FilesView) → RightRoundsSay files
+right_rounds_say one_formula no_fault serial bare alike reported begins empty files words folder last s count after out err status ask =
+    rounds_say AreRightAlone (IsRefutedAlone s count) (λ layout t report. IsCutOff report) (IsCutOffOf s count)
+    (ends_alone serial reported) (refutes_alone serial begins empty s count) cut_is_open (cut_of_is_open s count)
+    serial bare one_formula no_fault alike files words folder last ask after out err status
 
-pub right_orders_say : OneFormula → NoFormulaFault → SerialRun → SameWordsAskAlike → RightTogether → TogetherBegins → RightEmpty
-    → (files : FilesView) → RightOrdersSay files
-right_orders_say one_formula no_fault serial alike together begins empty files words folder last s after out err status ask =
-    rounds_say AreRightInOrder (IsRefutedInOrder s) IsStopped (ends_in_order serial together)
-    (refutes_in_order serial begins empty s) stopped_is_open one_formula no_fault alike files words folder last ask after out err status
+pub right_orders_say : OneFormula → NoFormulaFault → SerialRun → EmptyCubeReported → SameWordsAskAlike → RightTogether → TogetherBegins
+    → RightEmpty → (files : FilesView) → RightOrdersSay files
+right_orders_say one_formula no_fault serial bare alike together begins empty files words folder last s count after out err status ask =
+    rounds_say AreRightInOrder (IsRefutedInOrder s count) IsStopped (IsStoppedOf s count)
+    (ends_in_order serial together) (refutes_in_order serial begins empty s count) stopped_is_open (stopped_of_is_open s count)
+    serial bare one_formula no_fault alike files words folder last ask after out err status

@@ -1,5 +1,5 @@
 -- What right streams of a round come to.
-use Rattle.std.proofs.Common.{◌≡◌, ◌⊎◌, ◌-◌, ◌+◌, ℕ, true, List, [], ◌∷◌, length, zero, suc}
+use Rattle.std.proofs.Common.{◌≡◌, ◌⊎◌, ◌≤◌, ◌-◌, ◌+◌, ℕ, true, List, [], ◌∷◌, length, zero, suc}
 use Rattle.std.proofs.Common.{Some, inl, inr, refl, sym, ap, subst, ◌∙◌, arith}
 use Rattle.std.specs.Prelude.{IsTrue, slice_get}
 use Rattle.std.specs.List.{AllByRecursion, flat_map}
@@ -21,23 +21,24 @@ use Rattle.run_laws.specs.Together.{Step, TogetherBegins, RightTogether, lines_b
 use Rattle.portfolio.specs.declared.outcome.Verdict.TheVariants.{Unsatisfiable}
 use Rattle.command.specs.Commands.{Text}
 use Rattle.command.specs.Rounds.{HaveEnded}
-use Rattle.outcome_laws.specs.RightRounds.{AreRightAlone, AreRightInOrder, IsRefutedAlone, IsRefutedInOrder, IsStopped, RoundAsk}
+use Rattle.outcome_laws.specs.RightRounds.{AreRightAlone, AreRightInOrder, IsCutOffOf, IsRefutedAlone, IsRefutedInOrder, IsStopped}
+use Rattle.outcome_laws.specs.RightRounds.{IsStoppedOf, Loss, RoundAsk}
 use Rattle.outcome_laws.specs.Serial.{IsCutOff}
 use Rattle.outcome_laws.proofs.CheckLemmas.{Check, have_texts, order_says, refutation_says, run_of, telling_of_file}
 use Rattle.outcome_laws.proofs.CheckLemmas.{told_of}
 use Rattle.outcome_laws.proofs.SerialLemmas.{said_of}
 
 -- some stream was stopped
-abbrev pub HaveLost : (LayoutValue → ℕ → Report → Type 0) → LayoutValue → List Report → Type 0
+abbrev pub HaveLost : Loss → LayoutValue → List Report → Type 0
 HaveLost Lost layout reports = (s : ℕ) × (report : Report) × IsOfStream reports s report × Lost layout s report
 
 -- streams of which this is asked have ended, or some was stopped
-abbrev pub EndsSo : RoundAsk → (LayoutValue → ℕ → Report → Type 0) → Type 1
+abbrev pub EndsSo : RoundAsk → Loss → Type 1
 EndsSo Before Lost = (R : Type 0) (reading : SourceView R) (c : Check reading) → IsCnf c.formula
     → Before c.formula c.terms.layout c.tells c.paths → HaveEnded c.reports ⊎ HaveLost Lost c.terms.layout c.reports
 
 -- they come to 'unsatisfiable', or some was stopped
-abbrev pub RefutesSo : RoundAsk → (LayoutValue → ℕ → Report → Type 0) → Type 1
+abbrev pub RefutesSo : RoundAsk → Loss → Type 1
 RefutesSo Last Lost = (R : Type 0) (reading : SourceView R) (c : Check reading) → IsCnf c.formula
     → Last c.formula c.terms.layout c.tells c.paths → (c.verdict ≡ Unsatisfiable) ⊎ HaveLost Lost c.terms.layout c.reports
 
@@ -133,27 +134,32 @@ pub ends_in_order : SerialRun → RightTogether → EndsSo AreRightInOrder IsSto
 ends_in_order serial together R reading c cnf right =
     all_streams (IsStopped c.terms.layout) c.reports (order_ends serial reading c cnf together right)
 
--- who was cut off in the first lines was cut off
-cut_off : (count : ℕ) (report : Report) → IsCutOffIn count report → IsCutOff report
-cut_off count report (line, below, inl memory) = inl (line, memory)
-cut_off count report (line, below, inr failed) = inr (line, failed)
+-- who was cut off in some first lines was so in more
+cut_in : (few many : ℕ) (report : Report) → few ≤ many → IsCutOffIn few report → IsCutOffIn many report
+cut_in few many report more cut = (cut.0, omega (arith, cut.1, more), cut.2)
 
-pub refutes_alone : SerialRun → RightBegins → RightEmpty → (s : ℕ) → RefutesSo (IsRefutedAlone s) (λ layout t report. IsCutOff report)
-refutes_alone serial begins empty s R reading c cnf right =
-    let refutation = right.4 in
+pub refutes_alone : SerialRun → RightBegins → RightEmpty → (s count : ℕ) → RefutesSo (IsRefutedAlone s count) (IsCutOffOf s count)
+refutes_alone serial begins empty s count R reading c cnf right =
+    let refutation = right.4.0 in
     elim (refutation_says reading c serial begins empty cnf s right.0 right.1 refutation.lines right.2 right.3 refutation.right
     refutation.empty) [
       | inl says ↦ inl says
-      | inr cut ↦ inr (s, cut.0, cut.1, cut_off (length refutation.lines) cut.0 cut.2)
+      | inr cut ↦ inr (s, cut.0, cut.1, (refl, cut_in (length refutation.lines) count cut.0 right.4.1 cut.2))
     ]
 
-pub refutes_in_order : SerialRun → TogetherBegins → RightEmpty → (s : ℕ) → RefutesSo (IsRefutedInOrder s) IsStopped
-refutes_in_order serial together empty s R reading c cnf right =
-    let count = length (lines_by s right.1) in
+pub refutes_in_order : SerialRun → TogetherBegins → RightEmpty → (s count : ℕ)
+    → RefutesSo (IsRefutedInOrder s count) (IsStoppedOf s count)
+refutes_in_order serial together empty s count R reading c cnf right =
+    let lines = length (lines_by s right.1) in
     elim (order_says reading c serial together empty cnf s right.0 right.1 right.2 right.3 right.4 right.5) [
       | inl says ↦ inl says
-      | inr (report, says, inl cut) ↦ inr (s, report, says, inl (cut_off count report cut))
-      | inr (report, says, inr lacks) ↦ inr (s, report, says, inr (count, lacks))
+      | inr (report, says, inl cut) ↦ inr (s, report, says, (refl, inl (cut_in lines count report right.6 cut)))
+      | inr (report, says, inr lacks) ↦ inr (
+        s,
+        report,
+        says,
+        (refl, inr (lacks.0, lacks.1, omega (arith, lacks.2, right.6), lacks.3, lacks.4)),
+      )
     ]
 
 -- who was stopped hasn't ended
@@ -167,3 +173,16 @@ stopped_is_open layout s report (inr (count, (line, id, below, other, inl missin
     let no : endings.Bad line (stream_faults.Missing id) ≡ endings.Ended = sym missing ∙ ended in cc
 stopped_is_open layout s report (inr (count, (line, id, below, other, inr retired))) ended =
     let no : endings.Bad line (stream_faults.Retired id) ≡ endings.Ended = sym retired ∙ ended in cc
+
+cut_in_is_open : (count : ℕ) (report : Report) → IsCutOffIn count report → ¬ (report.ending ≡ endings.Ended)
+cut_in_is_open count report (line, below, inl memory) ended = let no : endings.Memory line ≡ endings.Ended = sym memory ∙ ended in cc
+cut_in_is_open count report (line, below, inr failed) ended = let no : endings.ReadFailed line ≡ endings.Ended = sym failed ∙ ended in cc
+
+pub cut_of_is_open : (s count : ℕ) (layout : LayoutValue) (t : ℕ) (report : Report) → IsCutOffOf s count layout t report
+    → ¬ (report.ending ≡ endings.Ended)
+cut_of_is_open s count layout t report cut ended = cut_in_is_open count report cut.1 ended
+
+pub stopped_of_is_open : (s count : ℕ) (layout : LayoutValue) (t : ℕ) (report : Report) → IsStoppedOf s count layout t report
+    → ¬ (report.ending ≡ endings.Ended)
+stopped_of_is_open s count layout t report (same, inl cut) ended = cut_in_is_open count report cut ended
+stopped_of_is_open s count layout t report (same, inr lacks) ended = stopped_is_open layout s report (inr (count, lacks)) ended

@@ -6,10 +6,11 @@ use Rattle.lrup_model.specs.Layout.{IsFault, LayoutValue}
 use Rattle.lrup_model.specs.declared.layout.LayoutFault.{LayoutFault}
 use Rattle.lrup_text.specs.Lines.{StreamLine, line_text}
 use Rattle.stream_check.specs.declared.report.Report.{Report}
+use Rattle.stream_check.specs.Setting.{Setting}
 use Rattle.runs.specs.Closed.{IsOfStream}
 use Rattle.runs.specs.Streams.{setting_of}
-use Rattle.run_laws.specs.Blame.{LacksOfAnother}
-use Rattle.run_laws.specs.Right.{AddsEmpty, IsRightRefutation, IsRightStream}
+use Rattle.run_laws.specs.Blame.{LacksOfAnother, LacksOfAnotherIn}
+use Rattle.run_laws.specs.Right.{AddsEmpty, IsCutOffIn, IsRightRefutation, IsRightStream}
 use Rattle.run_laws.specs.Together.{Step, IsRightOrder, lines_by}
 use Rattle.portfolio.specs.Outcomes.{layout_of}
 use Rattle.portfolio.specs.declared.outcome.Verdict.TheVariants.{UnsatisfiableUnder}
@@ -17,7 +18,7 @@ use Rattle.checkpoint.specs.declared.saving.SaveFault.{SaveFault}
 use Rattle.command_line.specs.CommandLine.{IsCommandLineOf}
 use Rattle.command_line.specs.declared.sizes.Sizes.{Sizes}
 use Rattle.command_line.specs.declared.words.CommandLine.{CommandLine}
-use Rattle.command.specs.Commands.{FilesView, IsCause, SinkChange, Text, checkpoint_at}
+use Rattle.command.specs.Commands.{FilesView, IsCause, SinkChange, Text, assumed_at, checkpoint_at}
 use Rattle.command.specs.Faults.{status_of}
 use Rattle.command.specs.Paths.{sizes_path, stream_path, stream_paths}
 use Rattle.command.specs.Rounds.{AreSized, CarriesOn, Deeds, FailsInRound, HoldsNoSizes, ProgramEnds, ReportsRounds, Round, WereRounds}
@@ -43,11 +44,11 @@ AreRightAlone formula layout tells paths =
     → (bytes : List ℕ) × (lines : List StreamLine) × (tells path ≡ Some bytes)
     × IsRightStream formula layout s bytes lines
 
--- the file of stream s tells a right refutation; nothing is asked of the other streams
-abbrev pub IsRefutedAlone : ℕ → RoundAsk
-IsRefutedAlone s formula layout tells paths =
+-- the file of stream s tells a right refutation, of so many lines at most; nothing is asked of the other streams
+abbrev pub IsRefutedAlone : (s count : ℕ) → RoundAsk
+IsRefutedAlone s count formula layout tells paths =
     (path : Text) × (bytes : List ℕ) × IsOfStream paths s path × (tells path ≡ Some bytes)
-    × IsRightRefutation formula layout s bytes
+    × ((right : IsRightRefutation formula layout s bytes) × (length right.lines ≤ count))
 
 -- lines of the streams have a right order, and the file of each stream tells the texts of its lines, and nothing else
 abbrev pub AreRightInOrder : RoundAsk
@@ -56,15 +57,15 @@ AreRightInOrder formula layout tells paths =
     × ((s : ℕ) (path : Text) → IsOfStream paths s path
     → tells path ≡ Some (flat_map line_text (lines_by s steps)))
 
--- lines of a set of streams have a right order, their files begin with the texts of their lines, and some line of stream s adds the
--- empty clause
-abbrev pub IsRefutedInOrder : ℕ → RoundAsk
-IsRefutedInOrder s formula layout tells paths =
+-- lines of a set of streams have a right order, their files begin with the texts of their lines, and some line of stream s, which has
+-- so many at most, adds the empty clause
+abbrev pub IsRefutedInOrder : (s count : ℕ) → RoundAsk
+IsRefutedInOrder s count formula layout tells paths =
     (set : ℕ → Bool) × (steps : List Step) × IsRightOrder formula layout steps
     × AllByRecursion (λ step. IsTrue (set step.stream)) steps
     × ((t : ℕ) (path : Text) → IsTrue (set t) → IsOfStream paths t path
     → (more : List ℕ) × (tells path ≡ Some (flat_map line_text (lines_by t steps) ++ more)))
-    × Any AddsEmpty (lines_by s steps)
+    × Any AddsEmpty (lines_by s steps) × (length (lines_by s steps) ≤ count)
 
 -- of the round with this number the one thing is asked before the last round, and the other in the last one
 pub record IsAskedOf (Before Last : RoundAsk) (last number : ℕ) (formula : Cnf) (sizes : Sizes)
@@ -73,8 +74,8 @@ pub record IsAskedOf (Before Last : RoundAsk) (last number : ℕ) (formula : Cnf
   pub at_last : number ≡ last → Last formula (layout_in formula sizes) tells paths
 
 -- Of a later round, whose sizes were read: there is a file of its stream 1, a layout, and what is asked of its streams.
-pub record IsReady (Before Last : RoundAsk) (last : ℕ) (its : Deeds) (folder : Text) (number : ℕ)
-    (formula : Cnf) (sizes : Sizes) (sized : its.State) : Type 0 where
+pub record IsRoundReady (Before Last : RoundAsk) (last : ℕ) (its : Deeds) (folder : Text)
+    (number : ℕ) (formula : Cnf) (sizes : Sizes) (sized : its.State) : Type 0 where
   pub there : (after : its.State) → ¬ its.lacks sized (stream_path folder number 1) after
   pub layout : (fault : LayoutFault) → ¬ IsFault (layout_in formula sizes) fault
   pub streams : IsAskedOf Before Last last number formula sizes (its.tells sized)
@@ -87,7 +88,7 @@ pub record IsProvided (Before Last : RoundAsk) (last : ℕ) (its : Deeds) (folde
   pub sizes : ¬ HoldsNoSizes its before (sizes_path folder number)
   pub ready : (sizes : Sizes) (sized : its.State)
       → AreSized its (sizes_path folder number) old before sizes sized
-      → IsReady Before Last last its folder number formula sizes sized
+      → IsRoundReady Before Last last its folder number formula sizes sized
 
 -- The words ask well for rounds of a folder, and for no checkpoint. Of round 1, and of each round up to the last that some run of
 -- these words comes to, so much is asked: with threads the formula of a later round depends on how they ran. The last round has a
@@ -111,73 +112,98 @@ pub record AskForRightRounds (Before Last : RoundAsk) (files : FilesView) (words
 
 -- the fault of a round is the machine's: as of a run, or a file of sizes wasn't opened or read (5)
 abbrev pub IsOfMachineInRound : CommandFault → Type 0
-IsOfMachineInRound faults.SizesUnread = Unit {0}
-IsOfMachineInRound fault = IsOfMachine fault
+IsOfMachineInRound fault = IsOfMachine fault ⊎ (fault ≡ faults.SizesUnread)
+
+-- how a report tells that its stream was stopped: by the layout, the stream and the report
+abbrev pub Loss : Type 1
+Loss = LayoutValue → ℕ → Report → Type 0
+
+-- so in the round with this number: before the last round for the one reason, in the last one for the other
+abbrev pub WasStopped : (Early Late : Loss) → (last number : ℕ) → Loss
+WasStopped Early Late last number layout s report =
+    ((number < last) × Early layout s report) ⊎ ((number ≡ last) × Late layout s report)
 
 -- Why the program doesn't say 'unsatisfiable', where rounds are right. None of these says that a line is wrong. What is said of a
 -- report is said of the one that was printed, of the last round that there was.
 pub data IsExcusedInRounds (files : FilesView) (words : List Text) (folder : Text)
-    (Lost : LayoutValue → ℕ → Report → Type 0) (after : files.State) (out err : SinkChange)
+    (Early Late : Loss) (last : ℕ) (after : files.State) (out err : SinkChange)
     (status : ℕ) : Type 0 where
   -- the report wasn't written
   not_printed : (failed : out.failed ≡ true) (is : status ≡ 7)
-      → IsExcusedInRounds files words folder Lost after out err status
+      → IsExcusedInRounds files words folder Early Late last after out err status
   -- there is no report, for a fault of the machine, in round 1 or before
   not_begun :
       (fault : CommandFault) (cause : IsCause files words fault) (machine : IsOfMachine fault)
       (status_is : status ≡ status_of fault) (is : (status ≡ 5) ⊎ (status ≡ 6))
-      → IsExcusedInRounds files words folder Lost after out err status
+      → IsExcusedInRounds files words folder Early Late last after out err status
   -- there is none, for a fault of the machine, in a later round
   not_gone_on :
       (given : CommandLine) (line : IsCommandLineOf words given)
       (ends : FailsInRound files given folder out err status)
       (machine : IsOfMachineInRound ends.fault) (is : (status ≡ 5) ⊎ (status ≡ 6))
-      → IsExcusedInRounds files words folder Lost after out err status
+      → IsExcusedInRounds files words folder Early Late last after out err status
   -- the formula of the next round wasn't saved
   not_kept :
       (given : CommandLine) (line : IsCommandLineOf words given)
       (ends : ReportsRounds files given folder after out err status)
       (fault : SaveFault) (why : ends.last.unsaved ≡ Some fault) (is : status ≡ 9)
-      → IsExcusedInRounds files words folder Lost after out err status
-  -- the report says 'unsatisfiable under assumptions'
+      → IsExcusedInRounds files words folder Early Late last after out err status
+  -- the words ask for assumed literals, and the report says 'unsatisfiable under assumptions'
   under_cube :
       (given : CommandLine) (line : IsCommandLineOf words given)
       (ends : ReportsRounds files given folder after out err status)
+      (path : Text) (asked : assumed_at given ≡ Some path)
       (why : ends.last.verdict ≡ UnsatisfiableUnder) (is : status ≡ 8)
-      → IsExcusedInRounds files words folder Lost after out err status
+      → IsExcusedInRounds files words folder Early Late last after out err status
   -- the report says that a stream was stopped, for such a reason
   stopped :
       (given : CommandLine) (line : IsCommandLineOf words given)
       (ends : ReportsRounds files given folder after out err status)
       (s : ℕ) (report : Report) (says : IsOfStream ends.last.reports s report)
-      (why : Lost (layout_in ends.last.formula ends.last.sizes) s report) (is : status ≡ 3)
-      → IsExcusedInRounds files words folder Lost after out err status
+      (why : WasStopped Early Late last (length (ends.last ∷ ends.before))
+      (layout_in ends.last.formula ends.last.sizes) s report) (is : status ≡ 3)
+      → IsExcusedInRounds files words folder Early Late last after out err status
+
+-- memory ran out, or a read failed, in the first lines of stream s, so many
+abbrev pub IsCutOffOf : (s count : ℕ) → Loss
+IsCutOffOf s count layout t report = (t ≡ s) × IsCutOffIn count report
 
 -- Where in each round before the last each stream is right and cites only its own clauses and the formula's, and in the last one
 -- stream s is a right refutation, the program ends with status 0; or with 7, for a report that wasn't written; or with 5 or 6, for a
--- fault of the machine; or with 9, for a formula of the next round that wasn't saved; or with 8, and then the report says
--- 'unsatisfiable under assumptions'; or with 3, and then the report says that memory ran out in some stream, or a read of it failed.
+-- fault of the machine; or with 9, for a formula of the next round that wasn't saved; or with 8, and then there are assumed literals,
+-- and the report says 'unsatisfiable under assumptions'; or with 3, and then the report says that memory ran out, or a read failed: in
+-- the refutation's lines, or in some stream of a round before the last.
 abbrev pub RightRoundsSay : FilesView → Type 0
-RightRoundsSay files = (words : List Text) (folder : Text) (last s : ℕ) (after : files.State)
+RightRoundsSay files = (words : List Text) (folder : Text) (last s count : ℕ) (after : files.State)
     (out err : SinkChange) (status : ℕ)
-    → AskForRightRounds AreRightAlone (IsRefutedAlone s) files words folder last
+    → AskForRightRounds AreRightAlone (IsRefutedAlone s count) files words folder last
     → ProgramEnds files words after out err status
     → (status ≡ 0)
-    ⊎ IsExcusedInRounds files words folder (λ layout t report. IsCutOff report) after out err status
+    ⊎ IsExcusedInRounds files words folder (λ layout t report. IsCutOff report)
+    (IsCutOffOf s count) last after out err status
+
+-- what a stream is checked by, but for the cube
+abbrev pub setting_in : LayoutValue → ℕ → Setting
+setting_in layout s = setting_of (record { layout = layout; cube = []; tries = 0 }) s
 
 -- memory ran out in the stream, or a read of it failed, or a line of it cites a clause of another stream that wasn't there, or wasn't
 -- any more; here the cube makes no difference
-abbrev pub IsStopped : LayoutValue → ℕ → Report → Type 0
-IsStopped layout s report =
-    IsCutOff report
-    ⊎ LacksOfAnother (setting_of (record { layout = layout; cube = []; tries = 0 }) s) report
+abbrev pub IsStopped : Loss
+IsStopped layout s report = IsCutOff report ⊎ LacksOfAnother (setting_in layout s) report
+
+-- so in the first lines of stream s, so many
+abbrev pub IsStoppedOf : (s count : ℕ) → Loss
+IsStoppedOf s count layout t report =
+    (t ≡ s)
+    × (IsCutOffIn count report ⊎ LacksOfAnotherIn (setting_in layout s) count report)
 
 -- Where in each round before the last lines of all streams have a right order, and in the last one lines of a set of streams, of which
--- stream s adds the empty clause, the program ends so too, with one more reason for 3: a line of a stream cites a clause of another
--- stream that wasn't there, or wasn't any more.
+-- stream s adds the empty clause, the program ends so too, with one more reason for 3: such a line cites a clause of another stream
+-- that wasn't there, or wasn't any more.
 abbrev pub RightOrdersSay : FilesView → Type 0
-RightOrdersSay files = (words : List Text) (folder : Text) (last s : ℕ) (after : files.State)
+RightOrdersSay files = (words : List Text) (folder : Text) (last s count : ℕ) (after : files.State)
     (out err : SinkChange) (status : ℕ)
-    → AskForRightRounds AreRightInOrder (IsRefutedInOrder s) files words folder last
+    → AskForRightRounds AreRightInOrder (IsRefutedInOrder s count) files words folder last
     → ProgramEnds files words after out err status
-    → (status ≡ 0) ⊎ IsExcusedInRounds files words folder IsStopped after out err status
+    → (status ≡ 0)
+    ⊎ IsExcusedInRounds files words folder IsStopped (IsStoppedOf s count) last after out err status
