@@ -23,12 +23,14 @@ use Rattle.run_laws.specs.Together.{IsRightOrder, lines_by, TogetherBegins}
 use Rattle.run_laws.specs.Right.{IsCutOffIn, IsRightBeginning}
 use Rattle.run_laws.specs.RightLaws.{RightBegins, RightEmpty}
 use Rattle.portfolio.specs.Outcomes.{OptionsValue, layout_of}
+use Rattle.portfolio.specs.ReportText.{report_text}
 use Rattle.portfolio.specs.declared.outcome.Verdict.{Verdict}
 use Rattle.portfolio.specs.declared.outcome.Verdict.TheVariants.{Unsatisfiable, UnsatisfiableUnder, Unknown}
 use Rattle.command_line.specs.CommandLine.{AskToSave, IsCommandLineOf}
 use Rattle.command_line.specs.declared.words.CommandLine.{CommandLine}
 use Rattle.command.specs.Commands.{EndsWithFault, EndsWithReport, FilesView, IsAssumeCause, IsCause, IsFormulaAt, IsOutcome, IsReadCause}
 use Rattle.command.specs.Commands.{LeavesCheckpoint, SinkChange, Text, assumed_at, checkpoint_at, layout_at, options_of, report_status}
+use Rattle.command.specs.Commands.{SinkTook}
 use Rattle.checkpoint.specs.declared.saving.SaveFault.{SaveFault}
 use Rattle.command.specs.Faults.{status_of}
 use Rattle.command.specs.declared.fault.CommandFault.{CommandFault}
@@ -98,19 +100,20 @@ module _ (files : FilesView) (Lost : Report → Type 0) where
       said_so words s out status ends.unsaved ends.verdict is saved out.failed refl ends.status_is
 
   lost_so : (words : List Text) (s : ℕ) (out : SinkChange) (status : ℕ) (reports : List Report) (verdict : Verdict)
-      → IsOutcome files words reports verdict → (report : Report) → IsOfStream reports s report → Lost report
+      → IsOutcome files words reports verdict → SinkTook out (report_text reports verdict)
+      → (report : Report) → IsOfStream reports s report → Lost report
       → (unsaved : Option SaveFault) → ((fault : SaveFault) → unsaved ≡ Some fault → (path : Text) × AskToSave words path)
       → (other : Verdict) → verdict ≡ other → (failed : Bool) → out.failed ≡ failed → status ≡ report_status failed unsaved other
       → (status ≡ 0) ⊎ IsExcused files words s Lost out status
-  lost_so words s out status reports verdict a report says why unsaved asks other same true failed is = inr (unwritten failed is)
-  lost_so words s out status reports verdict a report says why (Some fault) asks other same false failed is =
+  lost_so words s out status reports verdict a printed report says why unsaved asks other same true failed is = inr (unwritten failed is)
+  lost_so words s out status reports verdict a printed report says why (Some fault) asks other same false failed is =
       let asked = asks fault refl in
-      inr (lost reports verdict a report says why (inr (asked.0, asked.1, is)))
-  lost_so words s out status reports verdict a report says why None asks Unsatisfiable same false failed is = inl is
-  lost_so words s out status reports verdict a report says why None asks UnsatisfiableUnder same false failed is =
-      inr (lost reports verdict a report says why (inl (inr is)))
-  lost_so words s out status reports verdict a report says why None asks Unknown same false failed is =
-      inr (lost reports verdict a report says why (inl (inl is)))
+      inr (lost reports verdict a printed report says why (inr (asked.0, asked.1, is)))
+  lost_so words s out status reports verdict a printed report says why None asks Unsatisfiable same false failed is = inl is
+  lost_so words s out status reports verdict a printed report says why None asks UnsatisfiableUnder same false failed is =
+      inr (lost reports verdict a printed report says why (inl (inr is)))
+  lost_so words s out status reports verdict a printed report says why None asks Unknown same false failed is =
+      inr (lost reports verdict a printed report says why (inl (inl is)))
 
   pub when_lost : (words : List Text) (after : files.State) (s : ℕ) (out err : SinkChange) (status : ℕ)
       (ends : EndsWithReport files words after out err status)
@@ -121,7 +124,7 @@ module _ (files : FilesView) (Lost : Report → Type 0) where
       asks_to_save files words o.given o.formula ends.verdict fault o.last after o.command_line
       (subst (λ (u : Option SaveFault). LeavesCheckpoint files (checkpoint_at o.given) o.formula ends.verdict u o.last after) is
       ends.checkpoint) in
-      lost_so words s out status ends.reports ends.verdict o report says why ends.unsaved asks ends.verdict refl out.failed
+      lost_so words s out status ends.reports ends.verdict o ends.printed report says why ends.unsaved asks ends.verdict refl out.failed
       refl ends.status_is
 
 -- no text of a formula has a fault: the law of `dimacs`

@@ -15,10 +15,11 @@ use Rattle.runs.specs.Streams.{setting_of}
 use Rattle.run_laws.specs.Blame.{LacksOfAnotherIn}
 use Rattle.run_laws.specs.Right.{AddsEmpty, IsCutOffIn, IsRightRefutation}
 use Rattle.run_laws.specs.Together.{Step, IsRightOrder, lines_by}
+use Rattle.portfolio.specs.ReportText.{report_text}
 use Rattle.portfolio.specs.declared.outcome.Verdict.{Verdict}
 use Rattle.command_line.specs.CommandLine.{AskToSave, IsCommandLineOf}
 use Rattle.command_line.specs.declared.words.CommandLine.{CommandLine}
-use Rattle.command.specs.Commands.{EndsWithFault, EndsWithReport, FilesView, IsCause, IsOutcome, SinkChange, Text, assumed_at, layout_at, rounds_at}
+use Rattle.command.specs.Commands.{EndsWithFault, EndsWithReport, FilesView, IsCause, IsOutcome, SinkChange, SinkTook, Text, assumed_at, layout_at, rounds_at}
 use Rattle.command.specs.Commands.{terms_given}
 use Rattle.command.specs.Faults.{status_of}
 use Rattle.command.specs.declared.fault.CommandFault.{CommandFault}
@@ -113,10 +114,11 @@ pub data IsExcused (files : FilesView) (words : List Text) (s : ℕ)
       (fault : CommandFault) (cause : IsCause files words fault) (machine : IsOfMachine fault)
       (status_is : status ≡ status_of fault) (is : (status ≡ 5) ⊎ (status ≡ 6))
       → IsExcused files words s Lost out status
-  -- there is a report, and stream s was stopped in its right lines, for such a reason
+  -- a report was printed, and stream s was stopped in its right lines, for such a reason
   lost :
       (reports : List Report) (verdict : Verdict)
-      (outcome : IsOutcome files words reports verdict) (report : Report)
+      (outcome : IsOutcome files words reports verdict)
+      (printed : SinkTook out (report_text reports verdict)) (report : Report)
       (says : IsOfStream reports s report) (why : Lost report)
       (is : IsOpen words status) → IsExcused files words s Lost out status
 
