@@ -1,6 +1,6 @@
 -- A check of streams, as an outcome has one, and each round.
-use Rattle.std.proofs.Common.{◌≡◌, ◌⊎◌, ◌<◌, ◌-◌, ◌++◌, ℕ, eqb, ne_eqb, Bool, true, false, List, [], ◌∷◌, length, map, zero, suc}
-use Rattle.std.proofs.Common.{◌+◌, Option, Some, refl, inl, inr, sym, ap, ap₂, subst, ◌∙◌, arith}
+use Rattle.std.proofs.Common.{◌≡◌, ◌⊎◌, ◌<◌, ◌-◌, ◌++◌, ℕ, eqb, ne_eqb, Bool, true, false, List, [], ◌∷◌, length, map, zero, suc, ◌+◌}
+use Rattle.std.proofs.Common.{Option, Some, refl, inl, inr, sym, ap, ap₂, subst, ◌∙◌, arith}
 use Rattle.std.specs.Prelude.{IsTrue, option_map, slice_get, ◌||◌, if◌then◌else◌}
 use Rattle.std.specs.List.{AllByRecursion, Any, flat_map, list_any}
 use Rattle.std.proofs.lemmas.Bool.{cases_eq, cond-true, cond-false, or_right}
@@ -17,6 +17,7 @@ use Rattle.runs.specs.Headline.{AreJudgedIn}
 use Rattle.runs.specs.Closed.{IsOfStream}
 use Rattle.runs.specs.Streams.{Stream, Telling, TermsValue, StandsOnStreams, setting_of, tellings}
 use Rattle.runs.specs.StreamLemmas.{judged_count, same_at, told_as_many, told_count, telling_at, some_end}
+use Rattle.runs.specs.Turns.{IsOrderedByTurns}
 use Rattle.run_laws.specs.Blame.{LacksOfAnotherIn}
 use Rattle.run_laws.specs.Groups.{IsRun}
 use Rattle.run_laws.specs.GroupLaws.{SerialRun}
@@ -124,6 +125,11 @@ module _ {R : Type 0} (reading : SourceView R) (c : Check reading) where
   -- the reports are those of a run
   pub run_of : SerialRun → IsRun c.formula c.terms told_of c.reports
   run_of serial = is_run serial c.serial c.formula c.terms told_of c.reports (told_length ∙ c.count) c.checked.reported
+
+  -- those on one thread have an order by turns
+  pub turns_of : c.serial ≡ true → StandsOnStreams told_of (λ streams. IsOrderedByTurns c.formula c.terms streams c.reports)
+  turns_of on_one =
+      subst (λ (b : Bool). StandsOnStreams told_of (AreReported b c.formula c.terms c.reports)) on_one c.checked.reported
 
   -- without a cube there is nothing under it
   pub never_under : SerialRun → EmptyCubeReported → c.terms.cube ≡ [] → ¬ (c.verdict ≡ UnsatisfiableUnder)

@@ -1,5 +1,5 @@
 -- Two outcomes of the program.
-use Rattle.std.proofs.Common.{◌≡◌, ◌++◌, ℕ, Bool, true, List, length, Option, Some, refl, sym, ap, subst, ◌∙◌}
+use Rattle.std.proofs.Common.{◌≡◌, ◌++◌, ℕ, List, length, Option, Some, refl, sym, ap, subst, ◌∙◌}
 use Rattle.std.specs.Prelude.{codes}
 use Rattle.std.specs.Fmt.{decimal}
 use Rattle.std.specs.Option.{ForSome}
@@ -8,15 +8,12 @@ use Rattle.lrup_model.specs.Layout.{Fits}
 use Rattle.dimacs.specs.FormulaText.{IsFormulaText}
 use Rattle.stream_check.specs.declared.report.Ending.{Ending}
 use Rattle.stream_check.specs.declared.report.Report.{Report}
-use Rattle.runs.specs.Streams.{StandsOnStreams}
-use Rattle.runs.specs.Turns.{IsOrderedByTurns}
 use Rattle.run_laws.specs.Groups.{IsRun}
 use Rattle.run_laws.specs.GroupLaws.{SerialRun}
 use Rattle.portfolio.specs.Outcomes.{OptionsValue, layout_of}
 use Rattle.portfolio.specs.ReportText.{ending_text, stream_line}
-use Rattle.portfolio.specs.Histories.{AreReported}
-use Rattle.command.specs.Commands.{FilesView, IsFormulaAt, IsOutcome, Text, layout_at, options_of, terms_given}
 use Rattle.portfolio.specs.declared.outcome.Verdict.{Verdict}
+use Rattle.command.specs.Commands.{FilesView, IsFormulaAt, IsOutcome, Text, layout_at, options_of, terms_given}
 use Rattle.outcome_laws.specs.Outcomes.{SayTheSame}
 use Rattle.outcome_laws.specs.Laws.{SameBytesSayTheSame, OutcomesAgree}
 use Rattle.outcome_laws.proofs.CheckLemmas.{Check, run_of, telling_of_file, told_of}
@@ -60,15 +57,6 @@ check_of files words reports verdict a = record {
   verdict = verdict;
   checked = a.checked;
 }
-
--- an outcome on one thread has an order by turns
-pub turns_of : (files : FilesView) (words : List Text) (reports : List Report) (verdict : Verdict)
-    (a : IsOutcome files words reports verdict) → a.given.serial ≡ true
-    → StandsOnStreams (told_of files.reading (check_of files words reports verdict a))
-    (λ streams. IsOrderedByTurns a.formula (terms_given a.given a.cube a.formula) streams reports)
-turns_of files words reports verdict a serial =
-    subst (λ (b : Bool). StandsOnStreams (told_of files.reading (check_of files words reports verdict a))
-    (AreReported b a.formula (terms_given a.given a.cube a.formula) reports)) serial a.checked.reported
 
 pub outcomes_agree : OneFormula → SerialRun → SameBytesSayTheSame → (files : FilesView) (others : FilesView) → OutcomesAgree files others
 outcomes_agree one_formula serial same files others words other_words reports other_reports verdict other_verdict a b s text

@@ -1,17 +1,18 @@
 -- What the program says of right streams in rounds.
-use Rattle.std.proofs.Common.{◌≡◌, ◌⊎◌, ◌<◌, ◌≤◌, ◌-◌, ◌+◌, ℕ, Bool, true, false, List, [], ◌∷◌, length, map}
-use Rattle.std.proofs.Common.{Option, None, Some, inl, inr, refl, sym, ap, subst, ◌∙◌, arith}
+use Rattle.std.proofs.Common.{◌≡◌, ◌⊎◌, ◌<◌, ◌≤◌, ◌-◌, ◌+◌, ℕ, Bool, true, false, List, [], ◌∷◌, length, map, Option, None, Some, inl, inr}
+use Rattle.std.proofs.Common.{refl, sym, ap, subst, ◌∙◌, arith}
 use Rattle.std.proofs.lemmas.Bool.{cases_lt}
 use Rattle.std.proofs.lemmas.List.{length-map}
 use Rattle.lrup_model.specs.Formula.{Cnf, IsCnf}
 use Rattle.lrup_model.specs.Layout.{LayoutValue}
+use Rattle.dimacs.specs.FormulaText.{IsFormulaText}
 use Rattle.stream_check.specs.declared.report.Ending.TheVariants as endings
 use Rattle.stream_check.specs.declared.report.Report.{Report}
 use Rattle.stream_check.specs.Laws.{EmptyCubeReported}
 use Rattle.run_laws.specs.GroupLaws.{SerialRun}
 use Rattle.run_laws.specs.RightLaws.{RightBegins, RightEmpty, RightReported}
+use Rattle.run_laws.specs.TurnsLaws.{RightByTurns}
 use Rattle.run_laws.specs.Together.{RightTogether, TogetherBegins}
-use Rattle.dimacs.specs.FormulaText.{IsFormulaText}
 use Rattle.portfolio.specs.Outcomes.{OptionsValue}
 use Rattle.portfolio.specs.declared.outcome.Verdict.{Verdict}
 use Rattle.portfolio.specs.declared.outcome.Verdict.TheVariants.{Unsatisfiable, UnsatisfiableUnder, Unknown}
@@ -19,26 +20,26 @@ use Rattle.checkpoint.specs.declared.saving.SaveFault.{SaveFault}
 use Rattle.command_line.specs.CommandLine.{IsCommandLineOf}
 use Rattle.command_line.specs.declared.sizes.Sizes.{Sizes}
 use Rattle.command_line.specs.declared.words.CommandLine.{CommandLine}
-use Rattle.command.specs.Commands.{AreAssumed, WasReadIn, assumed_at}
-use Rattle.command.specs.Commands.{FilesView, IsCause, IsCreateCause, IsOpenCause, IsRunCause, SinkChange, Text, options_of, report_status}
+use Rattle.command.specs.Commands.{AreAssumed, WasReadIn, assumed_at, FilesView, IsCause, IsCreateCause, IsOpenCause, IsRunCause}
+use Rattle.command.specs.Commands.{SinkChange, Text, options_of, report_status}
 use Rattle.command.specs.Faults.{status_of}
 use Rattle.command.specs.Paths.{sizes_path, stream_paths}
 use Rattle.command.specs.Rounds.{AreSized, CarriesOn, Deeds, FailsInRound, HaveEnded, IsRoundCause, IsSizesCause, ProgramEnds}
-use Rattle.command.specs.Rounds.{ReportsRounds, Round}
-use Rattle.command.specs.Rounds.{Plan, WasChecked, WereRounds, deeds_of, plan_at, sizes_of, terms_by}
+use Rattle.command.specs.Rounds.{ReportsRounds, Round, Plan, WasChecked, WereRounds, deeds_of, plan_at, sizes_of, terms_by}
 use Rattle.command.specs.declared.fault.CommandFault.{CommandFault}
 use Rattle.command.specs.declared.fault.CommandFault.TheVariants as faults
 use Rattle.outcome_laws.specs.Laws.{SameWordsAskAlike}
 use Rattle.outcome_laws.specs.RightRounds.{AreRightAlone, AreRightInOrder, AskForRightRounds, IsAskedOf, IsCutOffOf, IsExcusedInRounds}
 use Rattle.outcome_laws.specs.RightRounds.{IsOfMachineInRound, IsProvided, IsRefutedAlone, IsRefutedInOrder, IsStopped, IsStoppedOf, Loss}
-use Rattle.outcome_laws.specs.RightRounds.{RightOrdersSay, RightRoundsSay, RoundAsk, WasStopped, layout_in}
-use Rattle.outcome_laws.specs.RightRounds.{not_begun, not_gone_on, not_kept, not_printed, stopped, under_cube}
+use Rattle.outcome_laws.specs.RightRounds.{AreRightByTurns, IsRefutedByTurns, RightTurnRoundsSay, RightOrdersSay, RightRoundsSay, RoundAsk}
+use Rattle.outcome_laws.specs.RightRounds.{WasStopped, layout_in, not_begun, not_gone_on, not_kept, not_printed, stopped, under_cube}
 use Rattle.outcome_laws.specs.Serial.{IsCutOff}
 use Rattle.outcome_laws.proofs.CheckLemmas.{Check, never_under}
 use Rattle.outcome_laws.proofs.OutcomeLemmas.{OneFormula}
 use Rattle.outcome_laws.proofs.RightLemmas.{NoFormulaFault, formula_at, machine_status, of_machine, text_cnf}
-use Rattle.outcome_laws.proofs.StreamLemmas.{EndsSo, HaveLost, RefutesSo, cut_is_open, ended_at, ends_alone, ends_in_order}
-use Rattle.outcome_laws.proofs.StreamLemmas.{cut_of_is_open, refutes_alone, refutes_in_order, stopped_is_open, stopped_of_is_open}
+use Rattle.outcome_laws.proofs.StreamLemmas.{Either, OnOne, ends_by_turns, refutes_by_turns, EndsSo, HaveLost, RefutesSo, cut_is_open}
+use Rattle.outcome_laws.proofs.StreamLemmas.{ended_at, ends_alone, ends_in_order, cut_of_is_open, refutes_alone, refutes_in_order}
+use Rattle.outcome_laws.proofs.StreamLemmas.{stopped_is_open, stopped_of_is_open}
 
 -- Faults
 
@@ -145,13 +146,15 @@ before_them files given folder round b more were = record {
   rounds = were.rounds.1;
 }
 
-module _ (Before Last : RoundAsk) (Early Late : Loss) (ends_so : EndsSo Before Early) (refutes_so : RefutesSo Last Late)
+module _ (Mode : Bool → Type 0) (Before Last : RoundAsk) (Early Late : Loss) (ends_so : EndsSo Mode Before Early)
+    (refutes_so : RefutesSo Mode Last Late)
     (early_open : (layout : LayoutValue) (s : ℕ) (report : Report) → Early layout s report → ¬ (report.ending ≡ endings.Ended))
     (late_open : (layout : LayoutValue) (s : ℕ) (report : Report) → Late layout s report → ¬ (report.ending ≡ endings.Ended))
     (serial : SerialRun) (bare : EmptyCubeReported)
     (one_formula : OneFormula) (no_fault : NoFormulaFault) (alike : SameWordsAskAlike) (files : FilesView) (words : List Text)
     (folder : Text)
-    (last : ℕ) (ask : AskForRightRounds Before Last files words folder last) where
+    (last : ℕ) (ask : AskForRightRounds Before Last files words folder last)
+    (mode : (given : CommandLine) → IsCommandLineOf words given → Mode given.serial) where
   -- the words ask for no checkpoint
   two_files : ¬ IsCause files words faults.TwoCheckpoints
   two_files cause =
@@ -224,13 +227,13 @@ module _ (Before Last : RoundAsk) (Early Late : Loss) (ends_so : EndsSo Before E
       let is = is_asked given line round before were few in
       let check = check_in Before Last last its plan number round is in
       elim (cases_lt number last) [
-        | inl below ↦ elim (ends_so files.Reader files.reading check is.cnf (is.asked.earlier below)) [
+        | inl below ↦ elim (ends_so files.Reader files.reading check (mode given line) is.cnf (is.asked.earlier below)) [
           | inl ended ↦ inl (ended, below)
           | inr lost ↦ inr (inr (lost.0, lost.1, lost.2, inl (below, lost.3)))
         ]
         | inr above ↦
             let at_last : number ≡ last = omega (arith, above, few) in
-            elim (refutes_so files.Reader files.reading check is.cnf (is.asked.at_last at_last)) [
+            elim (refutes_so files.Reader files.reading check (mode given line) is.cnf (is.asked.at_last at_last)) [
               | inl refuted ↦ inr (inl refuted)
               | inr lost ↦ inr (inr (lost.0, lost.1, lost.2, inr (at_last, lost.3)))
             ]
@@ -363,13 +366,21 @@ module _ (Before Last : RoundAsk) (Early Late : Loss) (ends_so : EndsSo Before E
 pub right_rounds_say : OneFormula → NoFormulaFault → SerialRun → EmptyCubeReported → SameWordsAskAlike → RightReported → RightBegins
     → RightEmpty → (files : FilesView) → RightRoundsSay files
 right_rounds_say one_formula no_fault serial bare alike reported begins empty files words folder last s count after out err status ask =
-    rounds_say AreRightAlone (IsRefutedAlone s count) (λ layout t report. IsCutOff report) (IsCutOffOf s count)
+    rounds_say Either AreRightAlone (IsRefutedAlone s count) (λ layout t report. IsCutOff report) (IsCutOffOf s count)
     (ends_alone serial reported) (refutes_alone serial begins empty s count) cut_is_open (cut_of_is_open s count)
-    serial bare one_formula no_fault alike files words folder last ask after out err status
+    serial bare one_formula no_fault alike files words folder last ask (λ given line. tt) after out err status
 
 pub right_orders_say : OneFormula → NoFormulaFault → SerialRun → EmptyCubeReported → SameWordsAskAlike → RightTogether → TogetherBegins
     → RightEmpty → (files : FilesView) → RightOrdersSay files
 right_orders_say one_formula no_fault serial bare alike together begins empty files words folder last s count after out err status ask =
-    rounds_say AreRightInOrder (IsRefutedInOrder s count) IsStopped (IsStoppedOf s count)
+    rounds_say Either AreRightInOrder (IsRefutedInOrder s count) IsStopped (IsStoppedOf s count)
     (ends_in_order serial together) (refutes_in_order serial begins empty s count) stopped_is_open (stopped_of_is_open s count)
-    serial bare one_formula no_fault alike files words folder last ask after out err status
+    serial bare one_formula no_fault alike files words folder last ask (λ given line. tt) after out err status
+
+pub right_turn_rounds_say : OneFormula → NoFormulaFault → SerialRun → EmptyCubeReported → SameWordsAskAlike → RightByTurns → RightEmpty
+    → (files : FilesView) → RightTurnRoundsSay files
+right_turn_rounds_say one_formula no_fault serial bare alike by_turns empty files words folder last s after out err status ask on_one =
+    rounds_say OnOne AreRightByTurns (IsRefutedByTurns s) (λ layout t report. IsCutOff report) (λ layout t report. IsCutOff report)
+    (ends_by_turns by_turns) (refutes_by_turns serial by_turns empty s) cut_is_open cut_is_open
+    serial bare one_formula no_fault alike files words folder last ask
+    (λ given line. line.said.serial ∙ sym ask.asks.command_line.said.serial ∙ on_one) after out err status

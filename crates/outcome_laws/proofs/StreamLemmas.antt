@@ -1,6 +1,6 @@
 -- What right streams of a round come to.
-use Rattle.std.proofs.Common.{◌≡◌, ◌⊎◌, ◌≤◌, ◌-◌, ◌+◌, ℕ, true, List, [], ◌∷◌, length, zero, suc}
-use Rattle.std.proofs.Common.{Some, inl, inr, refl, sym, ap, subst, ◌∙◌, arith}
+use Rattle.std.proofs.Common.{◌≡◌, ◌⊎◌, ◌≤◌, ◌-◌, ◌+◌, ℕ, Bool, true, List, [], ◌∷◌, length, zero, suc, Some, inl, inr, refl, sym, ap}
+use Rattle.std.proofs.Common.{subst, ◌∙◌, arith}
 use Rattle.std.specs.Prelude.{IsTrue, slice_get}
 use Rattle.std.specs.List.{AllByRecursion, flat_map}
 use Rattle.std.proofs.lemmas.List.{append-nil}
@@ -18,28 +18,36 @@ use Rattle.run_laws.specs.GroupLaws.{SerialRun}
 use Rattle.run_laws.specs.Right.{IsCutOffIn}
 use Rattle.run_laws.specs.RightLaws.{RightBegins, RightEmpty, RightReported}
 use Rattle.run_laws.specs.Together.{Step, TogetherBegins, RightTogether, lines_by}
+use Rattle.run_laws.specs.TurnsLaws.{RightByTurns}
 use Rattle.portfolio.specs.declared.outcome.Verdict.TheVariants.{Unsatisfiable}
 use Rattle.command.specs.Commands.{Text}
 use Rattle.command.specs.Rounds.{HaveEnded}
 use Rattle.outcome_laws.specs.RightRounds.{AreRightAlone, AreRightInOrder, IsCutOffOf, IsRefutedAlone, IsRefutedInOrder, IsStopped}
-use Rattle.outcome_laws.specs.RightRounds.{IsStoppedOf, Loss, RoundAsk}
+use Rattle.outcome_laws.specs.RightRounds.{AreRightByTurns, IsRefutedByTurns, IsStoppedOf, Loss, RoundAsk}
 use Rattle.outcome_laws.specs.Serial.{IsCutOff}
-use Rattle.outcome_laws.proofs.CheckLemmas.{Check, have_texts, order_says, refutation_says, run_of, telling_of_file}
-use Rattle.outcome_laws.proofs.CheckLemmas.{told_of}
-use Rattle.outcome_laws.proofs.SerialLemmas.{said_of}
+use Rattle.outcome_laws.proofs.CheckLemmas.{Check, have_texts, order_says, refutation_says, run_of, telling_of_file, told_of}
+use Rattle.outcome_laws.proofs.SerialLemmas.{by_turns_refutes, right_by_turns, said_of, some_cut}
+
+-- with threads or on one
+abbrev pub Either : Bool → Type 0
+Either serial = Unit {0}
+
+-- on one thread
+abbrev pub OnOne : Bool → Type 0
+OnOne serial = serial ≡ true
 
 -- some stream was stopped
 abbrev pub HaveLost : Loss → LayoutValue → List Report → Type 0
 HaveLost Lost layout reports = (s : ℕ) × (report : Report) × IsOfStream reports s report × Lost layout s report
 
 -- streams of which this is asked have ended, or some was stopped
-abbrev pub EndsSo : RoundAsk → Loss → Type 1
-EndsSo Before Lost = (R : Type 0) (reading : SourceView R) (c : Check reading) → IsCnf c.formula
+abbrev pub EndsSo : (Bool → Type 0) → RoundAsk → Loss → Type 1
+EndsSo Mode Before Lost = (R : Type 0) (reading : SourceView R) (c : Check reading) → Mode c.serial → IsCnf c.formula
     → Before c.formula c.terms.layout c.tells c.paths → HaveEnded c.reports ⊎ HaveLost Lost c.terms.layout c.reports
 
 -- they come to 'unsatisfiable', or some was stopped
-abbrev pub RefutesSo : RoundAsk → Loss → Type 1
-RefutesSo Last Lost = (R : Type 0) (reading : SourceView R) (c : Check reading) → IsCnf c.formula
+abbrev pub RefutesSo : (Bool → Type 0) → RoundAsk → Loss → Type 1
+RefutesSo Mode Last Lost = (R : Type 0) (reading : SourceView R) (c : Check reading) → Mode c.serial → IsCnf c.formula
     → Last c.formula c.terms.layout c.tells c.paths → (c.verdict ≡ Unsatisfiable) ⊎ HaveLost Lost c.terms.layout c.reports
 
 -- All streams ended, or one didn't.
@@ -126,20 +134,20 @@ module _ (serial : SerialRun) {R : Type 0} (reading : SourceView R) (c : Check r
             ]
       ]
 
-pub ends_alone : SerialRun → RightReported → EndsSo AreRightAlone (λ layout s report. IsCutOff report)
-ends_alone serial reported R reading c cnf right =
+pub ends_alone : SerialRun → RightReported → EndsSo Either AreRightAlone (λ layout s report. IsCutOff report)
+ends_alone serial reported R reading c mode cnf right =
     all_streams (λ s report. IsCutOff report) c.reports (alone_ends serial reading c cnf reported right)
 
-pub ends_in_order : SerialRun → RightTogether → EndsSo AreRightInOrder IsStopped
-ends_in_order serial together R reading c cnf right =
+pub ends_in_order : SerialRun → RightTogether → EndsSo Either AreRightInOrder IsStopped
+ends_in_order serial together R reading c mode cnf right =
     all_streams (IsStopped c.terms.layout) c.reports (order_ends serial reading c cnf together right)
 
 -- who was cut off in some first lines was so in more
 cut_in : (few many : ℕ) (report : Report) → few ≤ many → IsCutOffIn few report → IsCutOffIn many report
 cut_in few many report more cut = (cut.0, omega (arith, cut.1, more), cut.2)
 
-pub refutes_alone : SerialRun → RightBegins → RightEmpty → (s count : ℕ) → RefutesSo (IsRefutedAlone s count) (IsCutOffOf s count)
-refutes_alone serial begins empty s count R reading c cnf right =
+pub refutes_alone : SerialRun → RightBegins → RightEmpty → (s count : ℕ) → RefutesSo Either (IsRefutedAlone s count) (IsCutOffOf s count)
+refutes_alone serial begins empty s count R reading c mode cnf right =
     let refutation = right.4.0 in
     elim (refutation_says reading c serial begins empty cnf s right.0 right.1 refutation.lines right.2 right.3 refutation.right
     refutation.empty) [
@@ -148,8 +156,8 @@ refutes_alone serial begins empty s count R reading c cnf right =
     ]
 
 pub refutes_in_order : SerialRun → TogetherBegins → RightEmpty → (s count : ℕ)
-    → RefutesSo (IsRefutedInOrder s count) (IsStoppedOf s count)
-refutes_in_order serial together empty s count R reading c cnf right =
+    → RefutesSo Either (IsRefutedInOrder s count) (IsStoppedOf s count)
+refutes_in_order serial together empty s count R reading c mode cnf right =
     let lines = length (lines_by s right.1) in
     elim (order_says reading c serial together empty cnf s right.0 right.1 right.2 right.3 right.4 right.5) [
       | inl says ↦ inl says
@@ -161,6 +169,22 @@ refutes_in_order serial together empty s count R reading c cnf right =
         (refl, inr (lacks.0, lacks.1, omega (arith, lacks.2, right.6), lacks.3, lacks.4)),
       )
     ]
+
+pub ends_by_turns : RightByTurns → EndsSo OnOne AreRightByTurns (λ layout s report. IsCutOff report)
+ends_by_turns by_turns R reading c on_one cnf right = elim (some_cut c.reports) [
+  | inl cut ↦ inr cut
+  | inr fine ↦ all_streams (λ s report. IsCutOff report) c.reports (λ s report says. inl (ap (λ (r : Report). r.ending)
+      (right_by_turns reading c cnf by_turns on_one right.0.0 right.0.1 right.1 right.0.2 fine s report says)))
+]
+
+pub refutes_by_turns : SerialRun → RightByTurns → RightEmpty → (s : ℕ)
+    → RefutesSo OnOne (IsRefutedByTurns s) (λ layout t report. IsCutOff report)
+refutes_by_turns serial by_turns empty s R reading c on_one cnf right = elim (some_cut c.reports) [
+  | inl cut ↦ inr cut
+  | inr fine ↦
+      let order = right.0.0 in
+      inl (by_turns_refutes reading c cnf by_turns on_one order.0 order.1 right.0.1 order.2 fine serial empty s right.1)
+]
 
 -- who was stopped hasn't ended
 pub cut_is_open : (layout : LayoutValue) (s : ℕ) (report : Report) → IsCutOff report → ¬ (report.ending ≡ endings.Ended)

@@ -1,5 +1,5 @@
 -- What the program says of right streams in rounds, and the laws that say so (this project's own).
-use Rattle.std.specs.Prelude.{◌≡◌, ◌⊎◌, ◌++◌, ◌+◌, ◌∷◌, ◌<◌, ◌≤◌, ◌^◌, ℕ, Bool, true, IsTrue, List, [], length, Option, None, Some}
+use Rattle.std.specs.Prelude.{◌≡◌, ◌⊎◌, ◌++◌, ◌+◌, ◌∷◌, ◌<◌, ◌≤◌, ◌^◌, ℕ, Bool, true, IsTrue, List, [], length, map, Option, None, Some}
 use Rattle.std.specs.List.{AllByRecursion, Any, flat_map}
 use Rattle.lrup_model.specs.Formula.{Cnf}
 use Rattle.lrup_model.specs.Layout.{IsFault, LayoutValue}
@@ -9,6 +9,7 @@ use Rattle.stream_check.specs.declared.report.Report.{Report}
 use Rattle.stream_check.specs.Setting.{Setting}
 use Rattle.runs.specs.Closed.{IsOfStream}
 use Rattle.runs.specs.Streams.{setting_of}
+use Rattle.runs.specs.Turns.{IsByTurns}
 use Rattle.run_laws.specs.Blame.{LacksOfAnother, LacksOfAnotherIn}
 use Rattle.run_laws.specs.Right.{AddsEmpty, IsCutOffIn, IsRightRefutation, IsRightStream}
 use Rattle.run_laws.specs.Together.{Step, IsRightOrder, lines_by}
@@ -56,6 +57,17 @@ AreRightInOrder formula layout tells paths =
     (steps : List Step) × IsRightOrder formula layout steps
     × ((s : ℕ) (path : Text) → IsOfStream paths s path
     → tells path ≡ Some (flat_map line_text (lines_by s steps)))
+
+-- so, and the order is by turns
+abbrev pub AreRightByTurns : RoundAsk
+AreRightByTurns formula layout tells paths =
+    (right : AreRightInOrder formula layout tells paths)
+    × IsByTurns (map (λ step. step.stream) right.0)
+
+-- so, and some line of stream s adds the empty clause
+abbrev pub IsRefutedByTurns : ℕ → RoundAsk
+IsRefutedByTurns s formula layout tells paths =
+    (right : AreRightByTurns formula layout tells paths) × Any AddsEmpty (lines_by s right.0.0)
 
 -- lines of a set of streams have a right order, their files begin with the texts of their lines, and some line of stream s, which has
 -- so many at most, adds the empty clause
@@ -182,7 +194,7 @@ RightRoundsSay files = (words : List Text) (folder : Text) (last s count : ℕ) 
     ⊎ IsExcusedInRounds files words folder (λ layout t report. IsCutOff report)
     (IsCutOffOf s count) last after out err status
 
--- what a stream is checked by, but for the cube
+-- what a stream is checked by, without a cube
 abbrev pub setting_in : LayoutValue → ℕ → Setting
 setting_in layout s = setting_of (record { layout = layout; cube = []; tries = 0 }) s
 
@@ -207,3 +219,16 @@ RightOrdersSay files = (words : List Text) (folder : Text) (last s count : ℕ) 
     → ProgramEnds files words after out err status
     → (status ≡ 0)
     ⊎ IsExcusedInRounds files words folder IsStopped (IsStoppedOf s count) last after out err status
+
+-- Where the words ask for one thread, and in each round lines of all streams have a right order that is by turns, and in the last one
+-- some line of stream s adds the empty clause, the program ends so too; with 3 the report says that memory ran out in some stream, or
+-- that a read of it failed.
+abbrev pub RightTurnRoundsSay : FilesView → Type 0
+RightTurnRoundsSay files = (words : List Text) (folder : Text) (last s : ℕ) (after : files.State)
+    (out err : SinkChange) (status : ℕ)
+    → (ask : AskForRightRounds AreRightByTurns (IsRefutedByTurns s) files words folder last)
+    → ask.asks.given.serial ≡ true
+    → ProgramEnds files words after out err status
+    → (status ≡ 0)
+    ⊎ IsExcusedInRounds files words folder (λ layout t report. IsCutOff report)
+    (λ layout t report. IsCutOff report) last after out err status

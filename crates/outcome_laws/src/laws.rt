@@ -2,7 +2,7 @@
 ghost use Rattle.command.specs.Commands.{files_view};
 ghost use Rattle.outcome_laws.specs.Refuting.{OutcomesRefute, OutcomesRefuteUnder};
 ghost use Rattle.outcome_laws.specs.Right.{RightOrderSays, RightRefutationSays};
-ghost use Rattle.outcome_laws.specs.RightRounds.{RightOrdersSay, RightRoundsSay};
+ghost use Rattle.outcome_laws.specs.RightRounds.{RightOrdersSay, RightRoundsSay, RightTurnRoundsSay};
 ghost use Rattle.outcome_laws.specs.Serial.{RightTurnsSay, SerialOutcomesAgree};
 ghost use Rattle.outcome_laws.specs.Laws.{NoCubeJudgesAlike, SameBytesSayTheSame, SameWordsAskAlike, OutcomesAgree, PlainEnds, Status0HasACommandLine};
 
@@ -154,6 +154,22 @@ pub fn right_orders_say<F: Files>(files: &F)
     same_words_ask_alike();
     right_together();
     together_begins();
+    right_empty();
+}
+
+/// Where the words ask for rounds on one thread, in each of which lines of all streams have a right order by turns, and in the last
+/// one some stream adds the empty clause, the program ends so too; with 3 the report says that memory ran out in some stream, or that
+/// a read of it failed.
+pub fn right_turn_rounds_say<F: Files>(files: &F)
+    ensures { let view = files_view F.Files F.Input.Source F.Output.Sink files.now in
+        RightTurnRoundsSay view }
+{
+    one_formula();
+    formula_or_fault();
+    serial_run();
+    empty_cube_reported();
+    same_words_ask_alike();
+    right_by_turns();
     right_empty();
 }
 
