@@ -1,3 +1,4 @@
+mod CheckLemmas
 mod CubeLemmas
 mod RunLemmas
 mod WordLemmas
@@ -6,3 +7,5 @@ mod StatusLemmas
 mod RightLemmas
 mod SerialLemmas
 mod RefutingLemmas
+mod StreamLemmas
+mod RoundLemmas

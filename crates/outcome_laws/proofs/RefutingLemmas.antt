@@ -1,5 +1,5 @@
 -- Runs of the program one after the other.
-use Rattle.std.proofs.Common.{◌≡◌, ◌∙◌, ℕ, Bool, true, false, List, [], ◌∷◌, Option, None, Some, refl, sym, subst}
+use Rattle.std.proofs.Common.{◌≡◌, ℕ, Bool, true, false, List, [], ◌∷◌, Option, None, Some, refl, subst}
 use Rattle.lrup_model.specs.Cube.{CubeValue, IsUnsatisfiableUnder}
 use Rattle.lrup_model.specs.Formula.{Cnf}
 use Rattle.dimacs.specs.FormulaText.{IsFormulaText}
@@ -9,7 +9,7 @@ use Rattle.checkpoint.specs.Checkpoints.{AreCheckpoints, FilesRefute, FilesRefut
 use Rattle.checkpoint.specs.Checkpoints.{IsUnsatisfiableTextUnder, last_file}
 use Rattle.checkpoint.specs.declared.saving.SaveFault.{SaveFault}
 use Rattle.command.specs.Commands.{FilesView, LeavesCheckpoint, Text, checkpoint_at, report_status}
-use Rattle.outcome_laws.specs.Refuting.{AreRuns, IsRunOn, OutcomesRefute, OutcomesRefuteUnder, saved_by, saved_bytes}
+use Rattle.outcome_laws.specs.Refuting.{AreRuns, IsRunOn, OutcomesRefute, OutcomesRefuteUnder, saved_bytes}
 use Rattle.outcome_laws.proofs.StatusLemmas.{refuted}
 
 -- what was saved is a checkpoint

@@ -1,17 +1,13 @@
 -- What the program says of a right refutation.
-use Rattle.std.proofs.Common.{◌≡◌, ◌⊎◌, ◌<◌, ◌≤◌, ◌-◌, ◌++◌, ℕ, eqb, ne_eqb, zero, suc, ℤ, Bool, true, false, List, [], ◌∷◌, length, map}
-use Rattle.std.proofs.Common.{Option, None, Some, inl, inr, refl, sym, ap, subst, ◌∙◌, arith}
-use Rattle.std.specs.Prelude.{IsTrue, slice_get, ◌||◌, if◌then◌else◌}
-use Rattle.std.specs.List.{AllByRecursion, flat_map, list_any}
-use Rattle.std.proofs.lemmas.Bool.{cases_eq, cond-true, cond-false, or_right}
-use Rattle.std.proofs.lemmas.Option.{slice_get_within, slice_get_cases}
+use Rattle.std.proofs.Common.{◌≡◌, ◌⊎◌, ◌≤◌, ℕ, ℤ, Bool, true, false, List, [], ◌∷◌, length, map, Option, None, Some, inl, inr, refl, sym}
+use Rattle.std.proofs.Common.{ap, subst, ◌∙◌, arith}
+use Rattle.std.specs.List.{AllByRecursion}
 use Rattle.lrup_model.specs.Distinct.{distinct}
 use Rattle.lrup_model.specs.DistinctLemmas.{IsClause-distinct, length-distinct}
 use Rattle.lrup_model.specs.Formula.{Cnf, IsCnf, IsFormulaClause, max_clause_literals}
-use Rattle.lrup_model.specs.Layout.{LayoutValue, IsFault, IsStream}
+use Rattle.lrup_model.specs.Layout.{LayoutValue, IsFault}
 use Rattle.lrup_model.specs.Literal.{IsLiteral}
 use Rattle.lrup_model.specs.declared.layout.LayoutFault.{LayoutFault}
-use Rattle.lrup_text.specs.Lines.{StreamLine, line_text}
 use Rattle.lrup_text.specs.Cubes.{IsCubeFault}
 use Rattle.lrup_text.specs.declared.cube.CubeFault.{CubeFault}
 use Rattle.dimacs.specs.FormulaText.{IsFormulaText}
@@ -21,29 +17,29 @@ use Rattle.stream_check.specs.declared.report.Report.{Report}
 use Rattle.stream_check.specs.Setting.{side_of}
 use Rattle.stream_check.specs.declared.setting.Side.TheVariants as sides
 use Rattle.runs.specs.Closed.{IsOfStream}
-use Rattle.runs.specs.Streams.{Telling, TermsValue, setting_of}
-use Rattle.runs.specs.StreamLemmas.{judged_count, same_at, told_count}
-use Rattle.run_laws.specs.Groups.{IsRun}
+use Rattle.runs.specs.Streams.{setting_of}
 use Rattle.run_laws.specs.GroupLaws.{SerialRun}
-use Rattle.run_laws.specs.Together.{Step, IsRightOrder, HaveTexts, lines_by, TogetherBegins}
+use Rattle.run_laws.specs.Together.{IsRightOrder, lines_by, TogetherBegins}
 use Rattle.run_laws.specs.Right.{IsCutOffIn, IsRightBeginning}
 use Rattle.run_laws.specs.RightLaws.{RightBegins, RightEmpty}
-use Rattle.portfolio.specs.Outcomes.{OptionsValue, layout_of, verdict_of}
+use Rattle.portfolio.specs.Outcomes.{OptionsValue, layout_of}
+use Rattle.portfolio.specs.ReportText.{report_text}
 use Rattle.portfolio.specs.declared.outcome.Verdict.{Verdict}
 use Rattle.portfolio.specs.declared.outcome.Verdict.TheVariants.{Unsatisfiable, UnsatisfiableUnder, Unknown}
+use Rattle.checkpoint.specs.declared.saving.SaveFault.{SaveFault}
 use Rattle.command_line.specs.CommandLine.{AskToSave, IsCommandLineOf}
 use Rattle.command_line.specs.declared.words.CommandLine.{CommandLine}
 use Rattle.command.specs.Commands.{EndsWithFault, EndsWithReport, FilesView, IsAssumeCause, IsCause, IsFormulaAt, IsOutcome, IsReadCause}
 use Rattle.command.specs.Commands.{LeavesCheckpoint, SinkChange, Text, assumed_at, checkpoint_at, layout_at, options_of, report_status}
-use Rattle.command.specs.Commands.{terms_given}
-use Rattle.checkpoint.specs.declared.saving.SaveFault.{SaveFault}
+use Rattle.command.specs.Commands.{SinkTook}
 use Rattle.command.specs.Faults.{status_of}
 use Rattle.command.specs.declared.fault.CommandFault.{CommandFault}
 use Rattle.command.specs.declared.fault.CommandFault.TheVariants as faults
 use Rattle.outcome_laws.specs.Right.{AreRightAssumptions, AskWell, AskForRightRefutation, AskForRightOrder, IsOfMachine, IsHeldUp}
 use Rattle.outcome_laws.specs.Right.{IsExcused, unwritten, no_report, lost, RightRefutationSays, RightOrderSays}
 use Rattle.outcome_laws.specs.Laws.{SameWordsAskAlike}
-use Rattle.outcome_laws.proofs.OutcomeLemmas.{OneFormula, text_of, is_text, told_in, run_of, telling_of_file}
+use Rattle.outcome_laws.proofs.CheckLemmas.{refutation_says as refutes, order_says as orders}
+use Rattle.outcome_laws.proofs.OutcomeLemmas.{OneFormula, text_of, is_text, check_of}
 
 -- The formula of a text
 
@@ -55,7 +51,7 @@ formula_clauses vars (ls ∷ written) literals sizes = (
   formula_clauses vars written literals.1 sizes.1,
 )
 
-text_cnf : (bytes : List ℕ) (f : Cnf) → IsFormulaText bytes f → IsCnf f
+pub text_cnf : (bytes : List ℕ) (f : Cnf) → IsFormulaText bytes f → IsCnf f
 text_cnf bytes f is = record {
   vars = is.few_variables;
   count = is.few_clauses;
@@ -63,36 +59,6 @@ text_cnf bytes f is = record {
 }
 
 -- With a report
-
--- a report of the empty clause comes to 'unsatisfiable'
-one_says : (reports : List Report) (k : ℕ) (report : Report) → slice_get reports k ≡ Some report → report.empty ≡ true
-    → list_any (λ r. r.empty) reports ≡ true
-one_says [] k report at is = absurd (cc)
-one_says (r ∷ rs) zero report at is = let same : r ≡ report = cc in
-    ap (λ (x : Report). x.empty || list_any (λ y. y.empty) rs) same ∙ ap (λ (b : Bool). b || list_any (λ y. y.empty) rs) is
-one_says (r ∷ rs) (suc k) report at is = or_right r.empty (list_any (λ y. y.empty) rs) (one_says rs k report at is)
-
--- What streams have
-
--- what holds of the stream of each step holds of one that has a line
-pub of_some : (s : ℕ) (P : ℕ → Type 0) (steps : List Step) → AllByRecursion (λ step. P step.stream) steps
-    → 0 < length (lines_by s steps) → P s
-of_some s P [] all some = absurd (omega (arith, some))
-of_some s P (step ∷ steps) all some = elim (cases_eq step.stream s) [
-  | inl same ↦ subst P same all.0
-  | inr other ↦ of_some s P steps all.1 (subst (λ (ls : List StreamLine). 0 < length ls)
-      (cond-false (eqb step.stream s) (step.line ∷ lines_by s steps) (lines_by s steps) (ne_eqb step.stream s other)) some)
-]
-
--- a stream of a run has a report
-pub has_report : (f : Cnf) (terms : TermsValue) (told : List Telling) (reports : List Report) (r : IsRun f terms told reports) (s : ℕ)
-    → IsStream terms.layout s → (report : Report) × IsOfStream reports s report
-has_report f terms told reports r s is =
-    elim (slice_get_cases reports (s - 1)).1 [
-      | inl has ↦ (has.0, (is.0, has.2))
-      | inr past ↦
-          absurd (omega (arith, past.0, is.0, is.1, r.count, judged_count terms (λ t. true) r.history 1 r.streams reports r.judged))
-    ]
 
 module _ (files : FilesView) where
   -- with 'unsatisfiable' there is nothing to be saved
@@ -134,19 +100,20 @@ module _ (files : FilesView) (Lost : Report → Type 0) where
       said_so words s out status ends.unsaved ends.verdict is saved out.failed refl ends.status_is
 
   lost_so : (words : List Text) (s : ℕ) (out : SinkChange) (status : ℕ) (reports : List Report) (verdict : Verdict)
-      → IsOutcome files words reports verdict → (report : Report) → IsOfStream reports s report → Lost report
+      → IsOutcome files words reports verdict → SinkTook out (report_text reports verdict)
+      → (report : Report) → IsOfStream reports s report → Lost report
       → (unsaved : Option SaveFault) → ((fault : SaveFault) → unsaved ≡ Some fault → (path : Text) × AskToSave words path)
       → (other : Verdict) → verdict ≡ other → (failed : Bool) → out.failed ≡ failed → status ≡ report_status failed unsaved other
       → (status ≡ 0) ⊎ IsExcused files words s Lost out status
-  lost_so words s out status reports verdict a report says why unsaved asks other same true failed is = inr (unwritten failed is)
-  lost_so words s out status reports verdict a report says why (Some fault) asks other same false failed is =
+  lost_so words s out status reports verdict a printed report says why unsaved asks other same true failed is = inr (unwritten failed is)
+  lost_so words s out status reports verdict a printed report says why (Some fault) asks other same false failed is =
       let asked = asks fault refl in
-      inr (lost reports verdict a report says why (inr (asked.0, asked.1, is)))
-  lost_so words s out status reports verdict a report says why None asks Unsatisfiable same false failed is = inl is
-  lost_so words s out status reports verdict a report says why None asks UnsatisfiableUnder same false failed is =
-      inr (lost reports verdict a report says why (inl (inr is)))
-  lost_so words s out status reports verdict a report says why None asks Unknown same false failed is =
-      inr (lost reports verdict a report says why (inl (inl is)))
+      inr (lost reports verdict a printed report says why (inr (asked.0, asked.1, is)))
+  lost_so words s out status reports verdict a printed report says why None asks Unsatisfiable same false failed is = inl is
+  lost_so words s out status reports verdict a printed report says why None asks UnsatisfiableUnder same false failed is =
+      inr (lost reports verdict a printed report says why (inl (inr is)))
+  lost_so words s out status reports verdict a printed report says why None asks Unknown same false failed is =
+      inr (lost reports verdict a printed report says why (inl (inl is)))
 
   pub when_lost : (words : List Text) (after : files.State) (s : ℕ) (out err : SinkChange) (status : ℕ)
       (ends : EndsWithReport files words after out err status)
@@ -157,14 +124,14 @@ module _ (files : FilesView) (Lost : Report → Type 0) where
       asks_to_save files words o.given o.formula ends.verdict fault o.last after o.command_line
       (subst (λ (u : Option SaveFault). LeavesCheckpoint files (checkpoint_at o.given) o.formula ends.verdict u o.last after) is
       ends.checkpoint) in
-      lost_so words s out status ends.reports ends.verdict o report says why ends.unsaved asks ends.verdict refl out.failed
+      lost_so words s out status ends.reports ends.verdict o ends.printed report says why ends.unsaved asks ends.verdict refl out.failed
       refl ends.status_is
 
 -- no text of a formula has a fault: the law of `dimacs`
 abbrev pub NoFormulaFault : Type 0
 NoFormulaFault = (bytes : List ℕ) (f : Cnf) (fault : DimacsFault) → IsFormulaText bytes f → ¬ IsFormulaFault bytes fault
 
-machine_status : (fault : CommandFault) → IsOfMachine fault → (status_of fault ≡ 5) ⊎ (status_of fault ≡ 6)
+pub machine_status : (fault : CommandFault) → IsOfMachine fault → (status_of fault ≡ 5) ⊎ (status_of fault ≡ 6)
 machine_status (faults.Usage text) is = absurd is
 machine_status faults.Unread is = inl refl
 machine_status (faults.Refused fault) is = absurd is
@@ -186,13 +153,6 @@ machine_status faults.Sizes is = absurd is
 abbrev IsAnothers : LayoutValue → ℕ → ℕ → Type 0
 IsAnothers p s id = side_of (setting_of (record { layout = p; cube = []; tries = 0 }) s) id ≡ sides.Foreign
 
--- A report of 'empty' comes to 'unsatisfiable'
-pub comes_to : (reports : List Report) (verdict : Verdict) (s : ℕ) (report : Report) → verdict ≡ verdict_of reports
-    → IsOfStream reports s report → report.empty ≡ true → verdict ≡ Unsatisfiable
-comes_to reports verdict s report is at says =
-    is ∙ cond-true (list_any (λ r. r.empty) reports) Unsatisfiable
-    (if list_any (λ r. r.within) reports then UnsatisfiableUnder else Unknown) (one_says reports (s - 1) report at.1 says)
-
 -- what the program says comes to one of these
 module _ (files : FilesView) (Lost : Report → Type 0) where
   with_report : (words : List Text) (after : files.State) (s : ℕ) (out err : SinkChange) (status : ℕ)
@@ -206,15 +166,14 @@ module _ (files : FilesView) (Lost : Report → Type 0) where
 
 module _ (one_formula : OneFormula) (serial : SerialRun) (alike : SameWordsAskAlike) (empty : RightEmpty) (files : FilesView) where
   -- what was asked for is what the outcome is of
-  pub record IsOf (words : List Text) (asks : AskWell files words) (reports : List Report) (verdict : Verdict)
+  pub record IsOf (words : List Text) (asks : AskWell files words None) (reports : List Report) (verdict : Verdict)
       (a : IsOutcome files words reports verdict) : Type 0 where
     pub formulas : a.formula ≡ asks.formula
     pub streams : a.given.streams ≡ asks.given.streams
     pub layouts : layout_at asks.given asks.formula ≡ layout_at a.given a.formula
     pub cnf : IsCnf a.formula
-    pub run : IsRun a.formula (terms_given a.given a.cube a.formula) (told_in files words reports verdict a) reports
 
-  pub is_of : (words : List Text) (asks : AskWell files words) (reports : List Report) (verdict : Verdict)
+  pub is_of : (words : List Text) (asks : AskWell files words None) (reports : List Report) (verdict : Verdict)
       (a : IsOutcome files words reports verdict) → IsOf words asks reports verdict a
   is_of words asks reports verdict a =
       let same = alike words asks.given a.given asks.command_line a.command_line in
@@ -229,7 +188,6 @@ module _ (one_formula : OneFormula) (serial : SerialRun) (alike : SameWordsAskAl
             ∙ ap (λ (x : Cnf). layout_of (options_of a.given) x (length asks.given.streams)) (sym formulas)
             ∙ ap (λ (x : List Text). layout_of (options_of a.given) a.formula (length x)) (sym same.1);
         cnf = text_cnf asks.text a.formula (subst (IsFormulaText asks.text) (sym formulas) asks.is_text);
-        run = run_of serial files words reports verdict a;
       }
 
   refutation_says : RightBegins
@@ -244,35 +202,8 @@ module _ (one_formula : OneFormula) (serial : SerialRun) (alike : SameWordsAskAl
       subst (λ (x : Cnf). IsRightBeginning x (layout_at a.given a.formula) s ask.bytes lines) (sym is.formulas)
       (subst (λ (p : LayoutValue). IsRightBeginning asks.formula p s ask.bytes lines) is.layouts ask.right.right) in
       let names : IsOfStream a.given.streams s ask.path = subst (λ (x : List Text). IsOfStream x s ask.path) (sym is.streams) ask.names in
-      let terms = terms_given a.given a.cube a.formula in
-      let here = telling_of_file files words reports verdict a s ask.path ask.bytes names ask.tells in
-      let within = slice_get_within a.given.streams (s - 1) ask.path names.1 in
-      let stream : IsStream terms.layout s = (names.0, omega (arith, within, names.0)) in
-      let report = has_report a.formula terms (told_in files words reports verdict a) reports is.run s stream in
-      elim (begins a.formula terms s ask.bytes lines (told_in files words reports verdict a) here.0 reports report.0
-      is.cnf (record { vars = refl; clauses = refl; literals = refl }) stream right is.run here.1 here.2 report.1) [
-        | inl tells ↦
-            inl (comes_to reports verdict s report.0 a.checked.is_verdict report.1 (tells.empty ((empty terms s lines).1 ask.right.empty)))
-        | inr cut ↦ inr (report.0, report.1, cut)
-      ]
-
-  -- the file of each stream of the set begins with the texts of its lines
-  have_texts : (words : List Text) (s : ℕ) (ask : AskForRightOrder files words s) (reports : List Report) (verdict : Verdict)
-      (a : IsOutcome files words reports verdict) → IsOf words ask.asks reports verdict a
-      → HaveTexts ask.set ask.steps (told_in files words reports verdict a)
-  have_texts words s ask reports verdict a is t telling member at =
-      let told = told_in files words reports verdict a in
-      let within = slice_get_within told (t - 1) telling at.1 in
-      let first = at.0 in
-      elim (slice_get_cases a.given.streams (t - 1)).1 [
-        | inr past ↦ absurd (omega (arith, past.0, within, told_count told is.run.streams is.run.are_told, is.run.count))
-        | inl has ↦
-            let names : IsOfStream a.given.streams t has.0 = (first, has.2) in
-            let tells = ask.tells t has.0 member (subst (λ (x : List Text). IsOfStream x t has.0) is.streams names) in
-            let here =
-            telling_of_file files words reports verdict a t has.0 (flat_map line_text (lines_by t ask.steps) ++ tells.0) names tells.1 in
-            (tells.0, ap (λ (x : Telling). x.entry) (same_at told t telling here.0 at here.1) ∙ here.2)
-      ]
+      refutes files.reading (check_of files words reports verdict a) serial begins empty is.cnf s ask.path ask.bytes lines names ask.tells
+      right ask.right.empty
 
   order_says : TogetherBegins
       → (words : List Text) (s : ℕ) (ask : AskForRightOrder files words s) (reports : List Report) (verdict : Verdict)
@@ -282,30 +213,23 @@ module _ (one_formula : OneFormula) (serial : SerialRun) (alike : SameWordsAskAl
   order_says together words s ask reports verdict a =
       let asks = ask.asks in
       let is : IsOf words asks reports verdict a = is_of words asks reports verdict a in
-      let terms = terms_given a.given a.cube a.formula in
-      let order : IsRightOrder a.formula terms.layout ask.steps =
+      let order : IsRightOrder a.formula (layout_at a.given a.formula) ask.steps =
       subst (λ (x : Cnf). IsRightOrder x (layout_at a.given a.formula) ask.steps) (sym is.formulas)
       (subst (λ (p : LayoutValue). IsRightOrder asks.formula p ask.steps) is.layouts ask.order) in
-      let some : 0 < length (lines_by s ask.steps) = omega (arith, ask.empty.2) in
-      let stream : IsStream terms.layout s = of_some s (IsStream terms.layout) ask.steps order.streams some in
-      let member : IsTrue (ask.set s) = of_some s (λ t. IsTrue (ask.set t)) ask.steps ask.members some in
-      let report = has_report a.formula terms (told_in files words reports verdict a) reports is.run s stream in
-      elim (together a.formula terms ask.set ask.steps (told_in files words reports verdict a) reports s report.0 is.cnf
-      (record { vars = refl; clauses = refl; literals = refl }) order ask.members is.run (have_texts words s ask reports verdict a is)
-      member report.1) [
-        | inl tells ↦ inl (comes_to reports verdict s report.0 a.checked.is_verdict report.1
-            (tells.empty ((empty terms s (lines_by s ask.steps)).1 ask.empty)))
-        | inr (inl cut) ↦ inr (report.0, report.1, inl cut)
-        | inr (inr lacks) ↦ inr (
-          report.0,
-          report.1,
+      elim (orders files.reading (check_of files words reports verdict a) serial together empty is.cnf s ask.set ask.steps order ask.members
+      (λ t path member names. ask.tells t path member (subst (λ (x : List Text). IsOfStream x t path) is.streams names)) ask.empty) [
+        | inl says ↦ inl says
+        | inr (report, says, inl cut) ↦ inr (report, says, inl cut)
+        | inr (report, says, inr lacks) ↦ inr (
+          report,
+          says,
           inr (lacks.0, lacks.1, lacks.2, subst (λ (p : LayoutValue). IsAnothers p s lacks.1) (sym is.layouts) lacks.3, lacks.4),
         )
       ]
 
 -- Without one
 
-module _ (one_formula : OneFormula) (no_fault : NoFormulaFault) (alike : SameWordsAskAlike) (files : FilesView) where
+module _ (one_formula : OneFormula) (no_fault : NoFormulaFault) (alike : SameWordsAskAlike) (files : FilesView) (folder : Option Text) where
   -- no file that was read is at fault
   not_refused : (path : Text) (text : List ℕ) (f : Cnf) (fault : DimacsFault) → files.tells path ≡ Some text → IsFormulaText text f
       → ¬ IsReadCause files path (faults.Refused fault)
@@ -348,21 +272,22 @@ module _ (one_formula : OneFormula) (no_fault : NoFormulaFault) (alike : SameWor
   never_unwritten before (Some path) vars cause = cause
 
   -- the formula that was read is the one that is told
-  formula_at : (words : List Text) (ask : AskWell files words) (given : CommandLine) (f : Cnf) (next : files.State)
+  pub formula_at : (words : List Text) (ask : AskWell files words folder) (given : CommandLine) (f : Cnf) (next : files.State)
       → IsCommandLineOf words given → IsFormulaAt files given.formula.now f next → f ≡ ask.formula
   formula_at words ask given f next line at =
       let same = alike words ask.given given ask.command_line line in
       one_formula ask.text f ask.formula (is_text files given.formula.now f next ask.text (ap files.tells same.2 ∙ ask.told) at) ask.is_text
 
-  of_machine : (words : List Text) (ask : AskWell files words) (fault : CommandFault) → IsCause files words fault → IsOfMachine fault
-  of_machine words ask (faults.Usage text) cause = cause ask.command_line.good
-  of_machine words ask faults.Unread cause = tt
-  of_machine words ask faults.CubeUnread cause = tt
-  of_machine words ask (faults.NotOpened stream) cause = tt
-  of_machine words ask (faults.Spawn stream) cause = tt
-  of_machine words ask (faults.Ring stream) cause = tt
-  of_machine words ask faults.Memory cause = tt
-  of_machine words ask (faults.Refused fault) cause =
+  pub of_machine : (words : List Text) (ask : AskWell files words folder) → ¬ IsCause files words faults.TwoCheckpoints
+      → (fault : CommandFault) → IsCause files words fault → IsOfMachine fault
+  of_machine words ask one (faults.Usage text) cause = cause ask.command_line.good
+  of_machine words ask one faults.Unread cause = tt
+  of_machine words ask one faults.CubeUnread cause = tt
+  of_machine words ask one (faults.NotOpened stream) cause = tt
+  of_machine words ask one (faults.Spawn stream) cause = tt
+  of_machine words ask one (faults.Ring stream) cause = tt
+  of_machine words ask one faults.Memory cause = tt
+  of_machine words ask one (faults.Refused fault) cause =
       let same = alike words ask.given cause.0 ask.command_line cause.1 in
       elim cause.2 [
         | inl read ↦ not_refused cause.0.formula.now ask.text ask.formula fault (ap files.tells same.2 ∙ ask.told) ask.is_text read
@@ -371,7 +296,7 @@ module _ (one_formula : OneFormula) (no_fault : NoFormulaFault) (alike : SameWor
           | inr last ↦ elim last.3 [ inl opens ↦ opens | inr more ↦ elim more [ inl runs ↦ runs | inr create ↦ create.4 ] ]
         ]
       ]
-  of_machine words ask (faults.CubeRefused fault) cause =
+  of_machine words ask one (faults.CubeRefused fault) cause =
       elim cause.2 [
         | inl read ↦ read
         | inr later ↦ elim later.3 [
@@ -384,7 +309,7 @@ module _ (one_formula : OneFormula) (no_fault : NoFormulaFault) (alike : SameWor
           | inr last ↦ elim last.3 [ inl opens ↦ opens | inr more ↦ elim more [ inl runs ↦ runs | inr create ↦ create.4 ] ]
         ]
       ]
-  of_machine words ask (faults.Layout fault) cause =
+  of_machine words ask one (faults.Layout fault) cause =
       elim cause.2 [
         | inl read ↦ read
         | inr later ↦ elim later.3 [
@@ -403,7 +328,7 @@ module _ (one_formula : OneFormula) (no_fault : NoFormulaFault) (alike : SameWor
           ]
         ]
       ]
-  of_machine words ask faults.Unwritten cause =
+  of_machine words ask one faults.Unwritten cause =
       elim cause.2 [
         | inl read ↦ read
         | inr later ↦ elim later.3 [
@@ -411,11 +336,9 @@ module _ (one_formula : OneFormula) (no_fault : NoFormulaFault) (alike : SameWor
           | inr last ↦ elim last.3 [ inl opens ↦ opens | inr more ↦ elim more [ inl runs ↦ runs | inr create ↦ create.4 ] ]
         ]
       ]
-  of_machine words ask faults.NotCreated cause = tt
-  of_machine words ask faults.TwoCheckpoints cause =
-      let no : Some cause.0 ≡ None = sym cause.2.folder_is ∙ sym ask.command_line.said.rounds ∙ ask.once in
-      absurd (cc)
-  of_machine words ask faults.Sizes cause =
+  of_machine words ask one faults.NotCreated cause = tt
+  of_machine words ask one faults.TwoCheckpoints cause = absurd (one cause)
+  of_machine words ask one faults.Sizes cause =
       elim cause.2 [
         | inl read ↦ read
         | inr later ↦ elim later.3 [
@@ -423,7 +346,7 @@ module _ (one_formula : OneFormula) (no_fault : NoFormulaFault) (alike : SameWor
           | inr last ↦ elim last.3 [ inl opens ↦ opens | inr more ↦ elim more [ inl runs ↦ runs | inr create ↦ create.4 ] ]
         ]
       ]
-  of_machine words ask faults.SizesUnread cause =
+  of_machine words ask one faults.SizesUnread cause =
       elim cause.2 [
         | inl read ↦ read
         | inr later ↦ elim later.3 [
@@ -431,7 +354,7 @@ module _ (one_formula : OneFormula) (no_fault : NoFormulaFault) (alike : SameWor
           | inr last ↦ elim last.3 [ inl opens ↦ opens | inr more ↦ elim more [ inl runs ↦ runs | inr create ↦ create.4 ] ]
         ]
       ]
-  of_machine words ask (faults.NotSaved fault) cause =
+  of_machine words ask one (faults.NotSaved fault) cause =
       elim cause.2 [
         | inl read ↦ read
         | inr later ↦ elim later.3 [
@@ -440,12 +363,18 @@ module _ (one_formula : OneFormula) (no_fault : NoFormulaFault) (alike : SameWor
         ]
       ]
 
-  pub without_report : (Lost : Report → Type 0) (words : List Text) (s : ℕ) (out err : SinkChange) (status : ℕ) → AskWell files words
-      → EndsWithFault files words out err status → IsExcused files words s Lost out status
-  without_report Lost words s out err status ask ends =
-      let machine = of_machine words ask ends.fault ends.cause in
-      no_report ends.fault ends.cause machine ends.status_is
-      (subst (λ (n : ℕ). (n ≡ 5) ⊎ (n ≡ 6)) (sym ends.status_is) (machine_status ends.fault machine))
+-- without rounds there aren't two checkpoints
+no_rounds : (files : FilesView) (words : List Text) → AskWell files words None → ¬ IsCause files words faults.TwoCheckpoints
+no_rounds files words ask cause =
+    let no : Some cause.0 ≡ None = sym cause.2.folder_is ∙ sym ask.command_line.said.rounds ∙ ask.rounds in cc
+
+pub without_report : OneFormula → NoFormulaFault → SameWordsAskAlike → (files : FilesView) (Lost : Report → Type 0) (words : List Text)
+    (s : ℕ) (out err : SinkChange) (status : ℕ) → AskWell files words None
+    → EndsWithFault files words out err status → IsExcused files words s Lost out status
+without_report one_formula no_fault alike files Lost words s out err status ask ends =
+    let machine = of_machine one_formula no_fault alike files None words ask (no_rounds files words ask) ends.fault ends.cause in
+    no_report ends.fault ends.cause machine ends.status_is
+    (subst (λ (n : ℕ). (n ≡ 5) ⊎ (n ≡ 6)) (sym ends.status_is) (machine_status ends.fault machine))
 
 pub right_refutation_says : OneFormula → NoFormulaFault → SerialRun → SameWordsAskAlike → RightBegins → RightEmpty
     → (files : FilesView) → RightRefutationSays files

@@ -1,25 +1,24 @@
 -- Outcomes of the program on one thread.
 use Rattle.std.proofs.Common.{◌≡◌, ◌⊎◌, ◌-◌, ◌+◌, ◌<◌, ℕ, zero, suc, true, List, [], ◌∷◌, length, Some, inl, inr, refl, sym, ap, subst, ◌∙◌}
-use Rattle.std.proofs.Common.{arith}
+use Rattle.std.proofs.Common.{arith, map}
 use Rattle.std.specs.Prelude.{slice_get}
-use Rattle.std.specs.List.{flat_map}
-use Rattle.std.proofs.lemmas.Option.{slice_get_within, slice_get_cases}
+use Rattle.std.specs.List.{flat_map, Any}
 use Rattle.lrup_model.specs.Cube.{CubeValue}
-use Rattle.lrup_model.specs.Formula.{Cnf}
+use Rattle.lrup_model.specs.Formula.{Cnf, IsCnf}
 use Rattle.lrup_model.specs.Layout.{LayoutValue, IsStream}
+use Rattle.lrup_text.specs.ReadOut.{SourceView}
 use Rattle.lrup_text.specs.Lines.{line_text}
 use Rattle.stream_check.specs.declared.report.Ending.{Ending}
 use Rattle.stream_check.specs.declared.report.Ending.TheVariants as endings
 use Rattle.stream_check.specs.declared.report.Report.{Report}
 use Rattle.stream_check.specs.Laws.{IsOfMemory, IsOfFailure}
+use Rattle.runs.specs.Turns.{IsByTurns, IsOrderedByTurns}
 use Rattle.runs.specs.Closed.{IsOfStream}
-use Rattle.runs.specs.Streams.{Telling, StandsOnStreams, TermsValue}
-use Rattle.runs.specs.StreamLemmas.{same_at}
-use Rattle.runs.specs.Turns.{IsOrderedByTurns}
+use Rattle.runs.specs.Streams.{StandsOnStreams, TermsValue}
+use Rattle.run_laws.specs.Right.{AddsEmpty, right_report}
 use Rattle.run_laws.specs.GroupLaws.{SerialRun}
-use Rattle.run_laws.specs.Right.{right_report}
 use Rattle.run_laws.specs.RightLaws.{RightEmpty}
-use Rattle.run_laws.specs.Together.{IsRightOrder, lines_by}
+use Rattle.run_laws.specs.Together.{Step, IsRightOrder, lines_by}
 use Rattle.run_laws.specs.TurnsLaws.{BytesDecide, HaveJustTexts, HaveSameBytes, NoneCutShort, RightByTurns}
 use Rattle.portfolio.specs.Outcomes.{OptionsValue, layout_of, verdict_of}
 use Rattle.portfolio.specs.declared.outcome.Verdict.{Verdict}
@@ -28,28 +27,9 @@ use Rattle.command.specs.Commands.{EndsWithReport, FilesView, IsOutcome, SinkCha
 use Rattle.outcome_laws.specs.Laws.{SameWordsAskAlike}
 use Rattle.outcome_laws.specs.Right.{IsExcused}
 use Rattle.outcome_laws.specs.Serial.{AskForRightTurns, IsCutOff, RightTurnsSay, SerialOutcomesAgree}
-use Rattle.outcome_laws.proofs.OutcomeLemmas.{OneFormula, is_text, told_in, telling_of_file, told_length, turns_of}
-use Rattle.outcome_laws.proofs.RightLemmas.{NoFormulaFault, IsOf, is_of, of_some, comes_to, has_report, when_said, when_lost}
-use Rattle.outcome_laws.proofs.RightLemmas.{without_report}
-
--- a stream that told something has a path
-path_at : (files : FilesView) (words : List Text) (reports : List Report) (verdict : Verdict) (a : IsOutcome files words reports verdict)
-    (s : ℕ) (telling : Telling) → IsOfStream (told_in files words reports verdict a) s telling
-    → (path : Text) × IsOfStream a.given.streams s path
-path_at files words reports verdict a s telling at =
-    let within = slice_get_within (told_in files words reports verdict a) (s - 1) telling at.1 in
-    elim (slice_get_cases a.given.streams (s - 1)).1 [
-      | inl has ↦ (has.0, (at.0, has.2))
-      | inr past ↦ absurd (omega (arith, past.0, within, told_length files words reports verdict a))
-    ]
-
--- what it told is what its file tells
-entry_at : (files : FilesView) (words : List Text) (reports : List Report) (verdict : Verdict) (a : IsOutcome files words reports verdict)
-    (s : ℕ) (telling : Telling) (path : Text) (whole : List ℕ) → IsOfStream (told_in files words reports verdict a) s telling
-    → IsOfStream a.given.streams s path → files.tells path ≡ Some whole → telling.entry ≡ Some whole
-entry_at files words reports verdict a s telling path whole at names tells =
-    let here = telling_of_file files words reports verdict a s path whole names tells in
-    ap (λ (x : Telling). x.entry) (same_at (told_in files words reports verdict a) s telling here.0 at here.1) ∙ here.2
+use Rattle.outcome_laws.proofs.CheckLemmas.{Check, turns_of, comes_to, entry_at, has_report, of_some, path_at, run_of, told_length, told_of}
+use Rattle.outcome_laws.proofs.OutcomeLemmas.{OneFormula, is_text, check_of}
+use Rattle.outcome_laws.proofs.RightLemmas.{NoFormulaFault, IsOf, is_of, when_said, when_lost, without_report}
 
 pub serial_outcomes_agree : OneFormula → BytesDecide → (files : FilesView) (others : FilesView) → SerialOutcomesAgree files others
 serial_outcomes_agree one_formula decide files others words other_words reports other_reports verdict other_verdict a b ask
@@ -66,25 +46,27 @@ serial_outcomes_agree one_formula decide files others words other_words reports 
     ap (λ (p : LayoutValue). record { layout = p; cube = b.cube; tries = b.given.tries }) layouts
     ∙ ap (λ (c : CubeValue). record { layout = layout_at a.given a.formula; cube = c; tries = b.given.tries }) cubes
     ∙ ap (λ (x : OptionsValue). record { layout = layout_at a.given a.formula; cube = a.cube; tries = x.tries }) ask.options in
-    let told = told_in files words reports verdict a in
-    let other_told = told_in others other_words other_reports other_verdict b in
+    let mine = check_of files words reports verdict a in
+    let others_check = check_of others other_words other_reports other_verdict b in
+    let told = told_of files.reading mine in
+    let other_told = told_of others.reading others_check in
     let theirs : StandsOnStreams other_told (λ streams. IsOrderedByTurns a.formula terms streams other_reports) =
     subst (λ (t : TermsValue). StandsOnStreams other_told (λ streams. IsOrderedByTurns a.formula t streams other_reports)) same_terms
     (subst (λ (g : Cnf). StandsOnStreams other_told
     (λ streams. IsOrderedByTurns g (terms_given b.given b.cube b.formula) streams other_reports)) formulas
-    (turns_of others other_words other_reports other_verdict b ask.too)) in
+    (turns_of others.reading others_check ask.too)) in
     let bytes : HaveSameBytes told other_told = λ s telling other at there.
-    let path = path_at files words reports verdict a s telling at in
-    let other_path = path_at others other_words other_reports other_verdict b s other there in
+    let path = path_at files.reading mine s telling at in
+    let other_path = path_at others.reading others_check s other there in
     let both = ask.streams s path.0 other_path.0 path.1 other_path.1 in (
       both.0,
-      entry_at files words reports verdict a s telling path.0 both.0 at path.1 both.1,
-      entry_at others other_words other_reports other_verdict b s other other_path.0 both.0 there other_path.1 both.2,
+      entry_at files.reading mine s telling path.0 both.0 at path.1 both.1,
+      entry_at others.reading others_check s other other_path.0 both.0 there other_path.1 both.2,
     ) in
     let same : reports ≡ other_reports =
     decide a.formula terms told other_told reports other_reports
-    (told_length files words reports verdict a) (told_length others other_words other_reports other_verdict b ∙ ask.count)
-    bytes (turns_of files words reports verdict a ask.serial) theirs fine good in
+    (told_length files.reading mine) (told_length others.reading others_check ∙ ask.count)
+    bytes (turns_of files.reading mine ask.serial) theirs fine good in
     (same, a.checked.is_verdict ∙ ap verdict_of same ∙ sym b.checked.is_verdict)
 
 -- Right streams, by turns
@@ -102,7 +84,7 @@ by_ending (endings.ReadFailed line) report is = inl (inr (line, is))
 by_ending (endings.Memory line) report is = inl (inl (line, is))
 
 -- what became of one stream
-said_of : (report : Report) → IsCutOff report ⊎ ((¬ IsOfMemory report) × ¬ IsOfFailure report)
+pub said_of : (report : Report) → IsCutOff report ⊎ ((¬ IsOfMemory report) × ¬ IsOfFailure report)
 said_of report = by_ending report.ending report refl
 
 all_fine : (r : Report) (reports : List Report) → (¬ IsOfMemory r) × (¬ IsOfFailure r)
@@ -124,13 +106,35 @@ cut_at (r ∷ reports) = elim (said_of r) [
   ]
 ]
 
-some_cut : (reports : List Report) → ((t : ℕ) × (report : Report) × IsOfStream reports t report × IsCutOff report) ⊎ NoneCutShort reports
+pub some_cut : (reports : List Report)
+    → ((t : ℕ) × (report : Report) × IsOfStream reports t report × IsCutOff report) ⊎ NoneCutShort reports
 some_cut reports = elim (cut_at reports) [
   | inl cut ↦
       let place : cut.0 ≡ cut.0 + 1 - 1 = omega arith in
       inl (cut.0 + 1, cut.1, (omega arith, subst (λ (k : ℕ). slice_get reports k ≡ Some cut.1) place cut.2), cut.3)
   | inr none ↦ inr (λ t report at. none (t - 1) report at.1)
 ]
+
+-- Lines that have a right order by turns, where no stream was cut off.
+module _ {R : Type 0} (reading : SourceView R) (c : Check reading) (cnf : IsCnf c.formula) (right : RightByTurns) (on_one : c.serial ≡ true)
+    (steps : List Step) (order : IsRightOrder c.formula c.terms.layout steps) (turns : IsByTurns (map (λ step. step.stream) steps))
+    (tells : (t : ℕ) (path : Text) → IsOfStream c.paths t path → c.tells path ≡ Some (flat_map line_text (lines_by t steps)))
+    (fine : NoneCutShort c.reports) where
+  pub right_by_turns : (s : ℕ) (report : Report) → IsOfStream c.reports s report → report ≡ right_report c.terms s (lines_by s steps)
+  right_by_turns s report says =
+      let texts : HaveJustTexts steps (told_of reading c) = λ t telling at.
+      let path = path_at reading c t telling at in
+      entry_at reading c t telling path.0 (flat_map line_text (lines_by t steps)) at path.1 (tells t path.0 path.1) in
+      right c.formula c.terms steps (told_of reading c) c.reports s report cnf c.fits (told_length reading c ∙ c.count) order turns texts
+      (turns_of reading c on_one) fine says
+
+  pub by_turns_refutes : SerialRun → RightEmpty → (s : ℕ) → Any AddsEmpty (lines_by s steps) → c.verdict ≡ Unsatisfiable
+  by_turns_refutes serial empty s refutes =
+      let some : 0 < length (lines_by s steps) = omega (arith, refutes.2) in
+      let stream : IsStream c.terms.layout s = of_some s (IsStream c.terms.layout) steps order.streams some in
+      let report = has_report c.formula c.terms (told_of reading c) c.reports (run_of reading c serial) s stream in
+      comes_to c.reports c.verdict s report.0 c.checked.is_verdict report.1
+      (ap (λ (r : Report). r.empty) (right_by_turns s report.0 report.1) ∙ (empty c.terms s (lines_by s steps)).1 refutes)
 
 module _ (one_formula : OneFormula) (no_fault : NoFormulaFault) (serial_run : SerialRun) (alike : SameWordsAskAlike) (right : RightByTurns)
     (empty : RightEmpty)
@@ -142,26 +146,12 @@ module _ (one_formula : OneFormula) (no_fault : NoFormulaFault) (serial_run : Se
       let asks = ask.asks in
       let is : IsOf one_formula serial_run alike empty files words asks reports verdict a =
       is_of one_formula serial_run alike empty files words asks reports verdict a in
-      let terms = terms_given a.given a.cube a.formula in
-      let told = told_in files words reports verdict a in
-      let order : IsRightOrder a.formula terms.layout ask.steps =
+      let order : IsRightOrder a.formula (layout_at a.given a.formula) ask.steps =
       subst (λ (x : Cnf). IsRightOrder x (layout_at a.given a.formula) ask.steps) (sym is.formulas)
       (subst (λ (p : LayoutValue). IsRightOrder asks.formula p ask.steps) is.layouts ask.order) in
       let on_one : a.given.serial ≡ true = a.command_line.said.serial ∙ sym asks.command_line.said.serial ∙ ask.serial in
-      let texts : HaveJustTexts ask.steps told =
-      λ t telling at.
-      let path = path_at files words reports verdict a t telling at in
-      let names : IsOfStream asks.given.streams t path.0 = subst (λ (x : List Text). IsOfStream x t path.0) is.streams path.1 in
-      entry_at files words reports verdict a t telling path.0 (flat_map line_text (lines_by t ask.steps)) at path.1
-      (ask.tells t path.0 names) in
-      let some : 0 < length (lines_by s ask.steps) = omega (arith, ask.empty.2) in
-      let stream : IsStream terms.layout s = of_some s (IsStream terms.layout) ask.steps order.streams some in
-      let report = has_report a.formula terms told reports is.run s stream in
-      let same : report.0 ≡ right_report terms s (lines_by s ask.steps) =
-      right a.formula terms ask.steps told reports s report.0 is.cnf (record { vars = refl; clauses = refl; literals = refl })
-      (told_length files words reports verdict a) order ask.turns texts (turns_of files words reports verdict a on_one) fine report.1 in
-      comes_to reports verdict s report.0 a.checked.is_verdict report.1
-      (ap (λ (r : Report). r.empty) same ∙ (empty terms s (lines_by s ask.steps)).1 ask.empty)
+      by_turns_refutes files.reading (check_of files words reports verdict a) is.cnf right on_one ask.steps order ask.turns
+      (λ t path names. ask.tells t path (subst (λ (x : List Text). IsOfStream x t path) is.streams names)) fine serial_run empty s ask.empty
 
   turns_say : (after : files.State) (out err : SinkChange) (status : ℕ) → EndsWithReport files words after out err status
       → (status ≡ 0) ⊎ ((t : ℕ) × IsExcused files words t IsCutOff out status)

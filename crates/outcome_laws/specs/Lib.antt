@@ -3,3 +3,4 @@ pub mod Laws
 pub mod Right
 pub mod Serial
 pub mod Refuting
+pub mod RightRounds

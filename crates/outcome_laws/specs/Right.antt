@@ -15,10 +15,11 @@ use Rattle.runs.specs.Streams.{setting_of}
 use Rattle.run_laws.specs.Blame.{LacksOfAnotherIn}
 use Rattle.run_laws.specs.Right.{AddsEmpty, IsCutOffIn, IsRightRefutation}
 use Rattle.run_laws.specs.Together.{Step, IsRightOrder, lines_by}
+use Rattle.portfolio.specs.ReportText.{report_text}
 use Rattle.portfolio.specs.declared.outcome.Verdict.{Verdict}
 use Rattle.command_line.specs.CommandLine.{AskToSave, IsCommandLineOf}
 use Rattle.command_line.specs.declared.words.CommandLine.{CommandLine}
-use Rattle.command.specs.Commands.{EndsWithFault, EndsWithReport, FilesView, IsCause, IsOutcome, SinkChange, Text, assumed_at, layout_at, rounds_at}
+use Rattle.command.specs.Commands.{EndsWithFault, EndsWithReport, FilesView, IsCause, IsOutcome, SinkChange, SinkTook, Text, assumed_at, layout_at, rounds_at}
 use Rattle.command.specs.Commands.{terms_given}
 use Rattle.command.specs.Faults.{status_of}
 use Rattle.command.specs.declared.fault.CommandFault.{CommandFault}
@@ -32,8 +33,8 @@ AreRightAssumptions files vars (Some path) =
     × ((fault : CubeFault) → fault ≢ cubes.Memory → ¬ IsCubeFault vars bytes fault)
 
 -- The words ask for a formula whose file tells a text of it, for assumed literals that have no fault, if any, for streams that there
--- is a layout for, and for no rounds. Nothing is asked of the streams.
-pub record AskWell (files : FilesView) (words : List Text) : Type 0 where
+-- is a layout for, and for rounds of this folder, or for none. Nothing is asked of the streams.
+pub record AskWell (files : FilesView) (words : List Text) (folder : Option Text) : Type 0 where
   pub given : CommandLine
   pub command_line : IsCommandLineOf words given
   pub text : List ℕ
@@ -42,12 +43,12 @@ pub record AskWell (files : FilesView) (words : List Text) : Type 0 where
   pub is_text : IsFormulaText text formula
   pub layout : (fault : LayoutFault) → ¬ IsFault (layout_at given formula) fault
   pub assumptions : AreRightAssumptions files formula.vars (assumed_at given)
-  pub once : rounds_at given ≡ None
+  pub rounds : rounds_at given ≡ folder
 
 -- The words ask well, and the file of stream s tells a right refutation of the formula. Nothing is asked of the other streams.
 pub record AskForRightRefutation (files : FilesView) (words : List Text)
     (s : ℕ) : Type 0 where
-  pub asks : AskWell files words
+  pub asks : AskWell files words None
   pub path : Text
   pub names : IsOfStream asks.given.streams s path
   pub bytes : List ℕ
@@ -58,7 +59,7 @@ pub record AskForRightRefutation (files : FilesView) (words : List Text)
 -- some line of stream s adds the empty clause. Nothing is asked of the streams outside the set, nor of what comes behind the lines.
 pub record AskForRightOrder (files : FilesView) (words : List Text)
     (s : ℕ) : Type 0 where
-  pub asks : AskWell files words
+  pub asks : AskWell files words None
   pub set : ℕ → Bool
   pub steps : List Step
   pub order : IsRightOrder asks.formula (layout_at asks.given asks.formula) steps
@@ -90,7 +91,7 @@ IsOfMachine faults.Sizes = ⊥
 
 -- memory ran out, or a read failed, in the first lines of stream s, so many; or one of them cites a clause of another stream that
 -- wasn't there, or wasn't any more; here the cube makes no difference
-abbrev pub IsHeldUp : (files : FilesView) (words : List Text) → AskWell files words
+abbrev pub IsHeldUp : (files : FilesView) (words : List Text) → AskWell files words None
     → ℕ → ℕ → Report → Type 0
 IsHeldUp files words asks s count report =
     IsCutOffIn count report
@@ -113,10 +114,11 @@ pub data IsExcused (files : FilesView) (words : List Text) (s : ℕ)
       (fault : CommandFault) (cause : IsCause files words fault) (machine : IsOfMachine fault)
       (status_is : status ≡ status_of fault) (is : (status ≡ 5) ⊎ (status ≡ 6))
       → IsExcused files words s Lost out status
-  -- there is a report, and stream s was stopped in its right lines, for such a reason
+  -- a report was printed, and stream s was stopped in its right lines, for such a reason
   lost :
       (reports : List Report) (verdict : Verdict)
-      (outcome : IsOutcome files words reports verdict) (report : Report)
+      (outcome : IsOutcome files words reports verdict)
+      (printed : SinkTook out (report_text reports verdict)) (report : Report)
       (says : IsOfStream reports s report) (why : Lost report)
       (is : IsOpen words status) → IsExcused files words s Lost out status
 

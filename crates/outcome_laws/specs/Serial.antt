@@ -1,5 +1,5 @@
 -- Outcomes of the program on one thread, and the laws of them (this project's own).
-use Rattle.std.specs.Prelude.{◌≡◌, ◌⊎◌, ℕ, true, List, length, map, Some}
+use Rattle.std.specs.Prelude.{◌≡◌, ◌⊎◌, ℕ, true, List, length, map, None, Some}
 use Rattle.std.specs.List.{Any, flat_map}
 use Rattle.lrup_text.specs.Lines.{line_text}
 use Rattle.stream_check.specs.declared.report.Report.{Report}
@@ -47,7 +47,7 @@ SerialOutcomesAgree files others =
 -- texts of its lines, and nothing else; and some line of stream s adds the empty clause.
 pub record AskForRightTurns (files : FilesView) (words : List Text)
     (s : ℕ) : Type 0 where
-  pub asks : AskWell files words
+  pub asks : AskWell files words None
   pub serial : asks.given.serial ≡ true
   pub steps : List Step
   pub order : IsRightOrder asks.formula (layout_at asks.given asks.formula) steps

@@ -2,6 +2,7 @@
 ghost use Rattle.command.specs.Commands.{files_view};
 ghost use Rattle.outcome_laws.specs.Refuting.{OutcomesRefute, OutcomesRefuteUnder};
 ghost use Rattle.outcome_laws.specs.Right.{RightOrderSays, RightRefutationSays};
+ghost use Rattle.outcome_laws.specs.RightRounds.{RightOrdersSay, RightRoundsSay, RightTurnRoundsSay};
 ghost use Rattle.outcome_laws.specs.Serial.{RightTurnsSay, SerialOutcomesAgree};
 ghost use Rattle.outcome_laws.specs.Laws.{NoCubeJudgesAlike, SameBytesSayTheSame, SameWordsAskAlike, OutcomesAgree, PlainEnds, Status0HasACommandLine};
 
@@ -9,8 +10,9 @@ use checkpoint::laws::{files_refute, files_refute_under};
 use command::Files;
 use dimacs::laws::{formula_or_fault, one_formula};
 use run_laws::groups::{same_bytes_agree, serial_run};
-use run_laws::right::{right_begins, right_empty, together_begins};
+use run_laws::right::{right_begins, right_empty, right_reported, right_together, together_begins};
 use run_laws::turns::{bytes_decide, right_by_turns};
+use stream_check::laws::empty_cube_reported;
 
 /// What a stream is judged by under a cube, it is judged by without one too, and its report says the same, but of clauses within
 /// the cube.
@@ -113,6 +115,59 @@ pub fn right_turns_say<F: Files>(files: &F)
     one_formula();
     formula_or_fault();
     serial_run();
+    same_words_ask_alike();
+    right_by_turns();
+    right_empty();
+}
+
+/// Where the words ask for rounds, in each of which before the last each stream is right and cites only its own clauses and the
+/// formula's, and in the last one some stream is a right refutation, the program ends with status 0; or with 7, for a report that
+/// wasn't written; or with 5 or 6, for a fault of the machine; or with 9, for a formula of the next round that wasn't saved; or with
+/// 8, and then there are assumed literals, and the report says 'unsatisfiable under assumptions'; or with 3, and then the report says
+/// that memory ran out, or a read failed: in the refutation's lines, or in some stream of a round before the last. The clause `ends` of
+/// `command` says so.
+pub fn right_rounds_say<F: Files>(files: &F)
+    ensures { let view = files_view F.Files F.Input.Source F.Output.Sink files.now in
+        RightRoundsSay view }
+{
+    one_formula();
+    formula_or_fault();
+    serial_run();
+    empty_cube_reported();
+    same_words_ask_alike();
+    right_reported();
+    right_begins();
+    right_empty();
+}
+
+/// Where in each round before the last lines of all streams have a right order, and in the last one some stream of such an order adds
+/// the empty clause, the program ends so too; or with 3, and then such a line cites a clause of another stream, which wasn't there, or
+/// wasn't any more.
+pub fn right_orders_say<F: Files>(files: &F)
+    ensures { let view = files_view F.Files F.Input.Source F.Output.Sink files.now in
+        RightOrdersSay view }
+{
+    one_formula();
+    formula_or_fault();
+    serial_run();
+    empty_cube_reported();
+    same_words_ask_alike();
+    right_together();
+    together_begins();
+    right_empty();
+}
+
+/// Where the words ask for rounds on one thread, in each of which lines of all streams have a right order by turns, and in the last
+/// one some stream adds the empty clause, the program ends so too; with 3 the report says that memory ran out in some stream, or that
+/// a read of it failed.
+pub fn right_turn_rounds_say<F: Files>(files: &F)
+    ensures { let view = files_view F.Files F.Input.Source F.Output.Sink files.now in
+        RightTurnRoundsSay view }
+{
+    one_formula();
+    formula_or_fault();
+    serial_run();
+    empty_cube_reported();
     same_words_ask_alike();
     right_by_turns();
     right_empty();

@@ -1,0 +1,213 @@
+-- A check of streams, as an outcome has one, and each round.
+use Rattle.std.proofs.Common.{◌≡◌, ◌⊎◌, ◌<◌, ◌-◌, ◌++◌, ℕ, eqb, ne_eqb, Bool, true, false, List, [], ◌∷◌, length, map, zero, suc, ◌+◌}
+use Rattle.std.proofs.Common.{Option, Some, refl, inl, inr, sym, ap, ap₂, subst, ◌∙◌, arith}
+use Rattle.std.specs.Prelude.{IsTrue, option_map, slice_get, ◌||◌, if◌then◌else◌}
+use Rattle.std.specs.List.{AllByRecursion, Any, flat_map, list_any}
+use Rattle.std.proofs.lemmas.Bool.{cases_eq, cond-true, cond-false, or_right}
+use Rattle.std.proofs.lemmas.List.{length-map}
+use Rattle.std.proofs.lemmas.Option.{slice_get-map, slice_get_within, slice_get_cases}
+use Rattle.lrup_model.specs.Event.{History}
+use Rattle.lrup_model.specs.Formula.{Cnf, IsCnf}
+use Rattle.lrup_model.specs.Layout.{Fits, IsStream}
+use Rattle.lrup_text.specs.Lines.{StreamLine, line_text}
+use Rattle.lrup_text.specs.ReadOut.{SourceView}
+use Rattle.stream_check.specs.declared.report.Report.{Report}
+use Rattle.stream_check.specs.Laws.{EmptyCubeReported}
+use Rattle.runs.specs.Headline.{AreJudgedIn}
+use Rattle.runs.specs.Closed.{IsOfStream}
+use Rattle.runs.specs.Streams.{Stream, Telling, TermsValue, StandsOnStreams, setting_of, tellings}
+use Rattle.runs.specs.StreamLemmas.{judged_count, same_at, told_as_many, told_count, telling_at, some_end}
+use Rattle.runs.specs.Turns.{IsOrderedByTurns}
+use Rattle.run_laws.specs.Blame.{LacksOfAnotherIn}
+use Rattle.run_laws.specs.Groups.{IsRun}
+use Rattle.run_laws.specs.GroupLaws.{SerialRun}
+use Rattle.run_laws.specs.Right.{AddsEmpty, IsCutOffIn, IsRightBeginning}
+use Rattle.run_laws.specs.RightLaws.{RightBegins, RightEmpty}
+use Rattle.run_laws.specs.Together.{Step, IsRightOrder, HaveTexts, lines_by, TogetherBegins}
+use Rattle.portfolio.specs.Histories.{AreReported}
+use Rattle.portfolio.specs.Outcomes.{verdict_of}
+use Rattle.portfolio.specs.declared.outcome.Verdict.{Verdict}
+use Rattle.portfolio.specs.declared.outcome.Verdict.TheVariants.{Unsatisfiable, UnsatisfiableUnder, Unknown}
+use Rattle.command.specs.Commands.{AreChecked, Text}
+
+-- The streams at these paths were opened as these readers, and what the files tell these have left; and they were checked.
+pub record Check {R : Type 0} (reading : SourceView R) : Type 0 where
+  pub serial : Bool
+  pub formula : Cnf
+  pub terms : TermsValue
+  pub fits : Fits terms.layout formula
+  pub tells : Text → Option (List ℕ)
+  pub paths : List Text
+  pub count : length paths ≡ terms.layout.streams
+  pub readers : List R
+  pub left : map reading.left readers ≡ map tells paths
+  pub reports : List Report
+  pub verdict : Verdict
+  pub checked : AreChecked reading serial formula terms readers reports verdict
+
+is_run : SerialRun → (serial : Bool) (f : Cnf) (terms : TermsValue) (told : List Telling) (reports : List Report)
+    → length told ≡ terms.layout.streams → StandsOnStreams told (AreReported serial f terms reports) → IsRun f terms told reports
+is_run law true f terms told reports count stands =
+    law f terms told reports count (record { streams = stands.streams; are_told = stands.are_told; judged = stands.judged.order })
+is_run law false f terms told reports count stands = record {
+  streams = stands.streams;
+  are_told = stands.are_told;
+  count = told_count told stands.streams stands.are_told ∙ count;
+  history = stands.judged.1.0;
+  legal = stands.judged.1.1;
+  judged = stands.judged.1.2;
+}
+
+-- a report of the empty clause comes to 'unsatisfiable'
+one_says : (reports : List Report) (k : ℕ) (report : Report) → slice_get reports k ≡ Some report → report.empty ≡ true
+    → list_any (λ r. r.empty) reports ≡ true
+one_says [] k report at is = absurd (cc)
+one_says (r ∷ rs) zero report at is = let same : r ≡ report = cc in
+    ap (λ (x : Report). x.empty || list_any (λ y. y.empty) rs) same ∙ ap (λ (b : Bool). b || list_any (λ y. y.empty) rs) is
+one_says (r ∷ rs) (suc k) report at is = or_right r.empty (list_any (λ y. y.empty) rs) (one_says rs k report at is)
+
+pub comes_to : (reports : List Report) (verdict : Verdict) (s : ℕ) (report : Report) → verdict ≡ verdict_of reports
+    → IsOfStream reports s report → report.empty ≡ true → verdict ≡ Unsatisfiable
+comes_to reports verdict s report is at says =
+    is ∙ cond-true (list_any (λ r. r.empty) reports) Unsatisfiable
+    (if list_any (λ r. r.within) reports then UnsatisfiableUnder else Unknown) (one_says reports (s - 1) report at.1 says)
+
+-- what holds of the stream of each step holds of one that has a line
+pub of_some : (s : ℕ) (P : ℕ → Type 0) (steps : List Step) → AllByRecursion (λ step. P step.stream) steps
+    → 0 < length (lines_by s steps) → P s
+of_some s P [] all some = absurd (omega (arith, some))
+of_some s P (step ∷ steps) all some = elim (cases_eq step.stream s) [
+  | inl same ↦ subst P same all.0
+  | inr other ↦ of_some s P steps all.1 (subst (λ (ls : List StreamLine). 0 < length ls)
+      (cond-false (eqb step.stream s) (step.line ∷ lines_by s steps) (lines_by s steps) (ne_eqb step.stream s other)) some)
+]
+
+-- a stream of a run has a report
+pub has_report : (f : Cnf) (terms : TermsValue) (told : List Telling) (reports : List Report) (r : IsRun f terms told reports) (s : ℕ)
+    → IsStream terms.layout s → (report : Report) × IsOfStream reports s report
+has_report f terms told reports r s is =
+    elim (slice_get_cases reports (s - 1)).1 [
+      | inl has ↦ (has.0, (is.0, has.2))
+      | inr past ↦
+          absurd (omega (arith, past.0, is.0, is.1, r.count, judged_count terms (λ t. true) r.history 1 r.streams reports r.judged))
+    ]
+
+-- without a cube just the empty clause is within it
+within_empty : EmptyCubeReported → (terms : TermsValue) → terms.cube ≡ [] → (h : History) (s : ℕ) (streams : List Stream)
+    (reports : List Report) → AreJudgedIn terms (λ t. true) h s streams reports
+    → list_any (λ r. r.within) reports ≡ list_any (λ r. r.empty) reports
+within_empty bare terms none h s [] [] judged = refl
+within_empty bare terms none h s [] (r ∷ rs) judged = absurd judged
+within_empty bare terms none h s (t ∷ ts) [] judged = absurd judged
+within_empty bare terms none h s (t ∷ ts) (r ∷ rs) judged =
+    let by = judged.0 refl in
+    let its = some_end (setting_of terms s) t by.0 r by.2 in
+    let same : r.within ≡ r.empty = bare (setting_of terms s) t.bytes its.0 by.0 r none its.1 in
+    ap₂ (λ (a b : Bool). a || b) same (within_empty bare terms none h (s + 1) ts rs judged.1)
+
+not_under : (empty within : Bool) → within ≡ empty
+    → ¬ ((if empty then Unsatisfiable else if within then UnsatisfiableUnder else Unknown) ≡ UnsatisfiableUnder)
+not_under true within same is = let no : Unsatisfiable ≡ UnsatisfiableUnder = is in cc
+not_under false true same is = let no : true ≡ false = same in cc
+not_under false false same is = let no : Unknown ≡ UnsatisfiableUnder = is in cc
+
+module _ {R : Type 0} (reading : SourceView R) (c : Check reading) where
+  -- what the readers told
+  abbrev pub told_of : List Telling
+  told_of = tellings reading c.readers c.checked.lasts
+
+  -- each stream's reader told something
+  pub told_length : length told_of ≡ length c.paths
+  told_length =
+      told_as_many reading c.readers c.checked.lasts c.checked.reported.streams c.checked.read
+      ∙ sym (length-map c.readers reading.left) ∙ ap length c.left ∙ length-map c.paths c.tells
+
+  -- the reports are those of a run
+  pub run_of : SerialRun → IsRun c.formula c.terms told_of c.reports
+  run_of serial = is_run serial c.serial c.formula c.terms told_of c.reports (told_length ∙ c.count) c.checked.reported
+
+  -- those on one thread have an order by turns
+  pub turns_of : c.serial ≡ true → StandsOnStreams told_of (λ streams. IsOrderedByTurns c.formula c.terms streams c.reports)
+  turns_of on_one =
+      subst (λ (b : Bool). StandsOnStreams told_of (AreReported b c.formula c.terms c.reports)) on_one c.checked.reported
+
+  -- without a cube there is nothing under it
+  pub never_under : SerialRun → EmptyCubeReported → c.terms.cube ≡ [] → ¬ (c.verdict ≡ UnsatisfiableUnder)
+  never_under serial bare none under =
+      let run = run_of serial in
+      let same = within_empty bare c.terms none run.history 1 run.streams c.reports run.judged in
+      not_under (list_any (λ r. r.empty) c.reports) (list_any (λ r. r.within) c.reports) same (sym c.checked.is_verdict ∙ under)
+
+  -- what a file tells its reader had left at first
+  pub telling_of_file : (s : ℕ) (path : Text) (whole : List ℕ) → IsOfStream c.paths s path → c.tells path ≡ Some whole
+      → (telling : Telling) × IsOfStream told_of s telling × (telling.entry ≡ Some whole)
+  telling_of_file s path whole at told =
+      let entry : slice_get (map reading.left c.readers) (s - 1) ≡ Some (Some whole) =
+      ap (λ (es : List (Option (List ℕ))). slice_get es (s - 1)) c.left
+      ∙ slice_get-map c.tells c.paths (s - 1) ∙ ap (option_map c.tells) at.1 ∙ ap (λ (x : Option (List ℕ)). Some x) told in
+      let is = telling_at reading c.readers c.checked.lasts c.checked.reported.streams c.checked.read (s - 1) (Some whole) entry in
+      (is.0, (at.0, is.1), is.2)
+
+  -- a stream that told something has a path
+  pub path_at : (s : ℕ) (telling : Telling) → IsOfStream told_of s telling → (path : Text) × IsOfStream c.paths s path
+  path_at s telling at =
+      let within = slice_get_within told_of (s - 1) telling at.1 in
+      elim (slice_get_cases c.paths (s - 1)).1 [
+        | inl has ↦ (has.0, (at.0, has.2))
+        | inr past ↦ absurd (omega (arith, past.0, within, told_length))
+      ]
+
+  -- what it told is what its file tells
+  pub entry_at : (s : ℕ) (telling : Telling) (path : Text) (whole : List ℕ) → IsOfStream told_of s telling
+      → IsOfStream c.paths s path → c.tells path ≡ Some whole → telling.entry ≡ Some whole
+  entry_at s telling path whole at names tells =
+      let here = telling_of_file s path whole names tells in
+      ap (λ (x : Telling). x.entry) (same_at told_of s telling here.0 at here.1) ∙ here.2
+
+  -- A stream with a right refutation comes to 'unsatisfiable', or was cut off in it.
+  pub refutation_says : SerialRun → RightBegins → RightEmpty → IsCnf c.formula → (s : ℕ) (path : Text) (bytes : List ℕ)
+      (lines : List StreamLine) → IsOfStream c.paths s path → c.tells path ≡ Some bytes
+      → IsRightBeginning c.formula c.terms.layout s bytes lines → Any AddsEmpty lines
+      → (c.verdict ≡ Unsatisfiable) ⊎ ((report : Report) × IsOfStream c.reports s report × IsCutOffIn (length lines) report)
+  refutation_says serial begins empty cnf s path bytes lines names tells right refutes =
+      let run = run_of serial in
+      let here = telling_of_file s path bytes names tells in
+      let within = slice_get_within c.paths (s - 1) path names.1 in
+      let stream : IsStream c.terms.layout s = (names.0, omega (arith, within, names.0, c.count)) in
+      let report = has_report c.formula c.terms told_of c.reports run s stream in
+      elim (begins c.formula c.terms s bytes lines told_of here.0 c.reports report.0 cnf c.fits stream right run here.1 here.2 report.1) [
+        | inl least ↦
+            inl (comes_to c.reports c.verdict s report.0 c.checked.is_verdict report.1 (least.empty ((empty c.terms s lines).1 refutes)))
+        | inr cut ↦ inr (report.0, report.1, cut)
+      ]
+
+  -- the files of a set of streams begin with the texts of their lines
+  abbrev pub BeginSo : (ℕ → Bool) → List Step → Type 0
+  BeginSo set steps = (t : ℕ) (path : Text) → IsTrue (set t) → IsOfStream c.paths t path
+      → (more : List ℕ) × (c.tells path ≡ Some (flat_map line_text (lines_by t steps) ++ more))
+
+  pub have_texts : (set : ℕ → Bool) (steps : List Step) → BeginSo set steps → HaveTexts set steps told_of
+  have_texts set steps begin t telling member at =
+      let path = path_at t telling at in
+      let tells = begin t path.0 member path.1 in
+      (tells.0, entry_at t telling path.0 (flat_map line_text (lines_by t steps) ++ tells.0) at path.1 tells.1)
+
+  -- A stream that adds the empty clause in a right order comes to 'unsatisfiable', or was cut off in its lines, or lacks another's clause.
+  pub order_says : SerialRun → TogetherBegins → RightEmpty → IsCnf c.formula → (s : ℕ) (set : ℕ → Bool) (steps : List Step)
+      → IsRightOrder c.formula c.terms.layout steps → AllByRecursion (λ step. IsTrue (set step.stream)) steps
+      → BeginSo set steps → Any AddsEmpty (lines_by s steps)
+      → (c.verdict ≡ Unsatisfiable)
+      ⊎ ((report : Report) × IsOfStream c.reports s report × (IsCutOffIn (length (lines_by s steps)) report
+      ⊎ LacksOfAnotherIn (setting_of c.terms s) (length (lines_by s steps)) report))
+  order_says serial together empty cnf s set steps order members begin refutes =
+      let run = run_of serial in
+      let some : 0 < length (lines_by s steps) = omega (arith, refutes.2) in
+      let stream : IsStream c.terms.layout s = of_some s (IsStream c.terms.layout) steps order.streams some in
+      let member : IsTrue (set s) = of_some s (λ t. IsTrue (set t)) steps members some in
+      let report = has_report c.formula c.terms told_of c.reports run s stream in
+      elim (together c.formula c.terms set steps told_of c.reports s report.0 cnf c.fits order members run
+      (have_texts set steps begin) member report.1) [
+        | inl least ↦ inl (comes_to c.reports c.verdict s report.0 c.checked.is_verdict report.1
+            (least.empty ((empty c.terms s (lines_by s steps)).1 refutes)))
+        | inr held ↦ inr (report.0, report.1, held)
+      ]

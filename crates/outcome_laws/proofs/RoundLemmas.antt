@@ -1,0 +1,386 @@
+-- What the program says of right streams in rounds.
+use Rattle.std.proofs.Common.{◌≡◌, ◌⊎◌, ◌<◌, ◌≤◌, ◌-◌, ◌+◌, ℕ, Bool, true, false, List, [], ◌∷◌, length, map, Option, None, Some, inl, inr}
+use Rattle.std.proofs.Common.{refl, sym, ap, subst, ◌∙◌, arith}
+use Rattle.std.proofs.lemmas.Bool.{cases_lt}
+use Rattle.std.proofs.lemmas.List.{length-map}
+use Rattle.lrup_model.specs.Formula.{Cnf, IsCnf}
+use Rattle.lrup_model.specs.Layout.{LayoutValue}
+use Rattle.dimacs.specs.FormulaText.{IsFormulaText}
+use Rattle.stream_check.specs.declared.report.Ending.TheVariants as endings
+use Rattle.stream_check.specs.declared.report.Report.{Report}
+use Rattle.stream_check.specs.Laws.{EmptyCubeReported}
+use Rattle.run_laws.specs.GroupLaws.{SerialRun}
+use Rattle.run_laws.specs.RightLaws.{RightBegins, RightEmpty, RightReported}
+use Rattle.run_laws.specs.TurnsLaws.{RightByTurns}
+use Rattle.run_laws.specs.Together.{RightTogether, TogetherBegins}
+use Rattle.portfolio.specs.Outcomes.{OptionsValue}
+use Rattle.portfolio.specs.declared.outcome.Verdict.{Verdict}
+use Rattle.portfolio.specs.declared.outcome.Verdict.TheVariants.{Unsatisfiable, UnsatisfiableUnder, Unknown}
+use Rattle.checkpoint.specs.declared.saving.SaveFault.{SaveFault}
+use Rattle.command_line.specs.CommandLine.{IsCommandLineOf}
+use Rattle.command_line.specs.declared.sizes.Sizes.{Sizes}
+use Rattle.command_line.specs.declared.words.CommandLine.{CommandLine}
+use Rattle.command.specs.Commands.{AreAssumed, WasReadIn, assumed_at, FilesView, IsCause, IsCreateCause, IsOpenCause, IsRunCause}
+use Rattle.command.specs.Commands.{SinkChange, Text, options_of, report_status}
+use Rattle.command.specs.Faults.{status_of}
+use Rattle.command.specs.Paths.{sizes_path, stream_paths}
+use Rattle.command.specs.Rounds.{AreSized, CarriesOn, Deeds, FailsInRound, HaveEnded, IsRoundCause, IsSizesCause, ProgramEnds}
+use Rattle.command.specs.Rounds.{ReportsRounds, Round, Plan, WasChecked, WereRounds, deeds_of, plan_at, sizes_of, terms_by}
+use Rattle.command.specs.declared.fault.CommandFault.{CommandFault}
+use Rattle.command.specs.declared.fault.CommandFault.TheVariants as faults
+use Rattle.outcome_laws.specs.Laws.{SameWordsAskAlike}
+use Rattle.outcome_laws.specs.RightRounds.{AreRightAlone, AreRightInOrder, AskForRightRounds, IsAskedOf, IsCutOffOf, IsExcusedInRounds}
+use Rattle.outcome_laws.specs.RightRounds.{IsOfMachineInRound, IsProvided, IsRefutedAlone, IsRefutedInOrder, IsStopped, IsStoppedOf, Loss}
+use Rattle.outcome_laws.specs.RightRounds.{AreRightByTurns, IsRefutedByTurns, RightTurnRoundsSay, RightOrdersSay, RightRoundsSay, RoundAsk}
+use Rattle.outcome_laws.specs.RightRounds.{WasStopped, layout_in, not_begun, not_gone_on, not_kept, not_printed, stopped, under_cube}
+use Rattle.outcome_laws.specs.Serial.{IsCutOff}
+use Rattle.outcome_laws.proofs.CheckLemmas.{Check, never_under}
+use Rattle.outcome_laws.proofs.OutcomeLemmas.{OneFormula}
+use Rattle.outcome_laws.proofs.RightLemmas.{NoFormulaFault, formula_at, machine_status, of_machine, text_cnf}
+use Rattle.outcome_laws.proofs.StreamLemmas.{Either, OnOne, ends_by_turns, refutes_by_turns, EndsSo, HaveLost, RefutesSo, cut_is_open}
+use Rattle.outcome_laws.proofs.StreamLemmas.{ended_at, ends_alone, ends_in_order, cut_of_is_open, refutes_alone, refutes_in_order}
+use Rattle.outcome_laws.proofs.StreamLemmas.{stopped_is_open, stopped_of_is_open}
+
+-- Faults
+
+round_status : (fault : CommandFault) → IsOfMachineInRound fault → (status_of fault ≡ 5) ⊎ (status_of fault ≡ 6)
+round_status fault (inl machine) = machine_status fault machine
+round_status fault (inr sizes) = inl (ap status_of sizes)
+
+-- what a fault of a later round isn't of
+module _ (its : Deeds) (plan : Plan) (number : ℕ) (old : Sizes) (formula : Cnf) (before : its.State) where
+  abbrev Read : Sizes → its.State → Type 0
+  Read sizes sized = AreSized its (sizes_path plan.folder (number + 1)) old before sizes sized
+
+  none_so : (fault : CommandFault) → (IsSizesCause its before (sizes_path plan.folder (number + 1)) fault → ⊥)
+      → ((F R : Type 0) (opens : F → Text → R → F → Type 0) (refuses : Text → Bool) (first : F) (paths : List Text)
+      → IsOpenCause opens refuses first paths fault → ⊥)
+      → ((sizes : Sizes) (sized : its.State) → Read sizes sized
+      → IsRunCause plan.serial (terms_by plan formula sizes).layout fault → ⊥)
+      → ((refuses : Text → Bool) (path : Option Text) → IsCreateCause refuses path fault → ⊥)
+      → IsRoundCause its plan number old formula before fault → ⊥
+  none_so fault sizes opens runs creates (inl cause) = sizes cause
+  none_so fault sizes opens runs creates (inr (read, sized, are, inl cause)) = opens its.State its.Reader its.opens _ _ _ cause
+  none_so fault sizes opens runs creates (inr (read, sized, are, inr (readers, opened, so, inl cause))) = runs read sized are cause
+  none_so fault sizes opens runs creates (inr (read, sized, are, inr (readers, opened, so, inr (layout, cause)))) = creates _ _ cause
+
+  module _ (Before Last : RoundAsk) (last : ℕ)
+      (provided : IsProvided Before Last last its plan.folder (number + 1) old formula before) where
+    abbrev Cause : CommandFault → Type 0
+    Cause = IsRoundCause its plan number old formula before
+
+    pub of_round : (fault : CommandFault) → Cause fault → IsOfMachineInRound fault
+    of_round (faults.Usage text) cause =
+        absurd (none_so (faults.Usage text) (λ x. x) (λ F R o r f p x. x) (λ z s a x. x) (λ r p x. x) cause)
+    of_round faults.Unread cause = inl tt
+    of_round (faults.Refused fault) cause =
+        absurd (none_so (faults.Refused fault) (λ x. x) (λ F R o r f p x. x) (λ z s a x. x) (λ r p x. x) cause)
+    of_round faults.CubeUnread cause = inl tt
+    of_round (faults.CubeRefused fault) cause =
+        absurd (none_so (faults.CubeRefused fault) (λ x. x) (λ F R o r f p x. x) (λ z s a x. x) (λ r p x. x) cause)
+    of_round (faults.NotOpened stream) cause = inl tt
+    of_round (faults.Layout fault) cause =
+        absurd (none_so (faults.Layout fault) (λ x. x) (λ F R o r f p x. x)
+        (λ sizes sized are wrong. (provided.ready sizes sized are).layout fault wrong) (λ r p x. x) cause)
+    of_round (faults.Spawn stream) cause = inl tt
+    of_round (faults.Ring stream) cause = inl tt
+    of_round faults.Memory cause = inl tt
+    of_round faults.Unwritten cause =
+        absurd (none_so faults.Unwritten (λ x. x) (λ F R o r f p x. x) (λ z s a x. x) (λ r p x. x) cause)
+    of_round faults.NotCreated cause = inl tt
+    of_round (faults.NotSaved fault) cause =
+        absurd (none_so (faults.NotSaved fault) (λ x. x) (λ F R o r f p x. x) (λ z s a x. x) (λ r p x. x) cause)
+    of_round faults.TwoCheckpoints cause =
+        absurd (none_so faults.TwoCheckpoints (λ x. x) (λ F R o r f p x. x) (λ z s a x. x) (λ r p x. x) cause)
+    of_round faults.SizesUnread cause = inr refl
+    of_round faults.Sizes cause =
+        absurd (none_so faults.Sizes (λ none. provided.sizes none) (λ F R o r f p x. x) (λ z s a x. x) (λ r p x. x) cause)
+
+-- Rounds
+
+sizes_alike : (given other : CommandLine) → options_of given ≡ options_of other → given.streams ≡ other.streams
+    → sizes_of given ≡ sizes_of other
+sizes_alike given other options streams =
+    ap (λ (x : OptionsValue). record { streams = length given.streams; lines = x.lines; room = x.room }) options
+    ∙ ap (λ (x : List Text). record { streams = length x; lines = other.lines; room = other.room }) streams
+
+-- What is known of a round whose streams were checked: its formula is one, and this was asked of its streams.
+pub record IsAsked (Before Last : RoundAsk) (last : ℕ) (its : Deeds) (plan : Plan) (number : ℕ)
+    (round : Round its.State its.Reader) : Type 0 where
+  pub cnf : IsCnf round.formula
+  pub tells : Text → Option (List ℕ)
+  pub paths : List Text
+  pub left : map its.reading.left round.readers ≡ map tells paths
+  pub checked : WasChecked its plan round
+  pub asked : IsAskedOf Before Last last number round.formula round.sizes tells paths
+
+abbrev check_in : (Before Last : RoundAsk) (last : ℕ) (its : Deeds) (plan : Plan) (number : ℕ) (round : Round its.State its.Reader)
+    → IsAsked Before Last last its plan number round → Check its.reading
+check_in Before Last last its plan number round is = record {
+  serial = plan.serial;
+  formula = round.formula;
+  terms = terms_by plan round.formula round.sizes;
+  fits = record { vars = refl; clauses = refl; literals = refl };
+  tells = is.tells;
+  paths = is.paths;
+  count = sym (length-map is.paths is.tells) ∙ sym (ap length is.left) ∙ length-map round.readers its.reading.left ∙ is.checked.0;
+  readers = round.readers;
+  left = is.left;
+  reports = round.reports;
+  verdict = round.verdict;
+  checked = is.checked.1;
+}
+
+-- the rounds before one that follows another
+abbrev before_them : (files : FilesView) (given : CommandLine) (folder : Text) (round b : Round files.State files.Reader)
+    (more : List (Round files.State files.Reader)) → WereRounds files given folder round (b ∷ more) → WereRounds files given folder b more
+before_them files given folder round b more were = record {
+  alone = were.alone;
+  formula = were.formula;
+  next = were.next;
+  is_formula = were.is_formula;
+  cube = were.cube;
+  later = were.later;
+  assumed = were.assumed;
+  told = were.told;
+  rounds = were.rounds.1;
+}
+
+module _ (Mode : Bool → Type 0) (Before Last : RoundAsk) (Early Late : Loss) (ends_so : EndsSo Mode Before Early)
+    (refutes_so : RefutesSo Mode Last Late)
+    (early_open : (layout : LayoutValue) (s : ℕ) (report : Report) → Early layout s report → ¬ (report.ending ≡ endings.Ended))
+    (late_open : (layout : LayoutValue) (s : ℕ) (report : Report) → Late layout s report → ¬ (report.ending ≡ endings.Ended))
+    (serial : SerialRun) (bare : EmptyCubeReported)
+    (one_formula : OneFormula) (no_fault : NoFormulaFault) (alike : SameWordsAskAlike) (files : FilesView) (words : List Text)
+    (folder : Text)
+    (last : ℕ) (ask : AskForRightRounds Before Last files words folder last)
+    (mode : (given : CommandLine) → IsCommandLineOf words given → Mode given.serial) where
+  -- the words ask for no checkpoint
+  two_files : ¬ IsCause files words faults.TwoCheckpoints
+  two_files cause =
+      let no : Some cause.1 ≡ None = sym cause.3.path_is ∙ sym ask.asks.command_line.said.checkpoint ∙ ask.alone in cc
+
+  -- a round that was reached was asked for
+  is_asked : (given : CommandLine) → IsCommandLineOf words given
+      → (round : Round files.State files.Reader) (before : List (Round files.State files.Reader))
+      → (were : WereRounds files given folder round before) → length (round ∷ before) ≤ last
+      → IsAsked Before Last last (deeds_of files) (plan_at given were.cube folder) (length (round ∷ before)) round
+  is_asked given line round [] were few =
+      let first = were.rounds in
+      let asks = ask.asks in
+      let same = alike words asks.given given asks.command_line line in
+      let formulas : round.formula ≡ asks.formula =
+      first.formula_is
+      ∙ formula_at one_formula no_fault alike files (Some folder) words asks given were.formula were.next line were.is_formula in
+      let sizes : round.sizes ≡ sizes_of asks.given = first.sizes_are ∙ sizes_alike given asks.given same.0 same.1 in
+      let one : 1 ≡ length (round ∷ []) = omega arith in
+      record {
+        cnf = text_cnf asks.text round.formula (subst (IsFormulaText asks.text) (sym formulas) asks.is_text);
+        tells = files.tells;
+        paths = given.streams;
+        left = first.opened.left ∙ ap (λ (t : Text → Option (List ℕ)). map t given.streams) were.told;
+        checked = first.checked;
+        asked = subst (λ (n : ℕ). IsAskedOf Before Last last n round.formula round.sizes files.tells given.streams) one
+            (subst (λ (p : List Text). IsAskedOf Before Last last 1 round.formula round.sizes files.tells p) (sym same.1)
+            (subst (λ (z : Sizes). IsAskedOf Before Last last 1 round.formula z files.tells asks.given.streams) (sym sizes)
+            (subst (λ (f : Cnf). IsAskedOf Before Last last 1 f (sizes_of asks.given) files.tells asks.given.streams) (sym formulas)
+            ask.first)));
+      }
+  is_asked given line round (b ∷ more) were few =
+      let comes = were.rounds.0 in
+      let earlier = before_them files given folder round b more were in
+      let below : length (b ∷ more) < last = omega (arith, few) in
+      let provided = ask.later given b more round.formula line earlier below comes.goes_on in
+      let ready = provided.ready round.sizes comes.sized comes.sizes in
+      let number : length (b ∷ more) + 1 ≡ length (round ∷ b ∷ more) = omega arith in
+      record {
+        cnf = text_cnf comes.goes_on.bytes round.formula comes.goes_on.carried.text;
+        tells = files.tells_at comes.sized;
+        paths = stream_paths folder (length (b ∷ more) + 1) round.sizes.streams;
+        left = comes.opened.left;
+        checked = comes.checked;
+        asked = subst (λ (n : ℕ). IsAskedOf Before Last last n round.formula round.sizes (files.tells_at comes.sized)
+            (stream_paths folder (length (b ∷ more) + 1) round.sizes.streams)) number ready.streams;
+      }
+
+  -- in the round with this number some stream was stopped
+  abbrev Lost : ℕ → Round files.State files.Reader → Type 0
+  Lost number round = HaveLost (WasStopped Early Late last number) (layout_in round.formula round.sizes) round.reports
+
+  -- who was stopped hasn't ended
+  unended : (number : ℕ) (round : Round files.State files.Reader) → Lost number round → ¬ HaveEnded round.reports
+  unended number round (s, report, says, inl early) ended =
+      early_open (layout_in round.formula round.sizes) s report early.1 (ended_at round.reports (s - 1) report says.1 ended)
+  unended number round (s, report, says, inr late) ended =
+      late_open (layout_in round.formula round.sizes) s report late.1 (ended_at round.reports (s - 1) report says.1 ended)
+
+  -- what became of it
+  fate : (given : CommandLine) → IsCommandLineOf words given
+      → (round : Round files.State files.Reader) (before : List (Round files.State files.Reader))
+      → WereRounds files given folder round before → length (round ∷ before) ≤ last
+      → (HaveEnded round.reports × (length (round ∷ before) < last))
+      ⊎ ((round.verdict ≡ Unsatisfiable) ⊎ Lost (length (round ∷ before)) round)
+  fate given line round before were few =
+      let its = deeds_of files in
+      let plan = plan_at given were.cube folder in
+      let number = length (round ∷ before) in
+      let is = is_asked given line round before were few in
+      let check = check_in Before Last last its plan number round is in
+      elim (cases_lt number last) [
+        | inl below ↦ elim (ends_so files.Reader files.reading check (mode given line) is.cnf (is.asked.earlier below)) [
+          | inl ended ↦ inl (ended, below)
+          | inr lost ↦ inr (inr (lost.0, lost.1, lost.2, inl (below, lost.3)))
+        ]
+        | inr above ↦
+            let at_last : number ≡ last = omega (arith, above, few) in
+            elim (refutes_so files.Reader files.reading check (mode given line) is.cnf (is.asked.at_last at_last)) [
+              | inl refuted ↦ inr (inl refuted)
+              | inr lost ↦ inr (inr (lost.0, lost.1, lost.2, inr (at_last, lost.3)))
+            ]
+      ]
+
+  -- one that goes on isn't the last
+  goes_below : (given : CommandLine) → IsCommandLineOf words given
+      → (round : Round files.State files.Reader) (before : List (Round files.State files.Reader))
+      → (were : WereRounds files given folder round before) → length (round ∷ before) ≤ last → (next : Cnf)
+      → CarriesOn (deeds_of files) (plan_at given were.cube folder) (length (round ∷ before)) round next
+      → length (round ∷ before) < last
+  goes_below given line round before were few next goes = elim (fate given line round before were few) [
+    | inl (ended, below) ↦ below
+    | inr (inl refuted) ↦ absurd (let no : Unsatisfiable ≡ Unknown = sym refuted ∙ goes.verdict in cc)
+    | inr (inr lost) ↦ absurd (unended (length (round ∷ before)) round lost goes.ended)
+  ]
+
+  -- there are no more
+  few_rounds : (given : CommandLine) → IsCommandLineOf words given
+      → (round : Round files.State files.Reader) (before : List (Round files.State files.Reader))
+      → WereRounds files given folder round before → length (round ∷ before) ≤ last
+  few_rounds given line round [] were = omega (arith, ask.some)
+  few_rounds given line round (b ∷ more) were =
+      let earlier = before_them files given folder round b more were in
+      let below =
+      goes_below given line b more earlier (few_rounds given line b more earlier) round.formula were.rounds.0.goes_on in
+      omega (arith, below)
+
+  -- a round that is asked for is provided for
+  provided_for : (given : CommandLine) → IsCommandLineOf words given
+      → (round : Round files.State files.Reader) (before : List (Round files.State files.Reader))
+      → (were : WereRounds files given folder round before) → (next : Cnf)
+      → CarriesOn (deeds_of files) (plan_at given were.cube folder) (length (round ∷ before)) round next
+      → IsProvided Before Last last (deeds_of files) folder (length (round ∷ before) + 1) round.sizes next round.after
+  provided_for given line round before were next goes =
+      let few = few_rounds given line round before were in
+      ask.later given round before next line were (goes_below given line round before were few next goes) goes
+
+  -- without assumed literals nothing is said of them
+  under_some : (given : CommandLine) → IsCommandLineOf words given
+      → (round : Round files.State files.Reader) (before : List (Round files.State files.Reader))
+      → (were : WereRounds files given folder round before) → (path : Option Text) → assumed_at given ≡ path
+      → AreAssumed (WasReadIn files) were.formula.vars were.next path were.cube were.later
+      → round.verdict ≡ UnsatisfiableUnder → (asked : Text) × (assumed_at given ≡ Some asked)
+  under_some given line round before were (Some path) is assumed under = (path, is)
+  under_some given line round before were None is assumed under =
+      let plan = plan_at given were.cube folder in
+      let number = length (round ∷ before) in
+      let asked = is_asked given line round before were (few_rounds given line round before were) in
+      absurd (never_under files.reading (check_in Before Last last (deeds_of files) plan number round asked) serial bare assumed.0 under)
+
+  asked_under : (given : CommandLine) → IsCommandLineOf words given
+      → (round : Round files.State files.Reader) (before : List (Round files.State files.Reader))
+      → WereRounds files given folder round before → round.verdict ≡ UnsatisfiableUnder
+      → (asked : Text) × (assumed_at given ≡ Some asked)
+  asked_under given line round before were under =
+      under_some given line round before were (assumed_at given) refl were.assumed under
+
+  -- The rounds are over without an answer: a stream was stopped.
+  lost_in : (given : CommandLine) → IsCommandLineOf words given → (after : files.State) (out err : SinkChange) (status : ℕ)
+      → (ends : ReportsRounds files given folder after out err status) → ends.last.verdict ≡ Unknown → ends.last.unsaved ≡ None
+      → Lost (length (ends.last ∷ ends.before)) ends.last
+  lost_in given line after out err status ends unknown saved =
+      let few = few_rounds given line ends.last ends.before ends.were in
+      elim (fate given line ends.last ends.before ends.were few) [
+        | inr (inr lost) ↦ lost
+        | inr (inl refuted) ↦ absurd (let no : Unsatisfiable ≡ Unknown = sym refuted ∙ unknown in cc)
+        | inl (ended, below) ↦ absurd (elim ends.over [
+          | inl (barred, same) ↦ elim barred.why [
+            | inl other ↦ other unknown
+            | inr (inl fault) ↦ let no : Some fault.0 ≡ None = sym fault.1 ∙ saved in cc
+            | inr (inr not_ended) ↦ not_ended ended
+          ]
+          | inr (inl (next, goes, (sizes, sized, are, lacks))) ↦
+              ((provided_for given line ends.last ends.before ends.were next goes).ready sizes sized are).there after lacks
+          | inr (inr (high, same)) ↦ omega (arith, high, below, ask.few)
+        ])
+      ]
+
+  module _ (after : files.State) (out err : SinkChange) (status : ℕ) where
+    abbrev Goal : Type 0
+    Goal = (status ≡ 0) ⊎ IsExcusedInRounds files words folder Early Late last after out err status
+
+    reported_so : (given : CommandLine) → IsCommandLineOf words given → (ends : ReportsRounds files given folder after out err status)
+        → (failed : Bool) → out.failed ≡ failed → (unsaved : Option SaveFault) → ends.last.unsaved ≡ unsaved
+        → (verdict : Verdict) → ends.last.verdict ≡ verdict → status ≡ report_status failed unsaved verdict → Goal
+    reported_so given line ends true failed unsaved u verdict v is = inr (not_printed failed is)
+    reported_so given line ends false failed (Some fault) u verdict v is = inr (not_kept given line ends fault u is)
+    reported_so given line ends false failed None u Unsatisfiable v is = inl is
+    reported_so given line ends false failed None u UnsatisfiableUnder v is =
+        let asked = asked_under given line ends.last ends.before ends.were v in
+        inr (under_cube given line ends asked.0 asked.1 v is)
+    reported_so given line ends false failed None u Unknown v is =
+        let lost = lost_in given line after out err status ends v u in
+        inr (stopped given line ends lost.0 lost.1 lost.2 lost.3 is)
+
+    failed_so : (given : CommandLine) → IsCommandLineOf words given → FailsInRound files given folder out err status → Goal
+    failed_so given line ends =
+        let cause = ends.cause in
+        let provided = provided_for given line ends.last ends.before ends.were cause.0 cause.1 in
+        let machine = of_round (deeds_of files) (plan_at given ends.were.cube folder) (length (ends.last ∷ ends.before)) ends.last.sizes
+        cause.0 ends.last.after Before Last last provided ends.fault cause.2 in
+        inr (not_gone_on given line ends machine
+        (subst (λ (n : ℕ). (n ≡ 5) ⊎ (n ≡ 6)) (sym ends.status_is) (round_status ends.fault machine)))
+
+    pub rounds_say : ProgramEnds files words after out err status → Goal
+    rounds_say (inl (report, once)) =
+        let asks = ask.asks in
+        absurd (once folder (record {
+          good = asks.command_line.good;
+          folder_is = sym asks.command_line.said.rounds ∙ asks.rounds;
+        }))
+    rounds_say (inr (inl ends)) =
+        let machine = of_machine one_formula no_fault alike files (Some folder) words ask.asks two_files ends.fault ends.cause in
+        inr (not_begun ends.fault ends.cause machine ends.status_is
+        (subst (λ (n : ℕ). (n ≡ 5) ⊎ (n ≡ 6)) (sym ends.status_is) (machine_status ends.fault machine)))
+    rounds_say (inr (inr ends)) =
+        let asks = ask.asks in
+        let same : Some ends.folder ≡ Some folder =
+        sym ends.asked ∙ ends.command_line.said.rounds ∙ sym asks.command_line.said.rounds ∙ asks.rounds in
+        let folders : ends.folder ≡ folder = cc in
+        elim (subst (λ (d : Text). ReportsRounds files ends.given d after out err status ⊎ FailsInRound files ends.given d out err status)
+        folders ends.ending) [
+          | inl report ↦
+              reported_so ends.given ends.command_line report out.failed refl report.last.unsaved refl report.last.verdict refl
+              report.status_is
+          | inr fails ↦ failed_so ends.given ends.command_line fails
+        ]
+
+pub right_rounds_say : OneFormula → NoFormulaFault → SerialRun → EmptyCubeReported → SameWordsAskAlike → RightReported → RightBegins
+    → RightEmpty → (files : FilesView) → RightRoundsSay files
+right_rounds_say one_formula no_fault serial bare alike reported begins empty files words folder last s count after out err status ask =
+    rounds_say Either AreRightAlone (IsRefutedAlone s count) (λ layout t report. IsCutOff report) (IsCutOffOf s count)
+    (ends_alone serial reported) (refutes_alone serial begins empty s count) cut_is_open (cut_of_is_open s count)
+    serial bare one_formula no_fault alike files words folder last ask (λ given line. tt) after out err status
+
+pub right_orders_say : OneFormula → NoFormulaFault → SerialRun → EmptyCubeReported → SameWordsAskAlike → RightTogether → TogetherBegins
+    → RightEmpty → (files : FilesView) → RightOrdersSay files
+right_orders_say one_formula no_fault serial bare alike together begins empty files words folder last s count after out err status ask =
+    rounds_say Either AreRightInOrder (IsRefutedInOrder s count) IsStopped (IsStoppedOf s count)
+    (ends_in_order serial together) (refutes_in_order serial begins empty s count) stopped_is_open (stopped_of_is_open s count)
+    serial bare one_formula no_fault alike files words folder last ask (λ given line. tt) after out err status
+
+pub right_turn_rounds_say : OneFormula → NoFormulaFault → SerialRun → EmptyCubeReported → SameWordsAskAlike → RightByTurns → RightEmpty
+    → (files : FilesView) → RightTurnRoundsSay files
+right_turn_rounds_say one_formula no_fault serial bare alike by_turns empty files words folder last s after out err status ask on_one =
+    rounds_say OnOne AreRightByTurns (IsRefutedByTurns s) (λ layout t report. IsCutOff report) (λ layout t report. IsCutOff report)
+    (ends_by_turns by_turns) (refutes_by_turns serial by_turns empty s) cut_is_open cut_is_open
+    serial bare one_formula no_fault alike files words folder last ask
+    (λ given line. line.said.serial ∙ sym ask.asks.command_line.said.serial ∙ on_one) after out err status

@@ -1,0 +1,212 @@
+-- What right streams of a round come to.
+use Rattle.std.proofs.Common.{◌≡◌, ◌⊎◌, ◌≤◌, ◌-◌, ◌+◌, ℕ, Bool, true, List, [], ◌∷◌, length, zero, suc, Some, inl, inr, refl, sym, ap}
+use Rattle.std.proofs.Common.{subst, ◌∙◌, arith}
+use Rattle.std.specs.Prelude.{IsTrue, slice_get}
+use Rattle.std.specs.List.{AllByRecursion, flat_map}
+use Rattle.std.proofs.lemmas.List.{append-nil}
+use Rattle.std.proofs.lemmas.Option.{slice_get_within, slice_get_cases}
+use Rattle.lrup_model.specs.Formula.{IsCnf}
+use Rattle.lrup_model.specs.Layout.{LayoutValue, IsStream}
+use Rattle.lrup_text.specs.Lines.{line_text}
+use Rattle.lrup_text.specs.ReadOut.{SourceView}
+use Rattle.stream_check.specs.declared.fault.Fault.TheVariants as stream_faults
+use Rattle.stream_check.specs.declared.report.Ending.TheVariants as endings
+use Rattle.stream_check.specs.declared.report.Report.{Report}
+use Rattle.runs.specs.Closed.{IsOfStream}
+use Rattle.runs.specs.StreamLemmas.{judged_count}
+use Rattle.run_laws.specs.GroupLaws.{SerialRun}
+use Rattle.run_laws.specs.Right.{IsCutOffIn}
+use Rattle.run_laws.specs.RightLaws.{RightBegins, RightEmpty, RightReported}
+use Rattle.run_laws.specs.Together.{Step, TogetherBegins, RightTogether, lines_by}
+use Rattle.run_laws.specs.TurnsLaws.{RightByTurns}
+use Rattle.portfolio.specs.declared.outcome.Verdict.TheVariants.{Unsatisfiable}
+use Rattle.command.specs.Commands.{Text}
+use Rattle.command.specs.Rounds.{HaveEnded}
+use Rattle.outcome_laws.specs.RightRounds.{AreRightAlone, AreRightInOrder, IsCutOffOf, IsRefutedAlone, IsRefutedInOrder, IsStopped}
+use Rattle.outcome_laws.specs.RightRounds.{AreRightByTurns, IsRefutedByTurns, IsStoppedOf, Loss, RoundAsk}
+use Rattle.outcome_laws.specs.Serial.{IsCutOff}
+use Rattle.outcome_laws.proofs.CheckLemmas.{Check, have_texts, order_says, refutation_says, run_of, telling_of_file, told_of}
+use Rattle.outcome_laws.proofs.SerialLemmas.{by_turns_refutes, right_by_turns, said_of, some_cut}
+
+-- with threads or on one
+abbrev pub Either : Bool → Type 0
+Either serial = Unit {0}
+
+-- on one thread
+abbrev pub OnOne : Bool → Type 0
+OnOne serial = serial ≡ true
+
+-- some stream was stopped
+abbrev pub HaveLost : Loss → LayoutValue → List Report → Type 0
+HaveLost Lost layout reports = (s : ℕ) × (report : Report) × IsOfStream reports s report × Lost layout s report
+
+-- streams of which this is asked have ended, or some was stopped
+abbrev pub EndsSo : (Bool → Type 0) → RoundAsk → Loss → Type 1
+EndsSo Mode Before Lost = (R : Type 0) (reading : SourceView R) (c : Check reading) → Mode c.serial → IsCnf c.formula
+    → Before c.formula c.terms.layout c.tells c.paths → HaveEnded c.reports ⊎ HaveLost Lost c.terms.layout c.reports
+
+-- they come to 'unsatisfiable', or some was stopped
+abbrev pub RefutesSo : (Bool → Type 0) → RoundAsk → Loss → Type 1
+RefutesSo Mode Last Lost = (R : Type 0) (reading : SourceView R) (c : Check reading) → Mode c.serial → IsCnf c.formula
+    → Last c.formula c.terms.layout c.tells c.paths → (c.verdict ≡ Unsatisfiable) ⊎ HaveLost Lost c.terms.layout c.reports
+
+-- All streams ended, or one didn't.
+all_ended : (P : ℕ → Report → Type 0) (reports : List Report)
+    → ((k : ℕ) (report : Report) → slice_get reports k ≡ Some report → (report.ending ≡ endings.Ended) ⊎ P k report)
+    → HaveEnded reports ⊎ ((k : ℕ) × (report : Report) × (slice_get reports k ≡ Some report) × P k report)
+all_ended P [] each = inl tt
+all_ended P (r ∷ rs) each = elim (each 0 r refl) [
+  | inr lost ↦ inr (0, r, refl, lost)
+  | inl ended ↦ elim (all_ended (λ k. P (suc k)) rs (λ k report at. each (suc k) report at)) [
+    | inl all ↦ inl (ended, all)
+    | inr later ↦ inr (suc later.0, later.1, later.2, later.3)
+  ]
+]
+
+place : (reports : List Report) (k : ℕ) (report : Report) → slice_get reports k ≡ Some report → IsOfStream reports (k + 1) report
+place reports k report at =
+    let same : k ≡ k + 1 - 1 = omega arith in
+    (omega arith, subst (λ (n : ℕ). slice_get reports n ≡ Some report) same at)
+
+all_streams : (P : ℕ → Report → Type 0) (reports : List Report)
+    → ((s : ℕ) (report : Report) → IsOfStream reports s report → (report.ending ≡ endings.Ended) ⊎ P s report)
+    → HaveEnded reports ⊎ ((s : ℕ) × (report : Report) × IsOfStream reports s report × P s report)
+all_streams P reports each =
+    elim (all_ended (λ k. P (k + 1)) reports (λ k report at. each (k + 1) report (place reports k report at))) [
+      | inl all ↦ inl all
+      | inr some ↦ inr (some.0 + 1, some.1, place reports some.0 some.1 some.2, some.3)
+    ]
+
+-- one that is asked for
+pub ended_at : (reports : List Report) (k : ℕ) (report : Report) → slice_get reports k ≡ Some report → HaveEnded reports
+    → report.ending ≡ endings.Ended
+ended_at [] k report at all = absurd (cc)
+ended_at (r ∷ rs) zero report at all = let same : r ≡ report = cc in subst (λ (x : Report). x.ending ≡ endings.Ended) same all.0
+ended_at (r ∷ rs) (suc k) report at all = ended_at rs k report at all.1
+
+module _ (serial : SerialRun) {R : Type 0} (reading : SourceView R) (c : Check reading) (cnf : IsCnf c.formula) where
+  -- a stream with a report has a path
+  path_of : (s : ℕ) (report : Report) → IsOfStream c.reports s report
+      → IsStream c.terms.layout s × ((path : Text) × IsOfStream c.paths s path)
+  path_of s report says =
+      let run = run_of reading c serial in
+      let within = slice_get_within c.reports (s - 1) report says.1 in
+      let count = judged_count c.terms (λ t. true) run.history 1 run.streams c.reports run.judged in
+      let stream : IsStream c.terms.layout s = (says.0, omega (arith, within, count, run.count, says.0)) in
+      elim (slice_get_cases c.paths (s - 1)).1 [
+        | inl has ↦ (stream, (has.0, (says.0, has.2)))
+        | inr past ↦ absurd (omega (arith, past.0, stream.1, says.0, c.count))
+      ]
+
+  alone_ends : RightReported → AreRightAlone c.formula c.terms.layout c.tells c.paths → (s : ℕ) (report : Report)
+      → IsOfStream c.reports s report → (report.ending ≡ endings.Ended) ⊎ IsCutOff report
+  alone_ends reported right s report says =
+      let at = path_of s report says in
+      let asked = right s at.1.0 at.1.1 in
+      let here = telling_of_file reading c s at.1.0 asked.0 at.1.1 asked.2 in
+      elim (said_of report) [
+        | inl cut ↦ inr cut
+        | inr fine ↦ inl (ap (λ (r : Report). r.ending)
+            (reported c.formula c.terms s asked.0 asked.1 (told_of reading c) here.0 c.reports report cnf c.fits at.0 asked.3
+            (run_of reading c serial) here.1 here.2 says fine.0 fine.1))
+      ]
+
+all_true : (steps : List Step) → AllByRecursion (λ step. IsTrue true) steps
+all_true [] = tt
+all_true (step ∷ steps) = (refl, all_true steps)
+
+module _ (serial : SerialRun) {R : Type 0} (reading : SourceView R) (c : Check reading) (cnf : IsCnf c.formula) where
+  order_ends : RightTogether → AreRightInOrder c.formula c.terms.layout c.tells c.paths → (s : ℕ) (report : Report)
+      → IsOfStream c.reports s report → (report.ending ≡ endings.Ended) ⊎ IsStopped c.terms.layout s report
+  order_ends together right s report says =
+      let at = path_of serial reading c cnf s report says in
+      let steps = right.0 in
+      let lines = flat_map line_text (lines_by s steps) in
+      let here = telling_of_file reading c s at.1.0 lines at.1.1 (right.2 s at.1.0 at.1.1) in
+      elim (said_of report) [
+        | inl cut ↦ inr (inl cut)
+        | inr fine ↦ elim (together c.formula c.terms (λ t. true) steps (told_of reading c) c.reports s here.0 report cnf c.fits right.1
+            (all_true steps) (run_of reading c serial) (have_texts reading c (λ t. true) steps (λ t path member names.
+            ([], right.2 t path names ∙ ap (λ (b : List ℕ). Some b) (sym (append-nil (flat_map line_text (lines_by t steps)))))))
+            refl here.1 here.2 says fine.0 fine.1) [
+              | inl same ↦ inl (ap (λ (r : Report). r.ending) same)
+              | inr lacks ↦ inr (inr lacks)
+            ]
+      ]
+
+pub ends_alone : SerialRun → RightReported → EndsSo Either AreRightAlone (λ layout s report. IsCutOff report)
+ends_alone serial reported R reading c mode cnf right =
+    all_streams (λ s report. IsCutOff report) c.reports (alone_ends serial reading c cnf reported right)
+
+pub ends_in_order : SerialRun → RightTogether → EndsSo Either AreRightInOrder IsStopped
+ends_in_order serial together R reading c mode cnf right =
+    all_streams (IsStopped c.terms.layout) c.reports (order_ends serial reading c cnf together right)
+
+-- who was cut off in some first lines was so in more
+cut_in : (few many : ℕ) (report : Report) → few ≤ many → IsCutOffIn few report → IsCutOffIn many report
+cut_in few many report more cut = (cut.0, omega (arith, cut.1, more), cut.2)
+
+pub refutes_alone : SerialRun → RightBegins → RightEmpty → (s count : ℕ) → RefutesSo Either (IsRefutedAlone s count) (IsCutOffOf s count)
+refutes_alone serial begins empty s count R reading c mode cnf right =
+    let refutation = right.4.0 in
+    elim (refutation_says reading c serial begins empty cnf s right.0 right.1 refutation.lines right.2 right.3 refutation.right
+    refutation.empty) [
+      | inl says ↦ inl says
+      | inr cut ↦ inr (s, cut.0, cut.1, (refl, cut_in (length refutation.lines) count cut.0 right.4.1 cut.2))
+    ]
+
+pub refutes_in_order : SerialRun → TogetherBegins → RightEmpty → (s count : ℕ)
+    → RefutesSo Either (IsRefutedInOrder s count) (IsStoppedOf s count)
+refutes_in_order serial together empty s count R reading c mode cnf right =
+    let lines = length (lines_by s right.1) in
+    elim (order_says reading c serial together empty cnf s right.0 right.1 right.2 right.3 right.4 right.5) [
+      | inl says ↦ inl says
+      | inr (report, says, inl cut) ↦ inr (s, report, says, (refl, inl (cut_in lines count report right.6 cut)))
+      | inr (report, says, inr lacks) ↦ inr (
+        s,
+        report,
+        says,
+        (refl, inr (lacks.0, lacks.1, omega (arith, lacks.2, right.6), lacks.3, lacks.4)),
+      )
+    ]
+
+pub ends_by_turns : RightByTurns → EndsSo OnOne AreRightByTurns (λ layout s report. IsCutOff report)
+ends_by_turns by_turns R reading c on_one cnf right = elim (some_cut c.reports) [
+  | inl cut ↦ inr cut
+  | inr fine ↦ all_streams (λ s report. IsCutOff report) c.reports (λ s report says. inl (ap (λ (r : Report). r.ending)
+      (right_by_turns reading c cnf by_turns on_one right.0.0 right.0.1 right.1 right.0.2 fine s report says)))
+]
+
+pub refutes_by_turns : SerialRun → RightByTurns → RightEmpty → (s : ℕ)
+    → RefutesSo OnOne (IsRefutedByTurns s) (λ layout t report. IsCutOff report)
+refutes_by_turns serial by_turns empty s R reading c on_one cnf right = elim (some_cut c.reports) [
+  | inl cut ↦ inr cut
+  | inr fine ↦
+      let order = right.0.0 in
+      inl (by_turns_refutes reading c cnf by_turns on_one order.0 order.1 right.0.1 order.2 fine serial empty s right.1)
+]
+
+-- who was stopped hasn't ended
+pub cut_is_open : (layout : LayoutValue) (s : ℕ) (report : Report) → IsCutOff report → ¬ (report.ending ≡ endings.Ended)
+cut_is_open layout s report (inl memory) ended = let no : endings.Memory memory.0 ≡ endings.Ended = sym memory.1 ∙ ended in cc
+cut_is_open layout s report (inr failed) ended = let no : endings.ReadFailed failed.0 ≡ endings.Ended = sym failed.1 ∙ ended in cc
+
+pub stopped_is_open : (layout : LayoutValue) (s : ℕ) (report : Report) → IsStopped layout s report → ¬ (report.ending ≡ endings.Ended)
+stopped_is_open layout s report (inl cut) ended = cut_is_open layout s report cut ended
+stopped_is_open layout s report (inr (count, (line, id, below, other, inl missing))) ended =
+    let no : endings.Bad line (stream_faults.Missing id) ≡ endings.Ended = sym missing ∙ ended in cc
+stopped_is_open layout s report (inr (count, (line, id, below, other, inr retired))) ended =
+    let no : endings.Bad line (stream_faults.Retired id) ≡ endings.Ended = sym retired ∙ ended in cc
+
+cut_in_is_open : (count : ℕ) (report : Report) → IsCutOffIn count report → ¬ (report.ending ≡ endings.Ended)
+cut_in_is_open count report (line, below, inl memory) ended = let no : endings.Memory line ≡ endings.Ended = sym memory ∙ ended in cc
+cut_in_is_open count report (line, below, inr failed) ended = let no : endings.ReadFailed line ≡ endings.Ended = sym failed ∙ ended in cc
+
+pub cut_of_is_open : (s count : ℕ) (layout : LayoutValue) (t : ℕ) (report : Report) → IsCutOffOf s count layout t report
+    → ¬ (report.ending ≡ endings.Ended)
+cut_of_is_open s count layout t report cut ended = cut_in_is_open count report cut.1 ended
+
+pub stopped_of_is_open : (s count : ℕ) (layout : LayoutValue) (t : ℕ) (report : Report) → IsStoppedOf s count layout t report
+    → ¬ (report.ending ≡ endings.Ended)
+stopped_of_is_open s count layout t report (same, inl cut) ended = cut_in_is_open count report cut ended
+stopped_of_is_open s count layout t report (same, inr lacks) ended = stopped_is_open layout s report (inr (count, lacks)) ended

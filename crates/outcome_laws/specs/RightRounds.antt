@@ -1,0 +1,234 @@
+-- What the program says of right streams in rounds, and the laws that say so (this project's own).
+use Rattle.std.specs.Prelude.{◌≡◌, ◌⊎◌, ◌++◌, ◌+◌, ◌∷◌, ◌<◌, ◌≤◌, ◌^◌, ℕ, Bool, true, IsTrue, List, [], length, map, Option, None, Some}
+use Rattle.std.specs.List.{AllByRecursion, Any, flat_map}
+use Rattle.lrup_model.specs.Formula.{Cnf}
+use Rattle.lrup_model.specs.Layout.{IsFault, LayoutValue}
+use Rattle.lrup_model.specs.declared.layout.LayoutFault.{LayoutFault}
+use Rattle.lrup_text.specs.Lines.{StreamLine, line_text}
+use Rattle.stream_check.specs.declared.report.Report.{Report}
+use Rattle.stream_check.specs.Setting.{Setting}
+use Rattle.runs.specs.Closed.{IsOfStream}
+use Rattle.runs.specs.Streams.{setting_of}
+use Rattle.runs.specs.Turns.{IsByTurns}
+use Rattle.run_laws.specs.Blame.{LacksOfAnother, LacksOfAnotherIn}
+use Rattle.run_laws.specs.Right.{AddsEmpty, IsCutOffIn, IsRightRefutation, IsRightStream}
+use Rattle.run_laws.specs.Together.{Step, IsRightOrder, lines_by}
+use Rattle.portfolio.specs.Outcomes.{layout_of}
+use Rattle.portfolio.specs.declared.outcome.Verdict.TheVariants.{UnsatisfiableUnder}
+use Rattle.checkpoint.specs.declared.saving.SaveFault.{SaveFault}
+use Rattle.command_line.specs.CommandLine.{IsCommandLineOf}
+use Rattle.command_line.specs.declared.sizes.Sizes.{Sizes}
+use Rattle.command_line.specs.declared.words.CommandLine.{CommandLine}
+use Rattle.command.specs.Commands.{FilesView, IsCause, SinkChange, Text, assumed_at, checkpoint_at}
+use Rattle.command.specs.Faults.{status_of}
+use Rattle.command.specs.Paths.{sizes_path, stream_path, stream_paths}
+use Rattle.command.specs.Rounds.{AreSized, CarriesOn, Deeds, FailsInRound, HoldsNoSizes, ProgramEnds, ReportsRounds, Round, WereRounds}
+use Rattle.command.specs.Rounds.{deeds_of, options_by, plan_at, sizes_of}
+use Rattle.command.specs.declared.fault.CommandFault.{CommandFault}
+use Rattle.command.specs.declared.fault.CommandFault.TheVariants as faults
+use Rattle.outcome_laws.specs.Right.{AskWell, IsOfMachine}
+use Rattle.outcome_laws.specs.Serial.{IsCutOff}
+
+-- the layout of a round
+abbrev pub layout_in : Cnf → Sizes → LayoutValue
+layout_in formula sizes = layout_of (options_by 0 sizes) formula sizes.streams
+
+-- What may be asked of the streams of a round: by its formula and its layout; by what files tell, as they are before the streams are
+-- opened; and by the paths of the streams.
+abbrev pub RoundAsk : Type 1
+RoundAsk = Cnf → LayoutValue → (Text → Option (List ℕ)) → List Text → Type 0
+
+-- each stream is right, and cites only its own clauses and the formula's: its file tells the texts of right lines, and nothing else
+abbrev pub AreRightAlone : RoundAsk
+AreRightAlone formula layout tells paths =
+    (s : ℕ) (path : Text) → IsOfStream paths s path
+    → (bytes : List ℕ) × (lines : List StreamLine) × (tells path ≡ Some bytes)
+    × IsRightStream formula layout s bytes lines
+
+-- the file of stream s tells a right refutation, of so many lines at most; nothing is asked of the other streams
+abbrev pub IsRefutedAlone : (s count : ℕ) → RoundAsk
+IsRefutedAlone s count formula layout tells paths =
+    (path : Text) × (bytes : List ℕ) × IsOfStream paths s path × (tells path ≡ Some bytes)
+    × ((right : IsRightRefutation formula layout s bytes) × (length right.lines ≤ count))
+
+-- lines of the streams have a right order, and the file of each stream tells the texts of its lines, and nothing else
+abbrev pub AreRightInOrder : RoundAsk
+AreRightInOrder formula layout tells paths =
+    (steps : List Step) × IsRightOrder formula layout steps
+    × ((s : ℕ) (path : Text) → IsOfStream paths s path
+    → tells path ≡ Some (flat_map line_text (lines_by s steps)))
+
+-- so, and the order is by turns
+abbrev pub AreRightByTurns : RoundAsk
+AreRightByTurns formula layout tells paths =
+    (right : AreRightInOrder formula layout tells paths)
+    × IsByTurns (map (λ step. step.stream) right.0)
+
+-- so, and some line of stream s adds the empty clause
+abbrev pub IsRefutedByTurns : ℕ → RoundAsk
+IsRefutedByTurns s formula layout tells paths =
+    (right : AreRightByTurns formula layout tells paths) × Any AddsEmpty (lines_by s right.0.0)
+
+-- lines of a set of streams have a right order, their files begin with the texts of their lines, and some line of stream s, which has
+-- so many at most, adds the empty clause
+abbrev pub IsRefutedInOrder : (s count : ℕ) → RoundAsk
+IsRefutedInOrder s count formula layout tells paths =
+    (set : ℕ → Bool) × (steps : List Step) × IsRightOrder formula layout steps
+    × AllByRecursion (λ step. IsTrue (set step.stream)) steps
+    × ((t : ℕ) (path : Text) → IsTrue (set t) → IsOfStream paths t path
+    → (more : List ℕ) × (tells path ≡ Some (flat_map line_text (lines_by t steps) ++ more)))
+    × Any AddsEmpty (lines_by s steps) × (length (lines_by s steps) ≤ count)
+
+-- of the round with this number the one thing is asked before the last round, and the other in the last one
+pub record IsAskedOf (Before Last : RoundAsk) (last number : ℕ) (formula : Cnf) (sizes : Sizes)
+    (tells : Text → Option (List ℕ)) (paths : List Text) : Type 0 where
+  pub earlier : number < last → Before formula (layout_in formula sizes) tells paths
+  pub at_last : number ≡ last → Last formula (layout_in formula sizes) tells paths
+
+-- Of a later round, whose sizes were read: there is a file of its stream 1, a layout, and what is asked of its streams.
+pub record IsRoundReady (Before Last : RoundAsk) (last : ℕ) (its : Deeds) (folder : Text)
+    (number : ℕ) (formula : Cnf) (sizes : Sizes) (sized : its.State) : Type 0 where
+  pub there : (after : its.State) → ¬ its.lacks sized (stream_path folder number 1) after
+  pub layout : (fault : LayoutFault) → ¬ IsFault (layout_in formula sizes) fault
+  pub streams : IsAskedOf Before Last last number formula sizes (its.tells sized)
+      (stream_paths folder number sizes.streams)
+
+-- Of a later round, whose sizes weren't read: its file of sizes, if there is one, holds some, and with these sizes, or with those
+-- before, the round is ready.
+pub record IsProvided (Before Last : RoundAsk) (last : ℕ) (its : Deeds) (folder : Text) (number : ℕ)
+    (old : Sizes) (formula : Cnf) (before : its.State) : Type 0 where
+  pub sizes : ¬ HoldsNoSizes its before (sizes_path folder number)
+  pub ready : (sizes : Sizes) (sized : its.State)
+      → AreSized its (sizes_path folder number) old before sizes sized
+      → IsRoundReady Before Last last its folder number formula sizes sized
+
+-- The words ask well for rounds of a folder, and for no checkpoint. Of round 1, and of each round up to the last that some run of
+-- these words comes to, so much is asked: with threads the formula of a later round depends on how they ran. The last round has a
+-- number.
+pub record AskForRightRounds (Before Last : RoundAsk) (files : FilesView) (words : List Text)
+    (folder : Text) (last : ℕ) : Type 0 where
+  pub asks : AskWell files words (Some folder)
+  pub alone : checkpoint_at asks.given ≡ None
+  pub some : 0 < last
+  pub few : last + 2 ≤ 2 ^ 64
+  pub first : IsAskedOf Before Last last 1 asks.formula (sizes_of asks.given) files.tells
+      asks.given.streams
+  pub later : (given : CommandLine) (round : Round files.State files.Reader)
+      (before : List (Round files.State files.Reader)) (next : Cnf)
+      → IsCommandLineOf words given → (were : WereRounds files given folder round before)
+      → length (round ∷ before) < last
+      → CarriesOn (deeds_of files) (plan_at given were.cube folder) (length (round ∷ before)) round
+      next
+      → IsProvided Before Last last (deeds_of files) folder (length (round ∷ before) + 1)
+      round.sizes next round.after
+
+-- the fault of a round is the machine's: as of a run, or a file of sizes wasn't opened or read (5)
+abbrev pub IsOfMachineInRound : CommandFault → Type 0
+IsOfMachineInRound fault = IsOfMachine fault ⊎ (fault ≡ faults.SizesUnread)
+
+-- how a report tells that its stream was stopped: by the layout, the stream and the report
+abbrev pub Loss : Type 1
+Loss = LayoutValue → ℕ → Report → Type 0
+
+-- so in the round with this number: before the last round for the one reason, in the last one for the other
+abbrev pub WasStopped : (Early Late : Loss) → (last number : ℕ) → Loss
+WasStopped Early Late last number layout s report =
+    ((number < last) × Early layout s report) ⊎ ((number ≡ last) × Late layout s report)
+
+-- Why the program doesn't say 'unsatisfiable', where rounds are right. None of these says that a line is wrong. What is said of a
+-- report is said of the one that was printed, of the last round that there was.
+pub data IsExcusedInRounds (files : FilesView) (words : List Text) (folder : Text)
+    (Early Late : Loss) (last : ℕ) (after : files.State) (out err : SinkChange)
+    (status : ℕ) : Type 0 where
+  -- the report wasn't written
+  not_printed : (failed : out.failed ≡ true) (is : status ≡ 7)
+      → IsExcusedInRounds files words folder Early Late last after out err status
+  -- there is no report, for a fault of the machine, in round 1 or before
+  not_begun :
+      (fault : CommandFault) (cause : IsCause files words fault) (machine : IsOfMachine fault)
+      (status_is : status ≡ status_of fault) (is : (status ≡ 5) ⊎ (status ≡ 6))
+      → IsExcusedInRounds files words folder Early Late last after out err status
+  -- there is none, for a fault of the machine, in a later round
+  not_gone_on :
+      (given : CommandLine) (line : IsCommandLineOf words given)
+      (ends : FailsInRound files given folder out err status)
+      (machine : IsOfMachineInRound ends.fault) (is : (status ≡ 5) ⊎ (status ≡ 6))
+      → IsExcusedInRounds files words folder Early Late last after out err status
+  -- the formula of the next round wasn't saved
+  not_kept :
+      (given : CommandLine) (line : IsCommandLineOf words given)
+      (ends : ReportsRounds files given folder after out err status)
+      (fault : SaveFault) (why : ends.last.unsaved ≡ Some fault) (is : status ≡ 9)
+      → IsExcusedInRounds files words folder Early Late last after out err status
+  -- the words ask for assumed literals, and the report says 'unsatisfiable under assumptions'
+  under_cube :
+      (given : CommandLine) (line : IsCommandLineOf words given)
+      (ends : ReportsRounds files given folder after out err status)
+      (path : Text) (asked : assumed_at given ≡ Some path)
+      (why : ends.last.verdict ≡ UnsatisfiableUnder) (is : status ≡ 8)
+      → IsExcusedInRounds files words folder Early Late last after out err status
+  -- the report says that a stream was stopped, for such a reason
+  stopped :
+      (given : CommandLine) (line : IsCommandLineOf words given)
+      (ends : ReportsRounds files given folder after out err status)
+      (s : ℕ) (report : Report) (says : IsOfStream ends.last.reports s report)
+      (why : WasStopped Early Late last (length (ends.last ∷ ends.before))
+      (layout_in ends.last.formula ends.last.sizes) s report) (is : status ≡ 3)
+      → IsExcusedInRounds files words folder Early Late last after out err status
+
+-- memory ran out, or a read failed, in the first lines of stream s, so many
+abbrev pub IsCutOffOf : (s count : ℕ) → Loss
+IsCutOffOf s count layout t report = (t ≡ s) × IsCutOffIn count report
+
+-- Where in each round before the last each stream is right and cites only its own clauses and the formula's, and in the last one
+-- stream s is a right refutation, the program ends with status 0; or with 7, for a report that wasn't written; or with 5 or 6, for a
+-- fault of the machine; or with 9, for a formula of the next round that wasn't saved; or with 8, and then there are assumed literals,
+-- and the report says 'unsatisfiable under assumptions'; or with 3, and then the report says that memory ran out, or a read failed: in
+-- the refutation's lines, or in some stream of a round before the last.
+abbrev pub RightRoundsSay : FilesView → Type 0
+RightRoundsSay files = (words : List Text) (folder : Text) (last s count : ℕ) (after : files.State)
+    (out err : SinkChange) (status : ℕ)
+    → AskForRightRounds AreRightAlone (IsRefutedAlone s count) files words folder last
+    → ProgramEnds files words after out err status
+    → (status ≡ 0)
+    ⊎ IsExcusedInRounds files words folder (λ layout t report. IsCutOff report)
+    (IsCutOffOf s count) last after out err status
+
+-- what a stream is checked by, without a cube
+abbrev pub setting_in : LayoutValue → ℕ → Setting
+setting_in layout s = setting_of (record { layout = layout; cube = []; tries = 0 }) s
+
+-- memory ran out in the stream, or a read of it failed, or a line of it cites a clause of another stream that wasn't there, or wasn't
+-- any more; here the cube makes no difference
+abbrev pub IsStopped : Loss
+IsStopped layout s report = IsCutOff report ⊎ LacksOfAnother (setting_in layout s) report
+
+-- so in the first lines of stream s, so many
+abbrev pub IsStoppedOf : (s count : ℕ) → Loss
+IsStoppedOf s count layout t report =
+    (t ≡ s)
+    × (IsCutOffIn count report ⊎ LacksOfAnotherIn (setting_in layout s) count report)
+
+-- Where in each round before the last lines of all streams have a right order, and in the last one lines of a set of streams, of which
+-- stream s adds the empty clause, the program ends so too, with one more reason for 3: such a line cites a clause of another stream
+-- that wasn't there, or wasn't any more.
+abbrev pub RightOrdersSay : FilesView → Type 0
+RightOrdersSay files = (words : List Text) (folder : Text) (last s count : ℕ) (after : files.State)
+    (out err : SinkChange) (status : ℕ)
+    → AskForRightRounds AreRightInOrder (IsRefutedInOrder s count) files words folder last
+    → ProgramEnds files words after out err status
+    → (status ≡ 0)
+    ⊎ IsExcusedInRounds files words folder IsStopped (IsStoppedOf s count) last after out err status
+
+-- Where the words ask for one thread, and in each round lines of all streams have a right order that is by turns, and in the last one
+-- some line of stream s adds the empty clause, the program ends so too; with 3 the report says that memory ran out in some stream, or
+-- that a read of it failed.
+abbrev pub RightTurnRoundsSay : FilesView → Type 0
+RightTurnRoundsSay files = (words : List Text) (folder : Text) (last s : ℕ) (after : files.State)
+    (out err : SinkChange) (status : ℕ)
+    → (ask : AskForRightRounds AreRightByTurns (IsRefutedByTurns s) files words folder last)
+    → ask.asks.given.serial ≡ true
+    → ProgramEnds files words after out err status
+    → (status ≡ 0)
+    ⊎ IsExcusedInRounds files words folder (λ layout t report. IsCutOff report)
+    (λ layout t report. IsCutOff report) last after out err status
