@@ -60,7 +60,7 @@ module _ (its : Deeds) (plan : Plan) (number : ℕ) (old : Sizes) (formula : Cnf
       → ((refuses : Text → Bool) (path : Option Text) → IsCreateCause refuses path fault → ⊥)
       → IsRoundCause its plan number old formula before fault → ⊥
   none_so fault sizes opens runs creates (inl cause) = sizes cause
-  none_so fault sizes opens runs creates (inr (read, sized, are, inl cause)) = opens its.State its.Reader its.opens _ _ _ cause
+  none_so fault sizes opens runs creates (inr (read, sized, are, inl cause)) = opens its.State its.Reader its.opens _ _ _ cause.0
   none_so fault sizes opens runs creates (inr (read, sized, are, inr (readers, opened, so, inl cause))) = runs read sized are cause
   none_so fault sizes opens runs creates (inr (read, sized, are, inr (readers, opened, so, inr (layout, cause)))) = creates _ _ cause
 
@@ -194,7 +194,7 @@ module _ (Mode : Bool → Type 0) (Before Last : RoundAsk) (Early Late : Loss) (
       let ready = provided.ready round.sizes comes.sized comes.sizes in
       let number : length (b ∷ more) + 1 ≡ length (round ∷ b ∷ more) = omega arith in
       record {
-        cnf = text_cnf comes.goes_on.bytes round.formula comes.goes_on.carried.text;
+        cnf = text_cnf comes.goes_on.saving.bytes round.formula comes.goes_on.saving.carried.text;
         tells = files.tells_at comes.sized;
         paths = stream_paths folder (length (b ∷ more) + 1) round.sizes.streams;
         left = comes.opened.left;
