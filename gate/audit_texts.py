@@ -61,8 +61,8 @@ asked.entry.formula.items f × IsUnsatisfiable f]]. So one loop, `read_all`, whi
 any run, and files that play its calls back, where `opens` and `reads` hold of these calls alone. `command` would do the same
 with them, since it knows files only by the calls of their traits, and there only what was read can be meant.
 
-**And `--rounds`?** No definition here knows of rounds: however many there were, the clause speaks of FORMULA. No file of clauses is
-read again, and [AUDIT-RUNS](AUDIT-RUNS.md#runs-in-rounds) says what each round is to the next."""
+**And `--rounds`?** Neither clause knows of rounds: however many there were, each speaks of FORMULA, and of no file in the folder.
+[AUDIT-RUNS](AUDIT-RUNS.md#runs-in-rounds) says what each round is to the next."""
 
 AUDIT_HOW = """## How to read it
 
@@ -123,7 +123,7 @@ CHECKPOINT_PHRASES: Rows = [
     ("the last ends with status 0, no assignment satisfies the first formula", """the law [[law files_refute]]: the last run's
      bytes are `last_file bytes more`, of which the [[fn command.sound]] says [[IsUnsatisfiableText: (formula : Cnf) × IsFormulaText
      bytes formula × IsUnsatisfiable formula]]; so that holds of the first run's `bytes`. [[law outcomes_refute]] says it at once, of
-     runs as the clause `ends` of `command` has them."""),
+     runs without rounds, as the clause `ends` of `command` has them."""),
     ("where it ends with status 8, none satisfies it and makes the literals true that the last run assumed", """the law
      [[law files_refute_under]], with the [[fn command.sound_under]] of the last run; and [[law outcomes_refute_under]]."""),
 ]
@@ -467,16 +467,16 @@ ROUNDS_PHRASES: Rows = [
      round.sizes.streams) round.readers round.opened]]: DIR/round-R.stream-1 and so on ([[stream_path]]), each opened once, in order,
      after the sizes ([[StreamsOpened]])."""),
     ("just the clauses that a history of the round leaves live, but for those that all streams dropped",
-     """[[CarriesOn: exactly : CarriesRun its.reading its.written plan.serial round.formula (terms_by plan round.formula round.sizes)
+     """[[SavesRound: exactly : CarriesRun its.reading its.written plan.serial round.formula (terms_by plan round.formula round.sizes)
      round.readers round.reports (Ok next) saved.first saved.last]]: by [[CarriesRun: stands : StandsOnHistory view serial formula terms
      history firsts lasts reports dropped]] the history judges the round's streams as reported, and what they dropped is what their lines
      drop, since all ended; by [[CarriesRun: carries : CarriesState written result (state formula history) terms.layout (is_wanted dropped)
      first last]] each identity was fetched once, and [[Carries: (next ≡ printed vars entries)]] of what was found live and
      [[is_wanted]], in the order of the identities."""),
-    ("over the same variables, each clause of which follows from the round's", """[[CarriesOn: carried : IsCheckpointOf round.formula bytes
+    ("over the same variables, each clause of which follows from the round's", """[[SavesRound: carried : IsCheckpointOf round.formula bytes
      next]], and there [[IsCheckpointOf: entails : Entails original next]]."""),
     ("a text of it went to its checkpoint, which was kept", """[[IsCheckpointOf: text : IsFormulaText bytes next]], of the bytes of
-     [[CarriesOn: saved : WasSaved its.creates its.written its.keeps round.opened (formula_path plan.folder (number + 1)) bytes
+     [[SavesRound: saved : WasSaved its.creates its.written its.keeps round.opened (formula_path plan.folder (number + 1)) bytes
      round.after]]: a file was created at DIR/round-(R+1).cnf ([[formula_path]]) once the round's streams were opened, and kept before
      the files of the next round are opened."""),
     ("The streams of each are checked as those of a single run", """[[WasChecked: AreChecked its.reading plan.serial round.formula

@@ -30,11 +30,11 @@ use std::time::Clock;
 /// this order: the words are read, the formula's file is read and parsed, and so is that of the
 /// assumed literals, the streams are opened, and where they have a layout the checkpoint's file is
 /// created, the streams are checked, the checkpoint is saved, and the report goes to `out`. There is
-/// a checkpoint where the words have `--checkpoint`, and nothing is saved where the report says
-/// `s UNSATISFIABLE`. Where the saving fails, `err` says why. Where there is no report, `out` gets
+/// a checkpoint where the words have `--checkpoint`, and none is saved of a run whose verdict is
+/// 'unsatisfiable'. Where the saving fails, `err` says why. Where there is no report, `out` gets
 /// nothing, and `err` the cause. Where the report can't be written, `out` has a beginning of it, and
 /// `err` says so. Where the words have `--watch`, progress is reported on a watcher for each stream.
-/// Where they have `--rounds`, the checkpoint is the formula of round 2; a round whose verdict is
+/// Where they have `--rounds`, the checkpoint of a round is the next one's formula; a round whose verdict is
 /// 'unknown', whose streams ended and whose checkpoint was saved is followed by the next one, on the
 /// clauses that were saved, with the sizes and the streams in the folder, if stream 1 is there; and
 /// the report is that of the last round. It blocks while a file does.

@@ -76,7 +76,7 @@ PlainEnds files = (words : List Text) (after : files.State) (out err : SinkChang
     → ((folder : Text) → ¬ AskForRounds words folder) → ProgramEnds files words after out err status
     → EndsWithReport files words after out err status ⊎ EndsWithFault files words out err status
 
--- What the program's ending says of status 0: the words have a command line, and what was read at its FORMULA is a text of a formula
+-- What the ending of a single run says of status 0: the words have a command line, and what was read at its FORMULA is a text of a formula
 -- that no assignment satisfies. So all that isn't in the clause `sound` of what the words say is in the clause `ends`.
 abbrev pub Status0HasACommandLine : FilesView → Type 0
 Status0HasACommandLine files = (words : List Text) (after : files.State) (out err : SinkChange)

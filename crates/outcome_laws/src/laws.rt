@@ -55,8 +55,8 @@ pub fn plain_ends<F: Files>(files: &F)
         PlainEnds view }
 {}
 
-/// With status 0 the words have a whole command line, and what was read at its FORMULA is a text of a formula that no assignment
-/// satisfies: the clause `ends` of `command` says so.
+/// With status 0 of a single run the words have a whole command line, and what was read at its FORMULA is a text of a formula that no
+/// assignment satisfies: the clause `ends` of `command` says so.
 pub fn status_0_has_a_command_line<F: Files>(files: &F)
     ensures { let view = files_view F.Files F.Input.Source F.Output.Sink files.now in
         Status0HasACommandLine view }
