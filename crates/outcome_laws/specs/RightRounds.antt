@@ -85,7 +85,7 @@ pub record IsAskedOf (Before Last : RoundAsk) (last number : ℕ) (formula : Cnf
   pub earlier : number < last → Before formula (layout_in formula sizes) tells paths
   pub at_last : number ≡ last → Last formula (layout_in formula sizes) tells paths
 
--- Of a later round, whose sizes were read: there is a file of its stream 1, a layout, and what is asked of its streams.
+-- A later round, whose sizes are known, is ready: there is a file of its stream 1, there is a layout, and its streams are as is asked.
 pub record IsRoundReady (Before Last : RoundAsk) (last : ℕ) (its : Deeds) (folder : Text)
     (number : ℕ) (formula : Cnf) (sizes : Sizes) (sized : its.State) : Type 0 where
   pub there : (after : its.State) → ¬ its.lacks sized (stream_path folder number 1) after
@@ -93,8 +93,8 @@ pub record IsRoundReady (Before Last : RoundAsk) (last : ℕ) (its : Deeds) (fol
   pub streams : IsAskedOf Before Last last number formula sizes (its.tells sized)
       (stream_paths folder number sizes.streams)
 
--- Of a later round, whose sizes weren't read: its file of sizes, if there is one, holds some, and with these sizes, or with those
--- before, the round is ready.
+-- All is provided for a later round, whose sizes aren't known yet: its file of sizes, if there is one, holds some; and the round is ready
+-- with these, or with those before if there is no such file.
 pub record IsProvided (Before Last : RoundAsk) (last : ℕ) (its : Deeds) (folder : Text) (number : ℕ)
     (old : Sizes) (formula : Cnf) (before : its.State) : Type 0 where
   pub sizes : ¬ HoldsNoSizes its before (sizes_path folder number)
@@ -102,9 +102,9 @@ pub record IsProvided (Before Last : RoundAsk) (last : ℕ) (its : Deeds) (folde
       → AreSized its (sizes_path folder number) old before sizes sized
       → IsRoundReady Before Last last its folder number formula sizes sized
 
--- The words ask well for rounds of a folder, and for no checkpoint. Of round 1, and of each round up to the last that some run of
--- these words comes to, so much is asked: with threads the formula of a later round depends on how they ran. The last round has a
--- number.
+-- The words ask well for rounds of a folder, and for no checkpoint besides. The last round has one of the numbers 1 to 2 ^ 64 - 2. The
+-- streams of round 1 are as is asked. And for each round after it, up to the last, that some run of these words comes to, all is
+-- provided: with threads its formula depends on how they ran.
 pub record AskForRightRounds (Before Last : RoundAsk) (files : FilesView) (words : List Text)
     (folder : Text) (last : ℕ) : Type 0 where
   pub asks : AskWell files words (Some folder)
