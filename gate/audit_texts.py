@@ -494,6 +494,12 @@ ROUNDS_PHRASES: Rows = [
      last fault]]: of its sizes ([[IsSizesCause]]), of the opening of its streams, or of their start ([[IsStartCause]]), each once what
      comes before it went well ([[IsRoundCause]]). What is said then has the round's number,
      [[FailsInRound: said : SinkTook err (round_error_text (length (last ∷ before) + 1) fault)]]."""),
+    ("Where in each round before the last all streams are right by themselves, or by an order of all lines", """the laws
+     [[law right_rounds_say]], [[law right_orders_say]] and, with `--serial`, [[law right_turn_rounds_say]]: as
+     [[AskForRightRounds]] has it of each round that may be reached, since its formula is known only once the one before is over."""),
+    ("the status is 0; or 7; or 5 or 6, by a fault of the machine; or 9, since a formula wasn't saved; or 8, where literals are assumed; or 3",
+     """all that `command` may do by its clause `ends`; of the excuses each that has a report is about the one that was printed
+     ([[IsExcusedInRounds]])."""),
 ]
 
 ROUNDS_ACCOUNT = """Of the machine's files this is an argument, as with single runs: they allow all that `opens`, `lacks`, `creates` and
@@ -529,7 +535,7 @@ RIGHT_LAWS = [f"run_laws/src/right.rt: {name}" for name in """right_reported rig
     right_empty right_begins right_cite_within ended_is_right right_together together_begins no_false_blame""".split()] + [
     f"run_laws/src/turns.rt: {name}" for name in "right_by_turns turns_decide bytes_decide".split()]
 PROGRAM_LAWS = [f"outcome_laws/src/laws.rt: {name}" for name in """right_refutation_says right_order_says right_turns_say
-    serial_outcomes_agree""".split()]
+    right_rounds_say right_orders_say right_turn_rounds_say serial_outcomes_agree""".split()]
 
 LAWS = """## The laws
 
