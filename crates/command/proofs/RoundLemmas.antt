@@ -396,14 +396,14 @@ sizes_cause its before path reader after opened left faults.Sizes (inl (bytes, w
     let read : WasRead its.opens its.reading.reads (its.tells before) before path bytes after =
     record { reader = reader; opened = opened; gave = whole.gave; told = λ all told. whole.told all (left ∙ told) } in
     record { reader = reader; after = after; opened = opened; bytes = bytes; few = few; holds = inl (read, none) }
-sizes_cause its before path reader after opened left faults.Sizes (inr (bytes, last, gave, is)) =
+sizes_cause its before path reader after opened left faults.Sizes (inr (bytes, last, gave, is, told)) =
     record {
       reader = reader;
       after = after;
       opened = opened;
       bytes = bytes;
       few = omega (arith, is);
-      holds = inr (last, gave, is);
+      holds = inr (last, gave, is, λ all same. told all (left ∙ same));
     }
 sizes_cause its before path reader after opened left faults.Memory cause = tt
 sizes_cause its before path reader after opened left fault cause = absurd cause

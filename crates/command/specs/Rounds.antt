@@ -2,6 +2,7 @@
 use Rattle.std.specs.Prelude.{◌≡◌, ◌==◌, if◌then◌else◌, ◌+◌, ◌++◌, ◌∷◌, ◌⊎◌, ◌<◌, ◌≤◌, ◌^◌, ℕ, Bool, List, [], Ok, Option, None, Some, codes, length, map, IsTrue}
 use Rattle.std.specs.Fmt.{decimal}
 use Rattle.std.specs.List.{AllByRecursion}
+use Rattle.std.specs.Option.{ForSome}
 use Rattle.lrup_model.specs.Cube.{CubeValue}
 use Rattle.lrup_model.specs.Formula.{Cnf}
 use Rattle.lrup_model.specs.Layout.{IsFault}
@@ -228,7 +229,7 @@ RoundsEnd its plan number last after =
 -- Causes.
 
 -- The file at the path was opened, and what it holds is no text of sizes: at most 64 bytes were read of it to its end, and they aren't; or
--- it has 64 bytes, which is more than the longest has.
+-- it begins with 64 bytes, which are more than the longest has.
 pub record HoldsNoSizes (its : Deeds) (before : its.State) (path : Text) : Type 0 where
   pub reader : its.Reader
   pub after : its.State
@@ -238,7 +239,8 @@ pub record HoldsNoSizes (its : Deeds) (before : its.State) (path : Text) : Type 
   pub holds : (WasRead its.opens its.reading.reads (its.tells before) before path bytes after
       × HaveNoSizes bytes)
       ⊎ ((last : its.Reader) × Gave its.Reader its.reading.reads reader bytes last
-      × (length bytes ≡ 64))
+      × (length bytes ≡ 64)
+      × ForSome (its.tells before path) (λ all. (rest : List ℕ) × (all ≡ bytes ++ rest)))
 
 -- The file at the path was opened, and its reading failed, after 64 bytes at most.
 pub record BrokeOff (its : Deeds) (before : its.State) (path : Text) : Type 0 where

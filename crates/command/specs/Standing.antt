@@ -1,5 +1,5 @@
 -- How the rounds stand while they go on: what private functions say of them (this project's own).
-use Rattle.std.specs.Prelude.{◌≡◌, ◌≤◌, ◌+◌, ◌∷◌, ◌⊎◌, ℕ, Bool, IsTrue, List, Option, None, Some, Result, Ok, Err, length, map, slice_get, take}
+use Rattle.std.specs.Prelude.{◌≡◌, ◌≤◌, ◌+◌, ◌++◌, ◌∷◌, ◌⊎◌, ℕ, Bool, IsTrue, List, Option, None, Some, Result, Ok, Err, length, map, slice_get, take}
 use Rattle.std.specs.Io.KnownBytes.{Appends}
 use Rattle.std.specs.Option.{ForSome}
 use Rattle.lrup_model.specs.Cube.{CubeValue}
@@ -163,7 +163,8 @@ IsUnsized reading first faults.SizesUnread =
     (broken : HasBrokenOff reading first) × (length broken.bytes ≤ 64)
 IsUnsized {R = R} reading first faults.Sizes =
     ((bytes : List ℕ) × GaveWhole reading first bytes × HaveNoSizes bytes × (length bytes ≤ 64))
-    ⊎ ((bytes : List ℕ) × (last : R) × Gave R reading.reads first bytes last × (length bytes ≡ 64))
+    ⊎ ((bytes : List ℕ) × (last : R) × Gave R reading.reads first bytes last × (length bytes ≡ 64)
+    × ForSome (reading.left first) (λ all. (rest : List ℕ) × (all ≡ bytes ++ rest)))
 IsUnsized reading first faults.Memory = Unit {0}
 IsUnsized reading first fault = ⊥
 

@@ -1,4 +1,4 @@
-use Rattle.std.proofs.Common.{arith, ℕ, subst, ◌≤◌}
+use Rattle.std.proofs.Common.{arith, inr, length, subst, ℕ, ◌≡◌, ◌≤◌}
 use Rattle.std.proofs.lemmas.List.{length-take-le}
 use Rattle.lrup_text.specs.ReadLemmas.{gave_more}
 use Rattle.command.specs.Commands.{HasBrokenOff, readers_view}
@@ -32,3 +32,10 @@ returns-in-Err-clause-cause g c =
       told = consumed_begins _ _ c.loop-buffer.bytes.items invariant.consumes;
     } in
     (broken, subst (λ (n : ℕ). n ≤ 64) c.loop-buffer.bytes.ok.0 invariant.count)
+
+-- more was read than sizes have
+pub returns-clause-cause : goal.returns-clause-cause
+returns-clause-cause g c =
+    let now = c.loop-buffer in
+    let count : length now.bytes.items ≡ 64 = omega (arith, now.invariant.count, now.bytes.ok.0, c.loop-buffer-test.false, c.len.ensures) in
+    inr (now.bytes.items, now.source, now.invariant.gave, count, consumed_begins _ _ now.bytes.items now.invariant.consumes)
