@@ -2,6 +2,7 @@
 ghost use Rattle.std.specs.Prelude.{◌≡◌, false};
 ghost use Rattle.std.specs.List.{AllByRecursion};
 
+use super::saving::pauses;
 use super::{BOTH, By, Open, ended, readers_of, same};
 use checkpoint::SaveFault;
 use lrup_model::{Cube, Formula};
@@ -11,11 +12,12 @@ use std::process::Abort;
 use std::sync::Wait;
 use std::test::Fail;
 use std::thread::Threads;
+use std::time::Clock;
 use stream_check::Report;
 use test_support::{Paper, Pieces, four_clauses};
 
 /// Carries what is live after a run over the four clauses.
-fn carried_after<'a, T: Threads + Wait + Sync>(
+fn carried_after<'a, T: Threads + Wait + Clock + Sync>(
     rt: &T,
     alloc: Global,
     by: By,
@@ -28,9 +30,9 @@ fn carried_after<'a, T: Threads + Wait + Sync>(
     let formula = four_clauses(alloc)?;
     let cube = Cube::empty(alloc);
     let options = Options::new(1_000_000, 4, 8).ok_or("no options")?;
-    let gates = vec![in alloc; Open; readers.len()]?;
     match by {
         By::Threads => {
+            let gates = pauses(rt, alloc, readers.len())?;
             let outcome = run(rt, alloc, &formula, &cube, options, readers, gates)?;
             let Outcome {
                 passes,
@@ -47,6 +49,7 @@ fn carried_after<'a, T: Threads + Wait + Sync>(
             Ok(carry_live(alloc, &store, &layout, passes, &dropped, paper))
         }
         By::Turns => {
+            let gates = vec![in alloc; Open; readers.len()]?;
             let outcome = run_serial(rt, alloc, &formula, &cube, options, readers, gates)?;
             let SerialOutcome {
                 mut map,
@@ -76,7 +79,7 @@ fn reports_of_next<W: Wait>(
 }
 
 /// After a run of these streams, with threads and by turns, this text is saved, and the formula is such that this stream refutes it.
-fn carries<T: Threads + Wait + Sync + Abort>(
+fn carries<T: Threads + Wait + Clock + Sync + Abort>(
     rt: &T,
     alloc: Global,
     streams: &[&str],

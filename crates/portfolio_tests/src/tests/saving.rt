@@ -1,20 +1,21 @@
 //! What is live after a run, saved.
-ghost use Rattle.std.specs.Prelude.{◌≡◌, false};
+ghost use Rattle.std.specs.Prelude.{◌≡◌, IfOk, false, vec_len};
 ghost use Rattle.std.specs.List.{AllByRecursion};
 
 use super::{BOTH, By, Open, readers_of, same};
 use checkpoint::SaveFault;
 use lrup_model::Cube;
-use portfolio::{Options, Outcome, SerialOutcome, run, run_serial, save_live, save_plain};
-use std::alloc::Global;
+use portfolio::{Options, Outcome, Pause, SerialOutcome, run, run_serial, save_live, save_plain};
+use std::alloc::{AllocError, Global};
 use std::process::Abort;
 use std::sync::Wait;
 use std::test::Fail;
 use std::thread::Threads;
+use std::time::Clock;
 use test_support::{Paper, Pieces, four_clauses};
 
 /// Saves what is live after a run over the four clauses.
-fn saved_after<'a, T: Threads + Wait + Sync>(
+fn saved_after<'a, T: Threads + Wait + Clock + Sync>(
     rt: &T,
     alloc: Global,
     by: By,
@@ -27,9 +28,9 @@ fn saved_after<'a, T: Threads + Wait + Sync>(
     let formula = four_clauses(alloc)?;
     let cube = Cube::empty(alloc);
     let options = Options::new(1_000_000, 4, 8).ok_or("no options")?;
-    let gates = vec![in alloc; Open; readers.len()]?;
     match by {
         By::Threads => {
+            let gates = pauses(rt, alloc, readers.len())?;
             let outcome = run(rt, alloc, &formula, &cube, options, readers, gates)?;
             let Outcome {
                 passes,
@@ -44,6 +45,7 @@ fn saved_after<'a, T: Threads + Wait + Sync>(
             Ok(save_live(alloc, &store, &layout, passes, &dropped, paper))
         }
         By::Turns => {
+            let gates = vec![in alloc; Open; readers.len()]?;
             let outcome = run_serial(rt, alloc, &formula, &cube, options, readers, gates)?;
             let SerialOutcome {
                 mut map,
@@ -55,8 +57,23 @@ fn saved_after<'a, T: Threads + Wait + Sync>(
     }
 }
 
+/// Gates that sleep, so that a stream waits for another one's clause however late that one's thread is.
+pub(super) fn pauses<C: Clock + Sync>(
+    clock: &C,
+    alloc: Global,
+    count: usize,
+) -> Result<Vec<Pause<&C>>, AllocError>
+    ensures { IfOk result (λ gates. vec_len gates ≡ count) }
+{
+    let mut gates = Vec::with_capacity(alloc, count)?;
+    for _gate in 0..count {
+        gates.push_reserved(Pause::new(clock));
+    }
+    Ok(gates)
+}
+
 /// After a run of these streams, with threads and by turns, this text is saved.
-fn saves<T: Threads + Wait + Sync + Abort>(
+fn saves<T: Threads + Wait + Clock + Sync + Abort>(
     rt: &T,
     alloc: Global,
     streams: &[&str],
