@@ -188,7 +188,7 @@ pub(crate) fn begin<W: Wait, F: Files>(
 }
 
 /// Parses a formula, and gives the memory of its text back.
-pub(crate) fn parse_text(alloc: Global, bytes: Vec<u8>) -> Result<Formula, DimacsFault>
+fn parse_text(alloc: Global, bytes: Vec<u8>) -> Result<Formula, DimacsFault>
     ensures formula { IfOk result (λ formula. IsFormulaText bytes.items formula) }
     ensures fault { IfErr result
         (λ fault. fault ≢ DimacsFault.Memory → IsFormulaFault bytes.items fault) }
@@ -197,7 +197,7 @@ pub(crate) fn parse_text(alloc: Global, bytes: Vec<u8>) -> Result<Formula, Dimac
 }
 
 /// Opens, reads and parses the file of the assumed literals, over the formula's variables. Without a path there are none.
-pub(crate) fn read_assumed<W: Wait, F: Files>(
+fn read_assumed<W: Wait, F: Files>(
     wait: &W,
     alloc: Global,
     files: &mut F,
