@@ -1,6 +1,6 @@
 -- From what is read and run to what the words and the files come to.
 use Rattle.std.proofs.Common.{◌≡◌, ◌∙◌, ℕ, Bool, false, List, map, length, Option, None, Some, IfSome, Result, Ok, Err, IfOk, IfErr, inl}
-use Rattle.std.proofs.Common.{inr, sym, ap, subst, rules}
+use Rattle.std.proofs.Common.{inr, refl, sym, ap, subst, rules}
 use Rattle.std.proofs.lemmas.List.{length-map}
 use Rattle.std.specs.Prelude.{◌↔◌, IsErrAnd}
 use Rattle.dimacs.specs.FormulaText.{IsFormulaText}
@@ -10,6 +10,7 @@ use Rattle.lrup_model.specs.Formula.{Cnf}
 use Rattle.lrup_model.specs.Layout.{LayoutValue, IsFault, IsStream}
 use Rattle.lrup_model.specs.declared.layout.LayoutFault.{LayoutFault}
 use Rattle.portfolio.specs.Outcomes.{OptionsValue, layout_of, terms_of}
+use Rattle.runs.specs.Streams.{TermsValue}
 use Rattle.portfolio.specs.declared.outcome.RunFault.{RunFault}
 use Rattle.portfolio.specs.declared.outcome.RunFault.TheVariants as runs
 use Rattle.portfolio.specs.declared.outcome.Verdict.{Verdict}
@@ -17,10 +18,12 @@ use Rattle.stream_check.specs.declared.report.Report.{Report}
 use Rattle.checkpoint.specs.declared.saving.SaveFault.{SaveFault}
 use Rattle.command_line.specs.CommandLine.{AskFor, IsCommandLineOf}
 use Rattle.command_line.specs.declared.words.CommandLine.{CommandLine}
-use Rattle.command.specs.Commands.{AreAssumed, IsAssumeCause, NameUnsatisfiableUnder, assumed_at}
-use Rattle.command.specs.Commands.{AreChecked, AreOpened, IsCause, IsFormulaAt, IsOpenCause, IsOutcome, IsReadCause}
-use Rattle.command.specs.Commands.{FilesView, IsCreateCause, IsRunCause, LeavesCheckpoint, NameUnsatisfiable, Text, WasRead, WasReadIn}
-use Rattle.command.specs.Commands.{checkpoint_at, created_at, layout_at, options_of}
+use Rattle.command.specs.Commands.{AreAssumed, AreChecked, AreOpened, Deeds, FilesView, HasNoFault, IsAssumeCause, IsCause, IsFormulaAt}
+use Rattle.command.specs.Commands.{IsLeftUnused, IsOpenCause, IsOutcome, IsReadCause, IsStartCause, LeavesBehind, LeavesCheckpoint}
+use Rattle.command.specs.Commands.{NameUnsatisfiable, NameUnsatisfiableUnder, SavesCheckpoint, Text, WasRead, WasReadIn, assumed_at}
+use Rattle.command.specs.Commands.{checkpoint_at, created_at, layout_at, options_of, terms_given}
+use Rattle.command.specs.Running.{IsLayoutCause, IsRunCause}
+use Rattle.command.specs.Saving.{IsNotCreated}
 use Rattle.command.specs.Faults.{of_run}
 use Rattle.command.specs.declared.fault.CommandFault.{CommandFault}
 use Rattle.command.specs.declared.fault.CommandFault.TheVariants as faults
@@ -59,10 +62,10 @@ run_cause serial p result (runs.Layout fault) is layout spawn ring = (layout fau
 run_cause serial p result runs.Memory is layout spawn ring = tt
 run_cause serial p result (runs.Spawn stream) is layout spawn ring =
     let started = spawn stream is in
-    (started.0, started.1, λ fault refused. not_both stream fault (sym is ∙ (layout fault).1 refused))
+    (λ fault refused. not_both stream fault (sym is ∙ (layout fault).1 refused), started.0, started.1)
 run_cause serial p result (runs.Ring stream) is layout spawn ring =
     let started = ring stream is in
-    (started.0, started.1, λ fault refused. no_ring stream fault (sym is ∙ (layout fault).1 refused))
+    (λ fault refused. no_ring stream fault (sym is ∙ (layout fault).1 refused), started.0, started.1)
 
 -- a run with an outcome has a layout
 pub has_layout : {T : Type 0} (p : LayoutValue) (result : Result T RunFault) (outcome : T) → result ≡ Ok outcome
@@ -86,45 +89,44 @@ pub ask_for : (words : List Text) (given : CommandLine) → IsCommandLineOf word
 ask_for words given line = record { good = line.good; formula_is = line.said.formula; assume_is = sym line.said.assume }
 
 -- what was read is a text of a formula that no assignment satisfies
-pub names_unsatisfiable : (files : FilesView) (words : List Text) (given : CommandLine) (bytes : List ℕ) (next : files.State)
+pub names_unsatisfiable : (files : FilesView) (words : List Text) (given : CommandLine) (bytes : List ℕ) (next : files.its.State)
     → IsCommandLineOf words given
     → WasReadIn files files.first given.formula.now bytes next → (f : Cnf) × IsFormulaText bytes f × IsUnsatisfiable f
-    → NameUnsatisfiable files.State (WasReadIn files) files.first words
+    → NameUnsatisfiable files.its.State (WasReadIn files) files.first words
 names_unsatisfiable files words given bytes next line read refuted =
     (given.formula.now, assumed_at given, bytes, refuted.0, next, ask_for words given line, read, refuted.1, refuted.2)
 
 -- so with the assumed literals, of files that tell the same as before
-pub names_unsatisfiable_under : (files : FilesView) (words : List Text) (given : CommandLine) (bytes : List ℕ) (next : files.State)
+pub names_unsatisfiable_under : (files : FilesView) (words : List Text) (given : CommandLine) (bytes : List ℕ) (next : files.its.State)
     (tells : Text → Option (List ℕ))
     → tells ≡ files.tells → IsCommandLineOf words given → WasReadIn files files.first given.formula.now bytes next
-    → (f : Cnf) × (cube : CubeValue) × (after : files.State) × IsFormulaText bytes f
-    × AreAssumed (WasRead files.opens files.reading.reads tells) f.vars next (assumed_at given) cube after × IsUnsatisfiableUnder f cube
-    → NameUnsatisfiableUnder files.State (WasReadIn files) files.first words
+    → (f : Cnf) × (cube : CubeValue) × (after : files.its.State) × IsFormulaText bytes f
+    × AreAssumed (WasRead files.its.opens files.its.reading.reads tells) f.vars next (assumed_at given) cube after × IsUnsatisfiableUnder f cube
+    → NameUnsatisfiableUnder files.its.State (WasReadIn files) files.first words
 names_unsatisfiable_under files words given bytes next tells told line read (f, cube, after, text, assumed, refuted) =
     let same =
-    subst (λ (t : Text → Option (List ℕ)). AreAssumed (WasRead files.opens files.reading.reads t) f.vars next (assumed_at given) cube after)
+    subst (λ (t : Text → Option (List ℕ)). AreAssumed (WasRead files.its.opens files.its.reading.reads t) f.vars next (assumed_at given) cube after)
     told assumed in
     (given.formula.now, assumed_at given, bytes, f, cube, next, after, ask_for words given line, read, text, same, refuted)
 
 -- what is checked is the outcome of the words and the files, and it leaves the checkpoint that they ask for
 pub is_outcome : (files : FilesView) (words : List Text) (given : CommandLine) (f : Cnf) (cube : CubeValue) (options : OptionsValue)
-    (readers : List files.Reader) (next later last : files.State)
+    (readers : List files.its.Reader) (next later last : files.its.State)
     → IsCommandLineOf words given → IsFormulaAt files given.formula.now f next
     → AreAssumed (WasReadIn files) f.vars next (assumed_at given) cube later
-    → options ≡ options_of given → AreOpened files.opens later given.streams readers last
-    → map files.reading.left readers ≡ map files.tells given.streams
-    → (reports : List Report) (verdict : Verdict) (unsaved : Option SaveFault) (after : files.State)
-    → AreChecked files.reading given.serial f (terms_of options cube f (length readers)) readers reports verdict
-    → LeavesCheckpoint files (checkpoint_at given) f verdict unsaved last after
-    → (outcome : IsOutcome files words reports verdict)
-    × LeavesCheckpoint files (checkpoint_at outcome.given) outcome.formula verdict unsaved outcome.last after
+    → options ≡ options_of given → AreOpened files.its.opens later given.streams readers last
+    → map files.its.reading.left readers ≡ map files.tells given.streams
+    → (reports : List Report) (verdict : Verdict) (unsaved : Option SaveFault) (after : files.its.State)
+    → AreChecked files.its.reading given.serial f (terms_of options cube f (length readers)) readers reports verdict
+    → LeavesBehind files.its
+    (SavesCheckpoint files.its given.serial f (terms_of options cube f (length readers)) readers reports) verdict last
+    (checkpoint_at given) unsaved after
+    → (outcome : IsOutcome files words reports verdict) × LeavesCheckpoint files words reports verdict outcome unsaved after
 is_outcome files words given f cube options readers next later last line at assumed options_are opened entries_are reports verdict unsaved
     after checked leaves =
-    let one =
-    subst (λ (o : OptionsValue). AreChecked files.reading given.serial f (terms_of o cube f (length readers)) readers reports verdict)
-    options_are checked in
-    let two = subst (λ (n : ℕ). AreChecked files.reading given.serial f (terms_of (options_of given) cube f n) readers reports verdict)
-    (same_count _ _ readers given.streams entries_are) one in
+    let terms : terms_of options cube f (length readers) ≡ terms_given given cube f =
+    ap (λ o. terms_of o cube f (length readers)) options_are
+    ∙ ap (terms_of (options_of given) cube f) (same_count _ _ readers given.streams entries_are) in
     let outcome : IsOutcome files words reports verdict = record {
       given = given;
       command_line = line;
@@ -138,103 +140,102 @@ is_outcome files words given f cube options readers next later last line at assu
       last = last;
       opened = opened;
       left = entries_are;
-      checked = two;
+      checked = subst (λ (t : TermsValue). AreChecked files.its.reading given.serial f t readers reports verdict) terms checked;
     } in
-    (outcome, leaves)
+    (outcome, subst (λ (t : TermsValue). LeavesBehind files.its (SavesCheckpoint files.its given.serial f t readers reports) verdict last
+    (checkpoint_at given) unsaved after) terms leaves)
 
--- The causes are those of the words and the files.
-pub read_cause : (files : FilesView) (words : List Text) (given : CommandLine) → IsCommandLineOf words given
-    → (fault : CommandFault) → IsReadCause files given.formula.now fault → IsCause files words fault
-read_cause files words given line faults.Unread cause = (given, line, inl cause)
-read_cause files words given line (faults.Refused fault) cause = (given, line, inl cause)
-read_cause files words given line faults.Memory cause = tt
-read_cause files words given line fault cause = absurd cause
+module _ (files : FilesView) (words : List Text) (given : CommandLine) (line : IsCommandLineOf words given) where
+  -- The causes are those of the words and the files.
+  pub read_cause : (fault : CommandFault) (after : files.its.State) → IsReadCause files given.formula.now fault after
+      → IsCause files words fault after
+  read_cause faults.Unread after cause = (given, line, inl cause)
+  read_cause (faults.Refused fault) after cause = (given, line, inl cause)
+  read_cause faults.Memory after cause = inr (given, line, inl cause)
+  read_cause fault after cause = absurd cause
 
-assume_cause : (files : FilesView) (words : List Text) (given : CommandLine) (f : Cnf) (next : files.State) → IsCommandLineOf words given
-    → IsFormulaAt files given.formula.now f next → (path : Text) → assumed_at given ≡ Some path → (fault : CommandFault)
-    → IsAssumeCause files f.vars next (Some path) fault → IsCause files words fault
-assume_cause files words given f next line at path same faults.CubeUnread cause = (
-  given,
-  line,
-  inr (f, next, at, inl (subst (λ (o : Option Text). IsAssumeCause files f.vars next o faults.CubeUnread) (sym same) cause)),
-)
-assume_cause files words given f next line at path same (faults.CubeRefused fault) cause = (
-  given,
-  line,
-  inr (f, next, at, inl (subst (λ (o : Option Text). IsAssumeCause files f.vars next o (faults.CubeRefused fault)) (sym same) cause)),
-)
-assume_cause files words given f next line at path same faults.Memory cause = tt
-assume_cause files words given f next line at path same fault cause = absurd cause
+  module _ (f : Cnf) (next : files.its.State) (at : IsFormulaAt files given.formula.now f next) where
+    assume_cause : (path : Text) → assumed_at given ≡ Some path → (fault : CommandFault) (after : files.its.State)
+        → IsAssumeCause files f.vars next (Some path) fault after → IsCause files words fault after
+    assume_cause path same faults.CubeUnread after cause = (
+      given,
+      line,
+      inr (f, next, at, inl (subst (λ (o : Option Text). IsAssumeCause files f.vars next o faults.CubeUnread after) (sym same) cause)),
+    )
+    assume_cause path same (faults.CubeRefused fault) after cause = (
+      given,
+      line,
+      inr (
+        f,
+        next,
+        at,
+        inl (subst (λ (o : Option Text). IsAssumeCause files f.vars next o (faults.CubeRefused fault) after) (sym same) cause),
+      ),
+    )
+    assume_cause path same faults.Memory after cause = inr (
+      given,
+      line,
+      inr (f, next, at, inl (subst (λ (o : Option Text). IsAssumeCause files f.vars next o faults.Memory after) (sym same) cause)),
+    )
+    assume_cause path same fault after cause = absurd cause
 
-pub assumed_cause : (files : FilesView) (words : List Text) (given : CommandLine) (f : Cnf) (next : files.State)
-    → IsCommandLineOf words given
-    → IsFormulaAt files given.formula.now f next → (path : Option Text) → assumed_at given ≡ path → (fault : CommandFault)
-    → IsAssumeCause files f.vars next path fault → IsCause files words fault
-assumed_cause files words given f next line at None same fault cause = absurd cause
-assumed_cause files words given f next line at (Some path) same fault cause =
-    assume_cause files words given f next line at path same fault cause
+    pub assumed_cause : (path : Option Text) → assumed_at given ≡ path → (fault : CommandFault) (after : files.its.State)
+        → IsAssumeCause files f.vars next path fault after → IsCause files words fault after
+    assumed_cause None same fault after cause = absurd cause
+    assumed_cause (Some path) same fault after cause = assume_cause path same fault after cause
 
-pub open_cause : (files : FilesView) (words : List Text) (given : CommandLine) (f : Cnf) (cube : CubeValue) (next later : files.State)
-    → IsCommandLineOf words given
-    → IsFormulaAt files given.formula.now f next → AreAssumed (WasReadIn files) f.vars next (assumed_at given) cube later
-    → (fault : CommandFault) → IsOpenCause files.opens files.may_refuse later given.streams fault → IsCause files words fault
-open_cause files words given f cube next later line at assumed (faults.NotOpened stream) cause =
-    (given, line, inr (f, next, at, inr (cube, later, assumed, inl cause)))
-open_cause files words given f cube next later line at assumed faults.Memory cause = tt
-open_cause files words given f cube next later line at assumed fault cause = absurd cause
+    module _ (cube : CubeValue) (later : files.its.State)
+        (assumed : AreAssumed (WasReadIn files) f.vars next (assumed_at given) cube later) where
+      pub open_cause : (fault : CommandFault) (after : files.its.State) → IsOpenCause files.its 0 later given.streams fault after
+          → IsCause files words fault after
+      open_cause (faults.NotOpened stream) after cause = (given, line, inr (f, next, at, inr (cube, later, assumed, inl cause)))
+      open_cause faults.Memory after cause = inr (given, line, inr (f, next, at, inr (cube, later, assumed, inl cause)))
+      open_cause fault after cause = absurd cause
 
-pub line_cause : (files : FilesView) (words : List Text) (given : CommandLine) (f : Cnf) (cube : CubeValue) (next later : files.State)
-    → IsCommandLineOf words given
-    → IsFormulaAt files given.formula.now f next → AreAssumed (WasReadIn files) f.vars next (assumed_at given) cube later
-    → (fault : CommandFault) → IsRunCause given.serial (layout_at given f) fault → IsCause files words fault
-line_cause files words given f cube next later line at assumed (faults.Layout fault) cause =
-    (given, line, inr (f, next, at, inr (cube, later, assumed, inr (inl cause))))
-line_cause files words given f cube next later line at assumed (faults.Spawn stream) cause =
-    (given, line, inr (f, next, at, inr (cube, later, assumed, inr (inl cause))))
-line_cause files words given f cube next later line at assumed (faults.Ring stream) cause =
-    (given, line, inr (f, next, at, inr (cube, later, assumed, inr (inl cause))))
-line_cause files words given f cube next later line at assumed faults.Memory cause = tt
-line_cause files words given f cube next later line at assumed fault cause = absurd cause
+      pub start_cause : (readers : List files.its.Reader) (last : files.its.State)
+          → AreOpened files.its.opens later given.streams readers last → (fault : CommandFault) (after : files.its.State)
+          → IsStartCause files.its given.serial (layout_at given f) last (created_at given) fault after → IsCause files words fault after
+      start_cause readers last opened (faults.Layout fault) after cause =
+          (given, line, inr (f, next, at, inr (cube, later, assumed, inr (readers, last, opened, cause))))
+      start_cause readers last opened faults.NotCreated after cause =
+          (given, line, inr (f, next, at, inr (cube, later, assumed, inr (readers, last, opened, cause))))
+      start_cause readers last opened (faults.Spawn stream) after cause =
+          (given, line, inr (f, next, at, inr (cube, later, assumed, inr (readers, last, opened, cause))))
+      start_cause readers last opened (faults.Ring stream) after cause =
+          (given, line, inr (f, next, at, inr (cube, later, assumed, inr (readers, last, opened, cause))))
+      start_cause readers last opened faults.Memory after cause =
+          inr (given, line, inr (f, next, at, inr (cube, later, assumed, inr (readers, last, opened, cause))))
+      start_cause readers last opened fault after cause = absurd cause
 
--- so a run's cause, by the layout that the run has
-pub run_cause_of : (files : FilesView) (words : List Text) (given : CommandLine) (f : Cnf) (cube : CubeValue) (options : OptionsValue)
-    (readers : List files.Reader) (next later : files.State)
-    → IsCommandLineOf words given → IsFormulaAt files given.formula.now f next
-    → AreAssumed (WasReadIn files) f.vars next (assumed_at given) cube later
-    → options ≡ options_of given → map files.reading.left readers ≡ map files.tells given.streams
-    → (fault : CommandFault) → IsRunCause given.serial (layout_of options f (length readers)) fault → IsCause files words fault
-run_cause_of files words given f cube options readers next later line at assumed options_are entries_are fault cause =
+-- why streams that were opened weren't checked: there is no layout
+module _ (its : Deeds) (serial : Bool) (layout : LayoutValue) (before : its.State) (path : Option Text) where
+  pub layout_start : (fault : CommandFault) → IsLayoutCause layout fault → IsStartCause its serial layout before path fault before
+  layout_start (faults.Layout fault) cause = (cause, refl)
+  layout_start fault cause = absurd cause
+
+  -- or the file wasn't created
+  pub create_start : (fault : CommandFault) (after : its.State) → HasNoFault layout → IsNotCreated its before path fault after
+      → IsStartCause its serial layout before path fault after
+  create_start faults.NotCreated after none cause = (none, cause)
+  create_start faults.Memory after none cause = inr (inl cause)
+  create_start fault after none cause = absurd cause
+
+  -- or it was, and was discarded since the run had a fault
+  pub run_start : (fault : CommandFault) (after : its.State) → HasNoFault layout → IsRunCause serial layout fault
+      → IsLeftUnused its before path after → IsStartCause its serial layout before path fault after
+  run_start (faults.Layout fault) after none cause unused = absurd (none fault cause)
+  run_start (faults.Spawn stream) after none cause unused = (cause.0, cause.1, cause.2, unused)
+  run_start (faults.Ring stream) after none cause unused = (cause.0, cause.1, cause.2, unused)
+  run_start faults.Memory after none cause unused = inr (inr unused)
+  run_start fault after none cause unused = absurd cause
+
+-- so by the layout that a run has
+pub start_moved : (files : FilesView) (given : CommandLine) (f : Cnf) (options : OptionsValue) (readers : List files.its.Reader)
+    → options ≡ options_of given → map files.its.reading.left readers ≡ map files.tells given.streams
+    → (serial : Bool) (before : files.its.State) (path : Option Text) (fault : CommandFault) (after : files.its.State)
+    → IsStartCause files.its serial (layout_of options f (length readers)) before path fault after
+    → IsStartCause files.its serial (layout_at given f) before path fault after
+start_moved files given f options readers options_are entries_are serial before path fault after =
     let count = same_count _ _ readers given.streams entries_are in
-    let moved =
-    subst (λ (p : LayoutValue). IsRunCause given.serial p fault) (same_layout options f given (length readers) options_are count) cause in
-    line_cause files words given f cube next later line at assumed fault moved
-
--- the files refuse the same before and after the formula was read
-pub open_moved : {F R : Type 0} (opens : F → Text → R → F → Type 0) (may later_may : Text → Bool) (first : F)
-    (paths later_paths : List Text) → later_may ≡ may → later_paths ≡ paths
-    → (fault : CommandFault) → IsOpenCause opens later_may first later_paths fault → IsOpenCause opens may first paths fault
-open_moved opens may later_may first paths later_paths may_stays paths_are fault cause =
-    let one = subst (λ (m : Text → Bool). IsOpenCause opens m first later_paths fault) may_stays cause in
-    subst (λ (ps : List Text). IsOpenCause opens may first ps fault) paths_are one
-
--- why the checkpoint's file wasn't created
-pub create_cause : (files : FilesView) (words : List Text) (given : CommandLine) (f : Cnf) (cube : CubeValue) (next later : files.State)
-    → IsCommandLineOf words given
-    → IsFormulaAt files given.formula.now f next → AreAssumed (WasReadIn files) f.vars next (assumed_at given) cube later
-    → (readers : List files.Reader) (last : files.State) → AreOpened files.opens later given.streams readers last
-    → ((other : LayoutFault) → IsFault (layout_at given f) other → ⊥) → (fault : CommandFault)
-    → IsCreateCause files.may_refuse_new (created_at given) fault → IsCause files words fault
-create_cause files words given f cube next later line at assumed readers last opened layout faults.Memory cause = tt
-create_cause files words given f cube next later line at assumed readers last opened layout faults.NotCreated cause =
-    (given, line, inr (f, next, at, inr (cube, later, assumed, inr (inr (readers, last, opened, layout, cause)))))
-create_cause files words given f cube next later line at assumed readers last opened layout fault cause = absurd cause
-
--- so a layout that was found is that of the command line
-pub layout_moved : (files : FilesView) (given : CommandLine) (f : Cnf) (options : OptionsValue) (readers : List files.Reader)
-    → options ≡ options_of given → map files.reading.left readers ≡ map files.tells given.streams
-    → ((fault : LayoutFault) → IsFault (layout_of options f (length readers)) fault → ⊥) → (fault : LayoutFault)
-    → IsFault (layout_at given f) fault → ⊥
-layout_moved files given f options readers options_are entries_are =
-    let count = same_count _ _ readers given.streams entries_are in
-    subst (λ (p : LayoutValue). (fault : LayoutFault) → IsFault p fault → ⊥)
+    subst (λ (p : LayoutValue). IsStartCause files.its serial p before path fault after)
     (same_layout options f given (length readers) options_are count)

@@ -1,11 +1,11 @@
 -- Files that are opened one after the other.
-use Rattle.std.proofs.Common.{Bool, IsTrue, Some, slice_get, option_map, subst, ◌≡◌, ◌∙◌, ◌<◌, ◌+◌, ◌++◌, ℕ, List, [], ◌∷◌, map, take}
+use Rattle.std.proofs.Common.{Some, slice_get, option_map, subst, ◌≡◌, ◌∙◌, ◌<◌, ◌+◌, ◌++◌, ℕ, List, [], ◌∷◌, map, take}
 use Rattle.std.proofs.Common.{length, get_or, refl, sym, ap}
 use Rattle.std.proofs.lemmas.List.{map-append, take-map}
 use Rattle.std.proofs.lemmas.List.{take_more}
 use Rattle.std.proofs.lemmas.Option.{slice_get-get_or, slice_get-map}
-use Rattle.command.specs.Commands.{AreOpened, IsOpenCause, Text}
-use Rattle.command.specs.declared.fault.CommandFault.TheVariants as faults
+use Rattle.command.specs.Commands.{AreOpened, Deeds, Text, WasRefused}
+use Rattle.command.specs.declared.files.OpenFault.{OpenFault}
 
 -- what is told of the readers is what the files at the paths so far tell, and so with one more
 pub opened_more : {R B T : Type 0} {L : Type 0} (left : R → L) (tells later : T → L) (text : B → T) (before after : List R) (reader : R)
@@ -56,17 +56,15 @@ pub read_at : {B T : Type 0} (text : B → T) (paths : List B) (k : ℕ) (d : B)
 read_at text paths k d inside = slice_get-map text paths k ∙ ap (option_map text) (slice_get-get_or paths k d inside)
 
 -- the path that was refused, after those before it were opened
-pub refused_at : {F R B : Type 0} (opens : F → Text → R → F → Type 0) (text : B → Text) (may later : Text → Bool) (first : F)
-    (paths : List B) (readers : List R) (after : F) (k count : ℕ) (d : B)
-    → k < length paths → count ≡ k → AreOpened opens first (take k (map text paths)) readers after → later ≡ may
-    → IsTrue (later (text (get_or paths k d))) → IsOpenCause opens may first (map text paths) (faults.NotOpened (count + 1))
-refused_at opens text may later first paths readers after k count d inside count_is opened stays refused = (
-  k,
-  text (get_or paths k d),
-  readers,
-  after,
-  ap (λ n. n + 1) count_is,
-  read_at text paths k d inside,
-  opened,
-  subst (λ (m : Text → Bool). IsTrue (m (text (get_or paths k d)))) stays refused,
-)
+pub refused_at : (its : Deeds) {B : Type 0} (text : B → Text) (first : its.State)
+    (paths : List B) (readers : List its.Reader) (next : its.State) (k : ℕ) (d : B) (fault : OpenFault) (after : its.State)
+    → k < length paths → AreOpened its.opens first (take k (map text paths)) readers next
+    → its.refuses next (text (get_or paths k d)) fault after → WasRefused its first (map text paths) k fault after
+refused_at its text first paths readers next k d fault after inside opened refused = record {
+  path = text (get_or paths k d);
+  is_path = read_at text paths k d inside;
+  readers = readers;
+  next = next;
+  opened = opened;
+  refused = refused;
+}

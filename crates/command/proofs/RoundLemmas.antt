@@ -1,14 +1,13 @@
 -- Rounds, one after the other.
-use Rattle.std.proofs.Common.{arith, ◌≡◌, ◌<◌, ◌^◌, ◌∙◌, ◌+◌, ◌++◌, add-one, Bool, IsTrue, inl, inr, length, length-append, suc, zero, ℕ}
+use Rattle.std.proofs.Common.{arith, ◌≡◌, ◌<◌, ◌^◌, ◌∙◌, ◌+◌, ◌++◌, add-one, inl, inr, length, length-append, suc, zero, ℕ}
 use Rattle.std.proofs.Common.{List, [], ◌∷◌}
-use Rattle.std.proofs.Common.{ap₂, Option, None, Some, Result, Ok, refl, sym, ap, subst, ◌⊎◌, drop, map, take}
+use Rattle.std.proofs.Common.{ap₂, Option, None, Some, refl, sym, ap, subst, ◌⊎◌, drop, map, take}
 use Rattle.std.proofs.Common.{◌-◌, false, get_or, true}
 use Rattle.std.specs.Prelude.{is_some}
 use Rattle.std.proofs.lemmas.Bool.{cases_lt}
 use Rattle.std.proofs.lemmas.List.{take_all}
 use Rattle.std.specs.Borrow.{Bor}
 use Rattle.clap.specs.Walk.{texts}
-use Rattle.std.specs.Io.KnownBytes.{Appends}
 use Rattle.std.specs.Option.{ForSome}
 use Rattle.lrup_model.specs.Cube.{CubeValue, IsUnsatisfiableUnder}
 use Rattle.lrup_model.specs.Entailment.{IsUnsatisfiable}
@@ -17,65 +16,25 @@ use Rattle.lrup_model.specs.Literal.{max_variable}
 use Rattle.lrup_model.specs.Layout.{IsFault, LayoutValue}
 use Rattle.lrup_model.specs.declared.layout.LayoutFault.{LayoutFault}
 use Rattle.lrup_model.specs.declared.layout.LayoutFault.TheVariants as layouts
-use Rattle.lrup_text.specs.ReadOut.{SourceView}
-use Rattle.runs.specs.Streams.{TermsValue}
 use Rattle.stream_check.specs.declared.report.Report.{Report}
-use Rattle.portfolio.specs.Histories.{CarriesRun}
+use Rattle.portfolio.specs.Outcomes.{OptionsValue, terms_of}
 use Rattle.portfolio.specs.declared.outcome.Verdict.{Verdict}
 use Rattle.portfolio.specs.declared.outcome.Verdict.TheVariants.{Unsatisfiable, UnsatisfiableUnder, Unknown}
-use Rattle.checkpoint.specs.Checkpoints.{IsCheckpointOf}
 use Rattle.checkpoint.specs.Entails.{RefutesBack, RefutesBackUnder}
 use Rattle.checkpoint.specs.declared.saving.SaveFault.{SaveFault}
 use Rattle.command_line.specs.declared.sizes.Sizes.{Sizes}
-use Rattle.command_line.specs.CommandLine.{IsCommandLineOf}
 use Rattle.command_line.specs.declared.words.CommandLine.{CommandLine}
-use Rattle.command.specs.Commands.{AreAssumed, AreOpened, FilesView, IsCause, IsCreateCause, IsFormulaAt, IsOpenCause, Text, WasRead}
-use Rattle.command.specs.Commands.{WasReadIn}
-use Rattle.command.specs.Commands.{assumed_at, checkpoint_at, created_path, path_of, rounds_at}
+use Rattle.command.specs.Commands.{AreOpened, Deeds, IsStartCause, Text, WasRead, checkpoint_at, created_at, created_path, layout_at}
+use Rattle.command.specs.Commands.{path_of, rounds_at}
 use Rattle.command.specs.Paths.{formula_path, sizes_path, stream_path, stream_paths}
-use Rattle.command.specs.Rounds.{AreRounds, AreSized, CarriesOn, Deeds, IsBarred, IsRoundCause, IsSizesCause, IsStartCause, Plan, Round}
-use Rattle.command.specs.Rounds.{RoundsEnd, StreamsOpened, WasChecked, deeds_of, options_by, plan_at, sizes_of, terms_by}
-use Rattle.portfolio.specs.Outcomes.{OptionsValue, terms_of}
-use Rattle.command.specs.Saving.{CreatesCheckpoint, KeepsCheckpoint, WritesCheckpoint, to_write}
-use Rattle.command.specs.Standing.{CarriesTo, EndsAt, FailsAfter, IsAlone, IsLaterCause, IsUncarried, IsUnchecked, IsUnsized}
-use Rattle.command.specs.Standing.{RoundsStand, round_of}
+use Rattle.command.specs.Rounds.{AreRounds, AreSized, CarriesOn, CarriesRound, IsBarred, IsRoundCause, IsRoundStartCause, IsSizesCause}
+use Rattle.command.specs.Rounds.{Plan, Round, RoundsEnd, SavesRound, StreamsOpened, WasChecked, options_by, plan_at, sizes_of, terms_by}
+use Rattle.command.specs.Saving.{CreatesCheckpoint, KeepsNext}
+use Rattle.command.specs.Standing.{EndsAt, FailsAfter, IsAlone, IsUnchecked, IsUnsized, RoundsStand, round_of}
 use Rattle.command.specs.declared.course.LastRound.{LastRound}
 use Rattle.command.specs.declared.course.RoundFault.{RoundFault}
 use Rattle.command.specs.declared.fault.CommandFault.{CommandFault}
 use Rattle.command.specs.declared.fault.CommandFault.TheVariants as faults
-use Rattle.command.proofs.CheckingLemmas.{create_cause, line_cause}
-use Rattle.command.proofs.SavingLemmas.{written_ok}
-
-to_write_is : {W : Type 0} (verdict : Verdict) (output : Option W) (first : W) → to_write verdict output ≡ Some first → output ≡ Some first
-to_write_is Unsatisfiable output first is = absurd (let no : None ≡ Some first = is in cc)
-to_write_is UnsatisfiableUnder output first is = is
-to_write_is Unknown output first is = is
-
--- the formula that is carried on is a checkpoint
-pub next_written : {W : Type 0} (written : W → Option (List ℕ)) (f : Cnf) (verdict : Verdict) (output : Option W) (first last : W)
-    (next : Cnf) → to_write verdict output ≡ Some first
-    → (bytes : List ℕ) × Appends (written first) (written last) bytes × IsCheckpointOf f bytes next
-    → WritesCheckpoint written f verdict output (Ok (Some last))
-next_written written f verdict output first last next is wrote =
-    written_ok written f verdict output first last is
-    (wrote.0, wrote.1, record { formula = next; text = wrote.2.text; entails = wrote.2.entails })
-
-module _ {R W : Type 0} (reading : SourceView R) (written : W → Option (List ℕ)) (serial : Bool) (f : Cnf) (terms : TermsValue)
-    (readers : List R) (reports : List Report) where
-  -- there is no next formula
-  pub no_next : (output : Option W) (saved : Result (Option W) SaveFault)
-      → ForSome None (CarriesTo reading written serial f terms readers reports output saved)
-  no_next output saved next is = absurd (let no : None ≡ Some next = is in cc)
-
-  -- the formula that is carried on was saved
-  pub next_saved : (verdict : Verdict) (output : Option W) (first last : W) (next : Cnf) → to_write verdict output ≡ Some first
-      → (bytes : List ℕ) × Appends (written first) (written last) bytes × IsCheckpointOf f bytes next
-      → CarriesRun reading written serial f terms readers reports (Ok next) first last
-      → ForSome (Some next) (CarriesTo reading written serial f terms readers reports output (Ok (Some last)))
-  next_saved verdict output first last next is wrote exactly other same =
-      let told : next ≡ other = cc in
-      subst (CarriesTo reading written serial f terms readers reports output (Ok (Some last))) told
-      (first, last, to_write_is verdict output first is, refl, wrote, exactly)
 
 -- the paths of one more stream
 pub paths_next : (folder : Text) (number k : ℕ)
@@ -254,16 +213,17 @@ module _ (its : Deeds) (plan : Plan) (formula : Cnf) (sizes : Sizes) (first : it
       ends_so last next after after stands (inr (inr (subst (λ (n : ℕ). 2 ^ 64 < n + 3) stands.number high, stands.left)))
 
   -- the next one has no report
-  pub fails_after : (last : LastRound) (next : Cnf) (before : its.State) (failed : RoundFault)
+  pub fails_after : (last : LastRound) (next : Cnf) (before after : its.State) (failed : RoundFault)
       → RoundsStand its plan formula sizes first paths last (Some next) before
-      → IsUnchecked its plan last next before failed.fault → failed.round ≡ last.number + 1
-      → FailsAfter its plan formula sizes first paths failed
-  fails_after last next before failed stands cause number_is =
+      → IsUnchecked its plan last next before failed.fault after → failed.round ≡ last.number + 1
+      → FailsAfter its plan formula sizes first paths failed after
+  fails_after last next before after failed stands cause number_is =
       let round = stands.round in
       let k : ℕ = length (round ∷ stands.before) in
-      let number = subst (λ (n : ℕ). IsRoundCause its plan n last.sizes next before failed.fault) stands.number cause in
-      let of_sizes = subst (λ (s : Sizes). IsRoundCause its plan k s next before failed.fault) (sym stands.is_found.sizes) number in
-      let of_files = subst (λ (f : its.State). IsRoundCause its plan k round.sizes next f failed.fault) stands.left of_sizes in
+      let fault = failed.fault in
+      let number = subst (λ (n : ℕ). IsRoundCause its plan n last.sizes next before fault after) stands.number cause in
+      let of_sizes = subst (λ (s : Sizes). IsRoundCause its plan k s next before fault after) (sym stands.is_found.sizes) number in
+      let of_files = subst (λ (f : its.State). IsRoundCause its plan k round.sizes next f fault after) stands.left of_sizes in
       record {
         last = round;
         before = stands.before;
@@ -304,33 +264,6 @@ module _ (its : Deeds) (plan : Plan) (formula : Cnf) (sizes : Sizes) (first : it
       rounds_refute_under law ends.round ends.before ends.rounds
       ((head_checked ends.round ends.before ends.rounds).1.sound_under (ends.verdict ∙ is))
 
--- ---- why there is no next formula
-
-pub some_none : {A : Type 0} (x : A) (Q : Type 0) → Some x ≡ None → Q
-some_none x Q is = absurd (let no : Some x ≡ None = is in cc)
-
-pub uncarried_none : {W : Type 0} (verdict : Verdict) (output : Option W) (saved : Result (Option W) SaveFault)
-    → to_write verdict output ≡ None → IsUncarried verdict output saved
-uncarried_none Unsatisfiable output saved is = inl refl
-uncarried_none UnsatisfiableUnder output saved is = inr (inl is)
-uncarried_none Unknown output saved is = inr (inl is)
-
--- why the round doesn't go on, then
-pub barred_by : {F W : Type 0} (creates : F → Text → W → F → Type 0) (written : W → Option (List ℕ)) (keeps : F → W → F → Type 0)
-    (before mid after : F) (path : Text) (output : Option W) (saved : Result (Option W) SaveFault) (unsaved : Option SaveFault)
-    (verdict : Verdict) (Ended : Type 0)
-    → CreatesCheckpoint creates written before (Some path) output mid → KeepsCheckpoint keeps mid saved unsaved after
-    → IsUncarried verdict output saved
-    → (¬ (verdict ≡ Unknown)) ⊎ (((fault : SaveFault) × (unsaved ≡ Some fault)) ⊎ (¬ Ended))
-barred_by creates written keeps before mid after path output saved unsaved verdict Ended created kept (inl refuted) =
-    inl (λ is. let no : Unsatisfiable ≡ Unknown = sym refuted ∙ is in cc)
-barred_by creates written keeps before mid after path None saved unsaved verdict Ended created kept (inr (inl none)) = absurd created
-barred_by creates written keeps before mid after path (Some w) saved unsaved verdict Ended created kept (inr (inl none)) =
-    some_none w _ none
-barred_by {F} {W} creates written keeps before mid after path output saved unsaved verdict Ended created kept (inr (inr failed)) =
-    let told = subst (λ (s : Result (Option W) SaveFault). KeepsCheckpoint keeps mid s unsaved after) failed.1 kept in
-    inr (inl (failed.0, told.0))
-
 -- so much is true of streams that were opened behind stream 1
 pub opened_from : {F R : Type 0} (opens : F → Text → R → F → Type 0) (before next after : F) (first : R) (readers others : List R)
     (paths rest : List Text) (path : Text) → paths ≡ path ∷ rest → readers ≡ first ∷ others → opens before path first next
@@ -344,30 +277,6 @@ pub left_from : {R L : Type 0} (left : R → L) (tells later : Text → L) (firs
 left_from left tells later first readers others paths rest path paths_are readers_are same one more =
     let others_are = more ∙ ap (λ t. map t rest) same in
     rw (paths_are, readers_are) (cc)
-
--- the cause of a fault of one of those
-pub later_cause : {F R : Type 0} (opens : F → Text → R → F → Type 0) (may later : Text → Bool) (before next : F) (first : R)
-    (paths rest : List Text) (path : Text) → paths ≡ path ∷ rest → later ≡ may → opens before path first next
-    → (fault : CommandFault) → IsLaterCause opens later next rest fault → IsOpenCause opens may before paths fault
-later_cause opens may later before next first paths rest path paths_are same one (faults.NotOpened stream) cause = (
-  suc cause.0,
-  cause.1,
-  first ∷ cause.2,
-  cause.3,
-  omega (arith, cause.4),
-  rw paths_are cause.5,
-  rw paths_are (next, one, cause.6),
-  subst (λ (m : Text → Bool). IsTrue (m cause.1)) same cause.7,
-)
-later_cause opens may later before next first paths rest path paths_are same one faults.Memory cause = tt
-later_cause opens may later before next first paths rest path paths_are same one fault cause = absurd cause
-
--- stream 1 was refused
-pub first_cause : {F R : Type 0} (opens : F → Text → R → F → Type 0) (may : Text → Bool) (before : F) (paths rest : List Text)
-    (path : Text) → paths ≡ path ∷ rest → IsTrue (may path) → IsOpenCause {R = R} opens may before paths (faults.NotOpened 1)
-first_cause {F} {R} opens may before paths rest path paths_are refused =
-    subst (λ (ps : List Text). IsOpenCause {R = R} opens may before ps (faults.NotOpened 1)) (sym paths_are)
-    (0, path, [], before, omega arith, refl, refl, refused)
 
 -- the first word, and those behind it
 pub first_word : (words : List (Bor Text)) (word : Bor Text) (path : Text) (rest : List Text) → texts words ≡ path ∷ rest
@@ -389,74 +298,63 @@ terms_same f plan options sizes count options_are count_is = ap₂ (λ o n. term
 -- why there are no sizes, of a file that was opened
 pub sizes_cause : (its : Deeds) (before : its.State) (path : Text) (reader : its.Reader) (after : its.State)
     → its.opens before path reader after → its.reading.left reader ≡ its.tells before path
-    → (fault : CommandFault) → IsUnsized its.reading reader fault → IsSizesCause its before path fault
+    → (fault : CommandFault) → IsUnsized its.reading reader fault → IsSizesCause its before path fault after
 sizes_cause its before path reader after opened left faults.SizesUnread cause =
-    inr (record { reader = reader; after = after; opened = opened; left = left; broken = cause.0; few = cause.1 })
+    inr (record { reader = reader; opened = opened; left = left; broken = cause.0; few = cause.1 })
 sizes_cause its before path reader after opened left faults.Sizes (inl (bytes, whole, none, few)) =
     let read : WasRead its.opens its.reading.reads (its.tells before) before path bytes after =
     record { reader = reader; opened = opened; gave = whole.gave; told = λ all told. whole.told all (left ∙ told) } in
-    record { reader = reader; after = after; opened = opened; bytes = bytes; few = few; holds = inl (read, none) }
+    record { reader = reader; opened = opened; bytes = bytes; few = few; holds = inl (read, none) }
 sizes_cause its before path reader after opened left faults.Sizes (inr (bytes, last, gave, is, told)) =
     record {
       reader = reader;
-      after = after;
       opened = opened;
       bytes = bytes;
       few = omega (arith, is);
       holds = inr (last, gave, is, λ all same. told all (left ∙ same));
     }
-sizes_cause its before path reader after opened left faults.Memory cause = tt
+sizes_cause its before path reader after opened left faults.Memory cause = inr (inr (reader, opened))
 sizes_cause its before path reader after opened left fault cause = absurd cause
 
 -- why round 1, whose streams were opened, has no report, by the words
-pub start_cause : (files : FilesView) (words : List Text) (given : CommandLine) (folder : Text) (f : Cnf) (cube : CubeValue)
-    (next later opened : files.State) → IsCommandLineOf words given → IsFormulaAt files given.formula.now f next
-    → AreAssumed (WasReadIn files) f.vars next (assumed_at given) cube later
-    → (readers : List files.Reader) → AreOpened files.opens later given.streams readers opened → rounds_at given ≡ Some folder
-    → files.refuses_new opened ≡ files.may_refuse_new → (fault : CommandFault)
-    → IsStartCause (deeds_of files) (plan_at given cube folder) 1 f (sizes_of given) opened fault → IsCause files words fault
-start_cause files words given folder f cube next later opened line at assumed readers are asked same fault (inl runs) =
-    line_cause files words given f cube next later line at assumed fault runs
-start_cause files words given folder f cube next later opened line at assumed readers are asked same fault (inr (layout, create)) =
-    let may = subst (λ (m : Text → Bool). IsCreateCause m (Some (formula_path folder 2)) fault) same create in
-    let created = subst (λ (o : Option Text). IsCreateCause files.may_refuse_new (created_path o (checkpoint_at given)) fault) (sym asked)
-    may in
-    create_cause files words given f cube next later line at assumed readers opened are layout fault created
+pub first_start : (its : Deeds) (plan : Plan) (given : CommandLine) (cube : CubeValue) (folder : Text) (f : Cnf)
+    (opened : its.State) → rounds_at given ≡ Some folder → (fault : CommandFault) (after : its.State)
+    → IsRoundStartCause its (plan_at given cube folder) 1 f (sizes_of given) opened fault after
+    → IsStartCause its given.serial (layout_at given f) opened (created_at given) fault after
+first_start its plan given cube folder f opened asked fault after cause =
+    subst (λ (o : Option Text). IsStartCause its given.serial (layout_at given f) opened (created_path o (checkpoint_at given)) fault after)
+    (sym asked) cause
 
 -- a path that isn't there
 pub no_path : (path : Option (Bor Text)) → false ≡ is_some path → path_of path ≡ None
 no_path None is = refl
 no_path (Some path) is = absurd (let no : false ≡ true = is in cc)
 
--- with a verdict that is saved and no fault of the saving, something was carried
-never : {F W : Type 0} (creates : F → Text → W → F → Type 0) (written : W → Option (List ℕ)) (keeps : F → W → F → Type 0)
-    (before mid after : F) (path : Text) (output : Option W) (saved : Result (Option W) SaveFault) (unsaved : Option SaveFault)
-    (verdict : Verdict) → CreatesCheckpoint creates written before (Some path) output mid
-    → KeepsCheckpoint keeps mid saved unsaved after → IsUncarried verdict output saved → unsaved ≡ None
-    → ¬ (verdict ≡ Unsatisfiable) → ⊥
-never creates written keeps before mid after path output saved unsaved verdict created kept (inl refuted) all other = other refuted
-never creates written keeps before mid after path None saved unsaved verdict created kept (inr (inl none)) all other = created
-never creates written keeps before mid after path (Some w) saved unsaved verdict created kept (inr (inl none)) all other =
-    some_none w ⊥ none
-never {F} {W} creates written keeps before mid after path output saved unsaved verdict created kept (inr (inr failed)) all other =
-    let told = subst (λ (s : Result (Option W) SaveFault). KeepsCheckpoint keeps mid s unsaved after) failed.1 kept in
-    some_none failed.0 ⊥ (sym told.0 ∙ all)
+-- why a round doesn't go on, of which nothing was carried
+pub barred_by : (verdict : Verdict) (unsaved : Option SaveFault) (Ended : Type 0)
+    → (verdict ≡ Unsatisfiable) ⊎ ((fault : SaveFault) × (unsaved ≡ Some fault))
+    → (¬ (verdict ≡ Unknown)) ⊎ (((fault : SaveFault) × (unsaved ≡ Some fault)) ⊎ (¬ Ended))
+barred_by verdict unsaved Ended (inl refuted) = inl (λ is. let no : Unsatisfiable ≡ Unknown = sym refuted ∙ is in cc)
+barred_by verdict unsaved Ended (inr failed) = inr (inl failed)
 
--- what was to be written was carried, unless the saving failed
-pub carried_some : {F W : Type 0} (creates : F → Text → W → F → Type 0) (written : W → Option (List ℕ)) (keeps : F → W → F → Type 0)
-    (before mid after : F) (path : Text) (output : Option W) (saved : Result (Option W) SaveFault) (unsaved : Option SaveFault)
-    (verdict : Verdict) (next : Option Cnf)
-    → CreatesCheckpoint creates written before (Some path) output mid → KeepsCheckpoint keeps mid saved unsaved after
-    → (next ≡ None → IsUncarried verdict output saved) → unsaved ≡ None → ¬ (verdict ≡ Unsatisfiable)
-    → (f : Cnf) × (next ≡ Some f)
-carried_some creates written keeps before mid after path output saved unsaved verdict (Some f) created kept none all other = (f, refl)
-carried_some {F} {W} creates written keeps before mid after path output saved unsaved verdict None created kept none all other =
-    absurd (never creates written keeps before mid after path output saved unsaved verdict created kept (none refl) all other)
-
--- a stream behind stream 1 isn't stream 1
-pub never_first : {F R : Type 0} (opens : F → Text → R → F → Type 0) (may : Text → Bool) (before : F) (paths : List Text)
-    (fault : CommandFault) → IsLaterCause opens may before paths fault → fault ≡ faults.NotOpened 1 → ⊥
-never_first {F} {R} opens may before paths fault cause one =
-    let at = subst (λ (f : CommandFault). IsLaterCause {F = F} {R = R} opens may before paths f) one cause in
-    let place : 1 ≡ at.0 + 2 = at.4 in
-    omega (arith, place)
+-- what was carried was saved
+pub saves_round : (its : Deeds) (plan : Plan) (number : ℕ) (round : Round its.State its.Reader) (next : Cnf) (first : its.Output)
+    (mid : its.State) → CreatesCheckpoint its round.opened (Some (formula_path plan.folder (number + 1))) (Some first) mid
+    → KeepsNext its (CarriesRound its plan round) mid first round.after next → SavesRound its plan number round next
+saves_round its plan number round next first mid created keeps =
+    let carries = keeps.1 in
+    let wrote = carries.checkpoint in
+    record {
+      bytes = wrote.0;
+      saved = record {
+        first = first;
+        next = mid;
+        created = created.0;
+        empty = created.1;
+        last = keeps.0;
+        wrote = wrote.1;
+        kept = keeps.2;
+      };
+      carried = wrote.2;
+      exactly = carries.exactly;
+    }

@@ -1,99 +1,104 @@
 -- A checkpoint's file, from its creation to its end.
-use Rattle.std.proofs.Common.{◌≡◌, ◌∙◌, Bool, false, List, ℕ, Option, None, Some, Result, Ok, Err, inl, inr, refl, sym, subst}
-use Rattle.std.specs.Io.KnownBytes.{Appends}
-use Rattle.std.specs.Option.{ForSome}
+use Rattle.std.proofs.Common.{◌≡◌, ◌∙◌, Bool, List, ℕ, Option, None, Some, Result, Ok, Err, refl, subst}
+use Rattle.std.specs.Prelude.{◌↔◌, IsTrue}
+use Rattle.lrup_model.specs.Event.{History}
 use Rattle.lrup_model.specs.Formula.{Cnf}
+use Rattle.lrup_model.specs.Layout.{LayoutValue}
+use Rattle.lrup_model.specs.State.{state}
+use Rattle.lrup_text.specs.ReadOut.{SourceView}
+use Rattle.portfolio.specs.Histories.{CarriesRun, SavesRun}
+use Rattle.portfolio.specs.Saving.{CarriesState, SavesState, is_wanted}
 use Rattle.portfolio.specs.declared.outcome.Verdict.{Verdict}
 use Rattle.portfolio.specs.declared.outcome.Verdict.TheVariants.{Unsatisfiable, UnsatisfiableUnder, Unknown}
-use Rattle.checkpoint.specs.Checkpoints.{IsCheckpoint}
+use Rattle.runs.specs.Streams.{TermsValue}
+use Rattle.stream_check.specs.declared.report.Report.{Report}
 use Rattle.checkpoint.specs.declared.saving.SaveFault.{SaveFault}
-use Rattle.command.specs.Commands.{FilesView, LeavesCheckpoint, Text}
-use Rattle.command.specs.Saving.{CreatesCheckpoint, KeepsCheckpoint, WritesCheckpoint, to_write}
+use Rattle.command.specs.Commands.{Deeds, IsClosed, IsLeftUnused, LeavesBehind, Text}
+use Rattle.command.specs.Running.{StandsBehind, dropped_in, layout_in}
+use Rattle.command.specs.Saving.{ClosesCheckpoint, CreatesCheckpoint, DiscardsIt}
+use Rattle.command.specs.declared.running.LeftClauses.{LeftClauses}
 
--- a file that is written to hasn't failed
-pub running_to_write : {W : Type 0} (has_failed : W → Bool) (verdict : Verdict) (output : Option W) (first : W)
-    → ForSome output (λ sink. has_failed sink ≡ false) → to_write verdict output ≡ Some first → has_failed first ≡ false
-running_to_write has_failed Unsatisfiable output first running is = absurd (let no : None ≡ Some first = is in cc)
-running_to_write has_failed UnsatisfiableUnder output first running is = running first is
-running_to_write has_failed Unknown output first running is = running first is
-
-module _ {W : Type 0} (written : W → Option (List ℕ)) (f : Cnf) where
-  -- what is written: nothing, a checkpoint, or less where there is a fault
-  pub written_none : (verdict : Verdict) (output : Option W) → to_write verdict output ≡ None
-      → WritesCheckpoint written f verdict output (Ok None)
-  written_none verdict None is = refl
-  written_none Unsatisfiable (Some first) is = refl
-  written_none UnsatisfiableUnder (Some first) is = absurd (let no : Some first ≡ None = is in cc)
-  written_none Unknown (Some first) is = absurd (let no : Some first ≡ None = is in cc)
-
-  pub written_err : (verdict : Verdict) (output : Option W) (first : W) (fault : SaveFault) → to_write verdict output ≡ Some first
-      → WritesCheckpoint written f verdict output (Err fault)
-  written_err Unsatisfiable output first fault is = absurd (let no : None ≡ Some first = is in cc)
-  written_err UnsatisfiableUnder None first fault is = absurd (let no : None ≡ Some first = is in cc)
-  written_err UnsatisfiableUnder (Some other) first fault is = tt
-  written_err Unknown None first fault is = absurd (let no : None ≡ Some first = is in cc)
-  written_err Unknown (Some other) first fault is = tt
-
-  pub written_ok : (verdict : Verdict) (output : Option W) (first last : W) → to_write verdict output ≡ Some first
-      → (bytes : List ℕ) × Appends (written first) (written last) bytes × IsCheckpoint f bytes
-      → WritesCheckpoint written f verdict output (Ok (Some last))
-  written_ok Unsatisfiable output first last is wrote = absurd (let no : None ≡ Some first = is in cc)
-  written_ok UnsatisfiableUnder None first last is wrote = absurd (let no : None ≡ Some first = is in cc)
-  written_ok UnsatisfiableUnder (Some other) first last is wrote =
-      let same : first ≡ other = cc in
-      subst (λ (sink : W). (bytes : List ℕ) × Appends (written sink) (written last) bytes × IsCheckpoint f bytes) same wrote
-  written_ok Unknown None first last is wrote = absurd (let no : None ≡ Some first = is in cc)
-  written_ok Unknown (Some other) first last is wrote =
-      let same : first ≡ other = cc in
-      subst (λ (sink : W). (bytes : List ℕ) × Appends (written sink) (written last) bytes × IsCheckpoint f bytes) same wrote
-
-module _ (files : FilesView) (f : Cnf) where
-  -- nothing was to be kept
-  none_kept : (next after : files.State) (saved : Result (Option files.Output) SaveFault) (unsaved : Option SaveFault) → saved ≡ Ok None
-      → KeepsCheckpoint files.keeps next saved unsaved after → (unsaved ≡ None) × (after ≡ next)
-  none_kept next after saved unsaved is kept =
-      subst (λ (s : Result (Option files.Output) SaveFault). KeepsCheckpoint files.keeps next s unsaved after) is kept
-
-  -- what was created, written and kept is a checkpoint that was saved
-  leaves_of : (path : Text) (verdict : Verdict) (before next after : files.State) (first : files.Output)
-      (saved : Result (Option files.Output) SaveFault) (unsaved : Option SaveFault)
-      → CreatesCheckpoint files.creates files.written before (Some path) (Some first) next
-      → WritesCheckpoint files.written f verdict (Some first) saved → KeepsCheckpoint files.keeps next saved unsaved after
-      → LeavesCheckpoint files (Some path) f verdict unsaved before after
-  leaves_of path Unsatisfiable before next after first saved unsaved created written kept =
-      let none = none_kept next after saved unsaved written kept in
-      (none.0, (first, subst (λ (s : files.State). files.creates before path first s) (sym none.1) created.0, created.1))
-  leaves_of path UnsatisfiableUnder before next after first (Ok None) unsaved created written kept = absurd written
-  leaves_of path UnsatisfiableUnder before next after first (Ok (Some last)) None created written kept = (
-    written.0,
-    record { first = first; next = next; created = created.0; empty = created.1; last = last; wrote = written.1; kept = kept },
-    written.2,
+module _ (its : Deeds) {A : Type 0} (Saves : Result A SaveFault → its.Output → its.Output → Type 0) where
+  -- what was created and closed was left
+  leaves_file : (verdict : Verdict) (before next after : its.State) (path : Text) (first : its.Output) (unsaved : Option SaveFault)
+      → CreatesCheckpoint its before (Some path) (Some first) next → ClosesCheckpoint its Saves verdict next (Some first) unsaved after
+      → LeavesBehind its Saves verdict before (Some path) unsaved after
+  leaves_file Unsatisfiable before next after path first unsaved created closes = (
+    closes.0,
+    record { output = first; next = next; created = created.0; empty = created.1; discarded = closes.1 },
   )
-  leaves_of path UnsatisfiableUnder before next after first (Ok (Some last)) (Some fault) created written kept =
-      (first, next, created.0, inl kept)
-  leaves_of path UnsatisfiableUnder before next after first (Err fault) None created written kept =
-      absurd (let no : None ≡ Some fault = kept.0 in cc)
-  leaves_of path UnsatisfiableUnder before next after first (Err fault) (Some other) created written kept =
-      (first, next, created.0, inr kept.1)
-  leaves_of path Unknown before next after first (Ok None) unsaved created written kept = absurd written
-  leaves_of path Unknown before next after first (Ok (Some last)) None created written kept = (
-    written.0,
-    record { first = first; next = next; created = created.0; empty = created.1; last = last; wrote = written.1; kept = kept },
-    written.2,
-  )
-  leaves_of path Unknown before next after first (Ok (Some last)) (Some fault) created written kept = (first, next, created.0, inl kept)
-  leaves_of path Unknown before next after first (Err fault) None created written kept = absurd (let no : None ≡ Some fault = kept.0 in cc)
-  leaves_of path Unknown before next after first (Err fault) (Some other) created written kept = (first, next, created.0, inr kept.1)
+  leaves_file UnsatisfiableUnder before next after path first unsaved created closes = record {
+    first = first;
+    next = next;
+    created = created.0;
+    empty = created.1;
+    result = closes.result;
+    last = closes.last;
+    saving = closes.saving;
+    closed = closes.closed;
+  }
+  leaves_file Unknown before next after path first unsaved created closes = record {
+    first = first;
+    next = next;
+    created = created.0;
+    empty = created.1;
+    result = closes.result;
+    last = closes.last;
+    saving = closes.saving;
+    closed = closes.closed;
+  }
 
-  pub leaves_checkpoint : (path : Option Text) (verdict : Verdict) (before next after : files.State) (output : Option files.Output)
-      (saved : Result (Option files.Output) SaveFault)
-      (unsaved : Option SaveFault) → CreatesCheckpoint files.creates files.written before path output next
-      → WritesCheckpoint files.written f verdict output saved → KeepsCheckpoint files.keeps next saved unsaved after
-      → LeavesCheckpoint files path f verdict unsaved before after
-  leaves_checkpoint None verdict before next after None saved unsaved created written kept =
-      let none = none_kept next after saved unsaved written kept in
-      (none.0, none.1 ∙ created)
-  leaves_checkpoint None verdict before next after (Some first) saved unsaved created written kept = absurd created
-  leaves_checkpoint (Some path) verdict before next after None saved unsaved created written kept = absurd created
-  leaves_checkpoint (Some path) verdict before next after (Some first) saved unsaved created written kept =
-      leaves_of path verdict before next after first saved unsaved created written kept
+  pub leaves_behind : (verdict : Verdict) (before next after : its.State) (path : Option Text) (output : Option its.Output)
+      (unsaved : Option SaveFault)
+      → CreatesCheckpoint its before path output next → ClosesCheckpoint its Saves verdict next output unsaved after
+      → LeavesBehind its Saves verdict before path unsaved after
+  leaves_behind verdict before next after None None unsaved created closes = (closes.0, closes.1 ∙ created)
+  leaves_behind verdict before next after None (Some first) unsaved created closes = absurd created
+  leaves_behind verdict before next after (Some path) None unsaved created closes = absurd created
+  leaves_behind verdict before next after (Some path) (Some first) unsaved created closes =
+      leaves_file verdict before next after path first unsaved created closes
+
+-- a file that was created and discarded was left unused
+pub left_unused : (its : Deeds) (before next after : its.State) (path : Option Text) (output : Option its.Output)
+    → CreatesCheckpoint its before path output next → DiscardsIt its next output after → IsLeftUnused its before path after
+left_unused its before next after None None created discards = discards ∙ created
+left_unused its before next after None (Some first) created discards = absurd created
+left_unused its before next after (Some path) None created discards = absurd created
+left_unused its before next after (Some path) (Some first) created discards =
+    record { output = first; next = next; created = created.0; empty = created.1; discarded = discards }
+
+-- what is saved of what was left is saved of the run
+module _ {R W : Type 0} (view : SourceView R) (written : W → Option (List ℕ)) (serial : Bool) (f : Cnf) (terms : TermsValue)
+    (firsts : List R) (reports : List Report) (left : LeftClauses)
+    (stands : StandsBehind view serial f terms firsts reports left) where
+  pub saves_run : (result : Result (Unit {0}) SaveFault) (first last : W)
+      → SavesState written result (state f stands.history) (layout_in left) (is_wanted (dropped_in left)) first last
+      → SavesRun view written serial f terms firsts reports result first last
+  saves_run result first last saves = record {
+    history = stands.history;
+    lasts = stands.lasts;
+    dropped = dropped_in left;
+    stands = stands.stands;
+    saves = subst (λ (p : LayoutValue). SavesState written result (state f stands.history) p (is_wanted (dropped_in left)) first last)
+        stands.layout saves;
+  }
+
+  pub carries_run : (result : Result Cnf SaveFault) (first last : W)
+      → CarriesState written result (state f stands.history) (layout_in left) (is_wanted (dropped_in left)) first last
+      → CarriesRun view written serial f terms firsts reports result first last
+  carries_run result first last carries = record {
+    history = stands.history;
+    lasts = stands.lasts;
+    dropped = dropped_in left;
+    stands = stands.stands;
+    carries = subst
+        (λ (p : LayoutValue). CarriesState written result (state f stands.history) p (is_wanted (dropped_in left)) first last)
+        stands.layout carries;
+  }
+
+-- by other terms that are the same
+pub stands_moved : {R : Type 0} (view : SourceView R) (serial : Bool) (f : Cnf) (terms other : TermsValue) (firsts : List R)
+    (reports : List Report) (left : LeftClauses) → terms ≡ other → StandsBehind view serial f terms firsts reports left
+    → StandsBehind view serial f other firsts reports left
+stands_moved view serial f terms other firsts reports left same =
+    subst (λ (t : TermsValue). StandsBehind view serial f t firsts reports left) same

@@ -1,21 +1,23 @@
 -- What a status says.
-use Rattle.std.proofs.Common.{◌≡◌, ◌∙◌, ◌⊎◌, ℕ, Bool, IsTrue, true, false, List, Option, None, Some, inl, inr, refl, sym, subst}
+use Rattle.std.proofs.Common.{◌≡◌, ◌∙◌, ◌⊎◌, ℕ, Bool, IsTrue, true, false, List, [], Option, None, Some, Result, Ok, Err, inl, inr, refl, sym, subst}
 use Rattle.std.specs.Prelude.{◌↔◌}
+use Rattle.std.specs.Option.{ForSome}
 use Rattle.lrup_model.specs.Formula.{Cnf}
 use Rattle.lrup_model.specs.declared.layout.LayoutFault.TheVariants as layouts
+use Rattle.runs.specs.Streams.{TermsValue}
+use Rattle.stream_check.specs.declared.report.Report.{Report}
 use Rattle.portfolio.specs.declared.outcome.Verdict.{Verdict}
 use Rattle.portfolio.specs.declared.outcome.Verdict.TheVariants.{Unsatisfiable, UnsatisfiableUnder, Unknown}
 use Rattle.checkpoint.specs.Checkpoints.{IsCheckpoint}
 use Rattle.checkpoint.specs.declared.saving.SaveFault.{SaveFault}
 use Rattle.command_line.specs.CommandLine.{AskToSave}
-use Rattle.command.specs.Commands.{EndsWithFault, EndsWithReport, FilesView, IsAssumeCause, IsCause, SinkChange, Text, assumed_at}
-use Rattle.command.specs.Commands.{checkpoint_at, report_status}
-use Rattle.command.specs.Commands.{LeavesCheckpoint, NameCheckpoint, WasLeftEmpty, WasReadIn, WasSavedIn}
+use Rattle.command.specs.Commands.{Deeds, EndsWithFault, EndsWithReport, FilesView, IsAssumeCause, IsCause, IsClosed, IsOutcome}
+use Rattle.command.specs.Commands.{LeavesBehind, LeavesFile, NameCheckpoint, SavesCheckpoint, SinkChange, Text, WasLeftEmpty, WasReadIn}
+use Rattle.command.specs.Commands.{WasSavedBy, assumed_at, checkpoint_at, report_status, terms_given}
 use Rattle.command.specs.Faults.{status_of}
 use Rattle.command.specs.declared.fault.CommandFault.{CommandFault}
 use Rattle.command.specs.declared.fault.CommandFault.TheVariants as faults
-use Rattle.command.specs.Rounds.{Deeds, ProgramEnds, EndsInRounds, IsNextCause, Plan, Round, deeds_of}
-use Rattle.command.proofs.CheckingLemmas.{ask_for}
+use Rattle.command.specs.Rounds.{EndsInRounds, IsNextCause, Plan, ProgramEnds, Round}
 
 -- the verdict of a report with this status
 pub zero_is : (failed : Bool) (unsaved : Option SaveFault) (verdict : Verdict) → report_status failed unsaved verdict ≡ 0
@@ -68,33 +70,35 @@ seven_is faults.SizesUnread is = absurd (let no : Path ℕ 5 7 = is in cc)
 seven_is faults.Sizes is = absurd (let no : Path ℕ 2 7 = is in cc)
 
 module _ (files : FilesView) where
-  never_assumed : (vars : ℕ) (before : files.State) (path : Option Text) → IsAssumeCause files vars before path faults.Unwritten → ⊥
-  never_assumed vars before None cause = cause
-  never_assumed vars before (Some path) cause = cause
+  never_assumed : (vars : ℕ) (before : files.its.State) (path : Option Text) (after : files.its.State)
+      → IsAssumeCause files vars before path faults.Unwritten after → ⊥
+  never_assumed vars before None after cause = cause
+  never_assumed vars before (Some path) after cause = cause
 
   -- no cause is one of the writing of a report
-  never_unwritten : (words : List Text) → IsCause files words faults.Unwritten → ⊥
-  never_unwritten words cause = elim cause.2 [
+  never_unwritten : (words : List Text) (after : files.its.State) → IsCause files words faults.Unwritten after → ⊥
+  never_unwritten words after cause = elim cause.2 [
     | inl read ↦ read
     | inr later ↦ elim later.3 [
-      | inl assume ↦ never_assumed later.0.vars later.1 (assumed_at cause.0) assume
-      | inr last ↦ elim last.3 [ inl opens ↦ opens | inr more ↦ elim more [ inl runs ↦ runs | inr create ↦ create.4 ] ]
+      | inl assume ↦ never_assumed later.0.vars later.1 (assumed_at cause.0) after assume
+      | inr last ↦ elim last.3 [ inl opens ↦ opens | inr start ↦ start.3 ]
     ]
   ]
 
-  not_7 : (words : List Text) (fault : CommandFault) → IsCause files words fault → status_of fault ≡ 7 → ⊥
-  not_7 words fault cause is = never_unwritten words (subst (λ (f : CommandFault). IsCause files words f) (seven_is fault is) cause)
+  not_7 : (words : List Text) (fault : CommandFault) (after : files.its.State) → IsCause files words fault after → status_of fault ≡ 7 → ⊥
+  not_7 words fault after cause is =
+      never_unwritten words after (subst (λ (f : CommandFault). IsCause files words f after) (seven_is fault is) cause)
 
 -- however the program ends, its status is 7 exactly where the sink failed
-pub ends_unwritten : (files : FilesView) (words : List Text) (after : files.State) (out err : SinkChange) (status : ℕ)
-    → EndsWithReport files words after out err status ⊎ EndsWithFault files words out err status → IsTrue out.failed ↔ (status ≡ 7)
+pub ends_unwritten : (files : FilesView) (words : List Text) (after : files.its.State) (out err : SinkChange) (status : ℕ)
+    → EndsWithReport files words after out err status ⊎ EndsWithFault files words after out err status → IsTrue out.failed ↔ (status ≡ 7)
 ends_unwritten files words after out err status (inl report) = (
   (λ failed. report.status_is ∙ has_7 out.failed report.unsaved report.verdict failed),
   (λ seven. written out.failed report.unsaved report.verdict (sym report.status_is ∙ seven)),
 )
 ends_unwritten files words after out err status (inr fault) = (
   (λ failed. absurd (let no : false ≡ true = sym fault.untouched.failed ∙ failed in cc)),
-  (λ seven. absurd (not_7 files words fault.fault fault.cause (sym fault.status_is ∙ seven))),
+  (λ seven. absurd (not_7 files words fault.fault after fault.cause (sym fault.status_is ∙ seven))),
 )
 
 -- With status 3 or 8 a checkpoint that was asked for was saved.
@@ -124,41 +128,84 @@ no_fault faults.TwoCheckpoints is = neither 2 (λ e. cc) (λ e. cc) is
 no_fault faults.SizesUnread is = neither 5 (λ e. cc) (λ e. cc) is
 no_fault faults.Sizes is = neither 2 (λ e. cc) (λ e. cc) is
 
-module _ (files : FilesView) where
-  leaves_saved : (failed : Bool) (unsaved : Option SaveFault) (verdict : Verdict) (path : Text) (f : Cnf) (before after : files.State)
-      → (report_status failed unsaved verdict ≡ 3) ⊎ (report_status failed unsaved verdict ≡ 8)
-      → LeavesCheckpoint files (Some path) f verdict unsaved before after
-      → (bytes : List ℕ) × WasSavedIn files before path bytes after × IsCheckpoint f bytes
-  leaves_saved true unsaved verdict path f before after is leaves = absurd (neither 7 (λ e. cc) (λ e. cc) is)
-  leaves_saved false (Some fault) verdict path f before after is leaves = absurd (neither 9 (λ e. cc) (λ e. cc) is)
-  leaves_saved false None Unsatisfiable path f before after is leaves = absurd (neither 0 (λ e. cc) (λ e. cc) is)
-  leaves_saved false None UnsatisfiableUnder path f before after is leaves = leaves
-  leaves_saved false None Unknown path f before after is leaves = leaves
+-- what was closed without a fault was saved
+saved_of : (its : Deeds) (serial : Bool) (f : Cnf) (terms : TermsValue) (readers : List its.Reader) (reports : List Report)
+    (before next after : its.State) (path : Text) (result : Result (Unit {0}) SaveFault) (first last : its.Output)
+    → its.creates before path first next → ForSome (its.written first) (λ all. all ≡ [])
+    → SavesCheckpoint its serial f terms readers reports result first last → IsClosed its result next last None after
+    → (bytes : List ℕ) × WasSavedBy its before path bytes after × IsCheckpoint f bytes
+saved_of its serial f terms readers reports before next after path (Ok done) first last created empty saves closed =
+    let wrote = saves.checkpoint in (
+      wrote.0,
+      record { first = first; next = next; created = created; empty = empty; last = last; wrote = wrote.1; kept = closed },
+      wrote.2,
+    )
+saved_of its serial f terms readers reports before next after path (Err fault) first last created empty saves closed =
+    absurd (let no : None ≡ Some fault = closed.0 in cc)
 
-  pub ends_saved : (words : List Text) (after : files.State) (out err : SinkChange) (status : ℕ)
-      → EndsWithReport files words after out err status ⊎ EndsWithFault files words out err status
+module _ (its : Deeds) (serial : Bool) (f : Cnf) (terms : TermsValue) (readers : List its.Reader) (reports : List Report) where
+  file_saved : (path : Text) (before after : its.State)
+      → LeavesFile its (SavesCheckpoint its serial f terms readers reports) before path None after
+      → (bytes : List ℕ) × WasSavedBy its before path bytes after × IsCheckpoint f bytes
+  file_saved path before after leaves =
+      saved_of its serial f terms readers reports before leaves.next after path leaves.result leaves.first leaves.last leaves.created
+      leaves.empty leaves.saving leaves.closed
+
+  leaves_saved : (failed : Bool) (unsaved : Option SaveFault) (verdict : Verdict) (path : Text) (before after : its.State)
+      → (report_status failed unsaved verdict ≡ 3) ⊎ (report_status failed unsaved verdict ≡ 8)
+      → LeavesBehind its (SavesCheckpoint its serial f terms readers reports) verdict before (Some path) unsaved after
+      → (bytes : List ℕ) × WasSavedBy its before path bytes after × IsCheckpoint f bytes
+  leaves_saved true unsaved verdict path before after is leaves = absurd (neither 7 (λ e. cc) (λ e. cc) is)
+  leaves_saved false (Some fault) verdict path before after is leaves = absurd (neither 9 (λ e. cc) (λ e. cc) is)
+  leaves_saved false None Unsatisfiable path before after is leaves = absurd (neither 0 (λ e. cc) (λ e. cc) is)
+  leaves_saved false None UnsatisfiableUnder path before after is leaves = file_saved path before after leaves
+  leaves_saved false None Unknown path before after is leaves = file_saved path before after leaves
+
+module _ (files : FilesView) where
+  abbrev Saves : (words : List Text) (reports : List Report) (verdict : Verdict) → IsOutcome files words reports verdict
+      → Result (Unit {0}) SaveFault → files.its.Output → files.its.Output → Type 0
+  Saves words reports verdict outcome =
+      SavesCheckpoint files.its outcome.given.serial outcome.formula (terms_given outcome.given outcome.cube outcome.formula)
+      outcome.readers reports
+
+  -- what was left at the path that is asked for
+  left_at : (words : List Text) (after : files.its.State) (out err : SinkChange) (status : ℕ)
+      → (report : EndsWithReport files words after out err status) → (path : Text) → AskToSave words path
+      → LeavesBehind files.its (Saves words report.reports report.verdict report.outcome) report.verdict report.outcome.last (Some path)
+      report.unsaved after
+  left_at words after out err status report path ask =
+      let outcome = report.outcome in
+      let asked : checkpoint_at outcome.given ≡ Some path = outcome.command_line.said.checkpoint ∙ ask.path_is in
+      subst (λ (o : Option Text). LeavesBehind files.its (Saves words report.reports report.verdict outcome) report.verdict outcome.last o
+      report.unsaved after) asked report.checkpoint
+
+  pub ends_saved : (words : List Text) (after : files.its.State) (out err : SinkChange) (status : ℕ)
+      → EndsWithReport files words after out err status ⊎ EndsWithFault files words after out err status
       → (path : Text) → AskToSave words path → (status ≡ 3) ⊎ (status ≡ 8)
-      → NameCheckpoint (WasReadIn files) (WasSavedIn files) files.first words path after
+      → NameCheckpoint files.its.opens (WasReadIn files) (WasSavedBy files.its) files.first words path after
   ends_saved words after out err status (inl report) path ask is =
       let outcome = report.outcome in
       let given = outcome.given in
-      let asked : checkpoint_at given ≡ Some path = outcome.command_line.said.checkpoint ∙ ask.path_is in
-      let leaves = subst (λ (o : Option Text). LeavesCheckpoint files o outcome.formula report.verdict report.unsaved outcome.last after)
-      asked report.checkpoint in
+      let leaves = left_at words after out err status report path ask in
       let statuses = subst (λ (n : ℕ). (n ≡ 3) ⊎ (n ≡ 8)) report.status_is is in
-      let saved = leaves_saved out.failed report.unsaved report.verdict path outcome.formula outcome.last after statuses leaves in
+      let saved = leaves_saved files.its given.serial outcome.formula (terms_given given outcome.cube outcome.formula) outcome.readers
+      report.reports out.failed report.unsaved report.verdict path outcome.last after statuses leaves in
       let read = outcome.is_formula in (
         read.0,
         saved.0,
         (
-          given.formula.now,
-          assumed_at given,
+          given,
           outcome.formula,
+          outcome.cube,
           outcome.next,
+          outcome.later,
           outcome.last,
-          ask_for words given outcome.command_line,
+          outcome.readers,
+          outcome.command_line,
           read.1,
           read.2,
+          outcome.assumed,
+          outcome.opened,
           saved.1,
           saved.2,
         ),
@@ -189,36 +236,35 @@ no_zero faults.TwoCheckpoints is = let no : Path ℕ 2 0 = is in cc
 no_zero faults.SizesUnread is = let no : Path ℕ 5 0 = is in cc
 no_zero faults.Sizes is = let no : Path ℕ 2 0 = is in cc
 
-pub ends_empty : (files : FilesView) (words : List Text) (after : files.State) (out err : SinkChange) (status : ℕ)
-    → EndsWithReport files words after out err status ⊎ EndsWithFault files words out err status
-    → (path : Text) → AskToSave words path → status ≡ 0 → WasLeftEmpty files.creates files.written path after
+pub ends_empty : (files : FilesView) (words : List Text) (after : files.its.State) (out err : SinkChange) (status : ℕ)
+    → EndsWithReport files words after out err status ⊎ EndsWithFault files words after out err status
+    → (path : Text) → AskToSave words path → status ≡ 0
+    → WasLeftEmpty files.its.creates files.its.written files.its.discards path after
 ends_empty files words after out err status (inl report) path ask is =
     let outcome = report.outcome in
-    let asked : checkpoint_at outcome.given ≡ Some path = outcome.command_line.said.checkpoint ∙ ask.path_is in
     let refuted = zero_is out.failed report.unsaved report.verdict (sym report.status_is ∙ is) in
-    let leaves = subst (λ (o : Option Text). LeavesCheckpoint files o outcome.formula report.verdict report.unsaved outcome.last after)
-    asked report.checkpoint in
-    let created = subst
-    (λ (verdict : Verdict). LeavesCheckpoint files (Some path) outcome.formula verdict report.unsaved outcome.last after) refuted leaves in
-    let left = created.1 in
-    (outcome.last, left.0, left.1, left.2)
+    let leaves = left_at files words after out err status report path ask in
+    let left = subst (λ (verdict : Verdict). LeavesBehind files.its (Saves files words report.reports report.verdict outcome) verdict
+    outcome.last (Some path) report.unsaved after) refuted leaves in
+    (outcome.last, left.1)
 ends_empty files words after out err status (inr fault) path ask is = absurd (no_zero fault.fault (sym fault.status_is ∙ is))
 
 -- ---- the same, where the program may end in rounds
 
-module _ (its : Deeds) (plan : Plan) (number : ℕ) (last : Round its.State its.Reader) where
+module _ (its : Deeds) (plan : Plan) (number : ℕ) (last : Round its.State its.Reader) (after : its.State) where
   -- no cause of a round is one of the writing of a report
-  never_next : IsNextCause its plan number last faults.Unwritten → ⊥
+  never_next : IsNextCause its plan number last faults.Unwritten after → ⊥
   never_next (next, on, inl sizes) = sizes
-  never_next (next, on, inr (sizes, sized, are, inl opens)) = opens.0
-  never_next (next, on, inr (sizes, sized, are, inr (readers, opened, were, inl runs))) = runs
-  never_next (next, on, inr (sizes, sized, are, inr (readers, opened, were, inr create))) = create.1
+  never_next (next, on, inr (sizes, sized, are, inl (inl first))) = first
+  never_next (next, on, inr (sizes, sized, are, inl (inr others))) = others.3
+  never_next (next, on, inr (sizes, sized, are, inr (readers, opened, were, start))) = start
 
-  next_not_7 : (fault : CommandFault) → IsNextCause its plan number last fault → status_of fault ≡ 7 → ⊥
-  next_not_7 fault cause is = never_next (subst (λ (f : CommandFault). IsNextCause its plan number last f) (seven_is fault is) cause)
+  next_not_7 : (fault : CommandFault) → IsNextCause its plan number last fault after → status_of fault ≡ 7 → ⊥
+  next_not_7 fault cause is =
+      never_next (subst (λ (f : CommandFault). IsNextCause its plan number last f after) (seven_is fault is) cause)
 
 module _ (files : FilesView) (words : List Text) where
-  in_rounds_unwritten : (after : files.State) (out err : SinkChange) (status : ℕ) → EndsInRounds files words after out err status
+  in_rounds_unwritten : (after : files.its.State) (out err : SinkChange) (status : ℕ) → EndsInRounds files words after out err status
       → IsTrue out.failed ↔ (status ≡ 7)
   in_rounds_unwritten after out err status ends = elim ends.ending [
     | inl report ↦ (
@@ -227,18 +273,18 @@ module _ (files : FilesView) (words : List Text) where
     )
     | inr fails ↦ (
       (λ failed. absurd (let no : false ≡ true = sym fails.untouched.failed ∙ failed in cc)),
-      (λ seven. absurd (next_not_7 (deeds_of files) _ _ fails.last fails.fault fails.cause (sym fails.status_is ∙ seven))),
+      (λ seven. absurd (next_not_7 files.its _ _ fails.last after fails.fault fails.cause (sym fails.status_is ∙ seven))),
     )
   ]
 
-  pub all_unwritten : (after : files.State) (out err : SinkChange) (status : ℕ) → ProgramEnds files words after out err status
+  pub all_unwritten : (after : files.its.State) (out err : SinkChange) (status : ℕ) → ProgramEnds files words after out err status
       → IsTrue out.failed ↔ (status ≡ 7)
   all_unwritten after out err status (inl report) = ends_unwritten files words after out err status (inl report.0)
   all_unwritten after out err status (inr (inl fault)) = ends_unwritten files words after out err status (inr fault)
   all_unwritten after out err status (inr (inr rounds)) = in_rounds_unwritten after out err status rounds
 
   -- there are no rounds beside a checkpoint that is asked for
-  not_both : (after : files.State) (out err : SinkChange) (status : ℕ) (path : Text) → AskToSave words path
+  not_both : (after : files.its.State) (out err : SinkChange) (status : ℕ) (path : Text) → AskToSave words path
       → EndsInRounds files words after out err status → ⊥
   not_both after out err status path ask ends =
       let asked : checkpoint_at ends.given ≡ Some path = ends.command_line.said.checkpoint ∙ ask.path_is in
@@ -247,15 +293,15 @@ module _ (files : FilesView) (words : List Text) where
         | inr fails ↦ (let no : Some path ≡ None = sym asked ∙ fails.were.alone in cc)
       ]
 
-  pub all_saved : (after : files.State) (out err : SinkChange) (status : ℕ) → ProgramEnds files words after out err status
+  pub all_saved : (after : files.its.State) (out err : SinkChange) (status : ℕ) → ProgramEnds files words after out err status
       → (path : Text) → AskToSave words path → (status ≡ 3) ⊎ (status ≡ 8)
-      → NameCheckpoint (WasReadIn files) (WasSavedIn files) files.first words path after
+      → NameCheckpoint files.its.opens (WasReadIn files) (WasSavedBy files.its) files.first words path after
   all_saved after out err status (inl report) path ask is = ends_saved files words after out err status (inl report.0) path ask is
   all_saved after out err status (inr (inl fault)) path ask is = ends_saved files words after out err status (inr fault) path ask is
   all_saved after out err status (inr (inr rounds)) path ask is = absurd (not_both after out err status path ask rounds)
 
-  pub all_empty : (after : files.State) (out err : SinkChange) (status : ℕ) → ProgramEnds files words after out err status
-      → (path : Text) → AskToSave words path → status ≡ 0 → WasLeftEmpty files.creates files.written path after
+  pub all_empty : (after : files.its.State) (out err : SinkChange) (status : ℕ) → ProgramEnds files words after out err status
+      → (path : Text) → AskToSave words path → status ≡ 0 → WasLeftEmpty files.its.creates files.its.written files.its.discards path after
   all_empty after out err status (inl report) path ask is = ends_empty files words after out err status (inl report.0) path ask is
   all_empty after out err status (inr (inl fault)) path ask is = ends_empty files words after out err status (inr fault) path ask is
   all_empty after out err status (inr (inr rounds)) path ask is = absurd (not_both after out err status path ask rounds)

@@ -1,5 +1,5 @@
 -- What a whole run of the program comes to (this project's own).
-use Rattle.std.specs.Prelude.{◌≡◌, ◌≢◌, ◌+◌, ◌++◌, ◌⊎◌, ℕ, Bool, true, false, IsTrue, List, [], ◌∷◌, map, length, slice_get, take, Option, None, Some, option_map}
+use Rattle.std.specs.Prelude.{◌≡◌, ◌≢◌, ◌↔◌, ◌+◌, ◌++◌, ◌⊎◌, ℕ, Bool, true, false, IsTrue, List, [], ◌∷◌, map, length, slice_get, take, Option, None, Some, Result, Ok, Err, IfOk, option_map}
 use Rattle.std.specs.Io.KnownBytes.{Appends, Keeps}
 use Rattle.std.specs.Borrow.{Bor}
 use Rattle.std.specs.Option.{ForSome}
@@ -19,7 +19,7 @@ use Rattle.lrup_text.specs.Reads.{GaveAll, ReadsOf}
 use Rattle.lrup_text.specs.Cubes.{IsCubeFault, IsCubeText}
 use Rattle.lrup_text.specs.declared.cube.CubeFault.TheVariants as cubes
 use Rattle.stream_check.specs.declared.report.Report.{Report}
-use Rattle.portfolio.specs.Histories.{AreReported}
+use Rattle.portfolio.specs.Histories.{AreReported, SavesRun}
 use Rattle.portfolio.specs.Outcomes.{OptionsValue, layout_of, terms_of, verdict_of}
 use Rattle.portfolio.specs.ReportText.{report_text}
 use Rattle.runs.specs.Readings.{AreRead}
@@ -35,6 +35,9 @@ use Rattle.command.specs.Faults.{status_of, error_text, round_error_text}
 use Rattle.command.specs.Paths as round_paths
 use Rattle.command.specs.declared.checking.Setup.{Setup}
 use Rattle.command.specs.declared.files.Files as Files
+use Rattle.command.specs.declared.files.Machine as Machine
+use Rattle.command.specs.declared.files.OpenFault.{OpenFault}
+use Rattle.command.specs.declared.files.OpenFault.TheVariants as open_faults
 use Rattle.command.specs.declared.fault.CommandFault.{CommandFault}
 use Rattle.command.specs.declared.fault.CommandFault.TheVariants as faults
 
@@ -74,29 +77,22 @@ pub record WasSaved {F W : Type 0} (creates : F → Text → W → F → Type 0)
   pub wrote : Appends (written first) (written last) bytes
   pub kept : keeps next last after
 
--- The last that was done to the files was that one was created at the path. Where its device tells
--- its bytes, nothing went to it.
+-- A file was created at the path, from the files before, and discarded as it was created: nothing went
+-- to it. Where its device tells its bytes, it was empty.
+pub record IsLeftEmpty {F W : Type 0} (creates : F → Text → W → F → Type 0)
+    (written : W → Option (List ℕ)) (discards : F → W → F → Type 0) (before : F) (path : Text)
+    (after : F) : Type 0 where
+  pub output : W
+  pub next : F
+  pub created : creates before path output next
+  pub empty : ForSome (written output) (λ all. all ≡ [])
+  pub discarded : discards next output after
+
+-- That is the last that was done to the files.
 abbrev pub WasLeftEmpty : {F W : Type 0} → (F → Text → W → F → Type 0) → (W → Option (List ℕ))
-    → Text → F → Type 0
-WasLeftEmpty {F = F} {W = W} creates written path last =
-    (before : F) × (output : W) × creates before path output last
-    × ForSome (written output) (λ all. all ≡ [])
-
--- The words ask for a formula. The bytes that were read of the file at its path, the first to be
--- opened, are a text of it, and those that were saved at this path, as the last thing done to the
--- files, are a checkpoint of it.
-abbrev pub SavesFrom : {F : Type 0} → (F → Text → List ℕ → F → Type 0)
-    → (F → Text → List ℕ → F → Type 0) → F → List Text → Text → List ℕ → List ℕ → F → Type 0
-SavesFrom {F = F} Read Save first words path bytes saved last =
-    (formula_path : Text) × (assume : Option Text) × (formula : Cnf) × (next before : F)
-    × AskFor words formula_path assume × Read first formula_path bytes next
-    × IsFormulaText bytes formula × Save before path saved last × IsCheckpoint formula saved
-
--- a run of these words saved a checkpoint at this path
-abbrev pub NameCheckpoint : {F : Type 0} → (F → Text → List ℕ → F → Type 0)
-    → (F → Text → List ℕ → F → Type 0) → F → List Text → Text → F → Type 0
-NameCheckpoint Read Save first words path last =
-    (bytes saved : List ℕ) × SavesFrom Read Save first words path bytes saved last
+    → (F → W → F → Type 0) → Text → F → Type 0
+WasLeftEmpty {F = F} creates written discards path last =
+    (before : F) × IsLeftEmpty creates written discards before path last
 
 -- what was read of the file of the assumed literals, over the variables 1 to vars; without a path
 -- there are none, and nothing is opened
@@ -117,6 +113,44 @@ NameUnsatisfiableUnder F Read first words =
     × Read first formula_path bytes next
     × IsFormulaText bytes formula × AreAssumed Read formula.vars next assume cube last
     × IsUnsatisfiableUnder formula cube
+
+-- the path that is lent, if any
+abbrev pub path_of : Option (Bor Text) → Option Text
+path_of path = option_map (λ lent. lent.now) path
+
+-- the path of the assumed literals that the words have, if any
+abbrev pub assumed_at : CommandLine → Option Text
+assumed_at given = path_of given.assume
+
+-- The files at the paths were opened as these readers, each by the opening next after the one before it: the first from the files
+-- before, the last to those after.
+abbrev pub AreOpened : {F R : Type 0} → (F → Text → R → F → Type 0) → F → List Text → List R → F
+    → Type 0
+AreOpened opens before [] [] after = after ≡ before
+AreOpened {F = F} opens before (path ∷ paths) (reader ∷ readers) after =
+    (next : F) × opens before path reader next × AreOpened opens next paths readers after
+AreOpened opens before _ _ after = ⊥
+
+-- The words have a command line. The bytes that were read of the file at its FORMULA, the first to be
+-- opened, are a text of a formula; then the assumed literals were read, if any, and the streams were
+-- opened; then these bytes were saved at this path, as the last that was done to the files, and they are
+-- a checkpoint of the formula.
+abbrev pub SavesFrom : {F R : Type 0} → (F → Text → R → F → Type 0)
+    → (F → Text → List ℕ → F → Type 0) → (F → Text → List ℕ → F → Type 0) → F → List Text → Text
+    → List ℕ → List ℕ → F → Type 0
+SavesFrom {F = F} {R = R} opens Read Save first words path bytes saved last =
+    (given : CommandLine) × (formula : Cnf) × (cube : CubeValue) × (next later before : F)
+    × (readers : List R) × IsCommandLineOf words given × Read first given.formula.now bytes next
+    × IsFormulaText bytes formula × AreAssumed Read formula.vars next (assumed_at given) cube later
+    × AreOpened opens later given.streams readers before
+    × Save before path saved last × IsCheckpoint formula saved
+
+-- a run of these words saved a checkpoint at this path
+abbrev pub NameCheckpoint : {F R : Type 0} → (F → Text → R → F → Type 0)
+    → (F → Text → List ℕ → F → Type 0) → (F → Text → List ℕ → F → Type 0) → F → List Text → Text
+    → F → Type 0
+NameCheckpoint opens Read Save first words path last =
+    (bytes saved : List ℕ) × SavesFrom opens Read Save first words path bytes saved last
 
 -- the options of a command line
 abbrev pub options_of : CommandLine → OptionsValue
@@ -152,77 +186,79 @@ pub record AreChecked {R : Type 0} (reading : SourceView R) (serial : Bool) (for
 abbrev pub readers_view : {R : Type 0} → Source.Ghosts R → SourceView R
 readers_view its = source_view its.left its.has_failed its.reads
 
--- What is known of files: as what they pass from one call to the next, as what readers they are opened, and as what sinks they are
--- created; which of these they are at first; what the file at each path tells, where the device tells it, and whether the opening of
--- a path or its creation may be refused, all of which stays while files are opened; what an opening, a creation and a keeping does; what
--- is seen where a path has no file; what is known of the readers and the sinks; and what files tell and may refuse, whichever they are.
-pub record FilesView : Type 1 where
+-- What files do and tell, whichever they are: of an opening, and of one that was refused; of what is seen where a path has no file, and of
+-- an opening that failed although it may have one; of a creation, and of one that was refused; of a file that was kept, of one that wasn't,
+-- and of one that was discarded; and what is known of the readers and of the sinks.
+pub record Deeds : Type 1 where
   pub State : Type 0
   pub Reader : Type 0
   pub Output : Type 0
-  pub first : State
-  pub tells : Text → Option (List ℕ)
-  pub may_refuse : Text → Bool
-  pub may_refuse_new : Text → Bool
+  pub tells : State → Text → Option (List ℕ)
   pub opens : State → Text → Reader → State → Type 0
-  pub creates : State → Text → Output → State → Type 0
-  pub keeps : State → Output → State → Type 0
+  pub refuses : State → Text → OpenFault → State → Type 0
   pub lacks : State → Text → State → Type 0
+  pub fails : State → Text → OpenFault → State → Type 0
+  pub creates : State → Text → Output → State → Type 0
+  pub refuses_new : State → Text → OpenFault → State → Type 0
+  pub keeps : State → Output → State → Type 0
+  pub loses : State → Output → State → Type 0
+  pub discards : State → Output → State → Type 0
   pub reading : SourceView Reader
   pub written : Output → Option (List ℕ)
-  pub tells_at : State → Text → Option (List ℕ)
-  pub refuses : State → Text → Bool
-  pub fails : State → Text → Bool
-  pub refuses_new : State → Text → Bool
+  pub has_failed : Output → Bool
 
--- these, as the types of files, of their readers and of their sinks say them
-abbrev pub files_view : {F R W M : Type 0} → Files.Ghosts F R W M → Source.Ghosts R
-    → Sink.Ghosts W → F → FilesView
-files_view {F = F} {R = R} {W = W} its input output first = record {
+-- as the types of files, of their readers and of their sinks say it
+abbrev pub deeds : {F R W M : Type 0} → Files.Ghosts F R → Machine.Ghosts F W M R → Source.Ghosts R
+    → Sink.Ghosts W → Deeds
+deeds {F = F} {R = R} {W = W} its more input output = record {
   State = F;
   Reader = R;
   Output = W;
-  first = first;
-  tells = its.tells first;
-  may_refuse = its.may_refuse first;
-  may_refuse_new = its.may_refuse_new first;
+  tells = its.tells;
   opens = its.opens;
-  creates = its.creates;
-  keeps = its.keeps;
-  lacks = its.lacks;
+  refuses = its.refuses;
+  lacks = more.lacks;
+  fails = more.fails;
+  creates = more.creates;
+  refuses_new = more.refuses_new;
+  keeps = more.keeps;
+  loses = more.loses;
+  discards = more.discards;
   reading = readers_view input;
   written = output.written;
-  tells_at = its.tells;
-  refuses = its.may_refuse;
-  fails = its.may_fail;
-  refuses_new = its.may_refuse_new;
+  has_failed = output.has_failed;
 }
 
+-- What is known of files: what they do; which they are at first; and what the file at each path tells, where the device tells it, which
+-- stays while files are opened.
+pub record FilesView : Type 1 where
+  pub its : Deeds
+  pub first : its.State
+  pub tells : Text → Option (List ℕ)
+
+-- these, as the types of files, of their readers and of their sinks say them
+abbrev pub files_view : {F R W M : Type 0} → Files.Ghosts F R → Machine.Ghosts F W M R
+    → Source.Ghosts R → Sink.Ghosts W → F → FilesView
+files_view its more input output first =
+    record { its = deeds its more input output; first = first; tells = its.tells first }
+
 -- the same, where others were the first ones
-abbrev pub from_first : (files : FilesView) → files.State → FilesView
-from_first files first = record files { first = first }
+abbrev pub from_first : (files : FilesView) → files.its.State → FilesView
+from_first files first = record { its = files.its; first = first; tells = files.tells }
 
 -- what was read of the file at a path, by what is known of files
-abbrev pub WasReadIn : (files : FilesView) → files.State → Text → List ℕ
-    → files.State → Type 0
-WasReadIn files = WasRead files.opens files.reading.reads files.tells
+abbrev pub WasReadIn : (files : FilesView) → files.its.State → Text → List ℕ → files.its.State
+    → Type 0
+WasReadIn files = WasRead files.its.opens files.its.reading.reads files.tells
 
--- what was saved at a path, by what is known of files
-abbrev pub WasSavedIn : (files : FilesView) → files.State → Text → List ℕ → files.State → Type 0
-WasSavedIn files = WasSaved files.creates files.written files.keeps
+-- what was saved at a path, by what files do
+abbrev pub WasSavedBy : (its : Deeds) → its.State → Text → List ℕ → its.State → Type 0
+WasSavedBy its = WasSaved its.creates its.written its.keeps
 
 -- the formula whose text was read of the file at a path, the first to be opened, and the files after that
-abbrev pub IsFormulaAt : (files : FilesView) → Text → Cnf → files.State → Type 0
+abbrev pub IsFormulaAt : (files : FilesView) → Text → Cnf → files.its.State → Type 0
 IsFormulaAt files path formula after =
     (bytes : List ℕ) × WasReadIn files files.first path bytes after × IsFormulaText bytes formula
-
--- the path that is lent, if any
-abbrev pub path_of : Option (Bor Text) → Option Text
-path_of path = option_map (λ lent. lent.now) path
-
--- the path of the assumed literals that the words have, if any
-abbrev pub assumed_at : CommandLine → Option Text
-assumed_at given = path_of given.assume
 
 -- the folder of the rounds that they ask for, if any
 abbrev pub rounds_at : CommandLine → Option Text
@@ -241,15 +277,6 @@ created_path (Some folder) checkpoint = Some (round_paths.formula_path folder 2)
 abbrev pub created_at : CommandLine → Option Text
 created_at given = created_path (rounds_at given) (checkpoint_at given)
 
--- The files at the paths were opened as these readers, each by the opening next after the one before it: the first from the files
--- before, the last to those after.
-abbrev pub AreOpened : {F R : Type 0} → (F → Text → R → F → Type 0) → F → List Text → List R → F
-    → Type 0
-AreOpened opens before [] [] after = after ≡ before
-AreOpened {F = F} opens before (path ∷ paths) (reader ∷ readers) after =
-    (next : F) × opens before path reader next × AreOpened opens next paths readers after
-AreOpened opens before _ _ after = ⊥
-
 -- The reports and the verdict that the words and the files come to. The first opening is the formula's, the next is that of the
 -- assumed literals, if any, and then come those of the streams, in order. `readers` are their files as they were opened.
 pub record IsOutcome (files : FilesView) (words : List Text) (reports : List Report)
@@ -257,45 +284,80 @@ pub record IsOutcome (files : FilesView) (words : List Text) (reports : List Rep
   pub given : CommandLine
   pub command_line : IsCommandLineOf words given
   pub formula : Cnf
-  pub next : files.State
+  pub next : files.its.State
   pub is_formula : IsFormulaAt files given.formula.now formula next
   pub cube : CubeValue
-  pub later : files.State
+  pub later : files.its.State
   pub assumed : AreAssumed (WasReadIn files) formula.vars next (assumed_at given) cube later
-  pub readers : List files.Reader
-  pub last : files.State
-  pub opened : AreOpened files.opens later given.streams readers last
-  pub left : map files.reading.left readers ≡ map files.tells given.streams
-  pub checked : AreChecked files.reading given.serial formula (terms_given given cube formula)
+  pub readers : List files.its.Reader
+  pub last : files.its.State
+  pub opened : AreOpened files.its.opens later given.streams readers last
+  pub left : map files.its.reading.left readers ≡ map files.tells given.streams
+  pub checked : AreChecked files.its.reading given.serial formula (terms_given given cube formula)
       readers reports verdict
 
--- What a run of a formula, with this verdict, leaves as its checkpoint, and why that wasn't saved, if it wasn't. Without a path:
--- nothing. With 'unsatisfiable': a file that was created, with nothing in it. Else the file was created, written and kept; or it
--- was created, and the fault says why it wasn't saved: only where a write or the keeping failed may anything more have been done to
--- the files.
-abbrev pub LeavesBehind : {F W : Type 0} → (F → Text → W → F → Type 0) → (W → Option (List ℕ))
-    → (F → W → F → Type 0) → Option Text → Cnf → Verdict → Option SaveFault → F → F → Type 0
-LeavesBehind creates written keeps None formula verdict unsaved before after =
-    (unsaved ≡ None) × (after ≡ before)
-LeavesBehind {W = W} creates written keeps (Some path) formula Unsatisfiable unsaved before after =
-    (unsaved ≡ None)
-    × ((output : W) × creates before path output after
-    × ForSome (written output) (λ all. all ≡ []))
-LeavesBehind creates written keeps (Some path) formula verdict None before after =
-    (bytes : List ℕ) × WasSaved creates written keeps before path bytes after
-    × IsCheckpoint formula bytes
-LeavesBehind {F = F} {W = W} creates written keeps (Some path) formula verdict (Some fault) before
-    after =
-    (output : W) × (next : F) × creates before path output next
-    × ((fault ≡ saves.Unwritten) ⊎ (after ≡ next))
+-- What is saved.
 
--- the same, by what is known of files
-abbrev pub LeavesCheckpoint : (files : FilesView) → Option Text → Cnf → Verdict
-    → Option SaveFault → files.State → files.State → Type 0
-LeavesCheckpoint files = LeavesBehind files.creates files.written files.keeps
+-- What became of the saving of a checkpoint of the formula to a sink that was the first and is the last. What was written whole is a text of
+-- a formula over the same variables, each clause of which follows from this one. It is that of the clauses that a history of the run
+-- leaves live, by which its streams are judged as reported, but for those that all streams dropped. Just where the sink failed, a
+-- write is told to have failed.
+pub record SavesCheckpoint (its : Deeds) (serial : Bool) (formula : Cnf) (terms : TermsValue)
+    (readers : List its.Reader) (reports : List Report) (result : Result (Unit {0}) SaveFault)
+    (first last : its.Output) : Type 0 where
+  pub checkpoint : IfOk result (λ _. (bytes : List ℕ)
+      × Appends (its.written first) (its.written last) bytes × IsCheckpoint formula bytes)
+  pub exactly : SavesRun its.reading its.written serial formula terms readers reports result first
+      last
+  pub failed : IsTrue (its.has_failed last) ↔ (result ≡ Err saves.Unwritten)
 
--- Causes. Nothing shows afterwards that memory ran out or that a thread wasn't started, so these are taken as causes whatever the
--- files hold.
+-- How a sink was closed, to which something was saved with this result, and why that isn't saved, if it isn't: what was saved was kept,
+-- or that failed; else the sink was discarded.
+abbrev pub IsClosed : {A : Type 0} → (its : Deeds) → Result A SaveFault → its.State → its.Output
+    → Option SaveFault → its.State → Type 0
+IsClosed its (Ok _) before last None after = its.keeps before last after
+IsClosed its (Ok _) before last (Some fault) after =
+    (fault ≡ saves.Unwritten) × its.loses before last after
+IsClosed its (Err fault) before last unsaved after =
+    (unsaved ≡ Some fault) × its.discards before last after
+
+-- A file was created at the path, from the files before. Where its device tells its bytes, it was empty. Something was saved to it, and it
+-- was closed.
+pub record LeavesFile {A : Type 0} (its : Deeds)
+    (Saves : Result A SaveFault → its.Output → its.Output → Type 0) (before : its.State)
+    (path : Text) (unsaved : Option SaveFault) (after : its.State) : Type 0 where
+  pub first : its.Output
+  pub next : its.State
+  pub created : its.creates before path first next
+  pub empty : ForSome (its.written first) (λ all. all ≡ [])
+  pub result : Result A SaveFault
+  pub last : its.Output
+  pub saving : Saves result first last
+  pub closed : IsClosed its result next last unsaved after
+
+-- What a run with this verdict leaves as its checkpoint, and why that wasn't saved, if it wasn't. Without a path: nothing. With
+-- 'unsatisfiable': a file to which nothing went. Else a file to which the checkpoint was saved.
+abbrev pub LeavesBehind : {A : Type 0} → (its : Deeds)
+    → (Result A SaveFault → its.Output → its.Output → Type 0) → Verdict → its.State → Option Text
+    → Option SaveFault → its.State → Type 0
+LeavesBehind its Saves verdict before None unsaved after = (unsaved ≡ None) × (after ≡ before)
+LeavesBehind its Saves Unsatisfiable before (Some path) unsaved after =
+    (unsaved ≡ None) × IsLeftEmpty its.creates its.written its.discards before path after
+LeavesBehind its Saves verdict before (Some path) unsaved after =
+    LeavesFile its Saves before path unsaved after
+
+-- the same, of what the words and the files come to
+abbrev pub LeavesCheckpoint : (files : FilesView) (words : List Text) (reports : List Report)
+    (verdict : Verdict) → IsOutcome files words reports verdict → Option SaveFault
+    → files.its.State → Type 0
+LeavesCheckpoint files words reports verdict outcome unsaved after =
+    LeavesBehind files.its
+    (SavesCheckpoint files.its outcome.given.serial outcome.formula
+    (terms_given outcome.given outcome.cube outcome.formula) outcome.readers reports)
+    verdict outcome.last (checkpoint_at outcome.given) unsaved after
+
+-- Causes, and the files then: what was opened and created of them by then, in order, and nothing more. Nothing shows afterwards that
+-- memory ran out or that a thread wasn't started, so these are taken as causes whatever the files hold.
 
 -- Reads of a file gave some bytes, and then one failed. If the device tells what was left of the file, it began with these bytes.
 pub record HasBrokenOff {R : Type 0} (reading : SourceView R) (first : R) : Type 0 where
@@ -311,101 +373,137 @@ IsFailedRead reading first faults.Unread = HasBrokenOff reading first
 IsFailedRead reading first faults.Memory = Unit {0}
 IsFailedRead reading first fault = ⊥
 
--- The file at the path was opened, from the files before, and its reading failed.
-pub record WasUnread (files : FilesView) (before : files.State)
-    (path : Text) : Type 0 where
-  pub reader : files.Reader
-  pub after : files.State
-  pub opened : files.opens before path reader after
-  pub left : files.reading.left reader ≡ files.tells path
-  pub broken : HasBrokenOff files.reading reader
+-- The file at the path was opened, and its reading failed.
+pub record WasUnread (files : FilesView) (before : files.its.State) (path : Text)
+    (after : files.its.State) : Type 0 where
+  pub reader : files.its.Reader
+  pub opened : files.its.opens before path reader after
+  pub left : files.its.reading.left reader ≡ files.tells path
+  pub broken : HasBrokenOff files.its.reading reader
+
+-- memory ran out before the file at the path was opened, or at its opening, or after it
+abbrev pub IsOutOfMemory : (its : Deeds) → its.State → Text → its.State → Type 0
+IsOutOfMemory its before path after =
+    (after ≡ before)
+    ⊎ (its.refuses before path open_faults.Memory after
+    ⊎ ((reader : its.Reader) × its.opens before path reader after))
 
 -- why the file at a path wasn't read: it was refused, or its reading failed
-abbrev pub IsFileCause : (files : FilesView) → files.State → Text → CommandFault
-    → Type 0
-IsFileCause files before path faults.Unread =
-    IsTrue (files.may_refuse path) ⊎ WasUnread files before path
-IsFileCause files before path faults.Memory = Unit {0}
-IsFileCause files before path fault = ⊥
+abbrev pub IsFileCause : (files : FilesView) → files.its.State → Text → CommandFault
+    → files.its.State → Type 0
+IsFileCause files before path faults.Unread after =
+    files.its.refuses before path open_faults.NotOpened after ⊎ WasUnread files before path after
+IsFileCause files before path faults.Memory after = IsOutOfMemory files.its before path after
+IsFileCause files before path fault after = ⊥
 
 -- why the formula at a path wasn't read: its file, the first to be opened, was refused, or its reading failed, or it holds no formula
-abbrev pub IsReadCause : FilesView → Text → CommandFault → Type 0
-IsReadCause files path faults.Unread =
-    IsTrue (files.may_refuse path) ⊎ WasUnread files files.first path
-IsReadCause files path (faults.Refused fault) =
+abbrev pub IsReadCause : (files : FilesView) → Text → CommandFault → files.its.State → Type 0
+IsReadCause files path (faults.Refused fault) after =
     (fault ≢ formulas.Memory)
-    × ((bytes : List ℕ) × (after : files.State) × WasReadIn files files.first path bytes after
-    × IsFormulaFault bytes fault)
-IsReadCause files path faults.Memory = Unit {0}
-IsReadCause files path fault = ⊥
+    × ((bytes : List ℕ) × WasReadIn files files.first path bytes after × IsFormulaFault bytes fault)
+IsReadCause files path fault after = IsFileCause files files.first path fault after
 
 -- why the assumed literals at a path, over the variables 1 to vars, weren't read: their file, the next to be opened, was refused, or
 -- its reading failed, or it holds no text of them; without a path there is no cause
-abbrev pub IsAssumeCause : (files : FilesView) → ℕ → files.State → Option Text
-    → CommandFault → Type 0
-IsAssumeCause files vars before None fault = ⊥
-IsAssumeCause files vars before (Some path) faults.CubeUnread =
-    IsTrue (files.may_refuse path) ⊎ WasUnread files before path
-IsAssumeCause files vars before (Some path) (faults.CubeRefused fault) =
+abbrev pub IsAssumeCause : (files : FilesView) → ℕ → files.its.State → Option Text → CommandFault
+    → files.its.State → Type 0
+IsAssumeCause files vars before None fault after = ⊥
+IsAssumeCause files vars before (Some path) faults.CubeUnread after =
+    IsFileCause files before path faults.Unread after
+IsAssumeCause files vars before (Some path) (faults.CubeRefused fault) after =
     (fault ≢ cubes.Memory)
-    × ((bytes : List ℕ) × (after : files.State) × WasReadIn files before path bytes after
-    × IsCubeFault vars bytes fault)
-IsAssumeCause files vars before (Some path) faults.Memory = Unit {0}
-IsAssumeCause files vars before (Some path) fault = ⊥
+    × ((bytes : List ℕ) × WasReadIn files before path bytes after × IsCubeFault vars bytes fault)
+IsAssumeCause files vars before (Some path) faults.Memory after =
+    IsFileCause files before path faults.Memory after
+IsAssumeCause files vars before (Some path) fault after = ⊥
 
--- why not all of the streams at these paths were opened: those before one were, in order, and the file of that one, counted from 1,
--- was refused
-abbrev pub IsOpenCause : {F R : Type 0} → (F → Text → R → F → Type 0) → (Text → Bool) → F
-    → List Text → CommandFault → Type 0
-IsOpenCause {F = F} {R = R} opens may_refuse before paths (faults.NotOpened stream) =
-    (place : ℕ) × (path : Text) × (readers : List R) × (after : F) × (stream ≡ place + 1)
-    × (slice_get paths place ≡ Some path) × AreOpened opens before (take place paths) readers after
-    × IsTrue (may_refuse path)
-IsOpenCause opens may_refuse before paths faults.Memory = Unit {0}
-IsOpenCause opens may_refuse before paths fault = ⊥
+-- Of the files at these paths those before one were opened, in order, and that one, which has this place, was refused.
+pub record WasRefused (its : Deeds) (before : its.State) (paths : List Text) (place : ℕ)
+    (fault : OpenFault) (after : its.State) : Type 0 where
+  pub path : Text
+  pub is_path : slice_get paths place ≡ Some path
+  pub readers : List its.Reader
+  pub next : its.State
+  pub opened : AreOpened its.opens before (take place paths) readers next
+  pub refused : its.refuses next path fault after
 
--- why the checkpoint that is asked for wasn't created: its path was refused
-abbrev pub IsCreateCause : (Text → Bool) → Option Text → CommandFault → Type 0
-IsCreateCause may_refuse_new asked faults.NotCreated =
-    (path : Text) × (asked ≡ Some path) × IsTrue (may_refuse_new path)
-IsCreateCause may_refuse_new asked faults.Memory = Unit {0}
-IsCreateCause may_refuse_new asked fault = ⊥
+-- why not all of the streams at these paths were opened, the first of which is the one behind so many: one of them was refused; or memory
+-- ran out before they were opened, at the opening of one, or after it
+abbrev pub IsOpenCause : (its : Deeds) → ℕ → its.State → List Text → CommandFault → its.State
+    → Type 0
+IsOpenCause its behind before paths (faults.NotOpened stream) after =
+    (place : ℕ) × (stream ≡ behind + place + 1)
+    × WasRefused its before paths place open_faults.NotOpened after
+IsOpenCause its behind before paths faults.Memory after =
+    ((place : ℕ) × WasRefused its before paths place open_faults.Memory after)
+    ⊎ ((place : ℕ) × (readers : List its.Reader)
+    × AreOpened its.opens before (take place paths) readers after)
+IsOpenCause its behind before paths fault after = ⊥
 
--- why streams weren't checked: there is no layout; or there is one, and a thread wasn't started, or what it sent had no end
-abbrev pub IsRunCause : Bool → LayoutValue → CommandFault → Type 0
-IsRunCause serial layout (faults.Layout fault) = IsFault layout fault
-IsRunCause serial layout (faults.Spawn stream) =
-    (serial ≡ false) × IsStream layout stream × ((fault : LayoutFault) → IsFault layout fault → ⊥)
-IsRunCause serial layout (faults.Ring stream) =
-    (serial ≡ false) × IsStream layout stream × ((fault : LayoutFault) → IsFault layout fault → ⊥)
-IsRunCause serial layout faults.Memory = Unit {0}
-IsRunCause serial layout fault = ⊥
+-- a file was created at the path, if there is one, and nothing went to it; else the files are as before
+abbrev pub IsLeftUnused : (its : Deeds) → its.State → Option Text → its.State → Type 0
+IsLeftUnused its before None after = after ≡ before
+IsLeftUnused its before (Some path) after =
+    IsLeftEmpty its.creates its.written its.discards before path after
+
+-- the creation of the file at the path, if there is one, was refused
+abbrev pub IsRefusedNew : (its : Deeds) → its.State → Option Text → OpenFault → its.State → Type 0
+IsRefusedNew its before None fault after = ⊥
+IsRefusedNew its before (Some path) fault after = its.refuses_new before path fault after
+
+-- a layout has no fault
+abbrev pub HasNoFault : LayoutValue → Type 0
+HasNoFault layout = (fault : LayoutFault) → IsFault layout fault → ⊥
+
+-- why streams weren't checked, which were opened: there is no layout; or there is one, and the file at the path wasn't created, if there is
+-- to be one; or it was, and a thread wasn't started, or what it sent had no end
+abbrev pub IsStartCause : (its : Deeds) → Bool → LayoutValue → its.State → Option Text
+    → CommandFault → its.State → Type 0
+IsStartCause its serial layout before path (faults.Layout fault) after =
+    IsFault layout fault × (after ≡ before)
+IsStartCause its serial layout before path faults.NotCreated after =
+    HasNoFault layout × IsRefusedNew its before path open_faults.NotOpened after
+IsStartCause its serial layout before path (faults.Spawn stream) after =
+    HasNoFault layout × (serial ≡ false) × IsStream layout stream
+    × IsLeftUnused its before path after
+IsStartCause its serial layout before path (faults.Ring stream) after =
+    HasNoFault layout × (serial ≡ false) × IsStream layout stream
+    × IsLeftUnused its before path after
+IsStartCause its serial layout before path faults.Memory after =
+    (after ≡ before)
+    ⊎ (IsRefusedNew its before path open_faults.Memory after ⊎ IsLeftUnused its before path after)
+IsStartCause its serial layout before path fault after = ⊥
 
 -- the cause of a fault of the formula; or, of a formula that was read, of a fault of the assumed literals; or, of both that were read,
--- of a fault of the opening of the streams or of the run; or, of streams that were opened and have a layout, of a fault of the
--- checkpoint's creation
-abbrev pub IsCauseAt : FilesView → CommandLine → CommandFault → Type 0
-IsCauseAt files given fault =
-    IsReadCause files given.formula.now fault
-    ⊎ ((formula : Cnf) × (next : files.State) × IsFormulaAt files given.formula.now formula next
-    × (IsAssumeCause files formula.vars next (assumed_at given) fault
-    ⊎ ((cube : CubeValue) × (later : files.State)
+-- of a fault of the opening of the streams; or, of streams that were opened, of their check
+abbrev pub IsCauseAt : (files : FilesView) → CommandLine → CommandFault → files.its.State → Type 0
+IsCauseAt files given fault after =
+    IsReadCause files given.formula.now fault after
+    ⊎ ((formula : Cnf) × (next : files.its.State)
+    × IsFormulaAt files given.formula.now formula next
+    × (IsAssumeCause files formula.vars next (assumed_at given) fault after
+    ⊎ ((cube : CubeValue) × (later : files.its.State)
     × AreAssumed (WasReadIn files) formula.vars next (assumed_at given) cube later
-    × (IsOpenCause files.opens files.may_refuse later given.streams fault
-    ⊎ (IsRunCause given.serial (layout_at given formula) fault
-    ⊎ ((readers : List files.Reader) × (last : files.State)
-    × AreOpened files.opens later given.streams readers last
-    × ((other : LayoutFault) → IsFault (layout_at given formula) other → ⊥)
-    × IsCreateCause files.may_refuse_new (created_at given) fault))))))
+    × (IsOpenCause files.its 0 later given.streams fault after
+    ⊎ ((readers : List files.its.Reader) × (last : files.its.State)
+    × AreOpened files.its.opens later given.streams readers last
+    × IsStartCause files.its given.serial (layout_at given formula) last (created_at given) fault
+    after)))))
 
--- Why there is no outcome, by the words and the files.
-abbrev pub IsCause : FilesView → List Text → CommandFault → Type 0
-IsCause files words (faults.Usage text) = HaveFault words
-IsCause files words faults.Memory = Unit {0}
-IsCause files words faults.TwoCheckpoints =
+-- Why there is no outcome, by the words and the files, and the files then. Words with a fault, or the want of memory for them, leave the
+-- files as they were; that there are two checkpoints is told once the formula was read.
+abbrev pub IsCause : (files : FilesView) → List Text → CommandFault → files.its.State → Type 0
+IsCause files words (faults.Usage text) after = HaveFault words × (after ≡ files.first)
+IsCause files words faults.TwoCheckpoints after =
     (folder path : Text) × AskForRounds words folder × AskToSave words path
-IsCause files words fault =
-    (given : CommandLine) × IsCommandLineOf words given × IsCauseAt files given fault
+    × ((given : CommandLine) × (bytes : List ℕ) × IsCommandLineOf words given
+    × WasReadIn files files.first given.formula.now bytes after)
+IsCause files words faults.Memory after =
+    (after ≡ files.first)
+    ⊎ ((given : CommandLine) × IsCommandLineOf words given
+    × IsCauseAt files given faults.Memory after)
+IsCause files words fault after =
+    (given : CommandLine) × IsCommandLineOf words given × IsCauseAt files given fault after
 
 -- What goes out.
 
@@ -458,23 +556,22 @@ abbrev pub SaysOfReport : Bool → Option SaveFault → SinkChange → Type 0
 SaysOfReport = SaysOfRound 1
 
 -- The program ends with a report, and leaves these files.
-pub record EndsWithReport (files : FilesView) (words : List Text) (after : files.State)
+pub record EndsWithReport (files : FilesView) (words : List Text) (after : files.its.State)
     (out err : SinkChange) (status : ℕ) : Type 0 where
   pub reports : List Report
   pub verdict : Verdict
   pub outcome : IsOutcome files words reports verdict
   pub unsaved : Option SaveFault
-  pub checkpoint : LeavesCheckpoint files (checkpoint_at outcome.given) outcome.formula verdict
-      unsaved outcome.last after
+  pub checkpoint : LeavesCheckpoint files words reports verdict outcome unsaved after
   pub printed : SinkTook out (report_text reports verdict)
   pub said : SaysOfReport out.failed unsaved err
   pub status_is : status ≡ report_status out.failed unsaved verdict
 
--- The program ends without one, and says why.
-pub record EndsWithFault (files : FilesView) (words : List Text)
+-- The program ends without one, says why, and leaves these files.
+pub record EndsWithFault (files : FilesView) (words : List Text) (after : files.its.State)
     (out err : SinkChange) (status : ℕ) : Type 0 where
   pub fault : CommandFault
-  pub cause : IsCause files words fault
+  pub cause : IsCause files words fault after
   pub untouched : IsUntouched out
   pub said : SinkTook err (error_text fault)
   pub status_is : status ≡ status_of fault

@@ -4,5 +4,6 @@ pub mod Arguments
 pub mod Saving
 pub mod Paths
 pub mod Rounds
+pub mod Running
 pub mod Standing
 pub mod Watching

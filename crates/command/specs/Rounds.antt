@@ -1,15 +1,11 @@
 -- Runs in rounds: each goes on with what the one before it saved (this project's own).
-use Rattle.std.specs.Prelude.{◌≡◌, ◌==◌, if◌then◌else◌, ◌+◌, ◌++◌, ◌∷◌, ◌⊎◌, ◌<◌, ◌≤◌, ◌^◌, ℕ, Bool, List, [], Ok, Option, None, Some, codes, length, map, IsTrue}
+use Rattle.std.specs.Prelude.{◌≡◌, ◌==◌, if◌then◌else◌, ◌+◌, ◌++◌, ◌∷◌, ◌⊎◌, ◌<◌, ◌≤◌, ◌^◌, ◌↔◌, ℕ, Bool, List, [], Ok, Err, IfOk, IsTrue, Option, None, Some, Result, codes, drop, length, map}
 use Rattle.std.specs.Fmt.{decimal}
+use Rattle.std.specs.Io.KnownBytes.{Appends}
 use Rattle.std.specs.List.{AllByRecursion}
 use Rattle.std.specs.Option.{ForSome}
 use Rattle.lrup_model.specs.Cube.{CubeValue}
 use Rattle.lrup_model.specs.Formula.{Cnf}
-use Rattle.lrup_model.specs.Layout.{IsFault}
-use Rattle.lrup_model.specs.declared.layout.LayoutFault.{LayoutFault}
-use Rattle.lrup_text.specs.declared.device.Sink as Sink
-use Rattle.lrup_text.specs.declared.device.Source as Source
-use Rattle.lrup_text.specs.ReadOut.{SourceView}
 use Rattle.lrup_text.specs.Reads.{Gave}
 use Rattle.runs.specs.Streams.{TermsValue}
 use Rattle.stream_check.specs.declared.report.Ending.TheVariants as endings
@@ -21,72 +17,19 @@ use Rattle.portfolio.specs.declared.outcome.Verdict.{Verdict}
 use Rattle.portfolio.specs.declared.outcome.Verdict.TheVariants.{Unknown, Unsatisfiable}
 use Rattle.checkpoint.specs.Checkpoints.{IsCheckpointOf}
 use Rattle.checkpoint.specs.declared.saving.SaveFault.{SaveFault}
+use Rattle.checkpoint.specs.declared.saving.SaveFault.TheVariants as saves
 use Rattle.command_line.specs.CommandLine.{AskForRounds, IsCommandLineOf}
 use Rattle.command_line.specs.Sizes.{HaveNoSizes, IsSizesText}
 use Rattle.command_line.specs.declared.sizes.Sizes.{Sizes}
 use Rattle.command_line.specs.declared.words.CommandLine.{CommandLine}
-use Rattle.command.specs.Commands.{AreAssumed, AreChecked, AreOpened, EndsWithFault, EndsWithReport, FilesView, HasBrokenOff}
-use Rattle.command.specs.Commands.{IsCreateCause, IsFormulaAt, IsOpenCause, IsRunCause, IsUntouched, LeavesBehind, SaysOfRound, SinkChange}
-use Rattle.command.specs.Commands.{SinkTook, Text, WasRead, WasReadIn, WasSaved, assumed_at, checkpoint_at, readers_view}
-use Rattle.command.specs.Commands.{report_status, rounds_at}
+use Rattle.command.specs.Commands.{AreAssumed, AreChecked, AreOpened, Deeds, EndsWithFault, EndsWithReport, FilesView, HasBrokenOff}
+use Rattle.command.specs.Commands.{IsFormulaAt, IsOpenCause, IsStartCause, IsUntouched, LeavesBehind, SaysOfRound, SinkChange}
+use Rattle.command.specs.Commands.{SinkTook, Text, WasRead, WasReadIn, WasSavedBy, assumed_at, checkpoint_at, report_status, rounds_at}
 use Rattle.command.specs.Faults.{round_error_text, status_of}
 use Rattle.command.specs.Paths.{formula_path, sizes_path, stream_path, stream_paths}
 use Rattle.command.specs.declared.fault.CommandFault.{CommandFault}
 use Rattle.command.specs.declared.fault.CommandFault.TheVariants as faults
-use Rattle.command.specs.declared.files.Files as Files
-
--- What files do, tell and may refuse, whichever they are.
-pub record Deeds : Type 1 where
-  pub State : Type 0
-  pub Reader : Type 0
-  pub Output : Type 0
-  pub opens : State → Text → Reader → State → Type 0
-  pub lacks : State → Text → State → Type 0
-  pub creates : State → Text → Output → State → Type 0
-  pub keeps : State → Output → State → Type 0
-  pub reading : SourceView Reader
-  pub written : Output → Option (List ℕ)
-  pub tells : State → Text → Option (List ℕ)
-  pub refuses : State → Text → Bool
-  pub fails : State → Text → Bool
-  pub refuses_new : State → Text → Bool
-
--- as the types of files, of their readers and of their sinks say it
-abbrev pub deeds : {F R W M : Type 0} → Files.Ghosts F R W M → Source.Ghosts R → Sink.Ghosts W
-    → Deeds
-deeds {F = F} {R = R} {W = W} its input output = record {
-  State = F;
-  Reader = R;
-  Output = W;
-  opens = its.opens;
-  lacks = its.lacks;
-  creates = its.creates;
-  keeps = its.keeps;
-  reading = readers_view input;
-  written = output.written;
-  tells = its.tells;
-  refuses = its.may_refuse;
-  fails = its.may_fail;
-  refuses_new = its.may_refuse_new;
-}
-
--- of files that more is known of
-abbrev pub deeds_of : FilesView → Deeds
-deeds_of files = record {
-  State = files.State;
-  Reader = files.Reader;
-  Output = files.Output;
-  opens = files.opens;
-  lacks = files.lacks;
-  creates = files.creates;
-  keeps = files.keeps;
-  reading = files.reading;
-  written = files.written;
-  tells = files.tells_at;
-  refuses = files.refuses;
-  fails = files.fails;
-  refuses_new = files.refuses_new;
-}
+use Rattle.command.specs.declared.files.OpenFault.TheVariants as open_faults
 
 -- What stays the same in all rounds.
 pub record Plan : Type 0 where
@@ -143,14 +86,34 @@ pub record StreamsOpened (its : Deeds) (before : its.State) (paths : List Text)
 abbrev pub HaveEnded : List Report → Type 0
 HaveEnded reports = AllByRecursion (λ report. report.ending ≡ endings.Ended) reports
 
+-- What became of the carrying of a round's clauses to a sink that was the first and is the last. What was written whole is a text of just the
+-- next formula, each clause of which follows from the round's. They are those that a history of the round leaves live, by which its
+-- streams are judged as reported, but for those that all streams dropped, and no others. Just where the sink failed, a write is
+-- told to have failed.
+pub record CarriesCheckpoint (its : Deeds) (serial : Bool) (formula : Cnf) (terms : TermsValue)
+    (readers : List its.Reader) (reports : List Report) (result : Result Cnf SaveFault)
+    (first last : its.Output) : Type 0 where
+  pub checkpoint : IfOk result (λ next. (bytes : List ℕ)
+      × Appends (its.written first) (its.written last) bytes × IsCheckpointOf formula bytes next)
+  pub exactly : CarriesRun its.reading its.written serial formula terms readers reports result first
+      last
+  pub failed : IsTrue (its.has_failed last) ↔ (result ≡ Err saves.Unwritten)
+
+-- the same, of a round
+abbrev pub CarriesRound : (its : Deeds) → Plan → Round its.State its.Reader
+    → Result Cnf SaveFault → its.Output → its.Output → Type 0
+CarriesRound its plan round =
+    CarriesCheckpoint its plan.serial round.formula (terms_by plan round.formula round.sizes)
+    round.readers round.reports
+
 -- The checkpoint of the round with this number was saved: a text of just this next formula, each clause of which follows from the round's.
 -- They are those that a history of the round leaves live, by which its streams are judged as reported, but for those that all streams
 -- dropped, and no others.
 pub record SavesRound (its : Deeds) (plan : Plan) (number : ℕ)
     (round : Round its.State its.Reader) (next : Cnf) : Type 0 where
   pub bytes : List ℕ
-  pub saved : WasSaved its.creates its.written its.keeps round.opened
-      (formula_path plan.folder (number + 1)) bytes round.after
+  pub saved : WasSavedBy its round.opened (formula_path plan.folder (number + 1)) bytes
+      round.after
   pub carried : IsCheckpointOf round.formula bytes next
   pub exactly : CarriesRun its.reading its.written plan.serial round.formula
       (terms_by plan round.formula round.sizes) round.readers round.reports (Ok next) saved.first
@@ -165,16 +128,13 @@ pub record CarriesOn (its : Deeds) (plan : Plan) (number : ℕ)
   pub saving : SavesRound its plan number round next
 
 -- It doesn't: it has another verdict, its checkpoint wasn't saved, or a stream didn't end. What it left is as of a run with
--- `--checkpoint`; and where that is a checkpoint, it is the round's.
+-- `--checkpoint`.
 pub record IsBarred (its : Deeds) (plan : Plan) (number : ℕ)
     (round : Round its.State its.Reader) : Type 0 where
   pub why : (¬ (round.verdict ≡ Unknown))
       ⊎ (((fault : SaveFault) × (round.unsaved ≡ Some fault)) ⊎ (¬ HaveEnded round.reports))
-  pub checkpoint : LeavesBehind its.creates its.written its.keeps
-      (Some (formula_path plan.folder (number + 1))) round.formula round.verdict round.unsaved
-      round.opened round.after
-  pub kept : round.unsaved ≡ None → ¬ (round.verdict ≡ Unsatisfiable)
-      → (next : Cnf) × SavesRound its plan number round next
+  pub checkpoint : LeavesBehind its (CarriesRound its plan round) round.verdict round.opened
+      (Some (formula_path plan.folder (number + 1))) round.unsaved round.after
 
 -- the sizes of the round after: those before, if there is no file of them; else what was read of the file is a text of them
 abbrev pub AreSized : (its : Deeds) → Text → Sizes → its.State → Sizes → its.State → Type 0
@@ -230,9 +190,9 @@ RoundsEnd its plan number last after =
 
 -- The file at the path was opened, and what it holds is no text of sizes: at most 64 bytes were read of it to its end, and they aren't; or
 -- it begins with 64 bytes, which are more than the longest has.
-pub record HoldsNoSizes (its : Deeds) (before : its.State) (path : Text) : Type 0 where
+pub record HoldsNoSizes (its : Deeds) (before : its.State) (path : Text)
+    (after : its.State) : Type 0 where
   pub reader : its.Reader
-  pub after : its.State
   pub opened : its.opens before path reader after
   pub bytes : List ℕ
   pub few : length bytes ≤ 64
@@ -243,56 +203,72 @@ pub record HoldsNoSizes (its : Deeds) (before : its.State) (path : Text) : Type 
       × ForSome (its.tells before path) (λ all. (rest : List ℕ) × (all ≡ bytes ++ rest)))
 
 -- The file at the path was opened, and its reading failed, after 64 bytes at most.
-pub record BrokeOff (its : Deeds) (before : its.State) (path : Text) : Type 0 where
+pub record BrokeOff (its : Deeds) (before : its.State) (path : Text)
+    (after : its.State) : Type 0 where
   pub reader : its.Reader
-  pub after : its.State
   pub opened : its.opens before path reader after
   pub left : its.reading.left reader ≡ its.tells before path
   pub broken : HasBrokenOff its.reading reader
   pub few : length broken.bytes ≤ 64
 
+-- memory ran out before the file at the path was opened, which may not be there, or at its opening, or after it
+abbrev pub IsOutOfMemoryAt : (its : Deeds) → its.State → Text → its.State → Type 0
+IsOutOfMemoryAt its before path after =
+    (after ≡ before)
+    ⊎ (its.fails before path open_faults.Memory after
+    ⊎ ((reader : its.Reader) × its.opens before path reader after))
+
 -- why the sizes at a path weren't read: the opening of their file failed, or its reading did, or it holds none; or memory ran out
-abbrev pub IsSizesCause : (its : Deeds) → its.State → Text → CommandFault → Type 0
-IsSizesCause its before path faults.SizesUnread =
-    IsTrue (its.fails before path) ⊎ BrokeOff its before path
-IsSizesCause its before path faults.Sizes = HoldsNoSizes its before path
-IsSizesCause its before path faults.Memory = Unit {0}
-IsSizesCause its before path fault = ⊥
+abbrev pub IsSizesCause : (its : Deeds) → its.State → Text → CommandFault → its.State → Type 0
+IsSizesCause its before path faults.SizesUnread after =
+    its.fails before path open_faults.NotOpened after ⊎ BrokeOff its before path after
+IsSizesCause its before path faults.Sizes after = HoldsNoSizes its before path after
+IsSizesCause its before path faults.Memory after = IsOutOfMemoryAt its before path after
+IsSizesCause its before path fault after = ⊥
 
--- why not all streams of a round were opened: as of a run's; and of stream 1 only if it has a file
-abbrev pub IsStreamCause : (its : Deeds) → its.State → Text → ℕ → ℕ → CommandFault → Type 0
-IsStreamCause its before folder number streams fault =
-    IsOpenCause its.opens (its.refuses before) before (stream_paths folder number streams) fault
-    × (fault ≡ faults.NotOpened 1 → IsTrue (its.fails before (stream_path folder number 1)))
+-- why the file of stream 1 at the path wasn't opened: that failed; or memory ran out before it, or at it
+abbrev pub IsFirstCause : (its : Deeds) → its.State → Text → CommandFault → its.State → Type 0
+IsFirstCause its before path (faults.NotOpened stream) after =
+    (stream ≡ 1) × its.fails before path open_faults.NotOpened after
+IsFirstCause its before path faults.Memory after =
+    (after ≡ before) ⊎ its.fails before path open_faults.Memory after
+IsFirstCause its before path fault after = ⊥
 
--- why the streams of a round that were opened weren't checked: there is no layout, or one and a fault of the run, or of the creation of
--- the next round's formula
-abbrev pub IsStartCause : (its : Deeds) → Plan → ℕ → Cnf → Sizes → its.State → CommandFault
+-- why not all streams of a round were opened: the first wasn't; or it was, and as of a run's, from the second on
+abbrev pub IsStreamCause : (its : Deeds) → its.State → Text → ℕ → ℕ → CommandFault → its.State
     → Type 0
-IsStartCause its plan number formula sizes opened fault =
-    IsRunCause plan.serial (terms_by plan formula sizes).layout fault
-    ⊎ (((other : LayoutFault) → IsFault (terms_by plan formula sizes).layout other → ⊥)
-    × IsCreateCause (its.refuses_new opened) (Some (formula_path plan.folder (number + 1))) fault)
+IsStreamCause its before folder number streams fault after =
+    IsFirstCause its before (stream_path folder number 1) fault after
+    ⊎ ((first : its.Reader) × (next : its.State)
+    × its.opens before (stream_path folder number 1) first next
+    × IsOpenCause its 1 next (drop 1 (stream_paths folder number streams)) fault after)
+
+-- why the streams of a round that were opened weren't checked: as of a run's, with a file for the next round's formula
+abbrev pub IsRoundStartCause : (its : Deeds) → Plan → ℕ → Cnf → Sizes → its.State → CommandFault
+    → its.State → Type 0
+IsRoundStartCause its plan number formula sizes opened fault after =
+    IsStartCause its plan.serial (terms_by plan formula sizes).layout opened
+    (Some (formula_path plan.folder (number + 1))) fault after
 
 -- why the round after the one with this number, of this formula, has no report: of its sizes; or, once they were read, of the opening
 -- of its streams; or, of those that were opened, of their check
 abbrev pub IsRoundCause : (its : Deeds) → Plan → ℕ → Sizes → Cnf → its.State → CommandFault
-    → Type 0
-IsRoundCause its plan number old formula before fault =
-    IsSizesCause its before (sizes_path plan.folder (number + 1)) fault
+    → its.State → Type 0
+IsRoundCause its plan number old formula before fault after =
+    IsSizesCause its before (sizes_path plan.folder (number + 1)) fault after
     ⊎ ((sizes : Sizes) × (sized : its.State)
     × AreSized its (sizes_path plan.folder (number + 1)) old before sizes sized
-    × (IsStreamCause its sized plan.folder (number + 1) sizes.streams fault
+    × (IsStreamCause its sized plan.folder (number + 1) sizes.streams fault after
     ⊎ ((readers : List its.Reader) × (opened : its.State)
     × StreamsOpened its sized (stream_paths plan.folder (number + 1) sizes.streams) readers opened
-    × IsStartCause its plan (number + 1) formula sizes opened fault)))
+    × IsRoundStartCause its plan (number + 1) formula sizes opened fault after)))
 
--- why the round after the one with this number, which goes on, has no report
+-- why the round after the one with this number, which goes on, has no report, and the files then
 abbrev pub IsNextCause : (its : Deeds) → Plan → ℕ → Round its.State its.Reader → CommandFault
-    → Type 0
-IsNextCause its plan number last fault =
+    → its.State → Type 0
+IsNextCause its plan number last fault after =
     (next : Cnf) × CarriesOn its plan number last next
-    × IsRoundCause its plan number last.sizes next last.after fault
+    × IsRoundCause its plan number last.sizes next last.after fault after
 
 -- What goes out.
 
@@ -307,60 +283,60 @@ last_text number reports verdict =
 
 -- The formula and the assumed literals were read, and then came these rounds.
 pub record WereRounds (files : FilesView) (given : CommandLine) (folder : Text)
-    (last : Round files.State files.Reader)
-    (before : List (Round files.State files.Reader)) : Type 0 where
+    (last : Round files.its.State files.its.Reader)
+    (before : List (Round files.its.State files.its.Reader)) : Type 0 where
   pub alone : checkpoint_at given ≡ None
   pub formula : Cnf
-  pub next : files.State
+  pub next : files.its.State
   pub is_formula : IsFormulaAt files given.formula.now formula next
   pub cube : CubeValue
-  pub later : files.State
+  pub later : files.its.State
   pub assumed : AreAssumed (WasReadIn files) formula.vars next (assumed_at given) cube later
-  pub told : files.tells_at later ≡ files.tells
-  pub rounds : AreRounds (deeds_of files) (plan_at given cube folder) formula (sizes_of given)
+  pub told : files.its.tells later ≡ files.tells
+  pub rounds : AreRounds files.its (plan_at given cube folder) formula (sizes_of given)
       later given.streams (last ∷ before)
 
 -- The report of the last round.
 pub record ReportsRounds (files : FilesView) (given : CommandLine) (folder : Text)
-    (after : files.State) (out err : SinkChange) (status : ℕ) : Type 0 where
-  pub last : Round files.State files.Reader
-  pub before : List (Round files.State files.Reader)
+    (after : files.its.State) (out err : SinkChange) (status : ℕ) : Type 0 where
+  pub last : Round files.its.State files.its.Reader
+  pub before : List (Round files.its.State files.its.Reader)
   pub were : WereRounds files given folder last before
-  pub over : RoundsEnd (deeds_of files) (plan_at given were.cube folder) (length (last ∷ before))
+  pub over : RoundsEnd files.its (plan_at given were.cube folder) (length (last ∷ before))
       last after
   pub printed : SinkTook out (last_text (length (last ∷ before)) last.reports last.verdict)
   pub said : SaysOfRound (length (last ∷ before)) out.failed last.unsaved err
   pub status_is : status ≡ report_status out.failed last.unsaved last.verdict
 
--- No report, and why the round after the last one has none.
+-- No report, why the round after the last one has none, and the files then.
 pub record FailsInRound (files : FilesView) (given : CommandLine) (folder : Text)
-    (out err : SinkChange) (status : ℕ) : Type 0 where
-  pub last : Round files.State files.Reader
-  pub before : List (Round files.State files.Reader)
+    (after : files.its.State) (out err : SinkChange) (status : ℕ) : Type 0 where
+  pub last : Round files.its.State files.its.Reader
+  pub before : List (Round files.its.State files.its.Reader)
   pub were : WereRounds files given folder last before
   pub fault : CommandFault
-  pub cause : IsNextCause (deeds_of files) (plan_at given were.cube folder)
-      (length (last ∷ before)) last fault
+  pub cause : IsNextCause files.its (plan_at given were.cube folder)
+      (length (last ∷ before)) last fault after
   pub untouched : IsUntouched out
   pub said : SinkTook err (round_error_text (length (last ∷ before) + 1) fault)
   pub status_is : status ≡ status_of fault
 
 -- The words ask for rounds, and there was at least one. The program ends with the report of the last one; or without one, for a cause
 -- that the round after it had.
-pub record EndsInRounds (files : FilesView) (words : List Text) (after : files.State)
+pub record EndsInRounds (files : FilesView) (words : List Text) (after : files.its.State)
     (out err : SinkChange) (status : ℕ) : Type 0 where
   pub given : CommandLine
   pub command_line : IsCommandLineOf words given
   pub folder : Text
   pub asked : rounds_at given ≡ Some folder
   pub ending : ReportsRounds files given folder after out err status
-      ⊎ FailsInRound files given folder out err status
+      ⊎ FailsInRound files given folder after out err status
 
 -- How the program ends: with a report of a single run, where the words ask for no rounds; without one, for a cause of a single run or
 -- of round 1; or in rounds.
-abbrev pub ProgramEnds : (files : FilesView) → List Text → files.State → SinkChange → SinkChange → ℕ
+abbrev pub ProgramEnds : (files : FilesView) → List Text → files.its.State → SinkChange → SinkChange → ℕ
     → Type 0
 ProgramEnds files words after out err status =
     (EndsWithReport files words after out err status
     × ((folder : Text) → ¬ AskForRounds words folder))
-    ⊎ (EndsWithFault files words out err status ⊎ EndsInRounds files words after out err status)
+    ⊎ (EndsWithFault files words after out err status ⊎ EndsInRounds files words after out err status)

@@ -1,43 +1,59 @@
--- A checkpoint's file, from its creation to its end (this project's own).
-use Rattle.std.specs.Prelude.{◌≡◌, List, ℕ, [], Option, None, Some, Result, Ok, Err}
-use Rattle.std.specs.Io.KnownBytes.{Appends}
+-- A checkpoint's file, from its creation to its end: what private functions say of it (this project's own).
+use Rattle.std.specs.Prelude.{◌≡◌, ℕ, List, [], Option, None, Some, Result, Ok}
 use Rattle.std.specs.Option.{ForSome}
 use Rattle.lrup_model.specs.Formula.{Cnf}
 use Rattle.portfolio.specs.declared.outcome.Verdict.{Verdict}
 use Rattle.portfolio.specs.declared.outcome.Verdict.TheVariants.{Unsatisfiable}
-use Rattle.checkpoint.specs.Checkpoints.{IsCheckpoint}
 use Rattle.checkpoint.specs.declared.saving.SaveFault.{SaveFault}
-use Rattle.checkpoint.specs.declared.saving.SaveFault.TheVariants as saves
-use Rattle.command.specs.Commands.{Text}
+use Rattle.command.specs.Commands.{Deeds, IsClosed, IsRefusedNew, Text}
+use Rattle.command.specs.declared.fault.CommandFault.{CommandFault}
+use Rattle.command.specs.declared.fault.CommandFault.TheVariants as faults
+use Rattle.command.specs.declared.files.OpenFault.TheVariants as open_faults
 
 -- with a path a file was created there, with nothing in it; without one there is none
-abbrev pub CreatesCheckpoint : {F W : Type 0} → (F → Text → W → F → Type 0)
-    → (W → Option (List ℕ)) → F → Option Text → Option W → F → Type 0
-CreatesCheckpoint creates written before None None after = after ≡ before
-CreatesCheckpoint creates written before (Some path) (Some output) after =
-    creates before path output after × ForSome (written output) (λ all. all ≡ [])
-CreatesCheckpoint creates written before path output after = ⊥
+abbrev pub CreatesCheckpoint : (its : Deeds) → its.State → Option Text → Option its.Output
+    → its.State → Type 0
+CreatesCheckpoint its before None None after = after ≡ before
+CreatesCheckpoint its before (Some path) (Some output) after =
+    its.creates before path output after × ForSome (its.written output) (λ all. all ≡ [])
+CreatesCheckpoint its before path output after = ⊥
 
--- the file that a checkpoint is written to, if there is one: with 'unsatisfiable' there is nothing to be written
-abbrev pub to_write : {W : Type 0} → Verdict → Option W → Option W
-to_write Unsatisfiable output = None
-to_write verdict output = output
+-- why it wasn't
+abbrev pub IsNotCreated : (its : Deeds) → its.State → Option Text → CommandFault → its.State
+    → Type 0
+IsNotCreated its before path faults.NotCreated after =
+    IsRefusedNew its before path open_faults.NotOpened after
+IsNotCreated its before path faults.Memory after =
+    IsRefusedNew its before path open_faults.Memory after
+IsNotCreated its before path fault after = ⊥
 
--- What a run of a formula, with this verdict, made of the file, if there is one: with 'unsatisfiable' nothing; else there is one to be
--- kept, to which a checkpoint was written, or a fault.
-abbrev pub WritesCheckpoint : {W : Type 0} → (W → Option (List ℕ)) → Cnf → Verdict → Option W
-    → Result (Option W) SaveFault → Type 0
-WritesCheckpoint written formula verdict None saved = saved ≡ Ok None
-WritesCheckpoint written formula Unsatisfiable (Some first) saved = saved ≡ Ok None
-WritesCheckpoint written formula verdict (Some first) (Ok None) = ⊥
-WritesCheckpoint written formula verdict (Some first) (Ok (Some last)) =
-    (bytes : List ℕ) × Appends (written first) (written last) bytes × IsCheckpoint formula bytes
-WritesCheckpoint written formula verdict (Some first) (Err fault) = Unit {0}
+-- the file is discarded, if there is one
+abbrev pub DiscardsIt : (its : Deeds) → its.State → Option its.Output → its.State → Type 0
+DiscardsIt its before None after = after ≡ before
+DiscardsIt its before (Some output) after = its.discards before output after
 
--- what was to be kept was kept, or that failed; else the files stay as they are
-abbrev pub KeepsCheckpoint : {F W : Type 0} → (F → W → F → Type 0) → F → Result (Option W) SaveFault
-    → Option SaveFault → F → Type 0
-KeepsCheckpoint keeps before (Ok None) unsaved after = (unsaved ≡ None) × (after ≡ before)
-KeepsCheckpoint keeps before (Ok (Some last)) None after = keeps before last after
-KeepsCheckpoint keeps before (Ok (Some last)) (Some fault) after = fault ≡ saves.Unwritten
-KeepsCheckpoint keeps before (Err fault) unsaved after = (unsaved ≡ Some fault) × (after ≡ before)
+-- Something was saved to the file, and it was closed: what was saved was kept, or that failed; else the file was discarded.
+pub record SavesAndCloses {A : Type 0} (its : Deeds)
+    (Saves : Result A SaveFault → its.Output → its.Output → Type 0) (before : its.State)
+    (first : its.Output) (unsaved : Option SaveFault) (after : its.State) : Type 0 where
+  pub result : Result A SaveFault
+  pub last : its.Output
+  pub saving : Saves result first last
+  pub closed : IsClosed its result before last unsaved after
+
+-- What became of the file, if there is one, by the verdict: with 'unsatisfiable' it was discarded.
+abbrev pub ClosesCheckpoint : {A : Type 0} → (its : Deeds)
+    → (Result A SaveFault → its.Output → its.Output → Type 0) → Verdict → its.State
+    → Option its.Output → Option SaveFault → its.State → Type 0
+ClosesCheckpoint its Saves verdict before None unsaved after =
+    (unsaved ≡ None) × (after ≡ before)
+ClosesCheckpoint its Saves Unsatisfiable before (Some first) unsaved after =
+    (unsaved ≡ None) × its.discards before first after
+ClosesCheckpoint its Saves verdict before (Some first) unsaved after =
+    SavesAndCloses its Saves before first unsaved after
+
+-- what was saved was this next formula, and it was kept
+abbrev pub KeepsNext : (its : Deeds) → (Result Cnf SaveFault → its.Output → its.Output → Type 0)
+    → its.State → its.Output → its.State → Cnf → Type 0
+KeepsNext its Saves before first after next =
+    (last : its.Output) × Saves (Ok next) first last × its.keeps before last after

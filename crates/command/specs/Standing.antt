@@ -16,10 +16,10 @@ use Rattle.checkpoint.specs.declared.saving.SaveFault.{SaveFault}
 use Rattle.command_line.specs.Sizes.{HaveNoSizes, IsSizesText}
 use Rattle.command_line.specs.declared.sizes.Sizes.{Sizes}
 use Rattle.command_line.specs.declared.words.CommandLine.{CommandLine}
-use Rattle.command.specs.Commands.{AreAssumed, AreOpened, FilesView, HasBrokenOff, IsCause, Text, WasReadIn, assumed_at}
+use Rattle.command.specs.Commands.{AreAssumed, AreOpened, Deeds, FilesView, HasBrokenOff, IsCause, Text, WasReadIn, assumed_at}
 use Rattle.command.specs.Paths.{sizes_path, stream_path}
-use Rattle.command.specs.Rounds.{AreRounds, AreSized, Deeds, CarriesOn, IsBarred, IsNextCause, RoundsEnd, IsRoundCause, IsStartCause, Plan}
-use Rattle.command.specs.Rounds.{Round, WereRounds, deeds_of, plan_at}
+use Rattle.command.specs.Rounds.{AreRounds, AreSized, CarriesOn, IsBarred, IsNextCause, IsRoundCause, IsRoundStartCause, Plan, Round}
+use Rattle.command.specs.Rounds.{RoundsEnd, WereRounds, plan_at}
 use Rattle.command.specs.declared.fault.CommandFault.{CommandFault}
 use Rattle.command.specs.declared.fault.CommandFault.TheVariants as faults
 use Rattle.command.specs.declared.course.Course.{Course}
@@ -76,10 +76,11 @@ IsAlone its plan last before after =
     × AreSized its (sizes_path plan.folder (last.number + 1)) last.sizes before sizes sized
     × its.lacks sized (stream_path plan.folder (last.number + 1) 1) after
 
--- why the next round, of this formula, has no report
-abbrev pub IsUnchecked : (its : Deeds) → Plan → LastRound → Cnf → its.State → CommandFault → Type 0
-IsUnchecked its plan last next before fault =
-    IsRoundCause its plan last.number last.sizes next before fault
+-- why the next round, of this formula, has no report, and the files then
+abbrev pub IsUnchecked : (its : Deeds) → Plan → LastRound → Cnf → its.State → CommandFault
+    → its.State → Type 0
+IsUnchecked its plan last next before fault after =
+    IsRoundCause its plan last.number last.sizes next before fault after
 
 -- The rounds ended with this one, and these are the files then.
 pub record EndsAt (its : Deeds) (plan : Plan) (formula : Cnf) (sizes : Sizes) (first : its.State)
@@ -93,58 +94,50 @@ pub record EndsAt (its : Deeds) (plan : Plan) (formula : Cnf) (sizes : Sizes) (f
   pub unsaved : round.unsaved ≡ last.found.unsaved
   pub over : RoundsEnd its plan (length (round ∷ before)) round after
 
--- after these rounds the next one had no report
+-- After these rounds the next one had no report, and these are the files then.
 pub record FailsAfter (its : Deeds) (plan : Plan) (formula : Cnf) (sizes : Sizes)
-    (first : its.State) (paths : List Text) (failed : RoundFault) : Type 0 where
+    (first : its.State) (paths : List Text) (failed : RoundFault) (after : its.State) : Type 0 where
   pub last : Round its.State its.Reader
   pub before : List (Round its.State its.Reader)
   pub rounds : AreRounds its plan formula sizes first paths (last ∷ before)
   pub number : failed.round ≡ length (last ∷ before) + 1
-  pub cause : IsNextCause its plan (length (last ∷ before)) last failed.fault
+  pub cause : IsNextCause its plan (length (last ∷ before)) last failed.fault after
 
 -- a fault of round 1, whose streams were opened and left these files; or of a round after it
 abbrev pub FailsAt : (its : Deeds) → Plan → Cnf → Sizes → its.State → List Text → its.State
-    → RoundFault → Type 0
-FailsAt its plan formula sizes first paths opened failed =
-    ((failed.round ≡ 1) × IsStartCause its plan 1 formula sizes opened failed.fault)
-    ⊎ FailsAfter its plan formula sizes first paths failed
+    → RoundFault → its.State → Type 0
+FailsAt its plan formula sizes first paths opened failed after =
+    ((failed.round ≡ 1) × IsRoundStartCause its plan 1 formula sizes opened failed.fault after)
+    ⊎ FailsAfter its plan formula sizes first paths failed after
 
 -- what is known of the end of the rounds, by the command line
 pub record IsReported (files : FilesView) (given : CommandLine) (folder : Text) (last : LastRound)
-    (after : files.State) : Type 0 where
-  pub round : Round files.State files.Reader
-  pub before : List (Round files.State files.Reader)
+    (after : files.its.State) : Type 0 where
+  pub round : Round files.its.State files.its.Reader
+  pub before : List (Round files.its.State files.its.Reader)
   pub were : WereRounds files given folder round before
   pub number : last.number ≡ length (round ∷ before)
   pub reports : round.reports ≡ last.found.reports.items
   pub verdict : round.verdict ≡ last.found.verdict
   pub unsaved : round.unsaved ≡ last.found.unsaved
-  pub over : RoundsEnd (deeds_of files) (plan_at given were.cube folder) (length (round ∷ before))
+  pub over : RoundsEnd files.its (plan_at given were.cube folder) (length (round ∷ before))
       round after
 
--- what is known of a fault of the rounds, by the words
+-- what is known of a fault of the rounds, by the words, and of the files then
 pub record FailsLater (files : FilesView) (given : CommandLine) (folder : Text)
-    (failed : RoundFault) : Type 0 where
-  pub last : Round files.State files.Reader
-  pub before : List (Round files.State files.Reader)
+    (failed : RoundFault) (after : files.its.State) : Type 0 where
+  pub last : Round files.its.State files.its.Reader
+  pub before : List (Round files.its.State files.its.Reader)
   pub were : WereRounds files given folder last before
   pub number : failed.round ≡ length (last ∷ before) + 1
-  pub cause : IsNextCause (deeds_of files) (plan_at given were.cube folder)
-      (length (last ∷ before)) last failed.fault
+  pub cause : IsNextCause files.its (plan_at given were.cube folder)
+      (length (last ∷ before)) last failed.fault after
 
-abbrev pub IsRoundsFault : FilesView → List Text → CommandLine → Text → RoundFault → Type 0
-IsRoundsFault files words given folder failed =
-    ((failed.round ≡ 1) × IsCause files words failed.fault) ⊎ FailsLater files given folder failed
-
--- why not all of the streams at these paths were opened, which stand behind stream 1: of the one counted from 2
-abbrev pub IsLaterCause : {F R : Type 0} → (F → Text → R → F → Type 0) → (Text → Bool) → F
-    → List Text → CommandFault → Type 0
-IsLaterCause {F = F} {R = R} opens may_refuse before paths (faults.NotOpened stream) =
-    (place : ℕ) × (path : Text) × (readers : List R) × (after : F) × (stream ≡ place + 2)
-    × (slice_get paths place ≡ Some path) × AreOpened opens before (take place paths) readers after
-    × IsTrue (may_refuse path)
-IsLaterCause opens may_refuse before paths faults.Memory = Unit {0}
-IsLaterCause opens may_refuse before paths fault = ⊥
+abbrev pub IsRoundsFault : (files : FilesView) → List Text → CommandLine → Text → RoundFault
+    → files.its.State → Type 0
+IsRoundsFault files words given folder failed after =
+    ((failed.round ≡ 1) × IsCause files words failed.fault after)
+    ⊎ FailsLater files given folder failed after
 
 -- What was read of a file of sizes, to its end.
 pub record GaveWhole {R : Type 0} (reading : SourceView R) (first : R)
@@ -168,27 +161,12 @@ IsUnsized {R = R} reading first faults.Sizes =
 IsUnsized reading first faults.Memory = Unit {0}
 IsUnsized reading first fault = ⊥
 
--- why nothing was carried on: the formula was refuted, or the saving failed
-abbrev pub IsUncarried : {W : Type 0} → Verdict → Option W → Result (Option W) SaveFault → Type 0
-IsUncarried verdict output saved =
-    (verdict ≡ Unsatisfiable)
-    ⊎ ((output ≡ None) ⊎ ((fault : SaveFault) × (saved ≡ Err fault)))
-
--- The next formula was saved to the file, if one was written to: the bytes that went to it are a text of just this formula, and it has
--- just the clauses that the round carries.
-abbrev pub CarriesTo : {R W : Type 0} → SourceView R → (W → Option (List ℕ)) → Bool → Cnf
-    → TermsValue → List R → List Report → Option W → Result (Option W) SaveFault → Cnf → Type 0
-CarriesTo {W = W} reading written serial formula terms readers reports output saved next =
-    (first last : W) × (output ≡ Some first) × (saved ≡ Ok (Some last))
-    × ((bytes : List ℕ) × Appends (written first) (written last) bytes
-    × IsCheckpointOf formula bytes next)
-    × CarriesRun reading written serial formula terms readers reports (Ok next) first last
-
 -- What a run begins with: the assumed literals were read, and then the streams of the command line were opened.
 pub record HasBegun (files : FilesView) (given : CommandLine) (formula : Cnf) (cube : CubeValue)
-    (next : files.State) (readers : List files.Reader) (last : files.State) : Type 0 where
-  pub later : files.State
+    (next : files.its.State) (readers : List files.its.Reader) (last : files.its.State) : Type 0 where
+  pub later : files.its.State
   pub assumed : AreAssumed (WasReadIn files) formula.vars next (assumed_at given) cube later
-  pub opened : AreOpened files.opens later given.streams readers last
-  pub left : map files.reading.left readers ≡ map files.tells given.streams
-  pub told : files.tells_at later ≡ files.tells
+  pub opened : AreOpened files.its.opens later given.streams readers last
+  pub left : map files.its.reading.left readers
+      ≡ map files.tells given.streams
+  pub told : files.its.tells later ≡ files.tells

@@ -9,11 +9,11 @@ ghost use Rattle.command.specs.Arguments.{EndsWithoutArguments, not_utf8, refusa
 ghost use Rattle.command.specs.Arguments.{words_after_name};
 ghost use Rattle.command.specs.Commands.{NameCheckpoint, NameUnsatisfiable};
 ghost use Rattle.command.specs.Rounds.{ProgramEnds};
-ghost use Rattle.command.specs.Commands.{NameUnsatisfiableUnder, Text, WasSaved};
+ghost use Rattle.command.specs.Commands.{NameUnsatisfiableUnder, Text, WasLeftEmpty, WasSaved};
 ghost use Rattle.command.specs.Commands.{SinkTook, WasRead, change, files_view};
 
 use crate::fault::CommandFault;
-use crate::files::Files;
+use crate::files::Machine;
 use crate::program::{command, say};
 use lrup_text::{Sink, write_all};
 use std::alloc::{AllocError, Global};
@@ -29,7 +29,7 @@ use std::time::Clock;
 pub fn command_with_arguments<
     T: Threads + Wait + Sync,
     C: Clock + Sync,
-    F: Files,
+    F: Machine,
     O: Sink,
     E: Sink,
 >(
@@ -54,7 +54,7 @@ pub fn command_with_arguments<
         → IsOkAnd arguments (λ given.
         NameUnsatisfiableUnder _ read files.old (words_after_name given)) }
     // A report of what the words and the files come to, or none and the cause; what goes out; and the status.
-    ensures ends { let view = files_view F.Files F.Input.Source F.Output.Sink files.old in
+    ensures ends { let view = files_view F.Files F.Machine.own F.Input.Source F.Output.Sink files.old in
         let output = change (O.written out.old) (O.written out.new) (O.has_failed out.new) in
         let errors = change (E.written err.old) (E.written err.new) (E.has_failed err.new) in
         IfOk arguments (λ given.
@@ -65,7 +65,12 @@ pub fn command_with_arguments<
         let save = WasSaved F.creates F.Output.Sink.written F.keeps in
         IfOk arguments (λ given. (path : Text) → AskToSave (words_after_name given) path
         → (exit_status result ≡ 3) ⊎ (exit_status result ≡ 8)
-        → NameCheckpoint read save files.old (words_after_name given) path files.new) }
+        → NameCheckpoint F.opens read save files.old (words_after_name given) path files.new) }
+    // With status 0, where the words ask for a checkpoint, none was written: the last that was done to the files was that one was
+    // created there, and discarded before anything went to it.
+    ensures none_saved { IfOk arguments (λ given. (path : Text)
+        → AskToSave (words_after_name given) path → exit_status result ≡ 0
+        → WasLeftEmpty F.creates F.Output.Sink.written F.discards path files.new) }
     // No arguments, and the cause.
     ensures refused { IfErr arguments (λ error. EndsWithoutArguments (error_kind error)
         (change (O.written out.old) (O.written out.new) (O.has_failed out.new))
@@ -87,7 +92,7 @@ pub fn command_with_arguments<
 }
 
 /// Runs `command` with the words of the arguments after the first.
-fn with_words<T: Threads + Wait + Sync, C: Clock + Sync, F: Files, O: Sink, E: Sink>(
+fn with_words<T: Threads + Wait + Sync, C: Clock + Sync, F: Machine, O: Sink, E: Sink>(
     threads: &T,
     clock: &C,
     alloc: Global,
@@ -102,14 +107,16 @@ fn with_words<T: Threads + Wait + Sync, C: Clock + Sync, F: Files, O: Sink, E: S
         result ≡ 0 → NameUnsatisfiable _ read files.old (words_after_name arguments) }
     ensures sound_under { let read = WasRead F.opens F.Input.Source.reads (F.tells files.old) in
         result ≡ 8 → NameUnsatisfiableUnder _ read files.old (words_after_name arguments) }
-    ensures ends { let view = files_view F.Files F.Input.Source F.Output.Sink files.old in
+    ensures ends { let view = files_view F.Files F.Machine.own F.Input.Source F.Output.Sink files.old in
         let output = change (O.written out.old) (O.written out.new) (O.has_failed out.new) in
         let errors = change (E.written err.old) (E.written err.new) (E.has_failed err.new) in
         ProgramEnds view (words_after_name arguments) files.new output errors result }
     ensures saved { let read = WasRead F.opens F.Input.Source.reads (F.tells files.old) in
         let save = WasSaved F.creates F.Output.Sink.written F.keeps in
         (path : Text) → AskToSave (words_after_name arguments) path → (result ≡ 3) ⊎ (result ≡ 8)
-        → NameCheckpoint read save files.old (words_after_name arguments) path files.new }
+        → NameCheckpoint F.opens read save files.old (words_after_name arguments) path files.new }
+    ensures none_saved { (path : Text) → AskToSave (words_after_name arguments) path → result ≡ 0
+        → WasLeftEmpty F.creates F.Output.Sink.written F.discards path files.new }
     ensures usage { HaveFault (words_after_name arguments) → (result ≡ 2) ⊎ (result ≡ 6) }
     ensures unwritten { IsTrue (O.has_failed out.new) ↔ (result ≡ 7) }
 {

@@ -9,31 +9,26 @@ ghost use Rattle.dimacs.specs.FormulaText.{IsFormulaText};
 ghost use Rattle.lrup_model.specs.Cube.{CubeValue, IsUnsatisfiableUnder};
 ghost use Rattle.lrup_model.specs.Entailment.{IsUnsatisfiable};
 ghost use Rattle.lrup_model.specs.Formula.{Cnf};
-ghost use Rattle.lrup_model.specs.Layout.{IsFault};
-ghost use Rattle.lrup_model.specs.declared.layout.LayoutFault.{LayoutFault};
 ghost use Rattle.lrup_text.specs.Reads.{GaveAll};
-ghost use Rattle.command.specs.Commands.{AreAssumed, AreChecked, AreOpened, IsAssumeCause, IsCause, IsFailedRead};
-ghost use Rattle.command.specs.Commands.{IsFileCause, IsOpenCause, IsOutcome, IsRunCause, Text, WasRead, WasReadIn};
-ghost use Rattle.command.specs.Commands.{IsCreateCause, LeavesCheckpoint, assumed_at, checkpoint_at, files_view, from_first};
-ghost use Rattle.command.specs.Commands.{path_of, readers_view, terms_on};
-ghost use Rattle.command.specs.Commands.{rounds_at};
+ghost use Rattle.command.specs.Commands.{AreAssumed, AreOpened, IsAssumeCause, IsCause, IsFailedRead, IsFileCause, IsOpenCause, HasNoFault};
+ghost use Rattle.command.specs.Commands.{IsOutcome, LeavesCheckpoint, Text, WasRead, WasReadIn, assumed_at, deeds, files_view};
+ghost use Rattle.command.specs.Commands.{from_first, path_of, readers_view, rounds_at, terms_on};
+ghost use Rattle.command.specs.Running.{IsLayoutCause};
 ghost use Rattle.command.specs.Standing.{HasBegun};
-ghost use Rattle.command.specs.Saving.{CreatesCheckpoint, KeepsCheckpoint, WritesCheckpoint, to_write};
 ghost use Rattle.command.specs.Faults.{of_cube_file};
 ghost use Rattle.stream_check.specs.Setting.{max_tries};
 
+use crate::closing::{close_checkpoint, create_checkpoint, discard_it};
 use crate::fault::CommandFault;
-use crate::files::{Files, OpenFault};
+use crate::files::{Machine, OpenFault};
+use crate::running::{EndedRun, Setup, run_streams};
 use checkpoint::SaveFault;
 use command_line::{CommandLine, read_words};
 use dimacs::DimacsFault;
 use lrup_model::{Cube, Formula};
-use lrup_text::{PIECE, Source, WriteFault, read_cube};
-use portfolio::{
-    Options, Outcome, Pause, SerialOutcome, TurnWatch, Verdict, Watch, run, run_serial, save_live,
-    save_plain,
-};
-use std::alloc::{AllocError, Global};
+use lrup_text::{PIECE, Source, read_cube};
+use portfolio::{Options, Verdict};
+use std::alloc::Global;
 use std::sync::Wait;
 use std::thread::Threads;
 use std::time::Clock;
@@ -60,21 +55,19 @@ pub struct Asked<'a> {
 }
 
 /// Reads the words, and the file of the formula that they ask for. It blocks while the file does.
-pub fn read_asked<'a, W: Wait, F: Files>(
+pub fn read_asked<'a, W: Wait, F: Machine>(
     wait: &W,
     alloc: Global,
     words: &'a [&'a str],
     files: &mut F,
 ) -> Result<Asked<'a>, CommandFault>
     ensures line { IfOk result (λ asked. IsCommandLineOf (texts words.now) asked.line) }
-    ensures bytes { let view = files_view F.Files F.Input.Source F.Output.Sink files.old in
+    ensures bytes { let view = files_view F.Files F.Machine.own F.Input.Source F.Output.Sink files.old in
         IfOk result (λ asked. WasReadIn view files.old
         asked.line.formula.now asked.formula.items files.new) }
-    ensures cause { let view = files_view F.Files F.Input.Source F.Output.Sink files.old in
-        IfErr result (IsCause view (texts words.now)) }
+    ensures cause { let view = files_view F.Files F.Machine.own F.Input.Source F.Output.Sink files.old in
+        IfErr result (λ fault. IsCause view (texts words.now) fault files.new) }
     ensures stays { F.tells files.new ≡ F.tells files.old }
-    ensures stays_refused { F.may_refuse files.new ≡ F.may_refuse files.old }
-    ensures stays_refused_new { F.may_refuse_new files.new ≡ F.may_refuse_new files.old }
 {
     let line = read_words(alloc, words)?;
     let formula = read_file(wait, alloc, files, line.formula)?;
@@ -83,7 +76,7 @@ pub fn read_asked<'a, W: Wait, F: Files>(
 
 /// Parses the formula, reads the assumed literals, opens the streams, finds their layout, creates the checkpoint's file if there is to
 /// be one, checks the streams, and saves the checkpoint unless one of them refuted the formula. It blocks while a file does.
-pub fn check_asked<T: Threads + Wait + Sync, C: Clock + Sync, F: Files>(
+pub fn check_asked<T: Threads + Wait + Sync, C: Clock + Sync, F: Machine>(
     threads: &T,
     clock: &C,
     alloc: Global,
@@ -93,12 +86,12 @@ pub fn check_asked<T: Threads + Wait + Sync, C: Clock + Sync, F: Files>(
     requires tries { asked.line.tries ≤ max_tries }
     requires once { rounds_at asked.line ≡ None }
     ensures outcome { (words : List Text) (first : F) →
-        let view = from_first (files_view F.Files F.Input.Source F.Output.Sink files.old) first in
+        let view = from_first (files_view F.Files F.Machine.own F.Input.Source F.Output.Sink files.old) first in
         IsCommandLineOf words asked.entry.line
         → WasReadIn view first asked.entry.line.formula.now asked.entry.formula.items files.old
         → IfOk result (λ found. (outcome : IsOutcome view words found.reports.items found.verdict)
-        × LeavesCheckpoint view (checkpoint_at outcome.given) outcome.formula found.verdict
-        found.unsaved outcome.last files.new) }
+        × LeavesCheckpoint view words found.reports.items found.verdict outcome found.unsaved
+        files.new) }
     ensures sound { IfOk result (λ found. found.verdict ≡ Verdict.Unsatisfiable
         → (f : Cnf) × IsFormulaText asked.entry.formula.items f × IsUnsatisfiable f) }
     ensures sound_under { let read = WasRead F.opens F.Input.Source.reads (F.tells files.old) in
@@ -108,10 +101,10 @@ pub fn check_asked<T: Threads + Wait + Sync, C: Clock + Sync, F: Files>(
         × AreAssumed read f.vars files.old (assumed_at asked.entry.line) cube after
         × IsUnsatisfiableUnder f cube) }
     ensures cause { (words : List Text) (first : F) →
-        let view = from_first (files_view F.Files F.Input.Source F.Output.Sink files.old) first in
+        let view = from_first (files_view F.Files F.Machine.own F.Input.Source F.Output.Sink files.old) first in
         IsCommandLineOf words asked.entry.line
         → WasReadIn view first asked.entry.line.formula.now asked.entry.formula.items files.old
-        → IfErr result (IsCause view words) }
+        → IfErr result (λ fault. IsCause view words fault files.new) }
 {
     let Asked {
         line,
@@ -133,13 +126,19 @@ pub fn check_asked<T: Threads + Wait + Sync, C: Clock + Sync, F: Files>(
     find_layout(&setup, readers.len())?;
     let output = create_checkpoint(files, line.checkpoint)?;
     let watched = line.watch.then_some(&*files);
-    let checked = check_streams(threads, clock, alloc, &setup, watched, readers, output)?;
-    let CheckedRun {
+    let run = match run_streams(threads, clock, alloc, &setup, watched, readers) {
+        Ok(run) => run,
+        Err(fault) => {
+            discard_it(files, output);
+            return Err(fault);
+        }
+    };
+    let EndedRun {
         reports,
         verdict,
-        saved,
-    } = checked;
-    let unsaved = keep_checkpoint(files, saved);
+        left,
+    } = run;
+    let unsaved = close_checkpoint(alloc, files, verdict, left, output);
     Ok(RunResult {
         reports,
         verdict,
@@ -157,7 +156,7 @@ pub(crate) struct Beginning<R: Drop> {
 }
 
 /// Parses the formula, reads the assumed literals, and opens the streams of the command line. It blocks while a file does.
-pub(crate) fn begin<W: Wait, F: Files>(
+pub(crate) fn begin<W: Wait, F: Machine>(
     wait: &W,
     alloc: Global,
     line: &CommandLine<'_>,
@@ -165,17 +164,16 @@ pub(crate) fn begin<W: Wait, F: Files>(
     files: &mut F,
 ) -> Result<Beginning<F::Input>, CommandFault>
     ensures formula { IfOk result (λ begun. IsFormulaText bytes.items begun.formula) }
-    ensures begun { let view = files_view F.Files F.Input.Source F.Output.Sink files.old in
+    ensures begun { let view = files_view F.Files F.Machine.own F.Input.Source F.Output.Sink files.old in
         IfOk result (λ begun. HasBegun view line.now begun.formula begun.cube files.old
         begun.readers.items files.new) }
     ensures running { IfOk result (λ begun.
         AllByRecursion (λ r. F.Input.Source.has_failed r ≡ false) begun.readers.items) }
-    ensures stays_refused_new { F.may_refuse_new files.new ≡ F.may_refuse_new files.old }
     ensures cause { (words : List Text) (first : F) →
-        let view = from_first (files_view F.Files F.Input.Source F.Output.Sink files.old) first in
+        let view = from_first (files_view F.Files F.Machine.own F.Input.Source F.Output.Sink files.old) first in
         IsCommandLineOf words line.now
         → WasReadIn view first line.now.formula.now bytes.items files.old
-        → IfErr result (IsCause view words) }
+        → IfErr result (λ fault. IsCause view words fault files.new) }
 {
     let formula = parse_text(alloc, bytes)?;
     let cube = read_assumed(wait, alloc, files, line.assume, &formula)?;
@@ -197,21 +195,20 @@ fn parse_text(alloc: Global, bytes: Vec<u8>) -> Result<Formula, DimacsFault>
 }
 
 /// Opens, reads and parses the file of the assumed literals, over the formula's variables. Without a path there are none.
-fn read_assumed<W: Wait, F: Files>(
+fn read_assumed<W: Wait, F: Machine>(
     wait: &W,
     alloc: Global,
     files: &mut F,
     path: Option<&str>,
     formula: &Formula,
 ) -> Result<Cube, CommandFault>
-    ensures cube { let view = files_view F.Files F.Input.Source F.Output.Sink files.old in
+    ensures cube { let view = files_view F.Files F.Machine.own F.Input.Source F.Output.Sink files.old in
         IfOk result (λ cube. AreAssumed (WasReadIn view) formula.now.vars files.old
         (path_of path.entry) cube files.new) }
-    ensures cause { let view = files_view F.Files F.Input.Source F.Output.Sink files.old in
-        IfErr result (IsAssumeCause view formula.now.vars files.old (path_of path.entry)) }
+    ensures cause { let view = files_view F.Files F.Machine.own F.Input.Source F.Output.Sink files.old in
+        IfErr result (λ fault. IsAssumeCause view formula.now.vars files.old
+        (path_of path.entry) fault files.new) }
     ensures stays { F.tells files.new ≡ F.tells files.old }
-    ensures stays_refused { F.may_refuse files.new ≡ F.may_refuse files.old }
-    ensures stays_refused_new { F.may_refuse_new files.new ≡ F.may_refuse_new files.old }
 {
     match path {
         None => Ok(Cube::empty(alloc)),
@@ -220,21 +217,20 @@ fn read_assumed<W: Wait, F: Files>(
 }
 
 /// Opens, reads and parses a cube's file.
-fn read_cube_at<W: Wait, F: Files>(
+fn read_cube_at<W: Wait, F: Machine>(
     wait: &W,
     alloc: Global,
     files: &mut F,
     path: &str,
     formula: &Formula,
 ) -> Result<Cube, CommandFault>
-    ensures cube { let view = files_view F.Files F.Input.Source F.Output.Sink files.old in
+    ensures cube { let view = files_view F.Files F.Machine.own F.Input.Source F.Output.Sink files.old in
         IfOk result (λ cube. AreAssumed (WasReadIn view) formula.now.vars files.old
         (Some path.now) cube files.new) }
-    ensures cause { let view = files_view F.Files F.Input.Source F.Output.Sink files.old in
-        IfErr result (IsAssumeCause view formula.now.vars files.old (Some path.now)) }
+    ensures cause { let view = files_view F.Files F.Machine.own F.Input.Source F.Output.Sink files.old in
+        IfErr result (λ fault. IsAssumeCause view formula.now.vars files.old (Some path.now) fault
+        files.new) }
     ensures stays { F.tells files.new ≡ F.tells files.old }
-    ensures stays_refused { F.may_refuse files.new ≡ F.may_refuse files.old }
-    ensures stays_refused_new { F.may_refuse_new files.new ≡ F.may_refuse_new files.old }
 {
     match read_file(wait, alloc, files, path) {
         Ok(bytes) => Ok(read_cube(alloc, &bytes, formula.vars())?),
@@ -253,20 +249,18 @@ fn of_cube_file(fault: CommandFault) -> CommandFault
 }
 
 /// Opens a file and reads it to its end.
-fn read_file<W: Wait, F: Files>(
+fn read_file<W: Wait, F: Machine>(
     wait: &W,
     alloc: Global,
     files: &mut F,
     path: &str,
 ) -> Result<Vec<u8>, CommandFault>
-    ensures bytes { let view = files_view F.Files F.Input.Source F.Output.Sink files.old in
+    ensures bytes { let view = files_view F.Files F.Machine.own F.Input.Source F.Output.Sink files.old in
         IfOk result (λ bytes.
         WasReadIn view files.old path.now bytes.items files.new) }
-    ensures cause { let view = files_view F.Files F.Input.Source F.Output.Sink files.old in
-        IfErr result (IsFileCause view files.old path.now) }
+    ensures cause { let view = files_view F.Files F.Machine.own F.Input.Source F.Output.Sink files.old in
+        IfErr result (λ fault. IsFileCause view files.old path.now fault files.new) }
     ensures stays { F.tells files.new ≡ F.tells files.old }
-    ensures stays_refused { F.may_refuse files.new ≡ F.may_refuse files.old }
-    ensures stays_refused_new { F.may_refuse_new files.new ≡ F.may_refuse_new files.old }
 {
     let mut source = files.open(path)?;
     read_all(wait, alloc, &mut source, PIECE)
@@ -300,7 +294,7 @@ fn read_all<W: Wait, S: Source>(
 }
 
 /// Opens the files of the streams, in order.
-pub(crate) fn open_streams<F: Files>(
+pub(crate) fn open_streams<F: Machine>(
     alloc: Global,
     files: &mut F,
     paths: &[&str],
@@ -311,9 +305,9 @@ pub(crate) fn open_streams<F: Files>(
         AreOpened F.opens files.old (texts paths.now) readers.items files.new) }
     ensures running { IfOk result (λ readers.
         AllByRecursion (λ r. F.Input.Source.has_failed r ≡ false) readers.items) }
-    ensures cause { IfErr result
-        (IsOpenCause F.opens (F.may_refuse files.old) files.old (texts paths.now)) }
-    ensures stays_refused_new { F.may_refuse_new files.new ≡ F.may_refuse_new files.old }
+    ensures cause { let its = deeds F.Files F.Machine.own F.Input.Source F.Output.Sink in
+        IfErr result (λ fault.
+        IsOpenCause its 0 files.old (texts paths.now) fault files.new) }
 {
     let mut readers = Vec::with_capacity(alloc, paths.len())?;
     for path in paths {
@@ -331,253 +325,12 @@ pub(crate) fn open_streams<F: Files>(
 /// Refuses streams that have no layout, before a file is created that would be left empty.
 pub(crate) fn find_layout(setup: &Setup<'_>, streams: usize) -> Result<(), CommandFault>
     ensures found { let terms = terms_on setup.now streams in
-        IfOk result (λ _. (fault : LayoutFault) → IsFault terms.layout fault → ⊥) }
+        IfOk result (λ _. HasNoFault terms.layout) }
     ensures cause { let terms = terms_on setup.now streams in
-        IfErr result (IsRunCause setup.now.serial terms.layout) }
+        IfErr result (IsLayoutCause terms.layout) }
 {
     match setup.options.check_layout(setup.formula, streams) {
         Ok(()) => Ok(()),
         Err(fault) => Err(CommandFault::Layout(fault)),
-    }
-}
-
-/// Creates the checkpoint's file, if there is to be one.
-pub(crate) fn create_checkpoint<F: Files>(
-    files: &mut F,
-    path: Option<&str>,
-) -> Result<Option<F::Output>, CommandFault>
-    ensures created { IfOk result (λ output. CreatesCheckpoint F.creates F.Output.Sink.written
-        files.old (path_of path.entry) output files.new) }
-    ensures running { IfOk result (λ output.
-        ForSome output (λ sink. F.Output.Sink.has_failed sink ≡ false)) }
-    ensures cause { IfErr result (IsCreateCause (F.may_refuse_new files.old) (path_of path.entry)) }
-{
-    let Some(path) = path else {
-        return Ok(None);
-    };
-    match files.create(path) {
-        Ok(output) => Ok(Some(output)),
-        Err(OpenFault::NotOpened) => Err(CommandFault::NotCreated),
-        Err(OpenFault::Memory) => Err(CommandFault::Memory),
-    }
-}
-
-/// Keeps the checkpoint's file, where a checkpoint was written to it, and returns why the saving failed, if it did.
-pub(crate) fn keep_checkpoint<F: Files>(
-    files: &mut F,
-    saved: Result<Option<F::Output>, SaveFault>,
-) -> Option<SaveFault>
-    ensures { KeepsCheckpoint F.keeps files.old saved result files.new }
-{
-    match saved {
-        Ok(None) => None,
-        Ok(Some(output)) => match files.keep(output) {
-            Ok(()) => None,
-            Err(WriteFault) => Some(SaveFault::Unwritten),
-        },
-        Err(fault) => Some(fault),
-    }
-}
-
-/// The terms by which streams are checked, and whether by turns on one thread.
-#[derive(Clone, Copy)]
-pub(crate) struct Setup<'a> {
-    pub(crate) formula: &'a Formula,
-    pub(crate) cube: &'a Cube,
-    pub(crate) options: Options,
-    pub(crate) serial: bool,
-}
-
-/// What the checking of the streams found, and what it made of the checkpoint's file: one to be kept, where a checkpoint was written
-/// to it.
-#[derive(Drop)]
-struct CheckedRun<W: Drop> {
-    reports: Vec<Report>,
-    verdict: Verdict,
-    saved: Result<Option<W>, SaveFault>,
-}
-
-/// Checks the streams, by turns on this thread or each in two threads of its own, and writes a checkpoint to its file, if there is
-/// one. Where they are watched, the watchers are of these files.
-fn check_streams<T: Threads + Wait + Sync, C: Clock + Sync, F: Files>(
-    threads: &T,
-    clock: &C,
-    alloc: Global,
-    setup: &Setup<'_>,
-    watched: Option<&F>,
-    readers: Vec<F::Input>,
-    output: Option<F::Output>,
-) -> Result<CheckedRun<F::Output>, CommandFault>
-    requires running { AllByRecursion (λ r. F.Input.Source.has_failed r ≡ false) readers.items }
-    requires created { ForSome output (λ sink. F.Output.Sink.has_failed sink ≡ false) }
-    ensures checked { let terms = terms_on setup.now (length readers.items) in
-        IfOk result (λ found. AreChecked (readers_view F.Input.Source) setup.now.serial
-        setup.now.formula.now terms readers.items found.reports.items found.verdict) }
-    ensures written { IfOk result (λ found. WritesCheckpoint F.Output.Sink.written
-        setup.now.formula.now found.verdict output found.saved) }
-    ensures cause { let terms = terms_on setup.now (length readers.items) in
-        IfErr result (IsRunCause setup.now.serial terms.layout) }
-{
-    if setup.serial {
-        check_serially(threads, clock, alloc, setup, watched, readers, output)
-    } else {
-        check_in_threads(threads, clock, alloc, setup, watched, readers, output)
-    }
-}
-
-/// Checks the streams on this thread, by turns.
-fn check_serially<W: Wait, C: Clock + Sync, F: Files>(
-    wait: &W,
-    clock: &C,
-    alloc: Global,
-    setup: &Setup<'_>,
-    watched: Option<&F>,
-    readers: Vec<F::Input>,
-    output: Option<F::Output>,
-) -> Result<CheckedRun<F::Output>, CommandFault>
-    requires running { AllByRecursion (λ r. F.Input.Source.has_failed r ≡ false) readers.items }
-    requires created { ForSome output (λ sink. F.Output.Sink.has_failed sink ≡ false) }
-    ensures checked { let terms = terms_on setup.now (length readers.items) in
-        IfOk result (λ found. AreChecked (readers_view F.Input.Source) true
-        setup.now.formula.now terms readers.items found.reports.items found.verdict) }
-    ensures written { IfOk result (λ found. WritesCheckpoint F.Output.Sink.written
-        setup.now.formula.now found.verdict output found.saved) }
-    ensures cause { let terms = terms_on setup.now (length readers.items) in
-        IfErr result (IsRunCause true terms.layout) }
-{
-    let gates = turn_gates(alloc, clock, watched, readers.len())?;
-    let outcome = run_serial(
-        wait,
-        alloc,
-        setup.formula,
-        setup.cube,
-        setup.options,
-        readers,
-        gates,
-    )?;
-    let SerialOutcome {
-        reports,
-        verdict,
-        mut map,
-        readers: _,
-        dropped,
-    } = outcome;
-    let saved = match to_write(verdict, output) {
-        None => Ok(None),
-        Some(mut sink) => match save_plain(alloc, &mut map, &dropped, &mut sink) {
-            Ok(()) => Ok(Some(sink)),
-            Err(fault) => Err(fault),
-        },
-    };
-    Ok(CheckedRun {
-        reports,
-        verdict,
-        saved,
-    })
-}
-
-/// Checks the streams, each in two threads of its own.
-fn check_in_threads<T: Threads + Wait + Sync, C: Clock + Sync, F: Files>(
-    threads: &T,
-    clock: &C,
-    alloc: Global,
-    setup: &Setup<'_>,
-    watched: Option<&F>,
-    readers: Vec<F::Input>,
-    output: Option<F::Output>,
-) -> Result<CheckedRun<F::Output>, CommandFault>
-    requires running { AllByRecursion (λ r. F.Input.Source.has_failed r ≡ false) readers.items }
-    requires created { ForSome output (λ sink. F.Output.Sink.has_failed sink ≡ false) }
-    ensures checked { let terms = terms_on setup.now (length readers.items) in
-        IfOk result (λ found. AreChecked (readers_view F.Input.Source) false
-        setup.now.formula.now terms readers.items found.reports.items found.verdict) }
-    ensures written { IfOk result (λ found. WritesCheckpoint F.Output.Sink.written
-        setup.now.formula.now found.verdict output found.saved) }
-    ensures cause { let terms = terms_on setup.now (length readers.items) in
-        IfErr result (IsRunCause false terms.layout) }
-{
-    let gates = thread_gates(alloc, clock, watched, readers.len())?;
-    let outcome = run(
-        threads,
-        alloc,
-        setup.formula,
-        setup.cube,
-        setup.options,
-        readers,
-        gates,
-    )?;
-    let Outcome {
-        reports,
-        verdict,
-        passes,
-        store,
-        layout,
-        readers: _,
-        dropped,
-    } = outcome;
-    let saved = match to_write(verdict, output) {
-        None => Ok(None),
-        Some(mut sink) => {
-            match save_live(alloc, &store, &layout, passes, &dropped, &mut sink) {
-                Ok(()) => Ok(Some(sink)),
-                Err(fault) => Err(fault),
-            }
-        }
-    };
-    Ok(CheckedRun {
-        reports,
-        verdict,
-        saved,
-    })
-}
-
-/// The checkpoint's file, where there is one and a checkpoint is to be written to it.
-pub(crate) fn to_write<W: Drop>(verdict: Verdict, output: Option<W>) -> Option<W>
-    ensures { result ≡ to_write verdict output }
-{
-    match verdict {
-        Verdict::Unsatisfiable => None,
-        Verdict::UnsatisfiableUnder | Verdict::Unknown => output,
-    }
-}
-
-/// A gate for each of `count` streams that are checked in threads. Where they are watched, each reports on a watcher of its own.
-pub(crate) fn thread_gates<'a, C: Clock + Sync, F: Files>(
-    alloc: Global,
-    clock: &'a C,
-    watched: Option<&F>,
-    count: usize,
-) -> Result<Vec<Watch<Pause<&'a C>, &'a C, F::Watcher>>, AllocError>
-    ensures { IfOk result (λ gates. vec_len gates ≡ count) }
-{
-    let mut gates = Vec::with_capacity(alloc, count)?;
-    for _gate in 0..count {
-        let pause = Pause::new(clock);
-        gates.push_reserved(Watch::new(pause, clock, watcher_of(watched)));
-    }
-    Ok(gates)
-}
-
-/// Such gates for streams that are checked by turns.
-pub(crate) fn turn_gates<'a, C: Clock + Sync, F: Files>(
-    alloc: Global,
-    clock: &'a C,
-    watched: Option<&F>,
-    count: usize,
-) -> Result<Vec<TurnWatch<&'a C, F::Watcher>>, AllocError>
-    ensures { IfOk result (λ gates. vec_len gates ≡ count) }
-{
-    let mut gates = Vec::with_capacity(alloc, count)?;
-    for _gate in 0..count {
-        gates.push_reserved(TurnWatch::new(clock, watcher_of(watched)));
-    }
-    Ok(gates)
-}
-
-/// A watcher of these files, if there are any.
-fn watcher_of<F: Files>(watched: Option<&F>) -> Option<F::Watcher> {
-    match watched {
-        None => None,
-        Some(files) => Some(files.watcher()),
     }
 }

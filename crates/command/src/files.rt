@@ -1,5 +1,5 @@
 //! Where a formula, the assumed literals and the streams come from, and where a checkpoint goes to.
-ghost use Rattle.std.specs.Prelude.{◌≡◌, ℕ, Bool, List, [], Option, None, Err, IfOk, IfSome, IsTrue, Ok, false, true};
+ghost use Rattle.std.specs.Prelude.{◌≡◌, ℕ, List, [], Option, None, IfErr, IfOk, IfSome, Ok, false};
 ghost use Rattle.std.specs.Option.{ForSome};
 
 use lrup_text::{Sink, Source, WriteFault};
@@ -32,41 +32,20 @@ impl From<io::Error> for OpenFault {
     }
 }
 
-/// The files that paths name, and the sinks on which progress is reported.
+/// The files that paths name.
 pub trait Files {
     /// A file that is open.
     type Input: Source + Send + Drop;
-
-    /// A file that was created.
-    type Output: Sink + Drop;
-
-    /// Where the thread of a stream reports its progress.
-    type Watcher: Sink + Send + Drop;
 
     /// All bytes of the file at a path, where the device tells them: a file of the machine doesn't. They stay, however often it is
     /// opened.
     ghost tells: { Self → List ℕ → Option (List ℕ) };
 
-    /// Whether the opening of a path may fail for another cause than memory.
-    ghost may_refuse: { Self → List ℕ → Bool };
-
-    /// Whether the opening of a path that has a file may fail for another cause than memory.
-    ghost may_fail: { Self → List ℕ → Bool } = { λ _ _. true };
-
-    /// Whether the creation of a file at a path may fail for another cause than memory.
-    ghost may_refuse_new: { Self → List ℕ → Bool };
-
     /// What an opening does: the files before it, the path, the file that is open then, and the files after it.
     ghost opens: { Self → List ℕ → Self.Input → Self → Type 0 } = { λ _ _ _ _. Unit {0} };
 
-    /// What is seen where a path has no file: the files before, the path, and the files after.
-    ghost lacks: { Self → List ℕ → Self → Type 0 } = { λ _ _ _. Unit {0} };
-
-    /// What the creation of a file does: the files before it, the path, the new file, and the files after it.
-    ghost creates: { Self → List ℕ → Self.Output → Self → Type 0 } = { λ _ _ _ _. Unit {0} };
-
-    /// What the keeping of a file does: the files before it, the file with what was written, and the files after it.
-    ghost keeps: { Self → Self.Output → Self → Type 0 } = { λ _ _ _. Unit {0} };
+    /// What an opening does that is refused: the files before it, the path, why, and the files after it.
+    ghost refuses: { Self → List ℕ → OpenFault → Self → Type 0 } = { λ _ _ _ _. Unit {0} };
 
     /// Opens the file at a path, which is read from its beginning.
     fn open(&mut self, path: &str) -> Result<Self::Input, OpenFault>
@@ -74,25 +53,50 @@ pub trait Files {
             Self.Input.Source.left input ≡ tells self.old path.now) }
         ensures running { IfOk result (λ input. Self.Input.Source.has_failed input ≡ false) }
         ensures opens { IfOk result (λ input. opens self.old path.now input self.new) }
-        ensures refused { result ≡ Err OpenFault.NotOpened → IsTrue (may_refuse self.old path.now) }
-        ensures stays { tells self.new ≡ tells self.old }
-        ensures stays_refused { may_refuse self.new ≡ may_refuse self.old }
-        ensures stays_refused_new { may_refuse_new self.new ≡ may_refuse_new self.old };
+        ensures refuses { IfErr result (λ fault. refuses self.old path.now fault self.new) }
+        ensures stays { tells self.new ≡ tells self.old };
+}
+
+/// What options need besides: files that may be there, files that are created, and sinks on which progress is reported.
+pub trait Machine: Files {
+    /// A file that was created.
+    type Output: Sink + Drop;
+
+    /// Where the thread of a stream reports its progress.
+    type Watcher: Sink + Send + Drop;
+
+    /// What is seen where a path has no file: the files before, the path, and the files after.
+    ghost lacks: { Self → List ℕ → Self → Type 0 } = { λ _ _ _. Unit {0} };
+
+    /// What an opening does that fails, although the path may have a file: the files before it, the path, why, and the files after it.
+    ghost fails: { Self → List ℕ → OpenFault → Self → Type 0 } = { λ _ _ _ _. Unit {0} };
+
+    /// What the creation of a file does: the files before it, the path, the new file, and the files after it.
+    ghost creates: { Self → List ℕ → Self.Output → Self → Type 0 } = { λ _ _ _ _. Unit {0} };
+
+    /// What a creation does that is refused: the files before it, the path, why, and the files after it.
+    ghost refuses_new: { Self → List ℕ → OpenFault → Self → Type 0 } = { λ _ _ _ _. Unit {0} };
+
+    /// What the keeping of a file does: the files before it, the file with what was written, and the files after it.
+    ghost keeps: { Self → Self.Output → Self → Type 0 } = { λ _ _ _. Unit {0} };
+
+    /// What a keeping does that fails: the files before it, the file with what was written, and the files after it.
+    ghost loses: { Self → Self.Output → Self → Type 0 } = { λ _ _ _. Unit {0} };
+
+    /// What the discarding of a file does: the files before it, the file with what was written, and the files after it.
+    ghost discards: { Self → Self.Output → Self → Type 0 } = { λ _ _ _. Unit {0} };
 
     /// Opens the file at a path, as `open` does, if there is one. An answer of none is no fault.
     fn open_if_there(&mut self, path: &str) -> Result<Option<Self::Input>, OpenFault>
         ensures left { IfOk result (λ found. IfSome found (λ input.
-            Self.Input.Source.left input ≡ tells self.old path.now)) }
+            Self.Input.Source.left input ≡ Self.tells self.old path.now)) }
         ensures running { IfOk result (λ found. IfSome found (λ input.
             Self.Input.Source.has_failed input ≡ false)) }
         ensures opens { IfOk result (λ found. IfSome found (λ input.
-            opens self.old path.now input self.new)) }
+            Self.opens self.old path.now input self.new)) }
         ensures lacks { result ≡ Ok None → lacks self.old path.now self.new }
-        ensures refused { result ≡ Err OpenFault.NotOpened → IsTrue (may_refuse self.old path.now) }
-        ensures fails { result ≡ Err OpenFault.NotOpened → IsTrue (may_fail self.old path.now) }
-        ensures stays { tells self.new ≡ tells self.old }
-        ensures stays_refused { may_refuse self.new ≡ may_refuse self.old }
-        ensures stays_refused_new { may_refuse_new self.new ≡ may_refuse_new self.old };
+        ensures fails { IfErr result (λ fault. fails self.old path.now fault self.new) }
+        ensures stays { Self.tells self.new ≡ Self.tells self.old };
 
     /// Creates a file at a path where there was none.
     fn create(&mut self, path: &str) -> Result<Self::Output, OpenFault>
@@ -100,12 +104,16 @@ pub trait Files {
             ForSome (Self.Output.Sink.written output) (λ all. all ≡ [])) }
         ensures running { IfOk result (λ output. Self.Output.Sink.has_failed output ≡ false) }
         ensures creates { IfOk result (λ output. creates self.old path.now output self.new) }
-        ensures refused { result ≡ Err OpenFault.NotOpened
-            → IsTrue (may_refuse_new self.old path.now) };
+        ensures refuses { IfErr result (λ fault. refuses_new self.old path.now fault self.new) };
 
     /// Closes a file that was created, once what was written lies on the device.
     fn keep(&mut self, output: Self::Output) -> Result<(), WriteFault>
-        ensures { IfOk result (λ _. keeps self.old output self.new) };
+        ensures keeps { IfOk result (λ _. keeps self.old output self.new) }
+        ensures loses { IfErr result (λ _. loses self.old output self.new) };
+
+    /// Closes a file that was created, and that nobody will read.
+    fn discard(&mut self, output: Self::Output)
+        ensures { discards self.old output self.new };
 
     /// A sink before its first write.
     fn watcher(&self) -> Self::Watcher

@@ -2,17 +2,18 @@
 #![tactic(auto)]
 
 mod arguments;
-mod carrying;
 mod checking;
+mod closing;
 mod course;
 mod fault;
 mod files;
 mod program;
 mod rounds;
+mod running;
 mod sizing;
 mod watching;
 
 pub use arguments::command_with_arguments;
 pub use checking::Asked;
-pub use files::{Files, OpenFault};
+pub use files::{Files, Machine, OpenFault};
 pub use program::{check_formula, command};

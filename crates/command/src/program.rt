@@ -16,7 +16,7 @@ ghost use Rattle.stream_check.specs.Setting.{max_tries};
 
 use crate::checking::{Asked, RunResult, check_asked, read_asked};
 use crate::fault::CommandFault;
-use crate::files::Files;
+use crate::files::Machine;
 use crate::rounds::check_rounds;
 use checkpoint::SaveFault;
 use lrup_text::{Sink, WriteBuffer, WriteFault};
@@ -50,7 +50,7 @@ use std::time::Clock;
 /// | 7 | the report couldn't be written |
 /// | 8 | the report says `s UNSATISFIABLE UNDER ASSUMPTIONS` |
 /// | 9 | in place of 3 and 8, where the checkpoint wasn't saved |
-pub fn command<T: Threads + Wait + Sync, C: Clock + Sync, F: Files, O: Sink, E: Sink>(
+pub fn command<T: Threads + Wait + Sync, C: Clock + Sync, F: Machine, O: Sink, E: Sink>(
     threads: &T,
     clock: &C,
     alloc: Global,
@@ -68,7 +68,7 @@ pub fn command<T: Threads + Wait + Sync, C: Clock + Sync, F: Files, O: Sink, E: 
     ensures sound_under { let read = WasRead F.opens F.Input.Source.reads (F.tells files.old) in
         result ≡ 8 → NameUnsatisfiableUnder _ read files.old (texts words.now) }
     // A report of what the words and the files come to, or none and the cause; what goes out; and the status.
-    ensures ends { let view = files_view F.Files F.Input.Source F.Output.Sink files.old in
+    ensures ends { let view = files_view F.Files F.Machine.own F.Input.Source F.Output.Sink files.old in
         let output = change (O.written out.old) (O.written out.new) (O.has_failed out.new) in
         let errors = change (E.written err.old) (E.written err.new) (E.has_failed err.new) in
         ProgramEnds view (texts words.now) files.new output errors result }
@@ -77,11 +77,11 @@ pub fn command<T: Threads + Wait + Sync, C: Clock + Sync, F: Files, O: Sink, E: 
     ensures saved { let read = WasRead F.opens F.Input.Source.reads (F.tells files.old) in
         let save = WasSaved F.creates F.Output.Sink.written F.keeps in
         (path : Text) → AskToSave (texts words.now) path → (result ≡ 3) ⊎ (result ≡ 8)
-        → NameCheckpoint read save files.old (texts words.now) path files.new }
+        → NameCheckpoint F.opens read save files.old (texts words.now) path files.new }
     // With status 0, where the words ask for a checkpoint, none was written: the last that was done to the files was that one was
-    // created there, and nothing went to it.
+    // created there, and discarded before anything went to it.
     ensures none_saved { (path : Text) → AskToSave (texts words.now) path → result ≡ 0
-        → WasLeftEmpty F.creates F.Output.Sink.written path files.new }
+        → WasLeftEmpty F.creates F.Output.Sink.written F.discards path files.new }
     // Words with a fault have a status of their own, unless memory ran out.
     ensures usage { HaveFault (texts words.now) → (result ≡ 2) ⊎ (result ≡ 6) }
     // So does a report that wasn't written.
@@ -97,7 +97,7 @@ pub fn command<T: Threads + Wait + Sync, C: Clock + Sync, F: Files, O: Sink, E: 
 /// memory given back, the file of the assumed literals is read and parsed, the streams are opened, the checkpoint's file is created
 /// if one is asked for, the streams are checked, the checkpoint is saved, other rounds follow if they are asked for, and the report
 /// goes to `out`. The bytes are those of any source, so the clause `sound` knows of no file.
-pub fn check_formula<T: Threads + Wait + Sync, C: Clock + Sync, F: Files, O: Sink, E: Sink>(
+pub fn check_formula<T: Threads + Wait + Sync, C: Clock + Sync, F: Machine, O: Sink, E: Sink>(
     threads: &T,
     clock: &C,
     alloc: Global,
@@ -122,7 +122,7 @@ pub fn check_formula<T: Threads + Wait + Sync, C: Clock + Sync, F: Files, O: Sin
     // Where words give this command line, and the bytes are what was read of FORMULA by the first opening of files that were `first`
     // before it: a report of what these words and files come to, or none and the cause; what goes out; and the status.
     ensures ends { (words : List Text) (first : F) →
-        let view = from_first (files_view F.Files F.Input.Source F.Output.Sink files.old) first in
+        let view = from_first (files_view F.Files F.Machine.own F.Input.Source F.Output.Sink files.old) first in
         let output = change (O.written out.old) (O.written out.new) (O.has_failed out.new) in
         let errors = change (E.written err.old) (E.written err.new) (E.has_failed err.new) in
         IsCommandLineOf words asked.entry.line
@@ -136,7 +136,7 @@ pub fn check_formula<T: Threads + Wait + Sync, C: Clock + Sync, F: Files, O: Sin
 }
 
 /// Checks the streams in one run.
-fn check_once<T: Threads + Wait + Sync, C: Clock + Sync, F: Files, O: Sink, E: Sink>(
+fn check_once<T: Threads + Wait + Sync, C: Clock + Sync, F: Machine, O: Sink, E: Sink>(
     threads: &T,
     clock: &C,
     alloc: Global,
@@ -158,13 +158,13 @@ fn check_once<T: Threads + Wait + Sync, C: Clock + Sync, F: Files, O: Sink, E: S
         × AreAssumed read f.vars files.old (assumed_at asked.entry.line) cube after
         × IsUnsatisfiableUnder f cube }
     ensures ends { (words : List Text) (first : F) →
-        let view = from_first (files_view F.Files F.Input.Source F.Output.Sink files.old) first in
+        let view = from_first (files_view F.Files F.Machine.own F.Input.Source F.Output.Sink files.old) first in
         let output = change (O.written out.old) (O.written out.new) (O.has_failed out.new) in
         let errors = change (E.written err.old) (E.written err.new) (E.has_failed err.new) in
         IsCommandLineOf words asked.entry.line
         → WasReadIn view first asked.entry.line.formula.now asked.entry.formula.items files.old
         → EndsWithReport view words files.new output errors result
-        ⊎ EndsWithFault view words output errors result }
+        ⊎ EndsWithFault view words files.new output errors result }
 {
     match check_asked(threads, clock, alloc, asked, files) {
         Ok(found) => report(1, &found, out, err),
@@ -173,7 +173,7 @@ fn check_once<T: Threads + Wait + Sync, C: Clock + Sync, F: Files, O: Sink, E: S
 }
 
 /// Checks the streams of one round after the other.
-fn check_in_rounds<T: Threads + Wait + Sync, C: Clock + Sync, F: Files, O: Sink, E: Sink>(
+fn check_in_rounds<T: Threads + Wait + Sync, C: Clock + Sync, F: Machine, O: Sink, E: Sink>(
     threads: &T,
     clock: &C,
     alloc: Global,
@@ -196,12 +196,12 @@ fn check_in_rounds<T: Threads + Wait + Sync, C: Clock + Sync, F: Files, O: Sink,
         × AreAssumed read f.vars files.old (assumed_at asked.entry.line) cube after
         × IsUnsatisfiableUnder f cube }
     ensures ends { (words : List Text) (first : F) →
-        let view = from_first (files_view F.Files F.Input.Source F.Output.Sink files.old) first in
+        let view = from_first (files_view F.Files F.Machine.own F.Input.Source F.Output.Sink files.old) first in
         let output = change (O.written out.old) (O.written out.new) (O.has_failed out.new) in
         let errors = change (E.written err.old) (E.written err.new) (E.has_failed err.new) in
         IsCommandLineOf words asked.entry.line
         → WasReadIn view first asked.entry.line.formula.now asked.entry.formula.items files.old
-        → EndsWithFault view words output errors result
+        → EndsWithFault view words files.new output errors result
         ⊎ EndsInRounds view words files.new output errors result }
 {
     match check_rounds(threads, clock, alloc, asked, folder, files) {

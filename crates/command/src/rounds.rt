@@ -10,22 +10,20 @@ ghost use Rattle.command_line.specs.CommandLine.{IsCommandLineOf};
 ghost use Rattle.command.specs.Commands.{AreAssumed, AreOpened, IsCause, IsOpenCause, Text, WasRead, WasReadIn, assumed_at, files_view, from_first};
 ghost use Rattle.command.specs.Commands.{rounds_at};
 ghost use Rattle.command.specs.Paths.{formula_path, stream_path, stream_paths};
-ghost use Rattle.command.specs.Rounds.{CarriesOn, HaveEnded, IsBarred, IsStartCause, IsStreamCause, StreamsOpened, WasChecked, deeds};
+ghost use Rattle.command.specs.Rounds.{CarriesOn, HaveEnded, IsBarred, IsRoundStartCause, IsStreamCause, StreamsOpened, WasChecked, deeds};
 ghost use Rattle.command_line.specs.declared.sizes.Sizes.{Sizes};
 ghost use Rattle.clap.specs.Walk.{texts};
-ghost use Rattle.command.specs.Standing.{EndsAt, FailsAt, IsAlone, IsLaterCause, IsReported, IsRoundsFault, IsUnchecked, RoundsStand};
+ghost use Rattle.command.specs.Standing.{EndsAt, FailsAt, IsAlone, IsReported, IsRoundsFault, IsUnchecked, RoundsStand};
 ghost use Rattle.command.specs.Standing.{plan_of, round_of};
 ghost use Rattle.stream_check.specs.Setting.{max_tries};
 
 use crate::arguments::words_of;
-use crate::carrying::{CarriedRun, carry_streams};
-use crate::checking::{
-    Asked, Beginning, RunResult, Setup, begin, create_checkpoint, find_layout, keep_checkpoint,
-    open_streams,
-};
+use crate::checking::{Asked, Beginning, RunResult, begin, find_layout, open_streams};
+use crate::closing::{close_round, create_new};
 use crate::course::{Course, LastRound, OpenRound, RoundFault};
 use crate::fault::CommandFault;
-use crate::files::{Files, OpenFault};
+use crate::files::{Machine, OpenFault};
+use crate::running::{EndedRun, Setup, run_streams};
 use crate::sizing::sizes_of_round;
 use crate::watching::tell_begin;
 use checkpoint::SaveFault;
@@ -48,7 +46,7 @@ struct CheckedRound {
 
 /// Checks the streams of a round, saves its checkpoint, and gives the next formula, if the round goes on. The round's formula is given
 /// back before that one is made.
-fn check_round<T: Threads + Wait + Sync, C: Clock + Sync, F: Files>(
+fn check_round<T: Threads + Wait + Sync, C: Clock + Sync, F: Machine>(
     threads: &T,
     clock: &C,
     alloc: Global,
@@ -61,50 +59,63 @@ fn check_round<T: Threads + Wait + Sync, C: Clock + Sync, F: Files>(
     requires count { length round.readers.items ≡ round.sizes.streams }
     requires number { round.number < u64.MAX }
     ensures checked { IfOk result (λ found. WasChecked
-        (deeds F.Files F.Input.Source F.Output.Sink) (plan_of course.now)
+        (deeds F.Files F.Machine.own F.Input.Source F.Output.Sink) (plan_of course.now)
         (round_of round.formula round.readers.items files.old found.last files.new)) }
     ensures next { IfOk result (λ found. ForSome found.next
-        (CarriesOn (deeds F.Files F.Input.Source F.Output.Sink) (plan_of course.now) round.number
+        (CarriesOn (deeds F.Files F.Machine.own F.Input.Source F.Output.Sink) (plan_of course.now) round.number
         (round_of round.formula round.readers.items files.old found.last files.new))) }
     ensures over { IfOk result (λ found. found.next ≡ None
-        → IsBarred (deeds F.Files F.Input.Source F.Output.Sink) (plan_of course.now) round.number
+        → IsBarred (deeds F.Files F.Machine.own F.Input.Source F.Output.Sink) (plan_of course.now) round.number
         (round_of round.formula round.readers.items files.old found.last files.new)) }
     ensures number { IfOk result (λ found. found.last.number ≡ round.number) }
     ensures sizes { IfOk result (λ found. found.last.sizes ≡ round.sizes) }
-    ensures cause { IfErr result (IsStartCause (deeds F.Files F.Input.Source F.Output.Sink)
-        (plan_of course.now) round.number round.formula round.sizes files.old) }
+    ensures cause { IfErr result (λ fault. IsRoundStartCause
+        (deeds F.Files F.Machine.own F.Input.Source F.Output.Sink) (plan_of course.now) round.number
+        round.formula round.sizes files.old fault files.new) }
 {
-    let number = round.number;
-    let sizes = round.sizes;
+    let OpenRound {
+        number,
+        sizes,
+        formula,
+        readers,
+    } = round;
     let setup = Setup {
-        formula: &round.formula,
+        formula: &formula,
         cube: course.cube,
         options: course.options(sizes),
         serial: course.serial,
     };
-    find_layout(&setup, round.readers.len())?;
+    find_layout(&setup, readers.len())?;
     let path = formula_path(alloc, course.folder, number + 1)?;
-    let output = create_checkpoint(files, Some(path.as_str()))?;
+    let output = create_new(files, path.as_str())?;
     let watched = course.watch.then_some(&*files);
-    let checked = carry_streams(threads, clock, alloc, course, round, watched, output)?;
-    let CarriedRun {
+    let run = match run_streams(threads, clock, alloc, &setup, watched, readers) {
+        Ok(run) => run,
+        Err(fault) => {
+            files.discard(output);
+            return Err(fault);
+        }
+    };
+    // Before the next formula is made.
+    drop(formula);
+    let ended = now_if(clock, course.watch);
+    let EndedRun {
         reports,
         verdict,
-        ended,
-        saved,
-        next,
-    } = checked;
-    let unsaved = keep_checkpoint(files, saved);
-    let next = next_of(&reports, verdict, unsaved, next);
+        left,
+    } = run;
+    let closed = close_round(alloc, files, verdict, left, output);
+    let next = next_of(&reports, verdict, closed.unsaved, closed.next);
+    let found = RunResult {
+        reports,
+        verdict,
+        unsaved: closed.unsaved,
+    };
     Ok(CheckedRound {
         last: LastRound {
             number,
             sizes,
-            found: RunResult {
-                reports,
-                verdict,
-                unsaved,
-            },
+            found,
             ended,
         },
         next,
@@ -172,7 +183,7 @@ fn stream_path(alloc: Global, folder: &str, number: u64, stream: u64) -> Result<
 }
 
 /// Opens the streams of a round, if there is a file of its stream 1. It blocks while a file does.
-fn open_round<F: Files>(
+fn open_round<F: Machine>(
     alloc: Global,
     files: &mut F,
     folder: &str,
@@ -180,7 +191,7 @@ fn open_round<F: Files>(
     streams: u64,
 ) -> Result<Option<Vec<F::Input>>, CommandFault>
     requires some { 0 < streams }
-    ensures opened { let its = deeds F.Files F.Input.Source F.Output.Sink in
+    ensures opened { let its = deeds F.Files F.Machine.own F.Input.Source F.Output.Sink in
         IfOk result (λ found. IfSome found (λ readers. StreamsOpened its files.old
         (stream_paths folder.now number streams) readers.items files.new)) }
     ensures running { IfOk result (λ found. IfSome found (λ readers.
@@ -189,8 +200,9 @@ fn open_round<F: Files>(
         length readers.items ≡ streams)) }
     ensures lacks { result ≡ Ok None
         → F.lacks files.old (stream_path folder.now number 1) files.new }
-    ensures cause { let its = deeds F.Files F.Input.Source F.Output.Sink in
-        IfErr result (IsStreamCause its files.old folder.now number streams) }
+    ensures cause { let its = deeds F.Files F.Machine.own F.Input.Source F.Output.Sink in
+        IfErr result (λ fault.
+        IsStreamCause its files.old folder.now number streams fault files.new) }
 {
     let paths = stream_paths(alloc, folder, number, streams)?;
     let words = words_of(alloc, &paths)?;
@@ -206,7 +218,7 @@ fn open_round<F: Files>(
 }
 
 /// Opens the streams behind stream 1, in order.
-fn open_others<F: Files>(
+fn open_others<F: Machine>(
     alloc: Global,
     files: &mut F,
     first: F::Input,
@@ -219,8 +231,9 @@ fn open_others<F: Files>(
         × (map F.Input.Source.left others ≡ map (F.tells files.old) (texts paths.now))) }
     ensures running { IfOk result (λ readers.
         AllByRecursion (λ r. F.Input.Source.has_failed r ≡ false) readers.items) }
-    ensures cause { IfErr result
-        (IsLaterCause F.opens (F.may_refuse files.old) files.old (texts paths.now)) }
+    ensures cause { let its = deeds F.Files F.Machine.own F.Input.Source F.Output.Sink in
+        IfErr result (λ fault.
+        IsOpenCause its 1 files.old (texts paths.now) fault files.new) }
 {
     let mut readers = match open_streams(alloc, files, paths) {
         Ok(readers) => readers,
@@ -234,7 +247,7 @@ fn open_others<F: Files>(
 }
 
 /// Checks the round with this number, which is the one after the last, if there is a file of its stream 1.
-fn next_round<T: Threads + Wait + Sync, C: Clock + Sync, F: Files>(
+fn next_round<T: Threads + Wait + Sync, C: Clock + Sync, F: Machine>(
     threads: &T,
     clock: &C,
     alloc: Global,
@@ -247,16 +260,17 @@ fn next_round<T: Threads + Wait + Sync, C: Clock + Sync, F: Files>(
     requires after { number ≡ last.now.number + 1 }
     requires number { number < u64.MAX }
     ensures stands { (given : Cnf) (sizes : Sizes) (first : F) (paths : List Text) →
-        RoundsStand (deeds F.Files F.Input.Source F.Output.Sink) (plan_of course.now) given sizes
+        RoundsStand (deeds F.Files F.Machine.own F.Input.Source F.Output.Sink) (plan_of course.now) given sizes
         first paths last.now (Some formula) files.old → IfOk result (λ next. ForSome next (λ found.
-        RoundsStand (deeds F.Files F.Input.Source F.Output.Sink) (plan_of course.now) given sizes
+        RoundsStand (deeds F.Files F.Machine.own F.Input.Source F.Output.Sink) (plan_of course.now) given sizes
         first paths found.last found.next files.new)) }
     ensures number { IfOk result (λ next. ForSome next (λ found.
         found.last.number ≡ number)) }
-    ensures over { result ≡ Ok None → IsAlone (deeds F.Files F.Input.Source F.Output.Sink)
+    ensures over { result ≡ Ok None → IsAlone (deeds F.Files F.Machine.own F.Input.Source F.Output.Sink)
         (plan_of course.now) last.now files.old files.new }
-    ensures cause { IfErr result (IsUnchecked (deeds F.Files F.Input.Source F.Output.Sink)
-        (plan_of course.now) last.now formula files.old) }
+    ensures cause { IfErr result (λ fault. IsUnchecked
+        (deeds F.Files F.Machine.own F.Input.Source F.Output.Sink) (plan_of course.now) last.now
+        formula files.old fault files.new) }
 {
     let sizes = sizes_of_round(alloc, files, course.folder, number, last.sizes)?;
     let readers = match open_round(alloc, files, course.folder, number, sizes.streams) {
@@ -280,7 +294,7 @@ fn next_round<T: Threads + Wait + Sync, C: Clock + Sync, F: Files>(
 }
 
 /// Checks round 1, whose streams are open, and then one round after the other.
-fn go_on<T: Threads + Wait + Sync, C: Clock + Sync, F: Files>(
+fn go_on<T: Threads + Wait + Sync, C: Clock + Sync, F: Machine>(
     threads: &T,
     clock: &C,
     alloc: Global,
@@ -293,15 +307,15 @@ fn go_on<T: Threads + Wait + Sync, C: Clock + Sync, F: Files>(
     requires count { length round.readers.items ≡ round.sizes.streams }
     requires one { round.number ≡ 1 }
     ensures over { (first : F) (paths : List Text) →
-        StreamsOpened (deeds F.Files F.Input.Source F.Output.Sink) first paths round.readers.items
+        StreamsOpened (deeds F.Files F.Machine.own F.Input.Source F.Output.Sink) first paths round.readers.items
         files.old → IfOk result (λ last.
-        EndsAt (deeds F.Files F.Input.Source F.Output.Sink) (plan_of course.now) round.formula
+        EndsAt (deeds F.Files F.Machine.own F.Input.Source F.Output.Sink) (plan_of course.now) round.formula
         round.sizes first paths last files.new) }
     ensures cause { (first : F) (paths : List Text) →
-        StreamsOpened (deeds F.Files F.Input.Source F.Output.Sink) first paths round.readers.items
+        StreamsOpened (deeds F.Files F.Machine.own F.Input.Source F.Output.Sink) first paths round.readers.items
         files.old → IfErr result (λ failed.
-        FailsAt (deeds F.Files F.Input.Source F.Output.Sink) (plan_of course.now) round.formula
-        round.sizes first paths files.old failed) }
+        FailsAt (deeds F.Files F.Machine.own F.Input.Source F.Output.Sink) (plan_of course.now)
+        round.formula round.sizes first paths files.old failed files.new) }
 {
     let checked = match check_round(threads, clock, alloc, course, round, files) {
         Ok(checked) => checked,
@@ -332,7 +346,7 @@ fn go_on<T: Threads + Wait + Sync, C: Clock + Sync, F: Files>(
 
 /// Parses the formula, reads the assumed literals, and opens and checks the streams of one round after the other. It blocks while a
 /// file does.
-pub(crate) fn check_rounds<T: Threads + Wait + Sync, C: Clock + Sync, F: Files>(
+pub(crate) fn check_rounds<T: Threads + Wait + Sync, C: Clock + Sync, F: Machine>(
     threads: &T,
     clock: &C,
     alloc: Global,
@@ -343,7 +357,7 @@ pub(crate) fn check_rounds<T: Threads + Wait + Sync, C: Clock + Sync, F: Files>(
     requires tries { asked.line.tries ≤ max_tries }
     requires folder { rounds_at asked.line ≡ Some folder.now }
     ensures reported { (words : List Text) (first : F) →
-        let view = from_first (files_view F.Files F.Input.Source F.Output.Sink files.old) first in
+        let view = from_first (files_view F.Files F.Machine.own F.Input.Source F.Output.Sink files.old) first in
         IsCommandLineOf words asked.entry.line
         → WasReadIn view first asked.entry.line.formula.now asked.entry.formula.items files.old
         → IfOk result (λ last. IsReported view asked.entry.line folder.now last files.new) }
@@ -356,10 +370,11 @@ pub(crate) fn check_rounds<T: Threads + Wait + Sync, C: Clock + Sync, F: Files>(
         × AreAssumed read f.vars files.old (assumed_at asked.entry.line) cube after
         × IsUnsatisfiableUnder f cube) }
     ensures cause { (words : List Text) (first : F) →
-        let view = from_first (files_view F.Files F.Input.Source F.Output.Sink files.old) first in
+        let view = from_first (files_view F.Files F.Machine.own F.Input.Source F.Output.Sink files.old) first in
         IsCommandLineOf words asked.entry.line
         → WasReadIn view first asked.entry.line.formula.now asked.entry.formula.items files.old
-        → IfErr result (IsRoundsFault view words asked.entry.line folder.now) }
+        → IfErr result (λ failed.
+        IsRoundsFault view words asked.entry.line folder.now failed files.new) }
 {
     let Asked {
         line,

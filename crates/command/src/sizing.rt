@@ -6,7 +6,7 @@ ghost use Rattle.command.specs.Rounds.{AreSized, IsSizesCause, deeds};
 ghost use Rattle.command.specs.Standing.{IsUnsized, ReadsSizes};
 
 use crate::fault::CommandFault;
-use crate::files::{Files, OpenFault};
+use crate::files::{Machine, OpenFault};
 use command_line::{Sizes, read_sizes};
 use lrup_text::{ReadFault, Source};
 use std::alloc::{AllocError, Global};
@@ -15,18 +15,19 @@ use std::alloc::{AllocError, Global};
 const MOST: usize = 64;
 
 /// Reads the sizes of a round, if there is a file of them; else they stay as they are. It blocks while the file does.
-pub(crate) fn sizes_of_round<F: Files>(
+pub(crate) fn sizes_of_round<F: Machine>(
     alloc: Global,
     files: &mut F,
     folder: &str,
     number: u64,
     sizes: Sizes,
 ) -> Result<Sizes, CommandFault>
-    ensures sized { let its = deeds F.Files F.Input.Source F.Output.Sink in
+    ensures sized { let its = deeds F.Files F.Machine.own F.Input.Source F.Output.Sink in
         IfOk result (λ new.
         AreSized its (sizes_path folder.now number) sizes files.old new files.new) }
-    ensures cause { let its = deeds F.Files F.Input.Source F.Output.Sink in
-        IfErr result (IsSizesCause its files.old (sizes_path folder.now number)) }
+    ensures cause { let its = deeds F.Files F.Machine.own F.Input.Source F.Output.Sink in
+        IfErr result (λ fault.
+        IsSizesCause its files.old (sizes_path folder.now number) fault files.new) }
 {
     let path = sizes_path(alloc, folder, number)?;
     match files.open_if_there(path.as_str()) {

@@ -2,7 +2,7 @@
 ghost use Rattle.std.specs.Prelude.{◌≡◌, IfOk, string_bytes};
 ghost use Rattle.command.specs.Watching.{begin_line, paused_line};
 
-use crate::files::Files;
+use crate::files::Machine;
 use lrup_model::Formula;
 use lrup_text::write_all;
 use std::alloc::{AllocError, Global};
@@ -19,7 +19,7 @@ pub(crate) fn now_if<C: Clock + Sync>(clock: &C, asked: bool) -> Option<Instant>
 
 /// Reports on a watcher of the files that a round begins, with which formula, and how long after the end of the one before it. What the
 /// clock or the memory doesn't give is left out.
-pub(crate) fn tell_begin<C: Clock + Sync, F: Files>(
+pub(crate) fn tell_begin<C: Clock + Sync, F: Machine>(
     clock: &C,
     alloc: Global,
     files: &F,

@@ -2,14 +2,14 @@
 //! the proofs of SAT solvers that share their clauses, while the solvers write them.
 #![tactic(auto)]
 
-use command::{Files, OpenFault, command_with_arguments};
+use command::{Files, Machine, OpenFault, command_with_arguments};
 use lrup_text::{Reading, WriteFault, Writing};
 use std::env;
 use std::fs::{File, OpenOptions};
 use std::io::{self, Stderr};
 use std::process::ExitCode;
 
-/// The machine's files, and its standard error for those who watch. No file tells its bytes, and each may be refused.
+/// The machine's files, and its standard error for those who watch. No file tells its bytes.
 #[derive(Drop)]
 struct MachineFiles<'a> {
     rt: &'a HostRuntime,
@@ -18,22 +18,20 @@ struct MachineFiles<'a> {
 impl Files for MachineFiles<'_> {
     type Input = Reading<File>;
 
-    type Output = Writing<File>;
-
-    /// Each line is one write, so that those of several streams don't mix.
-    type Watcher = Writing<Stderr>;
-
-    ghost use Rattle.std.specs.Prelude.{None, true};
+    ghost use Rattle.std.specs.Prelude.{None};
 
     ghost tells = { λ _ _. None };
-
-    ghost may_refuse = { λ _ _. true };
-
-    ghost may_refuse_new = { λ _ _. true };
 
     fn open(&mut self, path: &str) -> Result<Reading<File>, OpenFault> {
         Ok(Reading::new(File::open(self.rt, path)?))
     }
+}
+
+impl Machine for MachineFiles<'_> {
+    type Output = Writing<File>;
+
+    /// Each line is one write, so that those of several streams don't mix.
+    type Watcher = Writing<Stderr>;
 
     fn open_if_there(&mut self, path: &str) -> Result<Option<Reading<File>>, OpenFault> {
         match File::open(self.rt, path) {
@@ -57,6 +55,9 @@ impl Files for MachineFiles<'_> {
             Err(_) => Err(WriteFault),
         }
     }
+
+    /// What was written stays: a file of this name may be another one by now.
+    fn discard(&mut self, _output: Writing<File>) {}
 
     fn watcher(&self) -> Writing<Stderr> {
         Writing::new(self.rt.stderr())

@@ -15,7 +15,7 @@ use Rattle.runs.specs.Streams.{IsTold, Stream, TermsValue, events_in, tellings}
 use Rattle.runs.specs.Turns.{IsOrderedByTurns}
 use Rattle.checkpoint.specs.declared.saving.SaveFault.{SaveFault}
 use Rattle.portfolio.specs.Dropping.{HaveDropped}
-use Rattle.portfolio.specs.Saving.{CarriesState, is_wanted}
+use Rattle.portfolio.specs.Saving.{CarriesState, SavesState, is_wanted}
 
 -- what the reports say of the streams: on one thread they have an order of lines, by turns; with two threads for each, each was read to its
 -- end or to a read that failed, and they are judged by their events of one legal history
@@ -48,6 +48,18 @@ pub record StandsOnHistory {S : Type 0} (view : SourceView S) (serial : Bool) (f
   pub judged : AreJudgedIn terms (λ s. true) history 1 streams reports
   pub is_history : IsHistoryOf serial formula terms history streams reports
   pub have_dropped : HaveDropped terms 1 streams reports (map (λ d. d.ids) dropped)
+
+-- What became of the saving of a run's clauses to a sink that was the first and is the last: those that its history leaves live, but for
+-- those that all streams dropped, and no others, were saved, as the result says.
+pub record SavesRun {S W : Type 0} (view : SourceView S) (written : W → Option (List ℕ))
+    (serial : Bool) (formula : Cnf) (terms : TermsValue) (firsts : List S) (reports : List Report)
+    (result : Result (Unit {0}) SaveFault) (first last : W) : Type 0 where
+  pub history : History
+  pub lasts : List S
+  pub dropped : List DroppedValue
+  pub stands : StandsOnHistory view serial formula terms history firsts lasts reports dropped
+  pub saves : SavesState written result (state formula history) terms.layout (is_wanted dropped)
+      first last
 
 -- What became of the carrying of a run's clauses to a later round, by a sink that was the first and is the last: those that its history
 -- leaves live, but for those that all streams dropped, and no others, were carried, as the result says.

@@ -10,7 +10,7 @@ returns-in-Ok-clause-usage g c =
 
 pub returns-in-Ok-clause-ends : goal.returns-in-Ok-clause-ends
 returns-in-Ok-clause-ends g c =
-    let files = files_view g.F.Files g.F.Input.Source g.F.Output.Sink c.args.files.now in
+    let files = files_view g.F.Files g.F.Machine g.F.Input.Source g.F.Output.Sink c.args.files.now in
     let out = c.with_words-status.new.out in
     let err = c.with_words-status.new.err in
     let output = change (g.O.Sink.written c.args.out.now) (g.O.Sink.written out) (g.O.Sink.has_failed out) in

@@ -47,7 +47,7 @@ returns-clause-sound_under g c eight =
 pub returns-clause-saved : goal.returns-clause-saved
 returns-clause-saved g c path ask is =
     let Read = WasRead g.F.Files.opens g.F.Input.Source.reads (g.F.Files.tells c.args.files.now) in
-    let Save = WasSaved g.F.Files.creates g.F.Output.Sink.written g.F.Files.keeps in
+    let Save = WasSaved g.F.Machine.creates g.F.Output.Sink.written g.F.Machine.keeps in
     let asked = subst (λ (words : List Text). AskToSave words path) (sym (same_words g c)) ask in
     subst (λ (words : List Text). NameCheckpoint Read Save c.args.files.now words path c.command.new.files) (same_words g c)
     (c.command.ensures.saved path asked is)
@@ -57,7 +57,7 @@ returns-clause-usage g c fault = c.command.ensures.usage (subst HaveFault (sym (
 
 pub returns-clause-ends : goal.returns-clause-ends
 returns-clause-ends g c =
-    let files = files_view g.F.Files g.F.Input.Source g.F.Output.Sink c.args.files.now in
+    let files = files_view g.F.Files g.F.Machine g.F.Input.Source g.F.Output.Sink c.args.files.now in
     let output = change (g.O.Sink.written c.args.out.now) (g.O.Sink.written c.command.new.out) (g.O.Sink.has_failed c.command.new.out) in
     let errors = change (g.E.Sink.written c.args.err.now) (g.E.Sink.written c.command.new.err) (g.E.Sink.has_failed c.command.new.err) in
     subst (λ (words : List Text). ProgramEnds files words c.command.new.files output errors c.command.result) (same_words g c)

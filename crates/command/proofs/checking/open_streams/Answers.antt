@@ -1,6 +1,7 @@
-use Rattle.std.proofs.Common.{◌∙◌, ◌≡◌, Err, false, sym, ap, subst, arith}
+use Rattle.std.proofs.Common.{◌∙◌, ◌+◌, ◌≡◌, false, inl, sym, ap, subst, arith}
 use Rattle.std.specs.List.{AllByRecursion}
 use Rattle.lrup_model.specs.ListLemmas.{All-push}
+use Rattle.command.specs.Commands.{deeds}
 use Rattle.command.proofs.OpeningLemmas.{all_opened_more, opened_more, refused_at}
 use Rattle.command.proofs.checking.open_streams.Goals as goal
 
@@ -23,14 +24,25 @@ loop-path-preserved g c =
       count = omega (arith, pushed.len, now.invariant.count);
       room = omega (arith, pushed.capacity, now.invariant.room);
       stays = c.open.ensures.stays ∙ now.invariant.stays;
-      stays_refused = c.open.ensures.stays_refused ∙ now.invariant.stays_refused;
-      stays_refused_new = c.open.ensures.stays_refused_new ∙ now.invariant.stays_refused_new;
     }
 
 pub returns-in-Err-NotOpened-clause-cause : goal.returns-in-Err-NotOpened-clause-cause
 returns-in-Err-NotOpened-clause-cause g c =
     let now = c.loop-path in
-    refused_at g.F.Files.opens (λ p. p.now) (g.F.Files.may_refuse c.args.files.now)
-    (g.F.Files.may_refuse now.files) c.args.files.now c.args.paths.now now.readers.items now.files
-    now.path-index c.len.result _ c.loop-path-test.true (c.len.ensures ∙ now.invariant.count) now.invariant.opened
-    now.invariant.stays_refused (c.open.ensures.refused (c.in-Err-NotOpened.is ∙ ap Err c.in-Err-NotOpened.field-0-is))
+    let its = deeds g.F.Files g.F.Machine g.F.Input.Source g.F.Output.Sink in (
+      now.path-index,
+      ap (λ n. n + 1) (c.len.ensures ∙ now.invariant.count),
+      refused_at its (λ p. p.now) c.args.files.now c.args.paths.now now.readers.items now.files now.path-index _ _ c.open.new.self
+          c.loop-path-test.true now.invariant.opened (rw c.in-Err-NotOpened.field-0-is at c.in-Err-NotOpened.ensures.refuses),
+    )
+
+-- memory ran out at the opening of one
+pub returns-in-Err-Memory-clause-cause : goal.returns-in-Err-Memory-clause-cause
+returns-in-Err-Memory-clause-cause g c =
+    let now = c.loop-path in
+    let its = deeds g.F.Files g.F.Machine g.F.Input.Source g.F.Output.Sink in
+    inl (
+      now.path-index,
+      refused_at its (λ p. p.now) c.args.files.now c.args.paths.now now.readers.items now.files now.path-index _ _ c.open.new.self
+          c.loop-path-test.true now.invariant.opened (rw c.in-Err-Memory.field-0-is at c.in-Err-Memory.ensures.refuses),
+    )

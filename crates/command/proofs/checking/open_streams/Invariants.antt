@@ -13,6 +13,4 @@ invariant-loop-path g l =
       count : vec_len l.readers ≡ l.path-index;
       room : length l.fn.paths ≤ vec_capacity l.readers;
       stays : g.F.Files.tells l.files ≡ g.F.Files.tells l.fn.files;
-      stays_refused : g.F.Files.may_refuse l.files ≡ g.F.Files.may_refuse l.fn.files;
-      stays_refused_new : g.F.Files.may_refuse_new l.files ≡ g.F.Files.may_refuse_new l.fn.files;
     }

@@ -1,24 +1,29 @@
 use Rattle.std.proofs.Common.{ℕ, List, Some, subst, sym}
 use Rattle.lrup_text.specs.Cubes.{IsCubeFault}
 use Rattle.command.specs.Commands.{IsAssumeCause, files_view}
+use Rattle.command.specs.declared.fault.CommandFault.{CommandFault}
 use Rattle.command.proofs.CheckingLemmas.{err_given}
 use Rattle.command.proofs.FileLemmas.{cube_file_cause, cube_text_cause}
 use Rattle.command.proofs.checking.read_cube_at.Goals as goal
 
 pub returns-in_err-read_cube-in-Ok-clause-cause : goal.returns-in_err-read_cube-in-Ok-clause-cause
 returns-in_err-read_cube-in-Ok-clause-cause g c =
-    let files = files_view g.F.Files g.F.Input.Source g.F.Output.Sink c.args.files.now in
-    let IsCause = IsAssumeCause files c.args.formula.now.vars c.args.files.now (Some c.args.path.now) in
+    let files = files_view g.F.Files g.F.Machine g.F.Input.Source g.F.Output.Sink c.args.files.now in
+    let after = c.read_file.new.files in
+    let Cause : CommandFault → Type 0 =
+    λ fault. IsAssumeCause files c.args.formula.now.vars c.args.files.now (Some c.args.path.now) fault after in
     let faulty = subst (λ (n : ℕ). IsCubeFault n c.in-Ok.bytes.items c.in_err-read_cube-in-Ok.field-0.0) c.vars.ensures.vars
     (subst (λ (bytes : List ℕ). IsCubeFault c.vars.result bytes c.in_err-read_cube-in-Ok.field-0.0) c.deref.ensures.value
     c.in_err-read_cube-in-Ok.ensures.fault) in
-    let cause = cube_text_cause files c.args.formula.now.vars c.args.files.now c.args.path.now c.in-Ok.bytes.items c.read_file.new.files
+    let cause = cube_text_cause files c.args.formula.now.vars c.args.files.now c.args.path.now c.in-Ok.bytes.items after
     c.in-Ok.ensures.bytes c.in_err-read_cube-in-Ok.field-0.0 faulty in
-    err_given c.from_residual.result _ IsCause (λ fault is. subst IsCause (sym is) cause) c.from_residual.ensures.1
+    err_given c.from_residual.result _ Cause (λ fault is. subst Cause (sym is) cause) c.from_residual.ensures.1
 
 pub returns-in-Err-clause-cause : goal.returns-in-Err-clause-cause
 returns-in-Err-clause-cause g c =
-    let files = files_view g.F.Files g.F.Input.Source g.F.Output.Sink c.args.files.now in
-    let IsCause = IsAssumeCause files c.args.formula.now.vars c.args.files.now (Some c.args.path.now) in
-    subst IsCause (sym c.of_cube_file.ensures)
-    (cube_file_cause files c.args.formula.now.vars c.args.files.now c.args.path.now c.in-Err.fault c.in-Err.ensures.cause)
+    let files = files_view g.F.Files g.F.Machine g.F.Input.Source g.F.Output.Sink c.args.files.now in
+    let after = c.read_file.new.files in
+    let Cause : CommandFault → Type 0 =
+    λ fault. IsAssumeCause files c.args.formula.now.vars c.args.files.now (Some c.args.path.now) fault after in
+    subst Cause (sym c.of_cube_file.ensures)
+    (cube_file_cause files c.args.formula.now.vars c.args.files.now c.args.path.now c.in-Err.fault after c.in-Err.ensures.cause)

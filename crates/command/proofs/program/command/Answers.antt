@@ -9,14 +9,14 @@ use Rattle.command.proofs.program.command.Goals as goal
 pub returns-in-Ok-clause-sound : goal.returns-in-Ok-clause-sound
 returns-in-Ok-clause-sound g c zero =
     let asked = c.in-Ok.asked in
-    let files = files_view g.F.Files g.F.Input.Source g.F.Output.Sink c.args.files.now in
+    let files = files_view g.F.Files g.F.Machine g.F.Input.Source g.F.Output.Sink c.args.files.now in
     names_unsatisfiable files (texts c.args.words.now) asked.line asked.formula.items c.read_asked.new.files
     c.in-Ok.ensures.line c.in-Ok.ensures.bytes (c.check_formula.ensures.sound zero)
 
 pub returns-in-Ok-clause-sound_under : goal.returns-in-Ok-clause-sound_under
 returns-in-Ok-clause-sound_under g c eight =
     let asked = c.in-Ok.asked in
-    let files = files_view g.F.Files g.F.Input.Source g.F.Output.Sink c.args.files.now in
+    let files = files_view g.F.Files g.F.Machine g.F.Input.Source g.F.Output.Sink c.args.files.now in
     let next = c.read_asked.new.files in
     names_unsatisfiable_under files (texts c.args.words.now) asked.line asked.formula.items next (g.F.Files.tells next)
     c.in-Ok.ensures.stays c.in-Ok.ensures.line c.in-Ok.ensures.bytes (c.check_formula.ensures.sound_under eight)
@@ -28,7 +28,7 @@ returns-in-Ok-clause-ends g c =
     let first = c.args.files.now in
     let next = c.read_asked.new.files in
     let view : (Text → Option (List ℕ)) → (Text → Bool) → (Text → Bool) → FilesView =
-    λ t m n. record (files_view g.F.Files g.F.Input.Source g.F.Output.Sink first) { tells = t; may_refuse = m; may_refuse_new = n } in
+    λ t m n. record (files_view g.F.Files g.F.Machine g.F.Input.Source g.F.Output.Sink first) { tells = t; may_refuse = m; may_refuse_new = n } in
     let output =
     change (g.O.Sink.written c.args.out.now) (g.O.Sink.written c.check_formula.new.out) (g.O.Sink.has_failed c.check_formula.new.out) in
     let errors =

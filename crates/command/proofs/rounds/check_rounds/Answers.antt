@@ -11,13 +11,13 @@ use Rattle.command.proofs.rounds.check_rounds.Goals as goal
 -- a fault of what the rounds begin with is one of round 1
 pub returns-in-Err-clause-cause : goal.returns-in-Err-clause-cause
 returns-in-Err-clause-cause g c words first good at =
-    let Cause = IsCause (from_first (files_view g.F.Files g.F.Input.Source g.F.Output.Sink c.args.files.now) first) words in
+    let Cause = IsCause (from_first (files_view g.F.Files g.F.Machine g.F.Input.Source g.F.Output.Sink c.args.files.now) first) words in
     let cause : Cause c.in-Err.fault = c.in-Err.ensures.cause words first good at in
     let of = c.of_first-in-Err.ensures in
     inl (of.round, subst Cause (sym of.fault) cause)
 
 -- the streams of round 1 were opened
-opened : (g : given.Over) (c : goal.After-drop-line-2 g) → StreamsOpened (deeds g.F.Files g.F.Input.Source g.F.Output.Sink)
+opened : (g : given.Over) (c : goal.After-drop-line-2 g) → StreamsOpened (deeds g.F.Files g.F.Machine g.F.Input.Source g.F.Output.Sink)
     c.in-Ok.ensures.begun.later c.args.asked.line.streams c.in-Ok.begun.readers.items c.begin.new.files
 opened g c =
     let of = c.in-Ok.ensures.begun in
@@ -36,10 +36,10 @@ sizes_are g c =
 
 -- how the rounds ended, by the command line
 over : (g : given.Over) (c : goal.After-drop-line-2 g) → IfOk c.go_on.result (λ last.
-    EndsAt (deeds g.F.Files g.F.Input.Source g.F.Output.Sink) (plan_at c.args.asked.line c.in-Ok.begun.cube c.args.folder.now)
+    EndsAt (deeds g.F.Files g.F.Machine g.F.Input.Source g.F.Output.Sink) (plan_at c.args.asked.line c.in-Ok.begun.cube c.args.folder.now)
     c.in-Ok.begun.formula (sizes_of c.args.asked.line) c.in-Ok.ensures.begun.later c.args.asked.line.streams last c.go_on.new.files)
 over g c =
-    let its = deeds g.F.Files g.F.Input.Source g.F.Output.Sink in
+    let its = deeds g.F.Files g.F.Machine g.F.Input.Source g.F.Output.Sink in
     let line = c.args.asked.line in
     let begun = c.in-Ok.begun in
     let later = c.in-Ok.ensures.begun.later in
@@ -49,7 +49,7 @@ over g c =
 
 pub returns-clause-reported : goal.returns-clause-reported
 returns-clause-reported g c words first good at =
-    let files = from_first (files_view g.F.Files g.F.Input.Source g.F.Output.Sink c.args.files.now) first in
+    let files = from_first (files_view g.F.Files g.F.Machine g.F.Input.Source g.F.Output.Sink c.args.files.now) first in
     let line = c.args.asked.line in
     let folder = c.args.folder.now in
     let begun = c.in-Ok.begun in
@@ -82,7 +82,7 @@ returns-clause-reported g c words first good at =
 
 pub returns-clause-sound : goal.returns-clause-sound
 returns-clause-sound g c =
-    let its = deeds g.F.Files g.F.Input.Source g.F.Output.Sink in
+    let its = deeds g.F.Files g.F.Machine g.F.Input.Source g.F.Output.Sink in
     let line = c.args.asked.line in
     let begun = c.in-Ok.begun in
     let plan = plan_at line begun.cube c.args.folder.now in
@@ -96,7 +96,7 @@ returns-clause-sound g c =
 
 pub returns-clause-sound_under : goal.returns-clause-sound_under
 returns-clause-sound_under g c =
-    let its = deeds g.F.Files g.F.Input.Source g.F.Output.Sink in
+    let its = deeds g.F.Files g.F.Machine g.F.Input.Source g.F.Output.Sink in
     let line = c.args.asked.line in
     let begun = c.in-Ok.begun in
     let of = c.in-Ok.ensures.begun in
@@ -114,8 +114,8 @@ returns-clause-sound_under g c =
 
 pub returns-clause-cause : goal.returns-clause-cause
 returns-clause-cause g c words first good at =
-    let files = from_first (files_view g.F.Files g.F.Input.Source g.F.Output.Sink c.args.files.now) first in
-    let its = deeds g.F.Files g.F.Input.Source g.F.Output.Sink in
+    let files = from_first (files_view g.F.Files g.F.Machine g.F.Input.Source g.F.Output.Sink c.args.files.now) first in
+    let its = deeds g.F.Files g.F.Machine g.F.Input.Source g.F.Output.Sink in
     let line = c.args.asked.line in
     let folder = c.args.folder.now in
     let begun = c.in-Ok.begun in

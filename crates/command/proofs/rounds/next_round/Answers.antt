@@ -8,7 +8,7 @@ use Rattle.command.proofs.rounds.next_round.Goals as goal
 
 pub returns-in-Ok-clause-stands : goal.returns-in-Ok-clause-stands
 returns-in-Ok-clause-stands g c given sizes first paths stands =
-    let its = deeds g.F.Files g.F.Input.Source g.F.Output.Sink in
+    let its = deeds g.F.Files g.F.Machine g.F.Input.Source g.F.Output.Sink in
     let plan = plan_of c.args.course.now in
     let before = c.args.files.now in
     let sized = c.sizes_of_round.new.files in
@@ -30,7 +30,7 @@ returns-in-Ok-clause-stands g c given sizes first paths stands =
 -- the streams of the round were opened, and then came the fault
 pub returns-in-Err-check_round-clause-cause : goal.returns-in-Err-check_round-clause-cause
 returns-in-Err-check_round-clause-cause g c =
-    let its = deeds g.F.Files g.F.Input.Source g.F.Output.Sink in
+    let its = deeds g.F.Files g.F.Machine g.F.Input.Source g.F.Output.Sink in
     let plan = plan_of c.args.course.now in
     let last = c.args.last.now in
     let sized = c.sizes_of_round.new.files in
@@ -57,7 +57,7 @@ returns-in-Err-check_round-clause-cause g c =
 -- the streams of the round weren't all opened
 pub returns-in-Err-clause-cause : goal.returns-in-Err-clause-cause
 returns-in-Err-clause-cause g c =
-    let its = deeds g.F.Files g.F.Input.Source g.F.Output.Sink in
+    let its = deeds g.F.Files g.F.Machine g.F.Input.Source g.F.Output.Sink in
     let plan = plan_of c.args.course.now in
     let sized = c.sizes_of_round.new.files in
     let sizes = c.in_ok-sizes.sizes in

@@ -14,7 +14,7 @@ returns-in-Ok-None-clause-lacks g c = λ is.
     let same = c.in_ok-words.ensures ∙ ap (map string_bytes) c.deref.ensures.value ∙ c.in_ok-paths.ensures in
     let split = path_and_rest folder c.args.number c.args.streams c.requires.some in
     let path_is = first_word words c.index.result.now _ _ (same ∙ split) c.index.ensures in
-    subst (λ (p : Text). g.F.Files.lacks c.args.files.now p c.open_if_there.new.self) path_is
+    subst (λ (p : Text). g.F.Machine.lacks c.args.files.now p c.open_if_there.new.self) path_is
     (c.open_if_there.ensures.lacks (c.in-Ok-None.is ∙ ap Ok c.in-Ok-None.field-0-is))
 
 pub returns-in-Ok-clause-opened : goal.returns-in-Ok-clause-opened

@@ -1,0 +1,69 @@
+-- What the check of streams leaves: what private functions say of it (this project's own).
+use Rattle.std.specs.Prelude.{◌≡◌, ◌<◌, ℕ, Bool, false, List, vec_len}
+use Rattle.lrup_model.specs.Event.{History}
+use Rattle.lrup_model.specs.Formula.{Cnf}
+use Rattle.lrup_model.specs.Layout.{Fits, IsFault, IsStream, LayoutValue}
+use Rattle.lrup_model.specs.Plain.{formula_of, plain_state}
+use Rattle.lrup_model.specs.State.{state}
+use Rattle.clause_store.specs.Passes.{AreOf, views}
+use Rattle.lrup_text.specs.ReadOut.{SourceView}
+use Rattle.runs.specs.Headline.{HaveOneHistory}
+use Rattle.runs.specs.Streams.{TermsValue}
+use Rattle.stream_check.specs.DroppedValue.{DroppedValue}
+use Rattle.stream_check.specs.declared.report.Report.{Report}
+use Rattle.portfolio.specs.Histories.{StandsOnHistory}
+use Rattle.command.specs.Commands.{HasNoFault}
+use Rattle.command.specs.declared.fault.CommandFault.{CommandFault}
+use Rattle.command.specs.declared.fault.CommandFault.TheVariants as faults
+use Rattle.command.specs.declared.running.LeftClauses.{LeftClauses}
+use Rattle.command.specs.declared.running.LeftClauses.TheVariants as lefts
+
+-- the layout by which clauses were left
+abbrev pub layout_in : LeftClauses → LayoutValue
+layout_in (lefts.Shared left) = left.layout
+layout_in (lefts.Plain left) = left.map.layout
+
+-- the identities that the streams dropped
+abbrev pub dropped_in : LeftClauses → List DroppedValue
+dropped_in (lefts.Shared left) = left.dropped.items
+dropped_in (lefts.Plain left) = left.dropped.items
+
+-- these clauses of a formula are left by this history
+abbrev pub HasHistory : Cnf → History → LeftClauses → Type 0
+HasHistory formula history (lefts.Shared left) =
+    HaveOneHistory formula left.layout history (views left.passes.items)
+HasHistory formula history (lefts.Plain left) =
+    (formula_of left.map ≡ formula) × (plain_state left.map ≡ state formula history)
+
+-- they can be saved
+abbrev pub IsReady : LeftClauses → Type 0
+IsReady (lefts.Shared left) =
+    AreOf left.store left.passes.items × (left.store.layout ≡ left.layout)
+    × (0 < vec_len left.passes)
+IsReady (lefts.Plain left) = Fits left.map.layout (formula_of left.map)
+
+-- The reports of streams, and the clauses that these left, stand on one history.
+pub record StandsBehind {R : Type 0} (view : SourceView R) (serial : Bool) (formula : Cnf)
+    (terms : TermsValue) (firsts : List R) (reports : List Report)
+    (left : LeftClauses) : Type 0 where
+  pub history : History
+  pub lasts : List R
+  pub stands : StandsOnHistory view serial formula terms history firsts lasts reports
+      (dropped_in left)
+  pub layout : layout_in left ≡ terms.layout
+  pub has : HasHistory formula history left
+
+-- why streams aren't checked: there is no layout
+abbrev pub IsLayoutCause : LayoutValue → CommandFault → Type 0
+IsLayoutCause layout (faults.Layout fault) = IsFault layout fault
+IsLayoutCause layout fault = ⊥
+
+-- why streams weren't checked: there is no layout; or there is one, and a thread wasn't started, or what it sent had no end
+abbrev pub IsRunCause : Bool → LayoutValue → CommandFault → Type 0
+IsRunCause serial layout (faults.Layout fault) = IsFault layout fault
+IsRunCause serial layout (faults.Spawn stream) =
+    HasNoFault layout × (serial ≡ false) × IsStream layout stream
+IsRunCause serial layout (faults.Ring stream) =
+    HasNoFault layout × (serial ≡ false) × IsStream layout stream
+IsRunCause serial layout faults.Memory = Unit {0}
+IsRunCause serial layout fault = ⊥
