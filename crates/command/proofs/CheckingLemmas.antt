@@ -239,3 +239,17 @@ start_moved files given f options readers options_are entries_are serial before 
     let count = same_count _ _ readers given.streams entries_are in
     subst (λ (p : LayoutValue). IsStartCause files.its serial p before path fault after)
     (same_layout options f given (length readers) options_are count)
+
+-- so of the words and the files
+pub begun_cause : (files : FilesView) (words : List Text) (given : CommandLine) (f : Cnf) (cube : CubeValue) (options : OptionsValue)
+    (readers : List files.its.Reader) (next later last : files.its.State)
+    → IsCommandLineOf words given → IsFormulaAt files given.formula.now f next
+    → AreAssumed (WasReadIn files) f.vars next (assumed_at given) cube later
+    → options ≡ options_of given → AreOpened files.its.opens later given.streams readers last
+    → map files.its.reading.left readers ≡ map files.tells given.streams
+    → (fault : CommandFault) (after : files.its.State)
+    → IsStartCause files.its given.serial (layout_of options f (length readers)) last (created_at given) fault after
+    → IsCause files words fault after
+begun_cause files words given f cube options readers next later last line at assumed options_are opened entries_are fault after cause =
+    start_cause files words given line f next at cube later assumed readers last opened fault after
+    (start_moved files given f options readers options_are entries_are given.serial last (created_at given) fault after cause)

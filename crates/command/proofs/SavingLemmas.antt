@@ -1,21 +1,24 @@
 -- A checkpoint's file, from its creation to its end.
-use Rattle.std.proofs.Common.{◌≡◌, ◌∙◌, Bool, List, ℕ, Option, None, Some, Result, Ok, Err, refl, subst}
-use Rattle.std.specs.Prelude.{◌↔◌, IsTrue}
+use Rattle.std.proofs.Common.{◌≡◌, ◌∙◌, Bool, IfOk, IsTrue, List, ℕ, Option, None, Some, Result, Ok, Err, subst, sym}
+use Rattle.std.specs.Prelude.{◌↔◌}
+use Rattle.std.specs.Io.KnownBytes.{Appends}
 use Rattle.lrup_model.specs.Event.{History}
 use Rattle.lrup_model.specs.Formula.{Cnf}
 use Rattle.lrup_model.specs.Layout.{LayoutValue}
 use Rattle.lrup_model.specs.State.{state}
 use Rattle.lrup_text.specs.ReadOut.{SourceView}
-use Rattle.portfolio.specs.Histories.{CarriesRun, SavesRun}
 use Rattle.portfolio.specs.Saving.{CarriesState, SavesState, is_wanted}
 use Rattle.portfolio.specs.declared.outcome.Verdict.{Verdict}
 use Rattle.portfolio.specs.declared.outcome.Verdict.TheVariants.{Unsatisfiable, UnsatisfiableUnder, Unknown}
 use Rattle.runs.specs.Streams.{TermsValue}
 use Rattle.stream_check.specs.declared.report.Report.{Report}
+use Rattle.checkpoint.specs.Checkpoints.{IsCheckpoint, IsCheckpointOf}
 use Rattle.checkpoint.specs.declared.saving.SaveFault.{SaveFault}
-use Rattle.command.specs.Commands.{Deeds, IsClosed, IsLeftUnused, LeavesBehind, Text}
-use Rattle.command.specs.Running.{StandsBehind, dropped_in, layout_in}
-use Rattle.command.specs.Saving.{ClosesCheckpoint, CreatesCheckpoint, DiscardsIt}
+use Rattle.checkpoint.specs.declared.saving.SaveFault.TheVariants as faults
+use Rattle.command.specs.Commands.{Deeds, IsClosed, IsLeftUnused, LeavesBehind, SavesCheckpoint, Text}
+use Rattle.command.specs.Rounds.{CarriesCheckpoint}
+use Rattle.command.specs.Running.{HasHistory, StandsBehind, dropped_in, layout_in}
+use Rattle.command.specs.Saving.{ClosesCheckpoint, CreatesCheckpoint, DiscardsIt, KeepsNext, SavesAndCloses}
 use Rattle.command.specs.declared.running.LeftClauses.{LeftClauses}
 
 module _ (its : Deeds) {A : Type 0} (Saves : Result A SaveFault → its.Output → its.Output → Type 0) where
@@ -67,34 +70,85 @@ left_unused its before next after (Some path) None created discards = absurd cre
 left_unused its before next after (Some path) (Some first) created discards =
     record { output = first; next = next; created = created.0; empty = created.1; discarded = discards }
 
--- what is saved of what was left is saved of the run
-module _ {R W : Type 0} (view : SourceView R) (written : W → Option (List ℕ)) (serial : Bool) (f : Cnf) (terms : TermsValue)
-    (firsts : List R) (reports : List Report) (left : LeftClauses)
-    (stands : StandsBehind view serial f terms firsts reports left) where
-  pub saves_run : (result : Result (Unit {0}) SaveFault) (first last : W)
-      → SavesState written result (state f stands.history) (layout_in left) (is_wanted (dropped_in left)) first last
-      → SavesRun view written serial f terms firsts reports result first last
-  saves_run result first last saves = record {
-    history = stands.history;
-    lasts = stands.lasts;
-    dropped = dropped_in left;
-    stands = stands.stands;
-    saves = subst (λ (p : LayoutValue). SavesState written result (state f stands.history) p (is_wanted (dropped_in left)) first last)
-        stands.layout saves;
+-- What is saved of what was left is saved of the run.
+module _ (its : Deeds) (serial : Bool) (f : Cnf) (terms : TermsValue) (firsts : List its.Reader) (reports : List Report)
+    (left : LeftClauses) (stands : StandsBehind its.reading serial f terms firsts reports left) (before after : its.State)
+    (first last : its.Output) (unsaved : Option SaveFault) where
+  pub saves_and_closes : (result other : Result (Unit {0}) SaveFault) → result ≡ other
+      → ((f : Cnf) (h : History) → HasHistory f h left → IfOk result (λ _. (bytes : List ℕ)
+      × Appends (its.written first) (its.written last) bytes × IsCheckpoint f bytes))
+      → ((f : Cnf) (h : History) → HasHistory f h left
+      → SavesState its.written result (state f h) (layout_in left) (is_wanted (dropped_in left)) first last)
+      → IsTrue (its.has_failed last) ↔ (result ≡ Err faults.Unwritten)
+      → IsClosed its other before last unsaved after
+      → SavesAndCloses its (SavesCheckpoint its serial f terms firsts reports) before first unsaved after
+  saves_and_closes result other same checkpoint saves failed closed = record {
+    result = result;
+    last = last;
+    saving = record {
+      checkpoint = checkpoint f stands.history stands.has;
+      exactly = record {
+        history = stands.history;
+        lasts = stands.lasts;
+        dropped = dropped_in left;
+        stands = stands.stands;
+        saves = subst (λ (p : LayoutValue). SavesState its.written result (state f stands.history) p (is_wanted (dropped_in left)) first
+            last) stands.layout (saves f stands.history stands.has);
+      };
+      failed = failed;
+    };
+    closed = subst (λ (r : Result (Unit {0}) SaveFault). IsClosed its r before last unsaved after) (sym same) closed;
   }
 
-  pub carries_run : (result : Result Cnf SaveFault) (first last : W)
-      → CarriesState written result (state f stands.history) (layout_in left) (is_wanted (dropped_in left)) first last
-      → CarriesRun view written serial f terms firsts reports result first last
-  carries_run result first last carries = record {
-    history = stands.history;
-    lasts = stands.lasts;
-    dropped = dropped_in left;
-    stands = stands.stands;
-    carries = subst
-        (λ (p : LayoutValue). CarriesState written result (state f stands.history) p (is_wanted (dropped_in left)) first last)
-        stands.layout carries;
+  carrying : (result : Result Cnf SaveFault)
+      → ((f : Cnf) (h : History) → HasHistory f h left → IfOk result (λ next. (bytes : List ℕ)
+      × Appends (its.written first) (its.written last) bytes × IsCheckpointOf f bytes next))
+      → ((f : Cnf) (h : History) → HasHistory f h left
+      → CarriesState its.written result (state f h) (layout_in left) (is_wanted (dropped_in left)) first last)
+      → IsTrue (its.has_failed last) ↔ (result ≡ Err faults.Unwritten)
+      → CarriesCheckpoint its serial f terms firsts reports result first last
+  carrying result next carries failed = record {
+    checkpoint = next f stands.history stands.has;
+    exactly = record {
+      history = stands.history;
+      lasts = stands.lasts;
+      dropped = dropped_in left;
+      stands = stands.stands;
+      carries = subst (λ (p : LayoutValue). CarriesState its.written result (state f stands.history) p (is_wanted (dropped_in left)) first
+          last) stands.layout (carries f stands.history stands.has);
+    };
+    failed = failed;
   }
+
+  pub carries_and_closes : (result other : Result Cnf SaveFault) → result ≡ other
+      → ((f : Cnf) (h : History) → HasHistory f h left → IfOk result (λ next. (bytes : List ℕ)
+      × Appends (its.written first) (its.written last) bytes × IsCheckpointOf f bytes next))
+      → ((f : Cnf) (h : History) → HasHistory f h left
+      → CarriesState its.written result (state f h) (layout_in left) (is_wanted (dropped_in left)) first last)
+      → IsTrue (its.has_failed last) ↔ (result ≡ Err faults.Unwritten)
+      → IsClosed its other before last unsaved after
+      → SavesAndCloses its (CarriesCheckpoint its serial f terms firsts reports) before first unsaved after
+  carries_and_closes result other same next carries failed closed = record {
+    result = result;
+    last = last;
+    saving = carrying result next carries failed;
+    closed = subst (λ (r : Result Cnf SaveFault). IsClosed its r before last unsaved after) (sym same) closed;
+  }
+
+  pub keeps_next : (result : Result Cnf SaveFault) (made : Cnf) → result ≡ Ok made
+      → ((f : Cnf) (h : History) → HasHistory f h left → IfOk result (λ next. (bytes : List ℕ)
+      × Appends (its.written first) (its.written last) bytes × IsCheckpointOf f bytes next))
+      → ((f : Cnf) (h : History) → HasHistory f h left
+      → CarriesState its.written result (state f h) (layout_in left) (is_wanted (dropped_in left)) first last)
+      → IsTrue (its.has_failed last) ↔ (result ≡ Err faults.Unwritten)
+      → its.keeps before last after
+      → KeepsNext its (CarriesCheckpoint its serial f terms firsts reports) before first after made
+  keeps_next result made same next carries failed kept = (
+    last,
+    subst (λ (r : Result Cnf SaveFault). CarriesCheckpoint its serial f terms firsts reports r first last) same
+        (carrying result next carries failed),
+    kept,
+  )
 
 -- by other terms that are the same
 pub stands_moved : {R : Type 0} (view : SourceView R) (serial : Bool) (f : Cnf) (terms other : TermsValue) (firsts : List R)

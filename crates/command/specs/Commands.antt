@@ -33,7 +33,7 @@ use Rattle.command_line.specs.CommandLine.{AskFor, AskForRounds, AskToSave, Have
 use Rattle.command_line.specs.declared.words.CommandLine.{CommandLine}
 use Rattle.command.specs.Faults.{status_of, error_text, round_error_text}
 use Rattle.command.specs.Paths as round_paths
-use Rattle.command.specs.declared.checking.Setup.{Setup}
+use Rattle.command.specs.declared.running.Setup.{Setup}
 use Rattle.command.specs.declared.files.Files as Files
 use Rattle.command.specs.declared.files.Machine as Machine
 use Rattle.command.specs.declared.files.OpenFault.{OpenFault}

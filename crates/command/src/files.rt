@@ -34,6 +34,8 @@ impl From<io::Error> for OpenFault {
 
 /// The files that paths name.
 pub trait Files {
+    ghost use Rattle.command.specs.declared.files.OpenFault.{OpenFault};
+
     /// A file that is open.
     type Input: Source + Send + Drop;
 
@@ -59,6 +61,8 @@ pub trait Files {
 
 /// What options need besides: files that may be there, files that are created, and sinks on which progress is reported.
 pub trait Machine: Files {
+    ghost use Rattle.command.specs.declared.files.OpenFault.{OpenFault};
+
     /// A file that was created.
     type Output: Sink + Drop;
 

@@ -83,8 +83,8 @@ pub(crate) fn run_streams<T: Threads + Wait + Sync, C: Clock + Sync, F: Machine>
         IfOk result (λ run. AreChecked (readers_view F.Input.Source) setup.now.serial
         setup.now.formula.now terms readers.items run.reports.items run.verdict) }
     ensures stands { let terms = terms_on setup.now (length readers.items) in
-        IfOk result (StandsBehind (readers_view F.Input.Source) setup.now.serial
-        setup.now.formula.now terms readers.items) }
+        IfOk result (λ run. StandsBehind (readers_view F.Input.Source) setup.now.serial
+        setup.now.formula.now terms readers.items run.reports.items run.left) }
     ensures ready { IfOk result (λ run. IsReady run.left) }
     ensures cause { let terms = terms_on setup.now (length readers.items) in
         IfErr result (IsRunCause setup.now.serial terms.layout) }
@@ -110,8 +110,8 @@ fn run_by_turns<W: Wait, C: Clock + Sync, F: Machine>(
         IfOk result (λ run. AreChecked (readers_view F.Input.Source) true setup.now.formula.now
         terms readers.items run.reports.items run.verdict) }
     ensures stands { let terms = terms_on setup.now (length readers.items) in
-        IfOk result (StandsBehind (readers_view F.Input.Source) true setup.now.formula.now terms
-        readers.items) }
+        IfOk result (λ run. StandsBehind (readers_view F.Input.Source) true setup.now.formula.now
+        terms readers.items run.reports.items run.left) }
     ensures ready { IfOk result (λ run. IsReady run.left) }
     ensures cause { let terms = terms_on setup.now (length readers.items) in
         IfErr result (IsRunCause true terms.layout) }
@@ -154,8 +154,8 @@ fn run_in_threads<T: Threads + Wait + Sync, C: Clock + Sync, F: Machine>(
         IfOk result (λ run. AreChecked (readers_view F.Input.Source) false setup.now.formula.now
         terms readers.items run.reports.items run.verdict) }
     ensures stands { let terms = terms_on setup.now (length readers.items) in
-        IfOk result (StandsBehind (readers_view F.Input.Source) false setup.now.formula.now terms
-        readers.items) }
+        IfOk result (λ run. StandsBehind (readers_view F.Input.Source) false setup.now.formula.now
+        terms readers.items run.reports.items run.left) }
     ensures ready { IfOk result (λ run. IsReady run.left) }
     ensures cause { let terms = terms_on setup.now (length readers.items) in
         IfErr result (IsRunCause false terms.layout) }

@@ -1,4 +1,4 @@
-use Rattle.std.proofs.Common.{◌≡◌, List, inl, inr, map, rules, string_bytes, subst, sym}
+use Rattle.std.proofs.Common.{◌≡◌, List, inl, inr, map, refl, rules, string_bytes, subst, sym}
 use Rattle.clap.specs.Walk.{texts}
 use Rattle.command_line.specs.CommandLine.{AskToSave, HaveFault}
 use Rattle.command.specs.Arguments.{words_after_name}
@@ -12,7 +12,7 @@ use Rattle.command.proofs.arguments.with_words.Goals as goal
 pub returns-in_default-clause-ends : goal.returns-in_default-clause-ends
 returns-in_default-clause-ends g c = inr (inl (record {
   fault = faults.Memory;
-  cause = tt;
+  cause = inl refl;
   untouched = record { written = search rules; failed = c.requires.out };
   said = c.say.ensures.said;
   status_is = c.say.ensures.status;
@@ -21,7 +21,7 @@ returns-in_default-clause-ends g c = inr (inl (record {
 pub returns-in_default-words_of-clause-ends : goal.returns-in_default-words_of-clause-ends
 returns-in_default-words_of-clause-ends g c = inr (inl (record {
   fault = faults.Memory;
-  cause = tt;
+  cause = inl refl;
   untouched = record { written = search rules; failed = c.requires.out };
   said = c.say-in_default-words_of.ensures.said;
   status_is = c.say-in_default-words_of.ensures.status;
@@ -49,8 +49,12 @@ returns-clause-saved g c path ask is =
     let Read = WasRead g.F.Files.opens g.F.Input.Source.reads (g.F.Files.tells c.args.files.now) in
     let Save = WasSaved g.F.Machine.creates g.F.Output.Sink.written g.F.Machine.keeps in
     let asked = subst (λ (words : List Text). AskToSave words path) (sym (same_words g c)) ask in
-    subst (λ (words : List Text). NameCheckpoint Read Save c.args.files.now words path c.command.new.files) (same_words g c)
+    subst (λ (words : List Text). NameCheckpoint g.F.Files.opens Read Save c.args.files.now words path c.command.new.files) (same_words g c)
     (c.command.ensures.saved path asked is)
+
+pub returns-clause-none_saved : goal.returns-clause-none_saved
+returns-clause-none_saved g c path ask is =
+    c.command.ensures.none_saved path (subst (λ (words : List Text). AskToSave words path) (sym (same_words g c)) ask) is
 
 pub returns-clause-usage : goal.returns-clause-usage
 returns-clause-usage g c fault = c.command.ensures.usage (subst HaveFault (sym (same_words g c)) fault)

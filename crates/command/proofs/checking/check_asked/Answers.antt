@@ -1,19 +1,126 @@
 use Rattle.std.proofs.Common.{◌≡◌, ◌∙◌, ℕ, Option, length, sym, subst}
-use Rattle.portfolio.specs.Outcomes.{layout_of}
-use Rattle.command.specs.Commands.{HasNoFault, IsCause, IsFormulaAt, IsStartCause, Text, checkpoint_at, created_path, files_view}
-use Rattle.command.specs.Commands.{from_first, options_of}
+use Rattle.portfolio.specs.Outcomes.{layout_of, terms_of}
+use Rattle.command.specs.Commands.{HasNoFault, IsCause, IsFormulaAt, IsLeftUnused, Text, checkpoint_at, created_at, created_path}
+use Rattle.command.specs.Commands.{files_view, from_first}
 use Rattle.command.specs.Running.{IsLayoutCause}
+use Rattle.command.specs.Saving.{IsNotCreated}
 use Rattle.command.specs.declared.fault.CommandFault.{CommandFault}
-use Rattle.command.proofs.CheckingLemmas.{create_start, err_given, is_outcome, layout_start, run_start, some_given, start_cause}
-use Rattle.command.proofs.CheckingLemmas.{start_moved}
+use Rattle.command.proofs.CheckingLemmas.{begun_cause, create_start, err_given, is_outcome, layout_start, run_start, some_given}
 use Rattle.command.proofs.SavingLemmas.{leaves_behind, left_unused}
-use Rattle.command.proofs.checking.check_asked.Given as given
 use Rattle.command.proofs.checking.check_asked.Goals as goal
 
 pub returns-in_err-begun-clause-cause : goal.returns-in_err-begun-clause-cause
 returns-in_err-begun-clause-cause g c words first good at =
     let files = from_first (files_view g.F.Files g.F.Machine g.F.Input.Source g.F.Output.Sink c.args.files.now) first in
-    let after = c.begin.new.files in
-    let Cause : CommandFault → Type 0 = λ fault. IsCause files words fault after in
-    let cause = c.in_err-begun.ensures.cause words first good at in
+    let Cause : CommandFault → Type 0 = λ fault. IsCause files words fault c.begin.new.files in
+    let cause : Cause c.in_err-begun.field-0.0 = c.in_err-begun.ensures.cause words first good at in
     err_given c.from_residual.result _ Cause (λ other is. subst Cause (sym is) cause) c.from_residual.ensures.1
+
+pub returns-in_err-find_layout-clause-cause : goal.returns-in_err-find_layout-clause-cause
+returns-in_err-find_layout-clause-cause g c words first good at =
+    let files = from_first (files_view g.F.Files g.F.Machine g.F.Input.Source g.F.Output.Sink c.args.files.now) first in
+    let line = c.args.asked.line in
+    let begun = c.in_ok-begun.begun in
+    let of = c.in_ok-begun.ensures.begun in
+    let last = c.begin.new.files in
+    let readers = begun.readers.items in
+    let is_formula : IsFormulaAt files line.formula.now begun.formula c.args.files.now =
+    (c.args.asked.formula.items, at, c.in_ok-begun.ensures.formula) in
+    let options = some_given _ c.unwrap-options.ensures c.new.ensures.some in
+    let count : c.len.result ≡ length readers = c.len.ensures ∙ begun.readers.ok.0 in
+    let layout = layout_of c.unwrap-options.result begun.formula (length readers) in
+    let fault = c.in_err-find_layout.field-0.0 in
+    let refused = subst (λ (n : ℕ). IsLayoutCause (layout_of c.unwrap-options.result begun.formula n) fault) count
+    c.in_err-find_layout.ensures.cause in
+    let Cause : CommandFault → Type 0 = λ fault. IsCause files words fault last in
+    let cause : Cause fault = begun_cause files words line begun.formula begun.cube c.unwrap-options.result readers c.args.files.now
+    of.later last good is_formula of.assumed options of.opened of.left fault last
+    (layout_start files.its line.serial layout last (created_at line) fault refused) in
+    err_given c.from_residual-in_err-find_layout.result _ Cause (λ other is. subst Cause (sym is) cause)
+    c.from_residual-in_err-find_layout.ensures.1
+
+pub returns-in_err-output-clause-cause : goal.returns-in_err-output-clause-cause
+returns-in_err-output-clause-cause g c words first good at =
+    let files = from_first (files_view g.F.Files g.F.Machine g.F.Input.Source g.F.Output.Sink c.args.files.now) first in
+    let line = c.args.asked.line in
+    let begun = c.in_ok-begun.begun in
+    let of = c.in_ok-begun.ensures.begun in
+    let last = c.begin.new.files in
+    let readers = begun.readers.items in
+    let is_formula : IsFormulaAt files line.formula.now begun.formula c.args.files.now =
+    (c.args.asked.formula.items, at, c.in_ok-begun.ensures.formula) in
+    let options = some_given _ c.unwrap-options.ensures c.new.ensures.some in
+    let count : c.len.result ≡ length readers = c.len.ensures ∙ begun.readers.ok.0 in
+    let layout = layout_of c.unwrap-options.result begun.formula (length readers) in
+    let fault = c.in_err-output.field-0.0 in
+    let after = c.create_checkpoint.new.files in
+    let none = subst (λ (n : ℕ). HasNoFault (layout_of c.unwrap-options.result begun.formula n)) count c.in_ok-find_layout.ensures.found in
+    let refused = subst (λ (o : Option Text). IsNotCreated files.its last (created_path o (checkpoint_at line)) fault after)
+    (sym c.requires.once) c.in_err-output.ensures.cause in
+    let Cause : CommandFault → Type 0 = λ fault. IsCause files words fault after in
+    let cause : Cause fault = begun_cause files words line begun.formula begun.cube c.unwrap-options.result readers c.args.files.now
+    of.later last good is_formula of.assumed options of.opened of.left fault after
+    (create_start files.its line.serial layout last (created_at line) fault after none refused) in
+    err_given c.from_residual-in_err-output.result _ Cause (λ other is. subst Cause (sym is) cause)
+    c.from_residual-in_err-output.ensures.1
+
+pub returns-in-Err-clause-cause : goal.returns-in-Err-clause-cause
+returns-in-Err-clause-cause g c words first good at =
+    let files = from_first (files_view g.F.Files g.F.Machine g.F.Input.Source g.F.Output.Sink c.args.files.now) first in
+    let line = c.args.asked.line in
+    let begun = c.in_ok-begun.begun in
+    let of = c.in_ok-begun.ensures.begun in
+    let last = c.begin.new.files in
+    let readers = begun.readers.items in
+    let is_formula : IsFormulaAt files line.formula.now begun.formula c.args.files.now =
+    (c.args.asked.formula.items, at, c.in_ok-begun.ensures.formula) in
+    let options = some_given _ c.unwrap-options.ensures c.new.ensures.some in
+    let count : c.len.result ≡ length readers = c.len.ensures ∙ begun.readers.ok.0 in
+    let layout = layout_of c.unwrap-options.result begun.formula (length readers) in
+    let fault = c.in-Err.fault in
+    let after = c.discard_it.new.files in
+    let none = subst (λ (n : ℕ). HasNoFault (layout_of c.unwrap-options.result begun.formula n)) count c.in_ok-find_layout.ensures.found in
+    let unused = left_unused files.its last c.create_checkpoint.new.files after (checkpoint_at line) c.in_ok-output.output
+    c.in_ok-output.ensures.created c.discard_it.ensures in
+    let at_path = subst (λ (o : Option Text). IsLeftUnused files.its last (created_path o (checkpoint_at line)) after)
+    (sym c.requires.once) unused in
+    begun_cause files words line begun.formula begun.cube c.unwrap-options.result readers c.args.files.now
+    of.later last good is_formula of.assumed options of.opened of.left fault after
+    (run_start files.its line.serial layout last (created_at line) fault after none c.in-Err.ensures.cause at_path)
+
+pub returns-clause-outcome : goal.returns-clause-outcome
+returns-clause-outcome g c words first good at =
+    let files = from_first (files_view g.F.Files g.F.Machine g.F.Input.Source g.F.Output.Sink c.args.files.now) first in
+    let line = c.args.asked.line in
+    let begun = c.in_ok-begun.begun in
+    let of = c.in_ok-begun.ensures.begun in
+    let last = c.begin.new.files in
+    let readers = begun.readers.items in
+    let is_formula : IsFormulaAt files line.formula.now begun.formula c.args.files.now =
+    (c.args.asked.formula.items, at, c.in_ok-begun.ensures.formula) in
+    let options = some_given _ c.unwrap-options.ensures c.new.ensures.some in
+    let count : c.len.result ≡ length readers = c.len.ensures ∙ begun.readers.ok.0 in
+    let layout = layout_of c.unwrap-options.result begun.formula (length readers) in
+    let run = c.in-Ok.run' in
+    let after = c.close_checkpoint-unsaved.new.files in
+    let unsaved = c.close_checkpoint-unsaved.result in
+    let closes = c.close_checkpoint-unsaved.ensures line.serial begun.formula
+    (terms_of c.unwrap-options.result begun.cube begun.formula (length readers)) readers run.reports.items c.in-Ok.ensures.stands in
+    is_outcome files words line begun.formula begun.cube c.unwrap-options.result readers c.args.files.now of.later last good is_formula
+    of.assumed options of.opened of.left run.reports.items run.verdict unsaved after c.in-Ok.ensures.checked
+    (leaves_behind files.its _ run.verdict last c.create_checkpoint.new.files after (checkpoint_at line) c.in_ok-output.output unsaved
+    c.in_ok-output.ensures.created closes)
+
+pub returns-clause-sound : goal.returns-clause-sound
+returns-clause-sound g c unsatisfiable =
+    (c.in_ok-begun.begun.formula, c.in_ok-begun.ensures.formula, c.in-Ok.ensures.checked.sound unsatisfiable)
+
+pub returns-clause-sound_under : goal.returns-clause-sound_under
+returns-clause-sound_under g c unsatisfiable = (
+  c.in_ok-begun.begun.formula,
+  c.in_ok-begun.begun.cube,
+  c.in_ok-begun.ensures.begun.later,
+  c.in_ok-begun.ensures.formula,
+  c.in_ok-begun.ensures.begun.assumed,
+  c.in-Ok.ensures.checked.sound_under unsatisfiable,
+)

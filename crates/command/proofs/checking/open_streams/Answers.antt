@@ -1,7 +1,11 @@
-use Rattle.std.proofs.Common.{◌∙◌, ◌+◌, ◌≡◌, false, inl, sym, ap, subst, arith}
+use Rattle.std.proofs.Common.{◌∙◌, ◌≡◌, [], false, inl, inr, refl, sym, subst, arith}
 use Rattle.std.specs.List.{AllByRecursion}
 use Rattle.lrup_model.specs.ListLemmas.{All-push}
-use Rattle.command.specs.Commands.{deeds}
+use Rattle.clap.specs.Walk.{texts}
+use Rattle.command.specs.Commands.{IsOpenCause, deeds}
+use Rattle.command.specs.declared.fault.CommandFault.{CommandFault}
+use Rattle.command.specs.declared.fault.CommandFault.TheVariants as faults
+use Rattle.command.proofs.CheckingLemmas.{err_given}
 use Rattle.command.proofs.OpeningLemmas.{all_opened_more, opened_more, refused_at}
 use Rattle.command.proofs.checking.open_streams.Goals as goal
 
@@ -31,7 +35,7 @@ returns-in-Err-NotOpened-clause-cause g c =
     let now = c.loop-path in
     let its = deeds g.F.Files g.F.Machine g.F.Input.Source g.F.Output.Sink in (
       now.path-index,
-      ap (λ n. n + 1) (c.len.ensures ∙ now.invariant.count),
+      (let count : c.len.result ≡ now.path-index = c.len.ensures ∙ now.invariant.count in omega (arith, count)),
       refused_at its (λ p. p.now) c.args.files.now c.args.paths.now now.readers.items now.files now.path-index _ _ c.open.new.self
           c.loop-path-test.true now.invariant.opened (rw c.in-Err-NotOpened.field-0-is at c.in-Err-NotOpened.ensures.refuses),
     )
@@ -46,3 +50,11 @@ returns-in-Err-Memory-clause-cause g c =
       refused_at its (λ p. p.now) c.args.files.now c.args.paths.now now.readers.items now.files now.path-index _ _ c.open.new.self
           c.loop-path-test.true now.invariant.opened (rw c.in-Err-Memory.field-0-is at c.in-Err-Memory.ensures.refuses),
     )
+
+-- memory ran out before the first was opened
+pub returns-in_err-readers-clause-cause : goal.returns-in_err-readers-clause-cause
+returns-in_err-readers-clause-cause g c =
+    let before = c.args.files.now in
+    let Cause : CommandFault → Type 0 = λ fault. IsOpenCause (deeds g.F.Files g.F.Machine g.F.Input.Source g.F.Output.Sink) 0 before (texts c.args.paths.now) fault before in
+    let cause : Cause faults.Memory = inr (0, [], refl) in
+    err_given c.from_residual.result _ Cause (λ fault is. subst Cause (sym is) cause) c.from_residual.ensures.1

@@ -1,4 +1,4 @@
-use Rattle.std.proofs.Common.{ℕ, Bool, List, Option, inl, inr, rules, subst}
+use Rattle.std.proofs.Common.{ℕ, List, Option, inl, inr, rules, subst}
 use Rattle.clap.specs.Walk.{texts}
 use Rattle.command.specs.Commands.{FilesView, Text, WasReadIn, change, files_view}
 use Rattle.command.specs.Rounds.{ProgramEnds}
@@ -27,19 +27,16 @@ returns-in-Ok-clause-ends g c =
     let words = texts c.args.words.now in
     let first = c.args.files.now in
     let next = c.read_asked.new.files in
-    let view : (Text → Option (List ℕ)) → (Text → Bool) → (Text → Bool) → FilesView =
-    λ t m n. record (files_view g.F.Files g.F.Machine g.F.Input.Source g.F.Output.Sink first) { tells = t; may_refuse = m; may_refuse_new = n } in
+    let view : (Text → Option (List ℕ)) → FilesView =
+    λ t. record (files_view g.F.Files g.F.Machine g.F.Input.Source g.F.Output.Sink first) { tells = t } in
     let output =
     change (g.O.Sink.written c.args.out.now) (g.O.Sink.written c.check_formula.new.out) (g.O.Sink.has_failed c.check_formula.new.out) in
     let errors =
     change (g.E.Sink.written c.args.err.now) (g.E.Sink.written c.check_formula.new.err) (g.E.Sink.has_failed c.check_formula.new.err) in
-    let Told : (Text → Option (List ℕ)) → (Text → Bool) → (Text → Bool)
-    → Type 0 = λ t m n. WasReadIn (view t m n) first asked.line.formula.now asked.formula.items next
-    → ProgramEnds (view t m n) words c.check_formula.new.files output errors c.check_formula.result in
+    let Told : (Text → Option (List ℕ)) → Type 0 = λ t. WasReadIn (view t) first asked.line.formula.now asked.formula.items next
+    → ProgramEnds (view t) words c.check_formula.new.files output errors c.check_formula.result in
     let ends = c.check_formula.ensures.ends words first c.in-Ok.ensures.line in
-    let told = subst (λ t. Told t (g.F.Files.may_refuse next) (g.F.Files.may_refuse_new next)) c.in-Ok.ensures.stays ends in
-    let refused = subst (λ m. Told (g.F.Files.tells first) m (g.F.Files.may_refuse_new next)) c.in-Ok.ensures.stays_refused told in
-    subst (Told (g.F.Files.tells first) (g.F.Files.may_refuse first)) c.in-Ok.ensures.stays_refused_new refused c.in-Ok.ensures.bytes
+    subst Told c.in-Ok.ensures.stays ends c.in-Ok.ensures.bytes
 
 pub returns-in-Ok-clause-saved : goal.returns-in-Ok-clause-saved
 returns-in-Ok-clause-saved g c = all_saved _ _ _ _ _ _ (returns-in-Ok-clause-ends g c)

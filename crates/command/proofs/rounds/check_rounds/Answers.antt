@@ -1,17 +1,19 @@
 use Rattle.std.proofs.Common.{◌≡◌, ◌∙◌, ℕ, IfErr, IfOk, None, ap, inl, inr, map, subst, sym}
 use Rattle.command_line.specs.declared.sizes.Sizes.{Sizes}
-use Rattle.command.specs.Commands.{IsCause, IsFormulaAt, checkpoint_at, files_view, from_first}
-use Rattle.command.specs.Rounds.{StreamsOpened, deeds, plan_at, sizes_of}
+use Rattle.command.specs.Commands.{IsCause, IsFormulaAt, checkpoint_at, deeds, files_view, from_first}
+use Rattle.command.specs.Rounds.{StreamsOpened, plan_at, sizes_of}
 use Rattle.command.specs.Standing.{EndsAt, FailsAt, IsReported, IsRoundsFault}
-use Rattle.command.proofs.CheckingLemmas.{if_err, if_ok}
-use Rattle.command.proofs.RoundLemmas.{ends_sound, ends_sound_under, no_path, opened_count, start_cause}
+use Rattle.command.specs.declared.fault.CommandFault.{CommandFault}
+use Rattle.command.proofs.CheckingLemmas.{if_err, if_ok, start_cause}
+use Rattle.command.proofs.RoundLemmas.{ends_sound, ends_sound_under, first_start, no_path, opened_count}
 use Rattle.command.proofs.rounds.check_rounds.Given as given
 use Rattle.command.proofs.rounds.check_rounds.Goals as goal
 
 -- a fault of what the rounds begin with is one of round 1
 pub returns-in-Err-clause-cause : goal.returns-in-Err-clause-cause
 returns-in-Err-clause-cause g c words first good at =
-    let Cause = IsCause (from_first (files_view g.F.Files g.F.Machine g.F.Input.Source g.F.Output.Sink c.args.files.now) first) words in
+    let Cause : CommandFault → Type 0 = λ fault. IsCause (from_first (files_view g.F.Files g.F.Machine g.F.Input.Source g.F.Output.Sink c.args.files.now) first) words fault
+    c.begin.new.files in
     let cause : Cause c.in-Err.fault = c.in-Err.ensures.cause words first good at in
     let of = c.of_first-in-Err.ensures in
     inl (of.round, subst Cause (sym of.fault) cause)
@@ -125,14 +127,17 @@ returns-clause-cause g c words first good at =
     (c.args.asked.formula.items, at, c.in-Ok.ensures.formula) in
     let alone : checkpoint_at line ≡ None = no_path line.checkpoint c.if-is_some.ensures in
     let fails = subst
-    (λ (s : Sizes). IfErr c.go_on.result (FailsAt its plan begun.formula s of.later line.streams c.begin.new.files))
+    (λ (s : Sizes). IfErr c.go_on.result (λ failed. FailsAt its plan begun.formula s of.later line.streams c.begin.new.files failed
+    c.go_on.new.files))
     (sizes_are g c) (c.go_on.ensures.cause of.later line.streams (opened g c)) in
-    if_err c.go_on.result _ (IsRoundsFault files words line folder)
+    if_err c.go_on.result _ (λ failed. IsRoundsFault files words line folder failed c.go_on.new.files)
     (λ failed fails. elim fails [
       | inl one ↦ inl (
         one.0,
-        start_cause files words line folder begun.formula begun.cube c.args.files.now of.later c.begin.new.files good is_formula of.assumed
-            begun.readers.items of.opened c.requires.folder c.in-Ok.ensures.stays_refused_new failed.fault one.1,
+        start_cause files words line good begun.formula c.args.files.now is_formula begun.cube of.later of.assumed begun.readers.items
+            c.begin.new.files of.opened failed.fault c.go_on.new.files
+            (first_start its plan line begun.cube folder begun.formula c.begin.new.files c.requires.folder failed.fault c.go_on.new.files
+            one.1),
       )
       | inr after ↦ inr (record {
         last = after.last;

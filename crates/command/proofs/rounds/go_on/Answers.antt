@@ -1,6 +1,6 @@
 use Rattle.std.proofs.Common.{◌∙◌, Ok, Option, ap, arith, inr, subst}
 use Rattle.lrup_model.specs.Formula.{Cnf}
-use Rattle.command.specs.Rounds.{deeds}
+use Rattle.command.specs.Commands.{deeds}
 use Rattle.command.specs.Standing.{RoundsStand, plan_of}
 use Rattle.command.proofs.RoundLemmas.{ends_alone, ends_barred, ends_high, fails_after, stands_first}
 use Rattle.command.proofs.rounds.go_on.Goals as goal
@@ -48,7 +48,8 @@ returns-in-Err-next_round-clause-cause g c first paths opened =
     let plan = plan_of c.args.course.now in
     let now = c.loop-number in
     let round = c.args.round in
-    inr (fails_after its plan round.formula round.sizes first paths now.last c.in-Some.formula now.files _
+    inr (fails_after its plan round.formula round.sizes first paths now.last c.in-Some.formula now.files
+    c.next_round.new.files _
     (subst (λ (n : Option Cnf). RoundsStand its plan round.formula round.sizes first paths now.last n now.files) c.in-Some.is
     (now.invariant.stands first paths opened))
     c.in-Err-next_round.ensures.cause now.invariant.number)

@@ -1,6 +1,6 @@
 use Rattle.std.proofs.Common.{◌≡◌, ◌+◌, List}
-use Rattle.command.specs.Commands.{Text}
-use Rattle.command.specs.Rounds.{StreamsOpened, deeds}
+use Rattle.command.specs.Commands.{Text, deeds}
+use Rattle.command.specs.Rounds.{StreamsOpened}
 use Rattle.command.specs.Standing.{RoundsStand, plan_of}
 use Rattle.command.proofs.rounds.go_on.Given as goal
 

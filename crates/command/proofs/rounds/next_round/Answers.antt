@@ -1,7 +1,8 @@
 use Rattle.std.proofs.Common.{inl, inr, subst, sym, ℕ}
 use Rattle.command_line.specs.declared.sizes.Sizes.{Sizes}
 use Rattle.command.specs.Paths.{sizes_path, stream_paths}
-use Rattle.command.specs.Rounds.{AreSized, IsStartCause, IsStreamCause, StreamsOpened, deeds}
+use Rattle.command.specs.Commands.{deeds}
+use Rattle.command.specs.Rounds.{AreSized, IsRoundStartCause, IsStreamCause, StreamsOpened}
 use Rattle.command.specs.Standing.{RoundsStand, plan_of}
 use Rattle.command.proofs.RoundLemmas.{for_some, stands_next}
 use Rattle.command.proofs.rounds.next_round.Goals as goal
@@ -41,7 +42,8 @@ returns-in-Err-check_round-clause-cause g c =
     let number = c.requires.after in
     let are : StreamsOpened its sized (stream_paths plan.folder c.args.number sizes.streams) readers opened =
     rw c.in-Ok-Some.field-0-is at c.in-Ok-Some.ensures.opened in
-    let cause : IsStartCause its plan c.args.number c.args.formula sizes opened fault = c.in-Err-check_round.ensures.cause in
+    let after = c.check_round.new.files in
+    let cause : IsRoundStartCause its plan c.args.number c.args.formula sizes opened fault after = c.in-Err-check_round.ensures.cause in
     inr (
       sizes,
       sized,
@@ -50,7 +52,7 @@ returns-in-Err-check_round-clause-cause g c =
         readers,
         opened,
         subst (λ (n : ℕ). StreamsOpened its sized (stream_paths plan.folder n sizes.streams) readers opened) number are,
-        subst (λ (n : ℕ). IsStartCause its plan n c.args.formula sizes opened fault) number cause,
+        subst (λ (n : ℕ). IsRoundStartCause its plan n c.args.formula sizes opened fault after) number cause,
       ),
     )
 
@@ -63,11 +65,12 @@ returns-in-Err-clause-cause g c =
     let sizes = c.in_ok-sizes.sizes in
     let fault = c.in-Err.fault in
     let number = c.requires.after in
-    let cause : IsStreamCause its sized plan.folder c.args.number sizes.streams fault = c.in-Err.ensures.cause in
+    let after = c.open_round.new.files in
+    let cause : IsStreamCause its sized plan.folder c.args.number sizes.streams fault after = c.in-Err.ensures.cause in
     inr (
       sizes,
       sized,
       subst (λ (n : ℕ). AreSized its (sizes_path plan.folder n) c.args.last.now.sizes c.args.files.now sizes sized) number
           c.in_ok-sizes.ensures.sized,
-      inl (subst (λ (n : ℕ). IsStreamCause its sized plan.folder n sizes.streams fault) number cause),
+      inl (subst (λ (n : ℕ). IsStreamCause its sized plan.folder n sizes.streams fault after) number cause),
     )

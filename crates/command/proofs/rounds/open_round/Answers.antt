@@ -1,10 +1,9 @@
-use Rattle.std.proofs.Common.{◌≡◌, ◌∙◌, ◌-◌, Err, IsTrue, List, Ok, ap, drop, length, map, string_bytes, subst, take}
+use Rattle.std.proofs.Common.{◌≡◌, ◌∙◌, ◌-◌, List, Ok, ap, drop, inl, inr, length, map, refl, string_bytes, subst, take}
 use Rattle.clap.specs.Walk.{texts}
-use Rattle.command.specs.Commands.{AreOpened, Text}
+use Rattle.command.specs.Commands.{AreOpened, IsOpenCause, Text, deeds}
 use Rattle.command.specs.Paths.{stream_paths}
-use Rattle.command.proofs.RoundLemmas.{first_cause, first_word, later_cause, left_from, never_first, opened_count, opened_from}
-use Rattle.command.proofs.RoundLemmas.{other_words, path_and_rest, paths_count}
-use Rattle.command.specs.Standing.{IsLaterCause}
+use Rattle.command.specs.declared.files.OpenFault.TheVariants as open_faults
+use Rattle.command.proofs.RoundLemmas.{first_word, left_from, opened_count, opened_from, other_words, path_and_rest, paths_count}
 use Rattle.command.proofs.rounds.open_round.Goals as goal
 
 pub returns-in-Ok-None-clause-lacks : goal.returns-in-Ok-None-clause-lacks
@@ -58,16 +57,17 @@ returns-in-Ok-Some-clause-cause g c =
     let path_is = first_word words c.index.result.now _ _ (same ∙ split) c.index.ensures in
     let before = c.args.files.now in
     let next = c.open_if_there.new.self in
+    let after = c.open_others.new.files in
     let first = c.in-Ok-Some.first in
     let rest_is = ap (λ ws. texts (take (length ws - 1) (drop 1 ws))) c.deref-in-Ok-Some.ensures.value ∙ other_words words
     ∙ ap (drop 1) same in
     let opens : g.F.Files.opens before c.index.result.now.now first next = rw c.in-Ok-Some.field-0-is at c.in-Ok-Some.ensures.opens in
-    let may = g.F.Files.may_refuse in
-    let cause = subst (λ (ps : List Text). IsLaterCause g.F.Files.opens (may next) next ps c.in-Err.fault) rest_is
-    c.in-Err.ensures.cause in (
-      later_cause g.F.Files.opens (may before) (may next) before next first _ _ _ split c.in-Ok-Some.ensures.stays_refused
-          (subst (λ (p : Text). g.F.Files.opens before p first next) path_is opens) c.in-Err.fault cause,
-      λ one. absurd (never_first g.F.Files.opens (may next) next _ c.in-Err.fault cause one),
+    let its = deeds g.F.Files g.F.Machine g.F.Input.Source g.F.Output.Sink in
+    inr (
+      first,
+      next,
+      subst (λ (p : Text). g.F.Files.opens before p first next) path_is opens,
+      subst (λ (ps : List Text). IsOpenCause its 1 next ps c.in-Err.fault after) rest_is c.in-Err.ensures.cause,
     )
 
 pub returns-in-Err-NotOpened-clause-cause : goal.returns-in-Err-NotOpened-clause-cause
@@ -77,9 +77,15 @@ returns-in-Err-NotOpened-clause-cause g c =
     let same = c.in_ok-words.ensures ∙ ap (map string_bytes) c.deref.ensures.value ∙ c.in_ok-paths.ensures in
     let split = path_and_rest folder c.args.number c.args.streams c.requires.some in
     let path_is = first_word words c.index.result.now _ _ (same ∙ split) c.index.ensures in
-    let refused = c.open_if_there.ensures.refused (c.in-Err-NotOpened.is ∙ ap Err c.in-Err-NotOpened.field-0-is) in
-    let fails = c.open_if_there.ensures.fails (c.in-Err-NotOpened.is ∙ ap Err c.in-Err-NotOpened.field-0-is) in (
-      first_cause g.F.Files.opens (g.F.Files.may_refuse c.args.files.now) c.args.files.now _ _ _ split
-          (subst (λ (p : Text). IsTrue (g.F.Files.may_refuse c.args.files.now p)) path_is refused),
-      λ one. subst (λ (p : Text). IsTrue (g.F.Files.may_fail c.args.files.now p)) path_is fails,
-    )
+    let fails = rw c.in-Err-NotOpened.field-0-is at c.in-Err-NotOpened.ensures.fails in
+    inl (refl, subst (λ (p : Text). g.F.Machine.fails c.args.files.now p open_faults.NotOpened c.open_if_there.new.self) path_is fails)
+
+pub returns-clause-cause : goal.returns-clause-cause
+returns-clause-cause g c =
+    let folder = c.args.folder.now in
+    let words = c.in_ok-words.words.items in
+    let same = c.in_ok-words.ensures ∙ ap (map string_bytes) c.deref.ensures.value ∙ c.in_ok-paths.ensures in
+    let split = path_and_rest folder c.args.number c.args.streams c.requires.some in
+    let path_is = first_word words c.index.result.now _ _ (same ∙ split) c.index.ensures in
+    let fails = rw c.in-Err-Memory.field-0-is at c.in-Err-Memory.ensures.fails in
+    inl (inr (subst (λ (p : Text). g.F.Machine.fails c.args.files.now p open_faults.Memory c.open_if_there.new.self) path_is fails))

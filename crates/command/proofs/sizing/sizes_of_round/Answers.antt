@@ -1,7 +1,7 @@
 use Rattle.std.proofs.Common.{◌≡◌, ◌∙◌, subst}
-use Rattle.command.specs.Commands.{Text}
+use Rattle.command.specs.Commands.{Text, deeds}
 use Rattle.command.specs.Paths.{sizes_path}
-use Rattle.command.specs.Rounds.{IsSizesCause, deeds}
+use Rattle.command.specs.Rounds.{IsSizesCause}
 use Rattle.command.proofs.CheckingLemmas.{if_err}
 use Rattle.command.proofs.RoundLemmas.{sizes_cause}
 use Rattle.command.proofs.sizing.sizes_of_round.Goals as goal
@@ -17,7 +17,7 @@ returns-in-Ok-Some-clause-cause g c =
     let opens : g.F.Files.opens before c.as_str.result.now source after = rw c.in-Ok-Some.field-0-is at c.in-Ok-Some.ensures.opens in
     let left : g.F.Input.Source.left source ≡ g.F.Files.tells before c.as_str.result.now =
     rw c.in-Ok-Some.field-0-is at c.in-Ok-Some.ensures.left in
-    if_err c.sizes_in.result _ (IsSizesCause its before path)
+    if_err c.sizes_in.result _ (λ fault. IsSizesCause its before path fault after)
     (sizes_cause its before path source after (subst (λ (p : Text). g.F.Files.opens before p source after) is opens)
     (subst (λ (p : Text). g.F.Input.Source.left source ≡ g.F.Files.tells before p) is left))
     c.sizes_in.ensures.cause
