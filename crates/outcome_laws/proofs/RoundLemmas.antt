@@ -32,13 +32,13 @@ use Rattle.outcome_laws.specs.Laws.{SameWordsAskAlike}
 use Rattle.outcome_laws.specs.RightRounds.{AreRightAlone, AreRightInOrder, AskForRightRounds, IsAskedOf, IsCutOffOf, IsExcusedInRounds}
 use Rattle.outcome_laws.specs.RightRounds.{IsOfMachineInRound, IsProvided, IsRefutedAlone, IsRefutedInOrder, IsStopped, IsStoppedOf, Loss}
 use Rattle.outcome_laws.specs.RightRounds.{AreRightByTurns, IsRefutedByTurns, RightTurnRoundsSay, RightOrdersSay, RightRoundsSay, RoundAsk}
-use Rattle.outcome_laws.specs.RightRounds.{EndedOrStopped, FallsShort, WasStopped, layout_in, not_begun, not_gone_on, not_kept, not_printed}
+use Rattle.outcome_laws.specs.RightRounds.{EndedOrStopped, FallsShort, HasStopped, layout_in, not_begun, not_gone_on, not_kept, not_printed}
 use Rattle.outcome_laws.specs.RightRounds.{printed, stopped, under_cube}
 use Rattle.outcome_laws.specs.Serial.{IsCutOff}
 use Rattle.outcome_laws.proofs.CheckLemmas.{Check, never_under}
 use Rattle.outcome_laws.proofs.OutcomeLemmas.{OneFormula}
 use Rattle.outcome_laws.proofs.RightLemmas.{NoFormulaFault, formula_at, machine_status, of_machine, text_cnf}
-use Rattle.outcome_laws.proofs.StreamLemmas.{Either, OnOne, ends_by_turns, refutes_by_turns, EndsSo, HaveLost, RefutesSo, cut_is_open}
+use Rattle.outcome_laws.proofs.StreamLemmas.{Either, OnOne, ends_by_turns, refutes_by_turns, EndsSo, RefutesSo, cut_is_open}
 use Rattle.outcome_laws.proofs.StreamLemmas.{ended_at, ends_alone, ends_in_order, cut_of_is_open, refutes_alone, refutes_in_order}
 use Rattle.outcome_laws.proofs.StreamLemmas.{stopped_is_open, stopped_of_is_open}
 
@@ -206,7 +206,7 @@ module _ (Mode : Bool → Type 0) (Before Last : RoundAsk) (Early Late : Loss) (
 
   -- in the round with this number some stream was stopped
   abbrev Lost : ℕ → Round files.State files.Reader → Type 0
-  Lost number round = HaveLost (WasStopped Early Late last number) (layout_in round.formula round.sizes) round.reports
+  Lost number round = HasStopped Early Late last number round
 
   -- who was stopped hasn't ended
   unended : (number : ℕ) (round : Round files.State files.Reader) → Lost number round → ¬ HaveEnded round.reports
