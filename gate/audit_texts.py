@@ -429,11 +429,17 @@ RIGHT_PHRASES: Rows = [
     ("the status is 0", """the laws [[law right_refutation_says]], [[RightRefutationSays: (status ≡ 0)]], and
      [[law right_order_says]], of all that `command` may do by its clause `ends`; with `--serial` [[law right_turns_say]], and
      [[law serial_outcomes_agree]]."""),
-    ("or 7; or 5 or 6, by a fault of the machine", """[[IsExcused: unwritten : (failed : out.failed ≡ true)]];
-     [[IsExcused: machine : IsOfMachine fault]], which a stream's file that isn't opened is too."""),
-    ("or 3, 8 or 9, and then it stopped so in these lines", """[[IsExcused: (why : Lost report)]], with
-     [[RightRefutationSays: IsCutOffIn (length ask.right.lines)]], or [[IsHeldUp]] where the streams cite each other; 9 only with a
-     checkpoint that is asked for ([[IsOpen]])."""),
+    ("or 5 or 6, by a fault of the machine, and then no report is begun", """[[IsExcused: no_report : (ends : EndsWithFault files words out
+     err status) (machine : IsOfMachine ends.fault)]], which a stream's file that isn't opened is too; [[EndsWithFault: untouched :
+     IsUntouched out]]."""),
+    ("or 3, 8 or 9, and then it stopped so in these lines", """[[IsExcused: lost : (ends : EndsWithReport files words after out err status)
+     (written : out.failed ≡ false) (report : Report) (says : IsOfStream ends.reports s report) (why : Lost report)]], with
+     [[RightRefutationSays: IsCutOffIn (length ask.right.lines)]], or [[IsHeldUp]] where the streams cite each other; the status is
+     the verdict's, and 9 only with a checkpoint that is asked for ([[IsOpen]])."""),
+    ("or 7, and the report that wasn't written says 'unsatisfiable', or that it stopped so", """[[IsExcused: unwritten : (ends :
+     EndsWithReport files words after out err status) (failed : out.failed ≡ true) (says : IsRefutedOrLost s Lost ends.reports
+     ends.verdict)]]. So no bad line of the stream is printed with another status than 0, and 7 of a report that says 'unsatisfiable':
+     the law [[law no_bad_line_shown]]."""),
     ("proved over files that tell their bytes", """[[AskForRightRefutation: tells : files.tells path ≡ Some bytes]]. The argument is that
      [of AUDIT](AUDIT.md#status-0), under 'Which reads?'."""),
 ]
@@ -497,9 +503,11 @@ ROUNDS_PHRASES: Rows = [
     ("Where in each round before the last all streams are right by themselves, or by an order of all lines", """the laws
      [[law right_rounds_say]], [[law right_orders_say]] and, with `--serial`, [[law right_turn_rounds_say]]: as
      [[AskForRightRounds]] has it of each round that may be reached, since its formula is known only once the one before is over."""),
-    ("the status is 0; or 7; or 5 or 6, by a fault of the machine; or 9, since a formula wasn't saved; or 8, where literals are assumed; or 3",
+    ("the status is 0; or 5 or 6, by a fault of the machine, and then no report is begun; or 9, since a formula wasn't saved; or 8, where literals are assumed; or 3",
      """all that `command` may do by its clause `ends`; of the excuses each that has a report is about the one that was printed
-     ([[IsExcusedInRounds]])."""),
+     ([[IsExcusedInRounds]], [[FallsShort]])."""),
+    ("or 7, and the report that wasn't written is one of 0, 9, 8 or 3", """[[IsExcusedInRounds: (why : (ends.last.verdict ≡
+     Unsatisfiable) ⊎ ((wanted : ℕ) × FallsShort given Early Late last (length (ends.last ∷ ends.before)) ends.last wanted))]]."""),
 ]
 
 ROUNDS_ACCOUNT = """Of the machine's files this is an argument, as with single runs: they allow all that `opens`, `lacks`, `creates` and
@@ -534,8 +542,8 @@ GROUP_LAWS = [f"run_laws/src/groups.rt: {name}" for name in "others_empty same_r
 RIGHT_LAWS = [f"run_laws/src/right.rt: {name}" for name in """right_reported right_accepted right_has_one_report right_counted
     right_empty right_begins right_cite_within ended_is_right right_together together_begins no_false_blame""".split()] + [
     f"run_laws/src/turns.rt: {name}" for name in "right_by_turns turns_decide bytes_decide".split()]
-PROGRAM_LAWS = [f"outcome_laws/src/laws.rt: {name}" for name in """right_refutation_says right_order_says right_turns_say
-    right_rounds_say right_orders_say right_turn_rounds_say serial_outcomes_agree""".split()]
+PROGRAM_LAWS = [f"outcome_laws/src/laws.rt: {name}" for name in """right_refutation_says no_bad_line_shown right_order_says
+    right_turns_say right_rounds_say right_orders_say right_turn_rounds_say serial_outcomes_agree""".split()]
 
 LAWS = """## The laws
 

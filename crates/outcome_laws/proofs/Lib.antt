@@ -9,3 +9,4 @@ mod SerialLemmas
 mod RefutingLemmas
 mod StreamLemmas
 mod RoundLemmas
+mod PrintedLemmas

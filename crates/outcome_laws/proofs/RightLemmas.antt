@@ -1,6 +1,6 @@
 -- What the program says of a right refutation.
-use Rattle.std.proofs.Common.{◌≡◌, ◌⊎◌, ◌≤◌, ℕ, ℤ, Bool, true, false, List, [], ◌∷◌, length, map, Option, None, Some, inl, inr, refl, sym}
-use Rattle.std.proofs.Common.{ap, subst, ◌∙◌, arith}
+use Rattle.std.proofs.Common.{◌≡◌, ◌≢◌, ◌⊎◌, ◌≤◌, ℕ, ℤ, Bool, true, false, List, [], ◌∷◌, length, map, Option, None, Some}
+use Rattle.std.proofs.Common.{inl, inr, refl, sym, ap, subst, ◌∙◌, arith}
 use Rattle.std.specs.List.{AllByRecursion}
 use Rattle.lrup_model.specs.Distinct.{distinct}
 use Rattle.lrup_model.specs.DistinctLemmas.{IsClause-distinct, length-distinct}
@@ -23,7 +23,6 @@ use Rattle.run_laws.specs.Together.{IsRightOrder, lines_by, TogetherBegins}
 use Rattle.run_laws.specs.Right.{IsCutOffIn, IsRightBeginning}
 use Rattle.run_laws.specs.RightLaws.{RightBegins, RightEmpty}
 use Rattle.portfolio.specs.Outcomes.{OptionsValue, layout_of}
-use Rattle.portfolio.specs.ReportText.{report_text}
 use Rattle.portfolio.specs.declared.outcome.Verdict.{Verdict}
 use Rattle.portfolio.specs.declared.outcome.Verdict.TheVariants.{Unsatisfiable, UnsatisfiableUnder, Unknown}
 use Rattle.checkpoint.specs.declared.saving.SaveFault.{SaveFault}
@@ -31,12 +30,12 @@ use Rattle.command_line.specs.CommandLine.{AskToSave, IsCommandLineOf}
 use Rattle.command_line.specs.declared.words.CommandLine.{CommandLine}
 use Rattle.command.specs.Commands.{EndsWithFault, EndsWithReport, FilesView, IsAssumeCause, IsCause, IsFormulaAt, IsOutcome, IsReadCause}
 use Rattle.command.specs.Commands.{LeavesCheckpoint, SinkChange, Text, assumed_at, checkpoint_at, layout_at, options_of, report_status}
-use Rattle.command.specs.Commands.{SinkTook}
+use Rattle.command.specs.Commands.{verdict_status}
 use Rattle.command.specs.Faults.{status_of}
 use Rattle.command.specs.declared.fault.CommandFault.{CommandFault}
 use Rattle.command.specs.declared.fault.CommandFault.TheVariants as faults
 use Rattle.outcome_laws.specs.Right.{AreRightAssumptions, AskWell, AskForRightRefutation, AskForRightOrder, IsOfMachine, IsHeldUp}
-use Rattle.outcome_laws.specs.Right.{IsExcused, unwritten, no_report, lost, RightRefutationSays, RightOrderSays}
+use Rattle.outcome_laws.specs.Right.{IsExcused, unwritten, no_report, lost, IsOpen, IsRefutedOrLost, RightRefutationSays, RightOrderSays}
 use Rattle.outcome_laws.specs.Laws.{SameWordsAskAlike}
 use Rattle.outcome_laws.proofs.CheckLemmas.{refutation_says as refutes, order_says as orders}
 use Rattle.outcome_laws.proofs.OutcomeLemmas.{OneFormula, text_of, is_text, check_of}
@@ -82,50 +81,49 @@ module _ (files : FilesView) where
       let asked = asked_for (checkpoint_at given) f verdict fault before after leaves in
       (asked.0, record { good = line.good; path_is = sym line.said.checkpoint ∙ asked.1 })
 
-module _ (files : FilesView) (Lost : Report → Type 0) where
-  said_so : (words : List Text) (s : ℕ) (out : SinkChange) (status : ℕ) (unsaved : Option SaveFault) (verdict : Verdict)
-      → verdict ≡ Unsatisfiable → unsaved ≡ None
-      → (failed : Bool) → out.failed ≡ failed → status ≡ report_status failed unsaved verdict
-      → (status ≡ 0) ⊎ IsExcused files words s Lost out status
-  said_so words s out status unsaved verdict is saved true failed status_is = inr (unwritten failed status_is)
-  said_so words s out status None verdict is saved false failed status_is = inl (status_is ∙ ap (report_status false None) is)
-  said_so words s out status (Some fault) verdict is saved false failed status_is = absurd (let no : Some fault ≡ None = saved in cc)
-
-  pub when_said : (words : List Text) (after : files.State) (s : ℕ) (out err : SinkChange) (status : ℕ)
-      (ends : EndsWithReport files words after out err status)
-      → ends.verdict ≡ Unsatisfiable → (status ≡ 0) ⊎ IsExcused files words s Lost out status
-  when_said words after s out err status ends is =
-      let saved = all_saved files
-      (checkpoint_at ends.outcome.given) ends.outcome.formula ends.verdict ends.unsaved ends.outcome.last after is ends.checkpoint in
-      said_so words s out status ends.unsaved ends.verdict is saved out.failed refl ends.status_is
-
-  lost_so : (words : List Text) (s : ℕ) (out : SinkChange) (status : ℕ) (reports : List Report) (verdict : Verdict)
-      → IsOutcome files words reports verdict → SinkTook out (report_text reports verdict)
-      → (report : Report) → IsOfStream reports s report → Lost report
-      → (unsaved : Option SaveFault) → ((fault : SaveFault) → unsaved ≡ Some fault → (path : Text) × AskToSave words path)
-      → (other : Verdict) → verdict ≡ other → (failed : Bool) → out.failed ≡ failed → status ≡ report_status failed unsaved other
-      → (status ≡ 0) ⊎ IsExcused files words s Lost out status
-  lost_so words s out status reports verdict a printed report says why unsaved asks other same true failed is = inr (unwritten failed is)
-  lost_so words s out status reports verdict a printed report says why (Some fault) asks other same false failed is =
-      let asked = asks fault refl in
-      inr (lost reports verdict a printed report says why (inr (asked.0, asked.1, is)))
-  lost_so words s out status reports verdict a printed report says why None asks Unsatisfiable same false failed is = inl is
-  lost_so words s out status reports verdict a printed report says why None asks UnsatisfiableUnder same false failed is =
-      inr (lost reports verdict a printed report says why (inl (inr is)))
-  lost_so words s out status reports verdict a printed report says why None asks Unknown same false failed is =
-      inr (lost reports verdict a printed report says why (inl (inl is)))
-
-  pub when_lost : (words : List Text) (after : files.State) (s : ℕ) (out err : SinkChange) (status : ℕ)
-      (ends : EndsWithReport files words after out err status)
-      → (report : Report) → IsOfStream ends.reports s report → Lost report → (status ≡ 0) ⊎ IsExcused files words s Lost out status
-  when_lost words after s out err status ends report says why =
+-- what comes of a report: of one that says 'unsatisfiable', or that the stream was stopped
+module _ (files : FilesView) (Lost : Report → Type 0) (words : List Text) (after : files.State) (s : ℕ) (out err : SinkChange) (status : ℕ)
+    (ends : EndsWithReport files words after out err status) where
+  -- where the checkpoint wasn't saved the verdict isn't 'unsatisfiable', and the words ask for it
+  none_refuted : (fault : SaveFault) → ends.unsaved ≡ Some fault → ends.verdict ≢ Unsatisfiable
+  none_refuted fault unsaved is =
       let o = ends.outcome in
-      let asks : (fault : SaveFault) → ends.unsaved ≡ Some fault → (path : Text) × AskToSave words path = λ fault is.
+      let saved = all_saved files (checkpoint_at o.given) o.formula ends.verdict ends.unsaved o.last after is ends.checkpoint in
+      let no : Some fault ≡ None = sym unsaved ∙ saved in cc
+
+  asked_to_save : (fault : SaveFault) → ends.unsaved ≡ Some fault → (path : Text) × AskToSave words path
+  asked_to_save fault unsaved =
+      let o = ends.outcome in
       asks_to_save files words o.given o.formula ends.verdict fault o.last after o.command_line
-      (subst (λ (u : Option SaveFault). LeavesCheckpoint files (checkpoint_at o.given) o.formula ends.verdict u o.last after) is
-      ends.checkpoint) in
-      lost_so words s out status ends.reports ends.verdict o ends.printed report says why ends.unsaved asks ends.verdict refl out.failed
-      refl ends.status_is
+      (subst (λ (u : Option SaveFault). LeavesCheckpoint files (checkpoint_at o.given) o.formula ends.verdict u o.last after) unsaved
+      ends.checkpoint)
+
+  abbrev Excused : Type 0
+  Excused = IsExcused files words s Lost after out err status
+
+  -- the report was written, and its status isn't 0
+  so_open : out.failed ≡ false → IsOpen words ends.unsaved ends.verdict status
+      → IsRefutedOrLost s Lost ends.reports ends.verdict → Excused
+  so_open written is (inl refuted) = absurd (is.0 refuted)
+  so_open written is (inr (report, says, why)) = lost ends written report says why is
+
+  comes_so : IsRefutedOrLost s Lost ends.reports ends.verdict
+      → (failed : Bool) → out.failed ≡ failed → (unsaved : Option SaveFault) → ends.unsaved ≡ unsaved
+      → (verdict : Verdict) → ends.verdict ≡ verdict → status ≡ report_status failed unsaved verdict → (status ≡ 0) ⊎ Excused
+  comes_so says true failed unsaved u verdict v is = inr (unwritten ends failed says is)
+  comes_so says false written (Some fault) u verdict v is =
+      let asked = asked_to_save fault u in
+      inr (so_open written (none_refuted fault u, inr (fault, asked.0, u, asked.1, is)) says)
+  comes_so says false written None u Unsatisfiable v is = inl is
+  comes_so says false written None u UnsatisfiableUnder v is =
+      let other : ends.verdict ≢ Unsatisfiable = λ refuted. let no : UnsatisfiableUnder ≡ Unsatisfiable = sym v ∙ refuted in cc in
+      inr (so_open written (other, inl (u, is ∙ ap verdict_status (sym v))) says)
+  comes_so says false written None u Unknown v is =
+      let other : ends.verdict ≢ Unsatisfiable = λ refuted. let no : Unknown ≡ Unsatisfiable = sym v ∙ refuted in cc in
+      inr (so_open written (other, inl (u, is ∙ ap verdict_status (sym v))) says)
+
+  pub with_report : IsRefutedOrLost s Lost ends.reports ends.verdict → (status ≡ 0) ⊎ Excused
+  with_report says = comes_so says out.failed refl ends.unsaved refl ends.verdict refl ends.status_is
 
 -- no text of a formula has a fault: the law of `dimacs`
 abbrev pub NoFormulaFault : Type 0
@@ -152,17 +150,6 @@ machine_status faults.Sizes is = absurd is
 -- another stream than s owns the identity
 abbrev IsAnothers : LayoutValue → ℕ → ℕ → Type 0
 IsAnothers p s id = side_of (setting_of (record { layout = p; cube = []; tries = 0 }) s) id ≡ sides.Foreign
-
--- what the program says comes to one of these
-module _ (files : FilesView) (Lost : Report → Type 0) where
-  with_report : (words : List Text) (after : files.State) (s : ℕ) (out err : SinkChange) (status : ℕ)
-      → ((reports : List Report) (verdict : Verdict) → IsOutcome files words reports verdict
-      → (verdict ≡ Unsatisfiable) ⊎ ((report : Report) × IsOfStream reports s report × Lost report))
-      → EndsWithReport files words after out err status → (status ≡ 0) ⊎ IsExcused files words s Lost out status
-  with_report words after s out err status says ends = elim (says ends.reports ends.verdict ends.outcome) [
-    | inl is ↦ when_said files Lost words after s out err status ends is
-    | inr why ↦ when_lost files Lost words after s out err status ends why.0 why.1 why.2
-  ]
 
 module _ (one_formula : OneFormula) (serial : SerialRun) (alike : SameWordsAskAlike) (empty : RightEmpty) (files : FilesView) where
   -- what was asked for is what the outcome is of
@@ -369,26 +356,25 @@ no_rounds files words ask cause =
     let no : Some cause.0 ≡ None = sym cause.2.folder_is ∙ sym ask.command_line.said.rounds ∙ ask.rounds in cc
 
 pub without_report : OneFormula → NoFormulaFault → SameWordsAskAlike → (files : FilesView) (Lost : Report → Type 0) (words : List Text)
-    (s : ℕ) (out err : SinkChange) (status : ℕ) → AskWell files words None
-    → EndsWithFault files words out err status → IsExcused files words s Lost out status
-without_report one_formula no_fault alike files Lost words s out err status ask ends =
+    (after : files.State) (s : ℕ) (out err : SinkChange) (status : ℕ) → AskWell files words None
+    → EndsWithFault files words out err status → IsExcused files words s Lost after out err status
+without_report one_formula no_fault alike files Lost words after s out err status ask ends =
     let machine = of_machine one_formula no_fault alike files None words ask (no_rounds files words ask) ends.fault ends.cause in
-    no_report ends.fault ends.cause machine ends.status_is
-    (subst (λ (n : ℕ). (n ≡ 5) ⊎ (n ≡ 6)) (sym ends.status_is) (machine_status ends.fault machine))
+    no_report ends machine (subst (λ (n : ℕ). (n ≡ 5) ⊎ (n ≡ 6)) (sym ends.status_is) (machine_status ends.fault machine))
 
 pub right_refutation_says : OneFormula → NoFormulaFault → SerialRun → SameWordsAskAlike → RightBegins → RightEmpty
     → (files : FilesView) → RightRefutationSays files
-right_refutation_says one_formula no_fault serial alike begins empty files words after s out err status ask (inl report) =
-    with_report files (IsCutOffIn (length ask.right.lines)) words after s out err status
-    (refutation_says one_formula serial alike empty files begins words s ask) report
-right_refutation_says one_formula no_fault serial alike begins empty files words after s out err status ask (inr fault) =
-    inr (without_report one_formula no_fault alike files (IsCutOffIn (length ask.right.lines)) words s out err status ask.asks fault)
+right_refutation_says one_formula no_fault serial alike begins empty files words after s out err status ask (inl ends) =
+    with_report files (IsCutOffIn (length ask.right.lines)) words after s out err status ends
+    (refutation_says one_formula serial alike empty files begins words s ask ends.reports ends.verdict ends.outcome)
+right_refutation_says one_formula no_fault serial alike begins empty files words after s out err status ask (inr ends) =
+    inr (without_report one_formula no_fault alike files (IsCutOffIn (length ask.right.lines)) words after s out err status ask.asks ends)
 
 pub right_order_says : OneFormula → NoFormulaFault → SerialRun → SameWordsAskAlike → TogetherBegins → RightEmpty
     → (files : FilesView) → RightOrderSays files
-right_order_says one_formula no_fault serial alike together empty files words after s out err status ask (inl report) =
-    with_report files (IsHeldUp files words ask.asks s (length (lines_by s ask.steps))) words after s out err status
-    (order_says one_formula serial alike empty files together words s ask) report
-right_order_says one_formula no_fault serial alike together empty files words after s out err status ask (inr fault) =
+right_order_says one_formula no_fault serial alike together empty files words after s out err status ask (inl ends) =
+    with_report files (IsHeldUp files words ask.asks s (length (lines_by s ask.steps))) words after s out err status ends
+    (order_says one_formula serial alike empty files together words s ask ends.reports ends.verdict ends.outcome)
+right_order_says one_formula no_fault serial alike together empty files words after s out err status ask (inr ends) =
     inr (without_report one_formula no_fault alike files
-    (IsHeldUp files words ask.asks s (length (lines_by s ask.steps))) words s out err status ask.asks fault)
+    (IsHeldUp files words ask.asks s (length (lines_by s ask.steps))) words after s out err status ask.asks ends)

@@ -32,12 +32,13 @@ use Rattle.outcome_laws.specs.Laws.{SameWordsAskAlike}
 use Rattle.outcome_laws.specs.RightRounds.{AreRightAlone, AreRightInOrder, AskForRightRounds, IsAskedOf, IsCutOffOf, IsExcusedInRounds}
 use Rattle.outcome_laws.specs.RightRounds.{IsOfMachineInRound, IsProvided, IsRefutedAlone, IsRefutedInOrder, IsStopped, IsStoppedOf, Loss}
 use Rattle.outcome_laws.specs.RightRounds.{AreRightByTurns, IsRefutedByTurns, RightTurnRoundsSay, RightOrdersSay, RightRoundsSay, RoundAsk}
-use Rattle.outcome_laws.specs.RightRounds.{WasStopped, layout_in, not_begun, not_gone_on, not_kept, not_printed, stopped, under_cube}
+use Rattle.outcome_laws.specs.RightRounds.{EndedOrStopped, FallsShort, HasStopped, layout_in, not_begun, not_gone_on, not_kept, not_printed}
+use Rattle.outcome_laws.specs.RightRounds.{printed, stopped, under_cube}
 use Rattle.outcome_laws.specs.Serial.{IsCutOff}
 use Rattle.outcome_laws.proofs.CheckLemmas.{Check, never_under}
 use Rattle.outcome_laws.proofs.OutcomeLemmas.{OneFormula}
 use Rattle.outcome_laws.proofs.RightLemmas.{NoFormulaFault, formula_at, machine_status, of_machine, text_cnf}
-use Rattle.outcome_laws.proofs.StreamLemmas.{Either, OnOne, ends_by_turns, refutes_by_turns, EndsSo, HaveLost, RefutesSo, cut_is_open}
+use Rattle.outcome_laws.proofs.StreamLemmas.{Either, OnOne, ends_by_turns, refutes_by_turns, EndsSo, RefutesSo, cut_is_open}
 use Rattle.outcome_laws.proofs.StreamLemmas.{ended_at, ends_alone, ends_in_order, cut_of_is_open, refutes_alone, refutes_in_order}
 use Rattle.outcome_laws.proofs.StreamLemmas.{stopped_is_open, stopped_of_is_open}
 
@@ -205,7 +206,7 @@ module _ (Mode : Bool → Type 0) (Before Last : RoundAsk) (Early Late : Loss) (
 
   -- in the round with this number some stream was stopped
   abbrev Lost : ℕ → Round files.State files.Reader → Type 0
-  Lost number round = HaveLost (WasStopped Early Late last number) (layout_in round.formula round.sizes) round.reports
+  Lost number round = HasStopped Early Late last number round
 
   -- who was stopped hasn't ended
   unended : (number : ℕ) (round : Round files.State files.Reader) → Lost number round → ¬ HaveEnded round.reports
@@ -317,18 +318,47 @@ module _ (Mode : Bool → Type 0) (Before Last : RoundAsk) (Early Late : Loss) (
     abbrev Goal : Type 0
     Goal = (status ≡ 0) ⊎ IsExcusedInRounds files words folder Early Late last after out err status
 
-    reported_so : (given : CommandLine) → IsCommandLineOf words given → (ends : ReportsRounds files given folder after out err status)
-        → (failed : Bool) → out.failed ≡ failed → (unsaved : Option SaveFault) → ends.last.unsaved ≡ unsaved
-        → (verdict : Verdict) → ends.last.verdict ≡ verdict → status ≡ report_status failed unsaved verdict → Goal
-    reported_so given line ends true failed unsaved u verdict v is = inr (not_printed failed is)
-    reported_so given line ends false failed (Some fault) u verdict v is = inr (not_kept given line ends fault u is)
-    reported_so given line ends false failed None u Unsatisfiable v is = inl is
-    reported_so given line ends false failed None u UnsatisfiableUnder v is =
+    abbrev Short : (given : CommandLine) → ReportsRounds files given folder after out err status → ℕ → Type 0
+    Short given ends wanted = FallsShort given Early Late last (length (ends.last ∷ ends.before)) ends.last wanted
+
+    -- what the report says of the streams
+    told_of_streams : (given : CommandLine) → IsCommandLineOf words given → (ends : ReportsRounds files given folder after out err status)
+        → (ends.last.verdict ≡ Unsatisfiable) ⊎ EndedOrStopped Early Late last (length (ends.last ∷ ends.before)) ends.last
+    told_of_streams given line ends =
+        elim (fate given line ends.last ends.before ends.were (few_rounds given line ends.last ends.before ends.were)) [
+          | inl (ended, below) ↦ inr (inl ended)
+          | inr (inl refuted) ↦ inl refuted
+          | inr (inr lost) ↦ inr (inr lost)
+        ]
+
+    -- it says 'unsatisfiable', or falls short of it
+    short_so : (given : CommandLine) → IsCommandLineOf words given → (ends : ReportsRounds files given folder after out err status)
+        → (unsaved : Option SaveFault) → ends.last.unsaved ≡ unsaved → (verdict : Verdict) → ends.last.verdict ≡ verdict
+        → ((ends.last.verdict ≡ Unsatisfiable) × (0 ≡ report_status false unsaved verdict))
+        ⊎ Short given ends (report_status false unsaved verdict)
+    short_so given line ends (Some fault) u verdict v = inr (not_kept fault u (told_of_streams given line ends) refl)
+    short_so given line ends None u Unsatisfiable v = inl (v, refl)
+    short_so given line ends None u UnsatisfiableUnder v =
         let asked = asked_under given line ends.last ends.before ends.were v in
-        inr (under_cube given line ends asked.0 asked.1 v is)
-    reported_so given line ends false failed None u Unknown v is =
-        let lost = lost_in given line after out err status ends v u in
-        inr (stopped given line ends lost.0 lost.1 lost.2 lost.3 is)
+        elim (told_of_streams given line ends) [
+          | inl refuted ↦ absurd (let no : UnsatisfiableUnder ≡ Unsatisfiable = sym v ∙ refuted in cc)
+          | inr streams ↦ inr (under_cube asked.0 asked.1 v streams refl)
+        ]
+    short_so given line ends None u Unknown v = inr (stopped (lost_in given line after out err status ends v u) refl)
+
+    reported_so : (given : CommandLine) → IsCommandLineOf words given → (ends : ReportsRounds files given folder after out err status)
+        → (failed : Bool) → out.failed ≡ failed → status ≡ report_status failed ends.last.unsaved ends.last.verdict → Goal
+    reported_so given line ends true failed is =
+        let why = short_so given line ends ends.last.unsaved refl ends.last.verdict refl in
+        inr (not_printed given line ends failed (elim why [
+          | inl refuted ↦ inl refuted.0
+          | inr short ↦ inr (report_status false ends.last.unsaved ends.last.verdict, short)
+        ]) is)
+    reported_so given line ends false written is =
+        elim (short_so given line ends ends.last.unsaved refl ends.last.verdict refl) [
+          | inl refuted ↦ inl (is ∙ sym refuted.1)
+          | inr short ↦ inr (printed given line ends written (subst (Short given ends) (sym is) short))
+        ]
 
     failed_so : (given : CommandLine) → IsCommandLineOf words given → FailsInRound files given folder out err status → Goal
     failed_so given line ends =
@@ -348,7 +378,7 @@ module _ (Mode : Bool → Type 0) (Before Last : RoundAsk) (Early Late : Loss) (
         }))
     rounds_say (inr (inl ends)) =
         let machine = of_machine one_formula no_fault alike files (Some folder) words ask.asks two_files ends.fault ends.cause in
-        inr (not_begun ends.fault ends.cause machine ends.status_is
+        inr (not_begun ends machine
         (subst (λ (n : ℕ). (n ≡ 5) ⊎ (n ≡ 6)) (sym ends.status_is) (machine_status ends.fault machine)))
     rounds_say (inr (inr ends)) =
         let asks = ask.asks in
@@ -357,9 +387,7 @@ module _ (Mode : Bool → Type 0) (Before Last : RoundAsk) (Early Late : Loss) (
         let folders : ends.folder ≡ folder = cc in
         elim (subst (λ (d : Text). ReportsRounds files ends.given d after out err status ⊎ FailsInRound files ends.given d out err status)
         folders ends.ending) [
-          | inl report ↦
-              reported_so ends.given ends.command_line report out.failed refl report.last.unsaved refl report.last.verdict refl
-              report.status_is
+          | inl report ↦ reported_so ends.given ends.command_line report out.failed refl report.status_is
           | inr fails ↦ failed_so ends.given ends.command_line fails
         ]
 

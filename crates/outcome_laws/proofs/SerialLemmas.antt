@@ -29,7 +29,7 @@ use Rattle.outcome_laws.specs.Right.{IsExcused}
 use Rattle.outcome_laws.specs.Serial.{AskForRightTurns, IsCutOff, RightTurnsSay, SerialOutcomesAgree}
 use Rattle.outcome_laws.proofs.CheckLemmas.{Check, turns_of, comes_to, entry_at, has_report, of_some, path_at, run_of, told_length, told_of}
 use Rattle.outcome_laws.proofs.OutcomeLemmas.{OneFormula, is_text, check_of}
-use Rattle.outcome_laws.proofs.RightLemmas.{NoFormulaFault, IsOf, is_of, when_said, when_lost, without_report}
+use Rattle.outcome_laws.proofs.RightLemmas.{NoFormulaFault, IsOf, is_of, with_report, without_report}
 
 pub serial_outcomes_agree : OneFormula → BytesDecide → (files : FilesView) (others : FilesView) → SerialOutcomesAgree files others
 serial_outcomes_agree one_formula decide files others words other_words reports other_reports verdict other_verdict a b ask
@@ -154,14 +154,15 @@ module _ (one_formula : OneFormula) (no_fault : NoFormulaFault) (serial_run : Se
       (λ t path names. ask.tells t path (subst (λ (x : List Text). IsOfStream x t path) is.streams names)) fine serial_run empty s ask.empty
 
   turns_say : (after : files.State) (out err : SinkChange) (status : ℕ) → EndsWithReport files words after out err status
-      → (status ≡ 0) ⊎ ((t : ℕ) × IsExcused files words t IsCutOff out status)
+      → (status ≡ 0) ⊎ ((t : ℕ) × IsExcused files words t IsCutOff after out err status)
   turns_say after out err status ends = elim (some_cut ends.reports) [
-    | inl cut ↦ elim (when_lost files IsCutOff words after cut.0 out err status ends cut.1 cut.2 cut.3) [
+    | inl cut ↦ elim (with_report files IsCutOff words after cut.0 out err status ends (inr (cut.1, cut.2, cut.3))) [
       | inl is ↦ inl is
       | inr excused ↦ inr (cut.0, excused)
     ]
     | inr fine ↦
-        elim (when_said files IsCutOff words after s out err status ends (turns_refute ends.reports ends.verdict ends.outcome fine)) [
+        let refuted = turns_refute ends.reports ends.verdict ends.outcome fine in
+        elim (with_report files IsCutOff words after s out err status ends (inl refuted)) [
           | inl is ↦ inl is
           | inr excused ↦ inr (s, excused)
         ]
@@ -172,4 +173,4 @@ pub right_turns_say : OneFormula → NoFormulaFault → SerialRun → SameWordsA
 right_turns_say one_formula no_fault serial_run alike right empty files words after s out err status ask (inl report) =
     turns_say one_formula no_fault serial_run alike right empty files words s ask after out err status report
 right_turns_say one_formula no_fault serial_run alike right empty files words after s out err status ask (inr fault) =
-    inr (s, without_report one_formula no_fault alike files IsCutOff words s out err status ask.asks fault)
+    inr (s, without_report one_formula no_fault alike files IsCutOff words after s out err status ask.asks fault)

@@ -4,3 +4,4 @@ pub mod Right
 pub mod Serial
 pub mod Refuting
 pub mod RightRounds
+pub mod Printed

@@ -1,5 +1,5 @@
 -- What the program says of a right refutation, and the law that says so (this project's own).
-use Rattle.std.specs.Prelude.{◌≡◌, ◌≢◌, ◌⊎◌, ◌++◌, ℕ, Bool, true, IsTrue, List, [], length, Option, None, Some}
+use Rattle.std.specs.Prelude.{◌≡◌, ◌≢◌, ◌⊎◌, ◌++◌, ℕ, Bool, true, false, IsTrue, List, [], length, Option, None, Some}
 use Rattle.std.specs.List.{AllByRecursion, Any, flat_map}
 use Rattle.lrup_model.specs.Formula.{Cnf}
 use Rattle.lrup_model.specs.Layout.{IsFault}
@@ -15,13 +15,13 @@ use Rattle.runs.specs.Streams.{setting_of}
 use Rattle.run_laws.specs.Blame.{LacksOfAnotherIn}
 use Rattle.run_laws.specs.Right.{AddsEmpty, IsCutOffIn, IsRightRefutation}
 use Rattle.run_laws.specs.Together.{Step, IsRightOrder, lines_by}
-use Rattle.portfolio.specs.ReportText.{report_text}
 use Rattle.portfolio.specs.declared.outcome.Verdict.{Verdict}
+use Rattle.portfolio.specs.declared.outcome.Verdict.TheVariants.{Unsatisfiable}
+use Rattle.checkpoint.specs.declared.saving.SaveFault.{SaveFault}
 use Rattle.command_line.specs.CommandLine.{AskToSave, IsCommandLineOf}
 use Rattle.command_line.specs.declared.words.CommandLine.{CommandLine}
-use Rattle.command.specs.Commands.{EndsWithFault, EndsWithReport, FilesView, IsCause, IsOutcome, SinkChange, SinkTook, Text, assumed_at, layout_at, rounds_at}
-use Rattle.command.specs.Commands.{terms_given}
-use Rattle.command.specs.Faults.{status_of}
+use Rattle.command.specs.Commands.{EndsWithFault, EndsWithReport, FilesView, SinkChange, Text, assumed_at, layout_at, rounds_at, terms_given}
+use Rattle.command.specs.Commands.{verdict_status}
 use Rattle.command.specs.declared.fault.CommandFault.{CommandFault}
 use Rattle.command.specs.declared.fault.CommandFault.TheVariants as faults
 
@@ -97,30 +97,42 @@ IsHeldUp files words asks s count report =
     IsCutOffIn count report
     ⊎ LacksOfAnotherIn (setting_of (terms_given asks.given [] asks.formula) s) count report
 
--- the status of a report that isn't 'unsatisfiable': 3 or 8; or 9, where the words ask for a checkpoint, and it wasn't saved
-abbrev pub IsOpen : List Text → ℕ → Type 0
-IsOpen words status =
-    ((status ≡ 3) ⊎ (status ≡ 8)) ⊎ ((path : Text) × AskToSave words path × (status ≡ 9))
+-- the report says 'unsatisfiable', or it tells that stream s was stopped, for such a reason
+abbrev pub IsRefutedOrLost : ℕ → (Report → Type 0) → List Report → Verdict → Type 0
+IsRefutedOrLost s Lost reports verdict =
+    (verdict ≡ Unsatisfiable) ⊎ ((report : Report) × IsOfStream reports s report × Lost report)
 
--- Why the program doesn't say 'unsatisfiable', where stream s adds the empty clause by right lines. None of these says that a line
--- is wrong.
-pub data IsExcused (files : FilesView) (words : List Text) (s : ℕ)
-    (Lost : Report → Type 0) (out : SinkChange) (status : ℕ) : Type 0 where
-  -- the report wasn't written
-  unwritten : (failed : out.failed ≡ true) (is : status ≡ 7)
-      → IsExcused files words s Lost out status
+-- the verdict isn't 'unsatisfiable', and the status is the verdict's, 3 or 8; or 9, where the words ask for a checkpoint, and it
+-- wasn't saved
+abbrev pub IsOpen : List Text → Option SaveFault → Verdict → ℕ → Type 0
+IsOpen words unsaved verdict status =
+    (verdict ≢ Unsatisfiable)
+    × (((unsaved ≡ None) × (status ≡ verdict_status verdict))
+    ⊎ ((fault : SaveFault) × (path : Text) × (unsaved ≡ Some fault) × AskToSave words path
+    × (status ≡ 9)))
+
+-- Why the program doesn't say 'unsatisfiable', where stream s adds the empty clause by right lines. None of these says that one of
+-- these lines is wrong. How the program ended says what it wrote to `out` and to `err`: the report's text, or a beginning of it where
+-- `out` failed; without a report nothing, and the fault's text.
+pub data IsExcused (files : FilesView) (words : List Text) (s : ℕ) (Lost : Report → Type 0)
+    (after : files.State) (out err : SinkChange) (status : ℕ) : Type 0 where
+  -- the report wasn't written, and says 'unsatisfiable', or that stream s was stopped so
+  unwritten :
+      (ends : EndsWithReport files words after out err status) (failed : out.failed ≡ true)
+      (says : IsRefutedOrLost s Lost ends.reports ends.verdict) (is : status ≡ 7)
+      → IsExcused files words s Lost after out err status
   -- there is no report, for a fault of the machine
   no_report :
-      (fault : CommandFault) (cause : IsCause files words fault) (machine : IsOfMachine fault)
-      (status_is : status ≡ status_of fault) (is : (status ≡ 5) ⊎ (status ≡ 6))
-      → IsExcused files words s Lost out status
-  -- a report was printed, and stream s was stopped in its right lines, for such a reason
+      (ends : EndsWithFault files words out err status) (machine : IsOfMachine ends.fault)
+      (is : (status ≡ 5) ⊎ (status ≡ 6))
+      → IsExcused files words s Lost after out err status
+  -- a report was written, and says that stream s was stopped in its right lines, for such a
+  -- reason
   lost :
-      (reports : List Report) (verdict : Verdict)
-      (outcome : IsOutcome files words reports verdict)
-      (printed : SinkTook out (report_text reports verdict)) (report : Report)
-      (says : IsOfStream reports s report) (why : Lost report)
-      (is : IsOpen words status) → IsExcused files words s Lost out status
+      (ends : EndsWithReport files words after out err status) (written : out.failed ≡ false)
+      (report : Report) (says : IsOfStream ends.reports s report) (why : Lost report)
+      (is : IsOpen words ends.unsaved ends.verdict status)
+      → IsExcused files words s Lost after out err status
 
 -- Where the words ask for a right refutation, the program ends with status 0; or with 7, for a report that wasn't written; or with 5
 -- or 6, for a fault of the machine; or with 3 or 8, or 9 in their place, and then memory ran out, or a read failed, in the refutation's
@@ -130,7 +142,7 @@ RightRefutationSays files = (words : List Text) (after : files.State) (s : ℕ) 
     (status : ℕ) → (ask : AskForRightRefutation files words s)
     → EndsWithReport files words after out err status ⊎ EndsWithFault files words out err status
     → (status ≡ 0)
-    ⊎ IsExcused files words s (IsCutOffIn (length ask.right.lines)) out status
+    ⊎ IsExcused files words s (IsCutOffIn (length ask.right.lines)) after out err status
 
 -- Where the words ask for streams whose lines have a right order, the program ends so too, with one more reason for these: one of that
 -- stream's lines cites a clause of another stream that wasn't there, or wasn't any more.
@@ -140,4 +152,4 @@ RightOrderSays files = (words : List Text) (after : files.State) (s : ℕ) (out 
     → EndsWithReport files words after out err status ⊎ EndsWithFault files words out err status
     → (status ≡ 0)
     ⊎ IsExcused files words s
-    (IsHeldUp files words ask.asks s (length (lines_by s ask.steps))) out status
+    (IsHeldUp files words ask.asks s (length (lines_by s ask.steps))) after out err status

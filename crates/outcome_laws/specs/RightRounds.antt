@@ -1,5 +1,5 @@
 -- What the program says of right streams in rounds, and the laws that say so (this project's own).
-use Rattle.std.specs.Prelude.{◌≡◌, ◌⊎◌, ◌++◌, ◌+◌, ◌∷◌, ◌<◌, ◌≤◌, ◌^◌, ℕ, Bool, true, IsTrue, List, [], length, map, Option, None, Some}
+use Rattle.std.specs.Prelude.{◌≡◌, ◌⊎◌, ◌++◌, ◌+◌, ◌∷◌, ◌<◌, ◌≤◌, ◌^◌, ℕ, Bool, true, false, IsTrue, List, [], length, map, Option, None, Some}
 use Rattle.std.specs.List.{AllByRecursion, Any, flat_map}
 use Rattle.lrup_model.specs.Formula.{Cnf}
 use Rattle.lrup_model.specs.Layout.{IsFault, LayoutValue}
@@ -14,15 +14,14 @@ use Rattle.run_laws.specs.Blame.{LacksOfAnother, LacksOfAnotherIn}
 use Rattle.run_laws.specs.Right.{AddsEmpty, IsCutOffIn, IsRightRefutation, IsRightStream}
 use Rattle.run_laws.specs.Together.{Step, IsRightOrder, lines_by}
 use Rattle.portfolio.specs.Outcomes.{layout_of}
-use Rattle.portfolio.specs.declared.outcome.Verdict.TheVariants.{UnsatisfiableUnder}
+use Rattle.portfolio.specs.declared.outcome.Verdict.TheVariants.{Unsatisfiable, UnsatisfiableUnder}
 use Rattle.checkpoint.specs.declared.saving.SaveFault.{SaveFault}
 use Rattle.command_line.specs.CommandLine.{IsCommandLineOf}
 use Rattle.command_line.specs.declared.sizes.Sizes.{Sizes}
 use Rattle.command_line.specs.declared.words.CommandLine.{CommandLine}
-use Rattle.command.specs.Commands.{FilesView, IsCause, SinkChange, Text, assumed_at, checkpoint_at}
-use Rattle.command.specs.Faults.{status_of}
+use Rattle.command.specs.Commands.{EndsWithFault, FilesView, SinkChange, Text, assumed_at, checkpoint_at}
 use Rattle.command.specs.Paths.{sizes_path, stream_path, stream_paths}
-use Rattle.command.specs.Rounds.{AreSized, CarriesOn, Deeds, FailsInRound, HoldsNoSizes, ProgramEnds, ReportsRounds, Round, WereRounds}
+use Rattle.command.specs.Rounds.{AreSized, CarriesOn, Deeds, FailsInRound, HaveEnded, HoldsNoSizes, ProgramEnds, ReportsRounds, Round, WereRounds}
 use Rattle.command.specs.Rounds.{deeds_of, options_by, plan_at, sizes_of}
 use Rattle.command.specs.declared.fault.CommandFault.{CommandFault}
 use Rattle.command.specs.declared.fault.CommandFault.TheVariants as faults
@@ -135,18 +134,57 @@ abbrev pub WasStopped : (Early Late : Loss) → (last number : ℕ) → Loss
 WasStopped Early Late last number layout s report =
     ((number < last) × Early layout s report) ⊎ ((number ≡ last) × Late layout s report)
 
--- Why the program doesn't say 'unsatisfiable', where rounds are right. None of these says that a line is wrong. What is said of a
--- report is said of the one that was printed, of the last round that there was.
+-- a stream of the round with this number was stopped, for such a reason
+abbrev pub HasStopped : {F R : Type 0} (Early Late : Loss) (last number : ℕ) → Round F R → Type 0
+HasStopped Early Late last number round =
+    (s : ℕ) × (report : Report) × IsOfStream round.reports s report
+    × WasStopped Early Late last number (layout_in round.formula round.sizes) s report
+
+-- all streams of the round ended, or one was stopped, for such a reason
+abbrev pub EndedOrStopped : {F R : Type 0} (Early Late : Loss) (last number : ℕ) → Round F R
+    → Type 0
+EndedOrStopped Early Late last number round =
+    HaveEnded round.reports ⊎ HasStopped Early Late last number round
+
+-- Why the report of the last round that there was, with this number, doesn't say 'unsatisfiable', or its checkpoint wasn't saved, where
+-- rounds are right; and the status that it has once it is written. None of these says that a line is wrong.
+pub data FallsShort {F R : Type 0} (given : CommandLine) (Early Late : Loss) (last number : ℕ)
+    (round : Round F R) (status : ℕ) : Type 0 where
+  -- the formula of the next round wasn't saved
+  not_kept :
+      (fault : SaveFault) (why : round.unsaved ≡ Some fault)
+      (streams : (round.verdict ≡ Unsatisfiable) ⊎ EndedOrStopped Early Late last number round)
+      (is : status ≡ 9) → FallsShort given Early Late last number round status
+  -- the words ask for assumed literals, and the report says 'unsatisfiable under assumptions'
+  under_cube :
+      (path : Text) (asked : assumed_at given ≡ Some path)
+      (why : round.verdict ≡ UnsatisfiableUnder)
+      (streams : EndedOrStopped Early Late last number round) (is : status ≡ 8)
+      → FallsShort given Early Late last number round status
+  -- the report says that a stream was stopped, for such a reason
+  stopped :
+      (why : HasStopped Early Late last number round) (is : status ≡ 3)
+      → FallsShort given Early Late last number round status
+
+-- Why the program doesn't say 'unsatisfiable', where rounds are right. How it ended says what it wrote to `out` and to `err`: the text
+-- of the report of the last round that there was, or a beginning of it where `out` failed; without a report nothing, and the
+-- fault's text.
 pub data IsExcusedInRounds (files : FilesView) (words : List Text) (folder : Text)
     (Early Late : Loss) (last : ℕ) (after : files.State) (out err : SinkChange)
     (status : ℕ) : Type 0 where
-  -- the report wasn't written
-  not_printed : (failed : out.failed ≡ true) (is : status ≡ 7)
+  -- the report wasn't written: it says 'unsatisfiable', or falls short of it so
+  not_printed :
+      (given : CommandLine) (line : IsCommandLineOf words given)
+      (ends : ReportsRounds files given folder after out err status) (failed : out.failed ≡ true)
+      (why : (ends.last.verdict ≡ Unsatisfiable)
+      ⊎ ((wanted : ℕ)
+      × FallsShort given Early Late last (length (ends.last ∷ ends.before)) ends.last wanted))
+      (is : status ≡ 7)
       → IsExcusedInRounds files words folder Early Late last after out err status
   -- there is no report, for a fault of the machine, in round 1 or before
   not_begun :
-      (fault : CommandFault) (cause : IsCause files words fault) (machine : IsOfMachine fault)
-      (status_is : status ≡ status_of fault) (is : (status ≡ 5) ⊎ (status ≡ 6))
+      (ends : EndsWithFault files words out err status) (machine : IsOfMachine ends.fault)
+      (is : (status ≡ 5) ⊎ (status ≡ 6))
       → IsExcusedInRounds files words folder Early Late last after out err status
   -- there is none, for a fault of the machine, in a later round
   not_gone_on :
@@ -154,26 +192,11 @@ pub data IsExcusedInRounds (files : FilesView) (words : List Text) (folder : Tex
       (ends : FailsInRound files given folder out err status)
       (machine : IsOfMachineInRound ends.fault) (is : (status ≡ 5) ⊎ (status ≡ 6))
       → IsExcusedInRounds files words folder Early Late last after out err status
-  -- the formula of the next round wasn't saved
-  not_kept :
+  -- the report was written, and falls short of 'unsatisfiable' so
+  printed :
       (given : CommandLine) (line : IsCommandLineOf words given)
-      (ends : ReportsRounds files given folder after out err status)
-      (fault : SaveFault) (why : ends.last.unsaved ≡ Some fault) (is : status ≡ 9)
-      → IsExcusedInRounds files words folder Early Late last after out err status
-  -- the words ask for assumed literals, and the report says 'unsatisfiable under assumptions'
-  under_cube :
-      (given : CommandLine) (line : IsCommandLineOf words given)
-      (ends : ReportsRounds files given folder after out err status)
-      (path : Text) (asked : assumed_at given ≡ Some path)
-      (why : ends.last.verdict ≡ UnsatisfiableUnder) (is : status ≡ 8)
-      → IsExcusedInRounds files words folder Early Late last after out err status
-  -- the report says that a stream was stopped, for such a reason
-  stopped :
-      (given : CommandLine) (line : IsCommandLineOf words given)
-      (ends : ReportsRounds files given folder after out err status)
-      (s : ℕ) (report : Report) (says : IsOfStream ends.last.reports s report)
-      (why : WasStopped Early Late last (length (ends.last ∷ ends.before))
-      (layout_in ends.last.formula ends.last.sizes) s report) (is : status ≡ 3)
+      (ends : ReportsRounds files given folder after out err status) (written : out.failed ≡ false)
+      (why : FallsShort given Early Late last (length (ends.last ∷ ends.before)) ends.last status)
       → IsExcusedInRounds files words folder Early Late last after out err status
 
 -- memory ran out, or a read failed, in the first lines of stream s, so many

@@ -66,4 +66,4 @@ abbrev pub RightTurnsSay : FilesView → Type 0
 RightTurnsSay files = (words : List Text) (after : files.State) (s : ℕ) (out err : SinkChange)
     (status : ℕ) → AskForRightTurns files words s
     → EndsWithReport files words after out err status ⊎ EndsWithFault files words out err status
-    → (status ≡ 0) ⊎ ((t : ℕ) × IsExcused files words t IsCutOff out status)
+    → (status ≡ 0) ⊎ ((t : ℕ) × IsExcused files words t IsCutOff after out err status)

@@ -1,5 +1,6 @@
 //! Laws of outcomes. Each function does nothing; its contract is the law.
 ghost use Rattle.command.specs.Commands.{files_view};
+ghost use Rattle.outcome_laws.specs.Printed.{NoBadLineShown};
 ghost use Rattle.outcome_laws.specs.Refuting.{OutcomesRefute, OutcomesRefuteUnder};
 ghost use Rattle.outcome_laws.specs.Right.{RightOrderSays, RightRefutationSays};
 ghost use Rattle.outcome_laws.specs.RightRounds.{RightOrdersSay, RightRoundsSay, RightTurnRoundsSay};
@@ -75,6 +76,16 @@ pub fn right_refutation_says<F: Files>(files: &F)
     same_words_ask_alike();
     right_begins();
     right_empty();
+}
+
+/// Where the words ask for a right refutation, no bad line of its stream is printed, but with status 0, or with 7 where the report says
+/// 'unsatisfiable'. The law `right_refutation_says` alone says so: a status 5 or 6 leaves standard output as it was, and each other
+/// report tells that the stream was stopped by the machine.
+pub fn no_bad_line_shown<F: Files>(files: &F)
+    ensures { let view = files_view F.Files F.Input.Source F.Output.Sink files.now in
+        NoBadLineShown view }
+{
+    right_refutation_says(files);
 }
 
 /// Where the words ask for streams whose lines have a right order, one of which adds the empty clause, the program ends so too; or with

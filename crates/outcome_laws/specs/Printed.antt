@@ -1,0 +1,38 @@
+-- What is printed of a right refutation, and the law that says so (this project's own).
+use Rattle.std.specs.Prelude.{◌≡◌, ◌⊎◌, ◌++◌, ◌+◌, ℕ, List, length, Some}
+use Rattle.stream_check.specs.declared.fault.Fault.{Fault}
+use Rattle.stream_check.specs.declared.report.Ending.TheVariants as endings
+use Rattle.stream_check.specs.declared.report.Report.{Report}
+use Rattle.portfolio.specs.ReportText.{stream_line, stream_lines}
+use Rattle.portfolio.specs.declared.outcome.Verdict.TheVariants.{Unsatisfiable}
+use Rattle.command.specs.Commands.{EndsWithFault, EndsWithReport, FilesView, SinkChange, Text}
+use Rattle.outcome_laws.specs.Right.{AskForRightRefutation}
+
+-- What went out to the sink begins with lines of the streams before stream s, and one of stream s, by which a line of it is bad. What
+-- comes behind may be anything.
+pub record ShowsBadLine (s : ℕ) (sink : SinkChange) : Type 0 where
+  pub before : List ℕ
+  pub was : sink.before ≡ Some before
+  pub others : List Report
+  pub place : length others + 1 ≡ s
+  pub blamed : Report
+  pub line : ℕ
+  pub fault : Fault
+  pub bad : blamed.ending ≡ endings.Bad line fault
+  pub more : List ℕ
+  pub is : sink.after ≡ Some (before ++ (stream_lines 1 others ++ (stream_line s blamed ++ more)))
+
+-- the report that wasn't written says 'unsatisfiable'
+pub record HoldsBackRefuted (files : FilesView) (words : List Text) (after : files.State)
+    (out err : SinkChange) (status : ℕ) : Type 0 where
+  pub ends : EndsWithReport files words after out err status
+  pub refuted : ends.verdict ≡ Unsatisfiable
+  pub is : status ≡ 7
+
+-- Where the words ask for a right refutation as stream s, a bad line of it is shown only with status 0, or with 7 where the report says
+-- 'unsatisfiable': a line behind the refutation may be bad. With each other status none is.
+abbrev pub NoBadLineShown : FilesView → Type 0
+NoBadLineShown files = (words : List Text) (after : files.State) (s : ℕ) (out err : SinkChange)
+    (status : ℕ) → AskForRightRefutation files words s
+    → EndsWithReport files words after out err status ⊎ EndsWithFault files words out err status
+    → ShowsBadLine s out → (status ≡ 0) ⊎ HoldsBackRefuted files words after out err status
