@@ -24,6 +24,7 @@ from typing import IO, Any, Callable, Dict, Iterable, List, Sequence, Tuple, Uni
 sys.dont_write_bytecode = True
 from harness import (FILTER, FOUR, LIMIT, ROOT, TESTS, Failure, Ran, Row, Skipped, example, generated, piped, report,
                      run, run_all, started, want, words_given, written)
+from lrat import lrat_fault
 from proof_forms import FORMS, Step, code, codes, read_formula, read_steps, varint
 
 USING = ROOT / "docs" / "USING.md"
@@ -136,6 +137,21 @@ def without_hints(program: str, formula: Path, proof: Path, stream: int, count: 
     want((said, status), ("", 0), proof.name)
     added = sum(not line.startswith("d") for line in proof.read_text().splitlines())
     check(program, formula, at_place((written(text, work, "exact"), added), stream, count))
+
+
+def as_lrat(formula: Path, proof: Path, work: Path) -> None:
+    """What comes out of a proof alone is LRAT, for any checker of that; and what isn't right in it is found."""
+    text, said, status = exact([formula, proof])
+    clauses, lines = read_formula(formula), text.splitlines(True)
+    want((lrat_fault(clauses, text), said, status), ("", "", 0), "as LRAT")
+    *others, last = lines
+    first = next(number for number, line in enumerate(lines, 1) if " d " not in line)
+    head, _, hints = lines[first - 1].rpartition(" 0 ")
+    without = "".join([*lines[:first - 1], " ".join([head, "0", *hints.split()[:-2], "0\n"]), *lines[first:]])
+    for changed, fault in (("".join(others), "no empty clause"), (without, f"line {first}: not "),
+                           (text + last, f"line {len(lines) + 1}: the identity "), (f"1 i 1 0\n{text}", "line 1: not of LRAT's")):
+        found = lrat_fault(clauses, changed)
+        want(found[:len(fault)], fault, "what is off")
 
 
 def in_form(program: str, formula_name: str, name: str, form: str, told: bool, work: Path) -> None:
@@ -705,6 +721,7 @@ def recorded(program: str) -> List[Row]:
     for path, name in ((example("pigeonhole.cnf"), "pigeonhole.drat"), (proofs / "random.cnf", "random.drat")):
         for stream, count in ((1, 1), (2, 3)):
             runs.append((name, without_hints, program, path, proofs / name, stream, count))
+        runs.append((f"{name}, as LRAT", as_lrat, path, proofs / name))
     for formula, name in (("four-clause.cnf", "four-clause.lrup"), ("pigeonhole.cnf", "pigeonhole.lrup"), ("bmc.cnf", "bmc.lrup")):
         for form in FORMS:
             for told in (True, False):
