@@ -23,7 +23,7 @@ from typing import IO, Any, Callable, Dict, Iterable, List, Sequence, Tuple, Uni
 
 sys.dont_write_bytecode = True
 from harness import (FILTER, FOUR, LIMIT, ROOT, TESTS, Failure, Ran, Row, Skipped, example, generated, piped, report,
-                     run, run_all, started, want, words_given, written)
+                     run, run_all, started, want, with_memory, words_given, written)
 from lrat import lrat_fault
 from proof_forms import FORMS, Step, code, codes, read_formula, read_steps, varint
 
@@ -592,30 +592,35 @@ def pipes_and_files() -> List[Row]:
 # The solvers that people have, beside the filter and the program.
 
 
-CADICAL = """\
+SIZES = "--lines 4000000 --room 60000000 "
+CADICAL = f"""\
 cadical -q formula.cnf proof > answer &
-lrupd formula.cnf <(tools/exact/out/exact --format binary-drat formula.cnf proof)
+lrupd {SIZES}formula.cnf \\
+    <(tools/exact/out/exact --format binary-drat formula.cnf proof)
 """
-CADICAL_TWICE = """\
+CADICAL_TWICE = f"""\
 cadical -q formula.cnf proof1 > answer1 &
 cadical -q --seed=2 formula.cnf proof2 > answer2 &
-lrupd formula.cnf <(tools/exact/out/exact --stream 1 --streams 2 --format binary-drat formula.cnf proof1) \\
+lrupd {SIZES}formula.cnf \\
+    <(tools/exact/out/exact --stream 1 --streams 2 --format binary-drat formula.cnf proof1) \\
     <(tools/exact/out/exact --stream 2 --streams 2 --format binary-drat formula.cnf proof2)
 """
-CRYPTOMINISAT = """\
+CRYPTOMINISAT = f"""\
 cryptominisat5 --verb 0 formula.cnf proof > answer &
-lrupd formula.cnf <(tools/exact/out/exact formula.cnf proof)
+lrupd {SIZES}formula.cnf <(tools/exact/out/exact formula.cnf proof)
 """
-CRYPTOMINISAT_TWICE = """\
+CRYPTOMINISAT_TWICE = f"""\
 cryptominisat5 --verb 0 formula.cnf proof1 > answer1 &
 cryptominisat5 --verb 0 --random 2 formula.cnf proof2 > answer2 &
-lrupd formula.cnf <(tools/exact/out/exact --stream 1 --streams 2 formula.cnf proof1) \\
+lrupd {SIZES}formula.cnf \\
+    <(tools/exact/out/exact --stream 1 --streams 2 formula.cnf proof1) \\
     <(tools/exact/out/exact --stream 2 --streams 2 formula.cnf proof2)
 """
-BOTH = """\
+BOTH = f"""\
 cadical -q formula.cnf proof1 > answer1 &
 cryptominisat5 --verb 0 formula.cnf proof2 > answer2 &
-lrupd formula.cnf <(tools/exact/out/exact --stream 1 --streams 2 --format binary-drat formula.cnf proof1) \\
+lrupd {SIZES}formula.cnf \\
+    <(tools/exact/out/exact --stream 1 --streams 2 --format binary-drat formula.cnf proof1) \\
     <(tools/exact/out/exact --stream 2 --streams 2 formula.cnf proof2)
 """
 IN_ROUNDS = """\
@@ -698,7 +703,9 @@ def while_it_runs(commands: str, words: str, work: Path) -> None:
 
 def solvers(program: str) -> List[Row]:
     formulas = ("random 150 1", "pigeons 7", "order 15", "bmc.cnf")
-    runs: List[Row] = [(f"{name}, {words}", beside, program, commands, words) for name, commands in COMMANDS for words in formulas]
+    runs: List[Row] = [(f"{name}, {words}", beside, program, commands.replace(SIZES, ""), words)
+                       for name, commands in COMMANDS for words in formulas]
+    runs += [("CaDiCaL, more than the default sizes hold", with_memory, beside, program, CADICAL, "pigeons 9")]
     runs += [(f"USING, {name}", in_using, commands) for name, commands in COMMANDS]
     runs += [("USING, in rounds", in_using, IN_ROUNDS)]
     runs += [(f"in rounds with {memory}", in_rounds, program, memory, rounds) for memory, rounds in (("500K", 3), ("512M", 1))]
