@@ -141,9 +141,11 @@ is_outcome files words given f cube options readers next later last line at assu
       opened = opened;
       left = entries_are;
       checked = subst (λ (t : TermsValue). AreChecked files.its.reading given.serial f t readers reports verdict) terms checked;
-    } in
-    (outcome, subst (λ (t : TermsValue). LeavesBehind files.its (SavesCheckpoint files.its given.serial f t readers reports) verdict last
-    (checkpoint_at given) unsaved after) terms leaves)
+    } in (
+      outcome,
+      subst (λ (t : TermsValue). LeavesBehind files.its (SavesCheckpoint files.its given.serial f t readers reports) verdict last
+          (checkpoint_at given) unsaved after) terms leaves,
+    )
 
 module _ (files : FilesView) (words : List Text) (given : CommandLine) (line : IsCommandLineOf words given) where
   -- The causes are those of the words and the files.

@@ -208,12 +208,14 @@ pub(crate) fn save_left<W: Sink>(
     ensures failed { IsTrue (W.has_failed sink.new) ↔ (result ≡ Err SaveFault.Unwritten) }
 {
     match left {
-        LeftClauses::Shared(SharedClauses {
-            store,
-            layout,
-            passes,
-            dropped,
-        }) => save_live(alloc, &store, &layout, passes, &dropped, sink),
+        LeftClauses::Shared(
+            SharedClauses {
+                store,
+                layout,
+                passes,
+                dropped,
+            },
+        ) => save_live(alloc, &store, &layout, passes, &dropped, sink),
         LeftClauses::Plain(PlainClauses { mut map, dropped }) => {
             save_plain(alloc, &mut map, &dropped, sink)
         }
@@ -237,12 +239,14 @@ pub(crate) fn carry_left<W: Sink>(
     ensures failed { IsTrue (W.has_failed sink.new) ↔ (result ≡ Err SaveFault.Unwritten) }
 {
     match left {
-        LeftClauses::Shared(SharedClauses {
-            store,
-            layout,
-            passes,
-            dropped,
-        }) => carry_live(alloc, &store, &layout, passes, &dropped, sink),
+        LeftClauses::Shared(
+            SharedClauses {
+                store,
+                layout,
+                passes,
+                dropped,
+            },
+        ) => carry_live(alloc, &store, &layout, passes, &dropped, sink),
         LeftClauses::Plain(PlainClauses { mut map, dropped }) => {
             carry_plain(alloc, &mut map, &dropped, sink)
         }
