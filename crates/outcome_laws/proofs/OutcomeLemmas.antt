@@ -35,14 +35,14 @@ same_line s report other same =
 pub text_of : (told : Option (List ℕ)) (text bytes : List ℕ) → told ≡ Some text → ForSome told (λ all. all ≡ bytes) → text ≡ bytes
 text_of told text bytes is all = all text is
 
-pub is_text : (files : FilesView) (path : Text) (f : Cnf) (after : files.State) (text : List ℕ) → files.tells path ≡ Some text
+pub is_text : (files : FilesView) (path : Text) (f : Cnf) (after : files.its.State) (text : List ℕ) → files.tells path ≡ Some text
     → IsFormulaAt files path f after → IsFormulaText text f
 is_text files path f after text told at =
     subst (λ (x : List ℕ). IsFormulaText x f) (sym (text_of (files.tells path) text at.0 told at.1.told)) at.2
 
 -- what was checked in an outcome
 abbrev pub check_of : (files : FilesView) (words : List Text) (reports : List Report) (verdict : Verdict)
-    → IsOutcome files words reports verdict → Check files.reading
+    → IsOutcome files words reports verdict → Check files.its.reading
 check_of files words reports verdict a = record {
   serial = a.given.serial;
   formula = a.formula;
@@ -72,13 +72,13 @@ outcomes_agree one_formula serial same files others words other_words reports ot
     let fits : Fits (layout_at a.given a.formula) a.formula = record { vars = refl; clauses = refl; literals = refl } in
     let mine = check_of files words reports verdict a in
     let theirs = check_of others other_words other_reports other_verdict b in
-    let here = telling_of_file files.reading mine s on.path whole on.names on.tells in
-    let over = telling_of_file others.reading theirs s there.path whole there.names there.tells in
+    let here = telling_of_file files.its.reading mine s on.path whole on.names on.tells in
+    let over = telling_of_file others.its.reading theirs s there.path whole there.names there.tells in
     same_line s report other
     (same a.formula (terms_given a.given a.cube a.formula) (terms_given b.given b.cube b.formula) s whole
-    (told_of files.reading mine) (told_of others.reading theirs) here.0 over.0 reports other_reports report other
+    (told_of files.its.reading mine) (told_of others.its.reading theirs) here.0 over.0 reports other_reports report other
     fits layouts (ap (λ (x : OptionsValue). x.tries) options) cites
-    (run_of files.reading mine serial) (subst (λ (g : Cnf). IsRun g (terms_given b.given b.cube b.formula)
-    (told_of others.reading theirs) other_reports) formulas (run_of others.reading theirs serial))
+    (run_of files.its.reading mine serial) (subst (λ (g : Cnf). IsRun g (terms_given b.given b.cube b.formula)
+    (told_of others.its.reading theirs) other_reports) formulas (run_of others.its.reading theirs serial))
     here.1 here.2 over.1 over.2
     on.says there.says on.memory on.failure there.memory there.failure)

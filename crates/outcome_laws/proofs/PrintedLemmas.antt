@@ -260,7 +260,7 @@ module _ (s count : ℕ) (out : SinkChange) (shows : ShowsBadLine s out) where
       let none : [] ≡ Shown = kept out.before out.after shows.before Shown untouched.written shows.was shows.is in
       omega (arith, some_shown, ap length none)
 
-  pub shown_so : (files : FilesView) (words : List Text) (after : files.State) (err : SinkChange) (status : ℕ)
+  pub shown_so : (files : FilesView) (words : List Text) (after : files.its.State) (err : SinkChange) (status : ℕ)
       → IsExcused files words s (IsCutOffIn count) after out err status → HoldsBackRefuted files words after out err status
   shown_so files words after err status (no_report ends machine is) = absurd (none_untouched ends.untouched)
   shown_so files words after err status (lost ends written report says why is) =

@@ -1,5 +1,5 @@
 -- Runs of the program one after the other.
-use Rattle.std.proofs.Common.{◌≡◌, ℕ, Bool, true, false, List, [], ◌∷◌, Option, None, Some, refl, subst}
+use Rattle.std.proofs.Common.{◌≡◌, ℕ, Bool, true, false, List, [], ◌∷◌, Option, None, Some, Result, Ok, Err, refl, subst}
 use Rattle.lrup_model.specs.Cube.{CubeValue, IsUnsatisfiableUnder}
 use Rattle.lrup_model.specs.Formula.{Cnf}
 use Rattle.dimacs.specs.FormulaText.{IsFormulaText}
@@ -8,22 +8,32 @@ use Rattle.portfolio.specs.declared.outcome.Verdict.TheVariants.{Unsatisfiable, 
 use Rattle.checkpoint.specs.Checkpoints.{AreCheckpoints, FilesRefute, FilesRefuteUnder, IsCheckpoint, IsUnsatisfiableText}
 use Rattle.checkpoint.specs.Checkpoints.{IsUnsatisfiableTextUnder, last_file}
 use Rattle.checkpoint.specs.declared.saving.SaveFault.{SaveFault}
-use Rattle.command.specs.Commands.{FilesView, LeavesCheckpoint, Text, checkpoint_at, report_status}
-use Rattle.outcome_laws.specs.Refuting.{AreRuns, IsRunOn, OutcomesRefute, OutcomesRefuteUnder, saved_bytes}
+use Rattle.runs.specs.Streams.{TermsValue}
+use Rattle.stream_check.specs.declared.report.Report.{Report}
+use Rattle.command.specs.Commands.{Deeds, FilesView, LeavesBehind, SavesCheckpoint, Text, checkpoint_at, report_status, terms_given}
+use Rattle.outcome_laws.specs.Refuting.{AreRuns, IsRunOn, OutcomesRefute, OutcomesRefuteUnder, saved_bytes, written_bytes}
 use Rattle.outcome_laws.proofs.StatusLemmas.{refuted}
 
 -- what was saved is a checkpoint
-is_saved : (files : FilesView) (path : Option Text) (f : Cnf) (verdict : Verdict) (unsaved : Option SaveFault) (before after : files.State)
-    (leaves : LeavesCheckpoint files path f verdict unsaved before after) (saved : List ℕ)
-    → saved_bytes files path f verdict unsaved before after leaves ≡ Some saved → IsCheckpoint f saved
-is_saved files None f verdict unsaved before after leaves saved is = absurd (let no : None ≡ Some saved = is in cc)
-is_saved files (Some path) f Unsatisfiable unsaved before after leaves saved is = absurd (let no : None ≡ Some saved = is in cc)
-is_saved files (Some path) f UnsatisfiableUnder None before after leaves saved is =
-    let same : leaves.0 ≡ saved = cc in subst (IsCheckpoint f) same leaves.2
-is_saved files (Some path) f UnsatisfiableUnder (Some fault) before after leaves saved is = absurd (let no : None ≡ Some saved = is in cc)
-is_saved files (Some path) f Unknown None before after leaves saved is =
-    let same : leaves.0 ≡ saved = cc in subst (IsCheckpoint f) same leaves.2
-is_saved files (Some path) f Unknown (Some fault) before after leaves saved is = absurd (let no : None ≡ Some saved = is in cc)
+module _ (its : Deeds) (serial : Bool) (f : Cnf) (terms : TermsValue) (readers : List its.Reader) (reports : List Report) where
+  is_written : (result : Result (Unit {0}) SaveFault) (first last : its.Output)
+      (saves : SavesCheckpoint its serial f terms readers reports result first last) (saved : List ℕ)
+      → written_bytes its serial f terms readers reports result first last saves ≡ Some saved → IsCheckpoint f saved
+  is_written (Ok done) first last saves saved is =
+      let same : saves.checkpoint.0 ≡ saved = cc in subst (IsCheckpoint f) same saves.checkpoint.2
+  is_written (Err fault) first last saves saved is = absurd (let no : None ≡ Some saved = is in cc)
+
+  is_saved : (verdict : Verdict) (before : its.State) (path : Option Text) (unsaved : Option SaveFault) (after : its.State)
+      (leaves : LeavesBehind its (SavesCheckpoint its serial f terms readers reports) verdict before path unsaved after) (saved : List ℕ)
+      → saved_bytes its serial f terms readers reports verdict before path unsaved after leaves ≡ Some saved → IsCheckpoint f saved
+  is_saved verdict before None unsaved after leaves saved is = absurd (let no : None ≡ Some saved = is in cc)
+  is_saved Unsatisfiable before (Some path) unsaved after leaves saved is = absurd (let no : None ≡ Some saved = is in cc)
+  is_saved UnsatisfiableUnder before (Some path) (Some fault) after leaves saved is = absurd (let no : None ≡ Some saved = is in cc)
+  is_saved UnsatisfiableUnder before (Some path) None after leaves saved is =
+      is_written leaves.result leaves.first leaves.last leaves.saving saved is
+  is_saved Unknown before (Some path) (Some fault) after leaves saved is = absurd (let no : None ≡ Some saved = is in cc)
+  is_saved Unknown before (Some path) None after leaves saved is =
+      is_written leaves.result leaves.first leaves.last leaves.saving saved is
 
 -- what a run read is a text of its formula
 is_read : (files : FilesView) (bytes : List ℕ) (status : ℕ) (run : IsRunOn files bytes status)
@@ -41,8 +51,8 @@ module _ {F : Type 0} (view : F → FilesView) (IsLast : F → List ℕ → Type
         (
           o.formula,
           is_read files bytes runs.0.1 run,
-          is_saved files (checkpoint_at o.given) o.formula run.ends.verdict run.ends.unsaved o.last run.after
-              run.ends.checkpoint next runs.0.3,
+          is_saved files.its o.given.serial o.formula (terms_given o.given o.cube o.formula) o.readers run.ends.reports run.ends.verdict
+              o.last (checkpoint_at o.given) run.ends.unsaved run.after run.ends.checkpoint next runs.0.3,
         ),
         are_checkpoints next more runs.1,
       )

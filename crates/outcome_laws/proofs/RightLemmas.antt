@@ -1,5 +1,5 @@
 -- What the program says of a right refutation.
-use Rattle.std.proofs.Common.{◌≡◌, ◌≢◌, ◌⊎◌, ◌≤◌, ℕ, ℤ, Bool, true, false, List, [], ◌∷◌, length, map, Option, None, Some}
+use Rattle.std.proofs.Common.{◌≡◌, ◌≢◌, ◌⊎◌, ◌≤◌, ℕ, ℤ, Bool, true, false, List, [], ◌∷◌, length, map, Option, None, Some, Result}
 use Rattle.std.proofs.Common.{inl, inr, refl, sym, ap, subst, ◌∙◌, arith}
 use Rattle.std.specs.List.{AllByRecursion}
 use Rattle.lrup_model.specs.Distinct.{distinct}
@@ -28,7 +28,7 @@ use Rattle.portfolio.specs.declared.outcome.Verdict.TheVariants.{Unsatisfiable, 
 use Rattle.checkpoint.specs.declared.saving.SaveFault.{SaveFault}
 use Rattle.command_line.specs.CommandLine.{AskToSave, IsCommandLineOf}
 use Rattle.command_line.specs.declared.words.CommandLine.{CommandLine}
-use Rattle.command.specs.Commands.{EndsWithFault, EndsWithReport, FilesView, IsAssumeCause, IsCause, IsFormulaAt, IsOutcome, IsReadCause}
+use Rattle.command.specs.Commands.{Deeds, LeavesBehind, EndsWithFault, EndsWithReport, FilesView, IsAssumeCause, IsCause, IsFormulaAt, IsOutcome, IsReadCause}
 use Rattle.command.specs.Commands.{LeavesCheckpoint, SinkChange, Text, assumed_at, checkpoint_at, layout_at, options_of, report_status}
 use Rattle.command.specs.Commands.{verdict_status}
 use Rattle.command.specs.Faults.{status_of}
@@ -59,44 +59,38 @@ text_cnf bytes f is = record {
 
 -- With a report
 
-module _ (files : FilesView) where
+module _ (its : Deeds) (Saves : Result (Unit {0}) SaveFault → its.Output → its.Output → Type 0) where
   -- with 'unsatisfiable' there is nothing to be saved
-  all_saved : (path : Option Text) (f : Cnf) (verdict : Verdict) (unsaved : Option SaveFault) (before after : files.State)
-      → verdict ≡ Unsatisfiable → LeavesCheckpoint files path f verdict unsaved before after → unsaved ≡ None
-  all_saved path f UnsatisfiableUnder unsaved before after is leaves = absurd (let no : UnsatisfiableUnder ≡ Unsatisfiable = is in cc)
-  all_saved path f Unknown unsaved before after is leaves = absurd (let no : Unknown ≡ Unsatisfiable = is in cc)
-  all_saved None f Unsatisfiable unsaved before after is leaves = leaves.0
-  all_saved (Some path) f Unsatisfiable unsaved before after is leaves = leaves.0
+  all_saved : (verdict : Verdict) (before : its.State) (path : Option Text) (unsaved : Option SaveFault) (after : its.State)
+      → verdict ≡ Unsatisfiable → LeavesBehind its Saves verdict before path unsaved after → unsaved ≡ None
+  all_saved UnsatisfiableUnder before path unsaved after is leaves = absurd (let no : UnsatisfiableUnder ≡ Unsatisfiable = is in cc)
+  all_saved Unknown before path unsaved after is leaves = absurd (let no : Unknown ≡ Unsatisfiable = is in cc)
+  all_saved Unsatisfiable before None unsaved after is leaves = leaves.0
+  all_saved Unsatisfiable before (Some path) unsaved after is leaves = leaves.0
 
   -- what wasn't saved was asked for
-  asked_for : (path : Option Text) (f : Cnf) (verdict : Verdict) (fault : SaveFault) (before after : files.State)
-      → LeavesCheckpoint files path f verdict (Some fault) before after → (asked : Text) × (path ≡ Some asked)
-  asked_for None f verdict fault before after leaves = absurd (let no : Some fault ≡ None = leaves.0 in cc)
-  asked_for (Some path) f verdict fault before after leaves = (path, refl)
-
-  pub asks_to_save : (words : List Text) (given : CommandLine) (f : Cnf) (verdict : Verdict) (fault : SaveFault)
-      (before after : files.State) → IsCommandLineOf words given
-      → LeavesCheckpoint files (checkpoint_at given) f verdict (Some fault) before after → (path : Text) × AskToSave words path
-  asks_to_save words given f verdict fault before after line leaves =
-      let asked = asked_for (checkpoint_at given) f verdict fault before after leaves in
-      (asked.0, record { good = line.good; path_is = sym line.said.checkpoint ∙ asked.1 })
+  asked_for : (verdict : Verdict) (before : its.State) (path : Option Text) (fault : SaveFault) (after : its.State)
+      → LeavesBehind its Saves verdict before path (Some fault) after → (asked : Text) × (path ≡ Some asked)
+  asked_for verdict before None fault after leaves = absurd (let no : Some fault ≡ None = leaves.0 in cc)
+  asked_for verdict before (Some path) fault after leaves = (path, refl)
 
 -- what comes of a report: of one that says 'unsatisfiable', or that the stream was stopped
-module _ (files : FilesView) (Lost : Report → Type 0) (words : List Text) (after : files.State) (s : ℕ) (out err : SinkChange) (status : ℕ)
+module _ (files : FilesView) (Lost : Report → Type 0) (words : List Text) (after : files.its.State) (s : ℕ) (out err : SinkChange) (status : ℕ)
     (ends : EndsWithReport files words after out err status) where
   -- where the checkpoint wasn't saved the verdict isn't 'unsatisfiable', and the words ask for it
   none_refuted : (fault : SaveFault) → ends.unsaved ≡ Some fault → ends.verdict ≢ Unsatisfiable
   none_refuted fault unsaved is =
       let o = ends.outcome in
-      let saved = all_saved files (checkpoint_at o.given) o.formula ends.verdict ends.unsaved o.last after is ends.checkpoint in
+      let saved = all_saved files.its _ ends.verdict o.last (checkpoint_at o.given) ends.unsaved after is ends.checkpoint in
       let no : Some fault ≡ None = sym unsaved ∙ saved in cc
 
   asked_to_save : (fault : SaveFault) → ends.unsaved ≡ Some fault → (path : Text) × AskToSave words path
   asked_to_save fault unsaved =
       let o = ends.outcome in
-      asks_to_save files words o.given o.formula ends.verdict fault o.last after o.command_line
-      (subst (λ (u : Option SaveFault). LeavesCheckpoint files (checkpoint_at o.given) o.formula ends.verdict u o.last after) unsaved
-      ends.checkpoint)
+      let line = o.command_line in
+      let asked = asked_for files.its _ ends.verdict o.last (checkpoint_at o.given) fault after
+      (subst (λ (u : Option SaveFault). LeavesCheckpoint files words ends.reports ends.verdict o u after) unsaved ends.checkpoint) in
+      (asked.0, record { good = line.good; path_is = sym line.said.checkpoint ∙ asked.1 })
 
   abbrev Excused : Type 0
   Excused = IsExcused files words s Lost after out err status
@@ -189,7 +183,7 @@ module _ (one_formula : OneFormula) (serial : SerialRun) (alike : SameWordsAskAl
       subst (λ (x : Cnf). IsRightBeginning x (layout_at a.given a.formula) s ask.bytes lines) (sym is.formulas)
       (subst (λ (p : LayoutValue). IsRightBeginning asks.formula p s ask.bytes lines) is.layouts ask.right.right) in
       let names : IsOfStream a.given.streams s ask.path = subst (λ (x : List Text). IsOfStream x s ask.path) (sym is.streams) ask.names in
-      refutes files.reading (check_of files words reports verdict a) serial begins empty is.cnf s ask.path ask.bytes lines names ask.tells
+      refutes files.its.reading (check_of files words reports verdict a) serial begins empty is.cnf s ask.path ask.bytes lines names ask.tells
       right ask.right.empty
 
   order_says : TogetherBegins
@@ -203,7 +197,7 @@ module _ (one_formula : OneFormula) (serial : SerialRun) (alike : SameWordsAskAl
       let order : IsRightOrder a.formula (layout_at a.given a.formula) ask.steps =
       subst (λ (x : Cnf). IsRightOrder x (layout_at a.given a.formula) ask.steps) (sym is.formulas)
       (subst (λ (p : LayoutValue). IsRightOrder asks.formula p ask.steps) is.layouts ask.order) in
-      elim (orders files.reading (check_of files words reports verdict a) serial together empty is.cnf s ask.set ask.steps order ask.members
+      elim (orders files.its.reading (check_of files words reports verdict a) serial together empty is.cnf s ask.set ask.steps order ask.members
       (λ t path member names. ask.tells t path member (subst (λ (x : List Text). IsOfStream x t path) is.streams names)) ask.empty) [
         | inl says ↦ inl says
         | inr (report, says, inl cut) ↦ inr (report, says, inl cut)
@@ -218,148 +212,152 @@ module _ (one_formula : OneFormula) (serial : SerialRun) (alike : SameWordsAskAl
 
 module _ (one_formula : OneFormula) (no_fault : NoFormulaFault) (alike : SameWordsAskAlike) (files : FilesView) (folder : Option Text) where
   -- no file that was read is at fault
-  not_refused : (path : Text) (text : List ℕ) (f : Cnf) (fault : DimacsFault) → files.tells path ≡ Some text → IsFormulaText text f
-      → ¬ IsReadCause files path (faults.Refused fault)
-  not_refused path text f fault told is cause =
-      let same = text_of (files.tells path) text cause.1.0 told cause.1.2.told in
-      no_fault cause.1.0 f fault (subst (λ (b : List ℕ). IsFormulaText b f) same is) cause.1.3
+  not_refused : (path : Text) (text : List ℕ) (f : Cnf) (fault : DimacsFault) (after : files.its.State) → files.tells path ≡ Some text
+      → IsFormulaText text f → ¬ IsReadCause files path (faults.Refused fault) after
+  not_refused path text f fault after told is cause =
+      let same = text_of (files.tells path) text cause.1.0 told cause.1.1.told in
+      no_fault cause.1.0 f fault (subst (λ (b : List ℕ). IsFormulaText b f) same is) cause.1.2
 
-  not_assumed : (vars : ℕ) (before : files.State) (path : Option Text) (fault : CubeFault) → AreRightAssumptions files vars path
-      → ¬ IsAssumeCause files vars before path (faults.CubeRefused fault)
-  not_assumed vars before None fault right cause = cause
-  not_assumed vars before (Some path) fault right cause =
-      let same = text_of (files.tells path) right.0 cause.1.0 right.1 cause.1.2.told in
-      right.2 fault cause.0 (subst (λ (b : List ℕ). IsCubeFault vars b fault) (sym same) cause.1.3)
+  not_assumed : (vars : ℕ) (before : files.its.State) (path : Option Text) (fault : CubeFault) (after : files.its.State)
+      → AreRightAssumptions files vars path → ¬ IsAssumeCause files vars before path (faults.CubeRefused fault) after
+  not_assumed vars before None fault after right cause = cause
+  not_assumed vars before (Some path) fault after right cause =
+      let same = text_of (files.tells path) right.0 cause.1.0 right.1 cause.1.1.told in
+      right.2 fault cause.0 (subst (λ (b : List ℕ). IsCubeFault vars b fault) (sym same) cause.1.2)
 
-  no_usage : (before : files.State) (path : Option Text) (vars : ℕ) (fault : DimacsFault)
-      → ¬ IsAssumeCause files vars before path (faults.Refused fault)
-  no_usage before None vars fault cause = cause
-  no_usage before (Some path) vars fault cause = cause
+  no_usage : (before : files.its.State) (path : Option Text) (vars : ℕ) (fault : DimacsFault) (after : files.its.State)
+      → ¬ IsAssumeCause files vars before path (faults.Refused fault) after
+  no_usage before None vars fault after cause = cause
+  no_usage before (Some path) vars fault after cause = cause
 
-  no_layout : (before : files.State) (path : Option Text) (vars : ℕ) (fault : LayoutFault)
-      → ¬ IsAssumeCause files vars before path (faults.Layout fault)
-  no_layout before None vars fault cause = cause
-  no_layout before (Some path) vars fault cause = cause
+  no_layout : (before : files.its.State) (path : Option Text) (vars : ℕ) (fault : LayoutFault) (after : files.its.State)
+      → ¬ IsAssumeCause files vars before path (faults.Layout fault) after
+  no_layout before None vars fault after cause = cause
+  no_layout before (Some path) vars fault after cause = cause
 
-  never_unsaved : (before : files.State) (path : Option Text) (vars : ℕ) (fault : SaveFault)
-      → ¬ IsAssumeCause files vars before path (faults.NotSaved fault)
-  never_unsaved before None vars fault cause = cause
-  never_unsaved before (Some path) vars fault cause = cause
+  never_unsaved : (before : files.its.State) (path : Option Text) (vars : ℕ) (fault : SaveFault) (after : files.its.State)
+      → ¬ IsAssumeCause files vars before path (faults.NotSaved fault) after
+  never_unsaved before None vars fault after cause = cause
+  never_unsaved before (Some path) vars fault after cause = cause
 
-  no_sizes : (before : files.State) (path : Option Text) (vars : ℕ) → ¬ IsAssumeCause files vars before path faults.Sizes
-  no_sizes before None vars cause = cause
-  no_sizes before (Some path) vars cause = cause
+  no_sizes : (before : files.its.State) (path : Option Text) (vars : ℕ) (after : files.its.State)
+      → ¬ IsAssumeCause files vars before path faults.Sizes after
+  no_sizes before None vars after cause = cause
+  no_sizes before (Some path) vars after cause = cause
 
-  no_sizes_unread : (before : files.State) (path : Option Text) (vars : ℕ) → ¬ IsAssumeCause files vars before path faults.SizesUnread
-  no_sizes_unread before None vars cause = cause
-  no_sizes_unread before (Some path) vars cause = cause
+  no_sizes_unread : (before : files.its.State) (path : Option Text) (vars : ℕ) (after : files.its.State)
+      → ¬ IsAssumeCause files vars before path faults.SizesUnread after
+  no_sizes_unread before None vars after cause = cause
+  no_sizes_unread before (Some path) vars after cause = cause
 
-  never_unwritten : (before : files.State) (path : Option Text) (vars : ℕ) → ¬ IsAssumeCause files vars before path faults.Unwritten
-  never_unwritten before None vars cause = cause
-  never_unwritten before (Some path) vars cause = cause
+  never_unwritten : (before : files.its.State) (path : Option Text) (vars : ℕ) (after : files.its.State)
+      → ¬ IsAssumeCause files vars before path faults.Unwritten after
+  never_unwritten before None vars after cause = cause
+  never_unwritten before (Some path) vars after cause = cause
 
   -- the formula that was read is the one that is told
-  pub formula_at : (words : List Text) (ask : AskWell files words folder) (given : CommandLine) (f : Cnf) (next : files.State)
+  pub formula_at : (words : List Text) (ask : AskWell files words folder) (given : CommandLine) (f : Cnf) (next : files.its.State)
       → IsCommandLineOf words given → IsFormulaAt files given.formula.now f next → f ≡ ask.formula
   formula_at words ask given f next line at =
       let same = alike words ask.given given ask.command_line line in
       one_formula ask.text f ask.formula (is_text files given.formula.now f next ask.text (ap files.tells same.2 ∙ ask.told) at) ask.is_text
 
-  pub of_machine : (words : List Text) (ask : AskWell files words folder) → ¬ IsCause files words faults.TwoCheckpoints
-      → (fault : CommandFault) → IsCause files words fault → IsOfMachine fault
-  of_machine words ask one (faults.Usage text) cause = cause ask.command_line.good
-  of_machine words ask one faults.Unread cause = tt
-  of_machine words ask one faults.CubeUnread cause = tt
-  of_machine words ask one (faults.NotOpened stream) cause = tt
-  of_machine words ask one (faults.Spawn stream) cause = tt
-  of_machine words ask one (faults.Ring stream) cause = tt
-  of_machine words ask one faults.Memory cause = tt
-  of_machine words ask one (faults.Refused fault) cause =
+  pub of_machine : (words : List Text) (ask : AskWell files words folder) → (after : files.its.State)
+      → ¬ IsCause files words faults.TwoCheckpoints after
+      → (fault : CommandFault) → IsCause files words fault after → IsOfMachine fault
+  of_machine words ask after one (faults.Usage text) cause = cause.0 ask.command_line.good
+  of_machine words ask after one faults.Unread cause = tt
+  of_machine words ask after one faults.CubeUnread cause = tt
+  of_machine words ask after one (faults.NotOpened stream) cause = tt
+  of_machine words ask after one (faults.Spawn stream) cause = tt
+  of_machine words ask after one (faults.Ring stream) cause = tt
+  of_machine words ask after one faults.Memory cause = tt
+  of_machine words ask after one (faults.Refused fault) cause =
       let same = alike words ask.given cause.0 ask.command_line cause.1 in
       elim cause.2 [
-        | inl read ↦ not_refused cause.0.formula.now ask.text ask.formula fault (ap files.tells same.2 ∙ ask.told) ask.is_text read
+        | inl read ↦ not_refused cause.0.formula.now ask.text ask.formula fault after (ap files.tells same.2 ∙ ask.told) ask.is_text read
         | inr later ↦ elim later.3 [
-          | inl assume ↦ no_usage later.1 (assumed_at cause.0) later.0.vars fault assume
-          | inr last ↦ elim last.3 [ inl opens ↦ opens | inr more ↦ elim more [ inl runs ↦ runs | inr create ↦ create.4 ] ]
+          | inl assume ↦ no_usage later.1 (assumed_at cause.0) later.0.vars fault after assume
+          | inr last ↦ elim last.3 [ inl opens ↦ opens | inr start ↦ start.3 ]
         ]
       ]
-  of_machine words ask one (faults.CubeRefused fault) cause =
+  of_machine words ask after one (faults.CubeRefused fault) cause =
       elim cause.2 [
         | inl read ↦ read
         | inr later ↦ elim later.3 [
           | inl assume ↦
               let assumed : assumed_at cause.0 ≡ assumed_at ask.given = cause.1.said.assume ∙ sym ask.command_line.said.assume in
               let formulas = formula_at words ask cause.0 later.0 later.1 cause.1 later.2 in
-              not_assumed ask.formula.vars later.1 (assumed_at ask.given) fault ask.assumptions
-              (subst (λ (p : Option Text). IsAssumeCause files ask.formula.vars later.1 p (faults.CubeRefused fault)) assumed
-              (subst (λ (f : Cnf). IsAssumeCause files f.vars later.1 (assumed_at cause.0) (faults.CubeRefused fault)) formulas assume))
-          | inr last ↦ elim last.3 [ inl opens ↦ opens | inr more ↦ elim more [ inl runs ↦ runs | inr create ↦ create.4 ] ]
+              not_assumed ask.formula.vars later.1 (assumed_at ask.given) fault after ask.assumptions
+              (subst (λ (p : Option Text). IsAssumeCause files ask.formula.vars later.1 p (faults.CubeRefused fault) after) assumed
+              (subst (λ (f : Cnf). IsAssumeCause files f.vars later.1 (assumed_at cause.0) (faults.CubeRefused fault) after) formulas assume))
+          | inr last ↦ elim last.3 [ inl opens ↦ opens | inr start ↦ start.3 ]
         ]
       ]
-  of_machine words ask one (faults.Layout fault) cause =
+  of_machine words ask after one (faults.Layout fault) cause =
       elim cause.2 [
         | inl read ↦ read
         | inr later ↦ elim later.3 [
-          | inl assume ↦ no_layout later.1 (assumed_at cause.0) later.0.vars fault assume
+          | inl assume ↦ no_layout later.1 (assumed_at cause.0) later.0.vars fault after assume
           | inr last ↦ elim last.3 [
             | inl opens ↦ opens
-            | inr (inr create) ↦ create.4
-            | inr (inl runs) ↦
+            | inr start ↦
                 let same = alike words ask.given cause.0 ask.command_line cause.1 in
                 let formulas = formula_at words ask cause.0 later.0 later.1 cause.1 later.2 in
                 let layouts : layout_at cause.0 later.0 ≡ layout_at ask.given ask.formula =
                 ap (λ (x : OptionsValue). layout_of x later.0 (length cause.0.streams)) same.0
                 ∙ ap (λ (x : Cnf). layout_of (options_of ask.given) x (length cause.0.streams)) formulas
                 ∙ ap (λ (x : List Text). layout_of (options_of ask.given) ask.formula (length x)) same.1 in
-                ask.layout fault (subst (λ (p : LayoutValue). IsFault p fault) layouts runs)
+                ask.layout fault (subst (λ (p : LayoutValue). IsFault p fault) layouts start.3.0)
           ]
         ]
       ]
-  of_machine words ask one faults.Unwritten cause =
+  of_machine words ask after one faults.Unwritten cause =
       elim cause.2 [
         | inl read ↦ read
         | inr later ↦ elim later.3 [
-          | inl assume ↦ never_unwritten later.1 (assumed_at cause.0) later.0.vars assume
-          | inr last ↦ elim last.3 [ inl opens ↦ opens | inr more ↦ elim more [ inl runs ↦ runs | inr create ↦ create.4 ] ]
+          | inl assume ↦ never_unwritten later.1 (assumed_at cause.0) later.0.vars after assume
+          | inr last ↦ elim last.3 [ inl opens ↦ opens | inr start ↦ start.3 ]
         ]
       ]
-  of_machine words ask one faults.NotCreated cause = tt
-  of_machine words ask one faults.TwoCheckpoints cause = absurd (one cause)
-  of_machine words ask one faults.Sizes cause =
+  of_machine words ask after one faults.NotCreated cause = tt
+  of_machine words ask after one faults.TwoCheckpoints cause = absurd (one cause)
+  of_machine words ask after one faults.Sizes cause =
       elim cause.2 [
         | inl read ↦ read
         | inr later ↦ elim later.3 [
-          | inl assume ↦ no_sizes later.1 (assumed_at cause.0) later.0.vars assume
-          | inr last ↦ elim last.3 [ inl opens ↦ opens | inr more ↦ elim more [ inl runs ↦ runs | inr create ↦ create.4 ] ]
+          | inl assume ↦ no_sizes later.1 (assumed_at cause.0) later.0.vars after assume
+          | inr last ↦ elim last.3 [ inl opens ↦ opens | inr start ↦ start.3 ]
         ]
       ]
-  of_machine words ask one faults.SizesUnread cause =
+  of_machine words ask after one faults.SizesUnread cause =
       elim cause.2 [
         | inl read ↦ read
         | inr later ↦ elim later.3 [
-          | inl assume ↦ no_sizes_unread later.1 (assumed_at cause.0) later.0.vars assume
-          | inr last ↦ elim last.3 [ inl opens ↦ opens | inr more ↦ elim more [ inl runs ↦ runs | inr create ↦ create.4 ] ]
+          | inl assume ↦ no_sizes_unread later.1 (assumed_at cause.0) later.0.vars after assume
+          | inr last ↦ elim last.3 [ inl opens ↦ opens | inr start ↦ start.3 ]
         ]
       ]
-  of_machine words ask one (faults.NotSaved fault) cause =
+  of_machine words ask after one (faults.NotSaved fault) cause =
       elim cause.2 [
         | inl read ↦ read
         | inr later ↦ elim later.3 [
-          | inl assume ↦ never_unsaved later.1 (assumed_at cause.0) later.0.vars fault assume
-          | inr last ↦ elim last.3 [ inl opens ↦ opens | inr more ↦ elim more [ inl runs ↦ runs | inr create ↦ create.4 ] ]
+          | inl assume ↦ never_unsaved later.1 (assumed_at cause.0) later.0.vars fault after assume
+          | inr last ↦ elim last.3 [ inl opens ↦ opens | inr start ↦ start.3 ]
         ]
       ]
 
 -- without rounds there aren't two checkpoints
-no_rounds : (files : FilesView) (words : List Text) → AskWell files words None → ¬ IsCause files words faults.TwoCheckpoints
-no_rounds files words ask cause =
+no_rounds : (files : FilesView) (words : List Text) (after : files.its.State) → AskWell files words None
+    → ¬ IsCause files words faults.TwoCheckpoints after
+no_rounds files words after ask cause =
     let no : Some cause.0 ≡ None = sym cause.2.folder_is ∙ sym ask.command_line.said.rounds ∙ ask.rounds in cc
 
 pub without_report : OneFormula → NoFormulaFault → SameWordsAskAlike → (files : FilesView) (Lost : Report → Type 0) (words : List Text)
-    (after : files.State) (s : ℕ) (out err : SinkChange) (status : ℕ) → AskWell files words None
-    → EndsWithFault files words out err status → IsExcused files words s Lost after out err status
+    (after : files.its.State) (s : ℕ) (out err : SinkChange) (status : ℕ) → AskWell files words None
+    → EndsWithFault files words after out err status → IsExcused files words s Lost after out err status
 without_report one_formula no_fault alike files Lost words after s out err status ask ends =
-    let machine = of_machine one_formula no_fault alike files None words ask (no_rounds files words ask) ends.fault ends.cause in
+    let machine = of_machine one_formula no_fault alike files None words ask after (no_rounds files words after ask) ends.fault ends.cause in
     no_report ends machine (subst (λ (n : ℕ). (n ≡ 5) ⊎ (n ≡ 6)) (sym ends.status_is) (machine_status ends.fault machine))
 
 pub right_refutation_says : OneFormula → NoFormulaFault → SerialRun → SameWordsAskAlike → RightBegins → RightEmpty

@@ -1,6 +1,6 @@
 -- What the program says of right streams in rounds.
 use Rattle.std.proofs.Common.{◌≡◌, ◌⊎◌, ◌<◌, ◌≤◌, ◌-◌, ◌+◌, ℕ, Bool, true, false, List, [], ◌∷◌, length, map, Option, None, Some, inl, inr}
-use Rattle.std.proofs.Common.{refl, sym, ap, subst, ◌∙◌, arith}
+use Rattle.std.proofs.Common.{refl, sym, ap, subst, drop, ◌∙◌, arith}
 use Rattle.std.proofs.lemmas.Bool.{cases_lt}
 use Rattle.std.proofs.lemmas.List.{length-map}
 use Rattle.lrup_model.specs.Formula.{Cnf, IsCnf}
@@ -20,12 +20,12 @@ use Rattle.checkpoint.specs.declared.saving.SaveFault.{SaveFault}
 use Rattle.command_line.specs.CommandLine.{IsCommandLineOf}
 use Rattle.command_line.specs.declared.sizes.Sizes.{Sizes}
 use Rattle.command_line.specs.declared.words.CommandLine.{CommandLine}
-use Rattle.command.specs.Commands.{AreAssumed, WasReadIn, assumed_at, FilesView, IsCause, IsCreateCause, IsOpenCause, IsRunCause}
+use Rattle.command.specs.Commands.{AreAssumed, Deeds, WasReadIn, assumed_at, FilesView, IsCause, IsOpenCause, IsStartCause}
 use Rattle.command.specs.Commands.{SinkChange, Text, options_of, report_status}
 use Rattle.command.specs.Faults.{status_of}
-use Rattle.command.specs.Paths.{sizes_path, stream_paths}
-use Rattle.command.specs.Rounds.{AreSized, CarriesOn, Deeds, FailsInRound, HaveEnded, IsRoundCause, IsSizesCause, ProgramEnds}
-use Rattle.command.specs.Rounds.{ReportsRounds, Round, Plan, WasChecked, WereRounds, deeds_of, plan_at, sizes_of, terms_by}
+use Rattle.command.specs.Paths.{formula_path, sizes_path, stream_path, stream_paths}
+use Rattle.command.specs.Rounds.{AreSized, CarriesOn, FailsInRound, HaveEnded, IsFirstCause, IsRoundCause, IsSizesCause, ProgramEnds}
+use Rattle.command.specs.Rounds.{ReportsRounds, Round, Plan, WasChecked, WereRounds, plan_at, sizes_of, terms_by}
 use Rattle.command.specs.declared.fault.CommandFault.{CommandFault}
 use Rattle.command.specs.declared.fault.CommandFault.TheVariants as faults
 use Rattle.outcome_laws.specs.Laws.{SameWordsAskAlike}
@@ -49,53 +49,54 @@ round_status fault (inl machine) = machine_status fault machine
 round_status fault (inr sizes) = inl (ap status_of sizes)
 
 -- what a fault of a later round isn't of
-module _ (its : Deeds) (plan : Plan) (number : ℕ) (old : Sizes) (formula : Cnf) (before : its.State) where
+module _ (its : Deeds) (plan : Plan) (number : ℕ) (old : Sizes) (formula : Cnf) (before after : its.State) where
   abbrev Read : Sizes → its.State → Type 0
   Read sizes sized = AreSized its (sizes_path plan.folder (number + 1)) old before sizes sized
 
-  none_so : (fault : CommandFault) → (IsSizesCause its before (sizes_path plan.folder (number + 1)) fault → ⊥)
-      → ((F R : Type 0) (opens : F → Text → R → F → Type 0) (refuses : Text → Bool) (first : F) (paths : List Text)
-      → IsOpenCause opens refuses first paths fault → ⊥)
-      → ((sizes : Sizes) (sized : its.State) → Read sizes sized
-      → IsRunCause plan.serial (terms_by plan formula sizes).layout fault → ⊥)
-      → ((refuses : Text → Bool) (path : Option Text) → IsCreateCause refuses path fault → ⊥)
-      → IsRoundCause its plan number old formula before fault → ⊥
-  none_so fault sizes opens runs creates (inl cause) = sizes cause
-  none_so fault sizes opens runs creates (inr (read, sized, are, inl cause)) = opens its.State its.Reader its.opens _ _ _ cause.0
-  none_so fault sizes opens runs creates (inr (read, sized, are, inr (readers, opened, so, inl cause))) = runs read sized are cause
-  none_so fault sizes opens runs creates (inr (read, sized, are, inr (readers, opened, so, inr (layout, cause)))) = creates _ _ cause
+  none_so : (fault : CommandFault) → (IsSizesCause its before (sizes_path plan.folder (number + 1)) fault after → ⊥)
+      → ((from : its.State) (path : Text) → IsFirstCause its from path fault after → ⊥)
+      → ((next : its.State) (paths : List Text) → IsOpenCause its 1 next paths fault after → ⊥)
+      → ((sizes : Sizes) (sized : its.State) → Read sizes sized → (opened : its.State) (path : Option Text)
+      → IsStartCause its plan.serial (terms_by plan formula sizes).layout opened path fault after → ⊥)
+      → IsRoundCause its plan number old formula before fault after → ⊥
+  none_so fault sizes first opens starts (inl cause) = sizes cause
+  none_so fault sizes first opens starts (inr (read, sized, are, inl (inl cause))) =
+      first sized (stream_path plan.folder (number + 1) 1) cause
+  none_so fault sizes first opens starts (inr (read, sized, are, inl (inr (one, next, opened, cause)))) =
+      opens next (drop 1 (stream_paths plan.folder (number + 1) read.streams)) cause
+  none_so fault sizes first opens starts (inr (read, sized, are, inr (readers, opened, so, cause))) = starts read sized are opened (Some (formula_path plan.folder (number + 1 + 1))) cause
 
   module _ (Before Last : RoundAsk) (last : ℕ)
       (provided : IsProvided Before Last last its plan.folder (number + 1) old formula before) where
     abbrev Cause : CommandFault → Type 0
-    Cause = IsRoundCause its plan number old formula before
+    Cause fault = IsRoundCause its plan number old formula before fault after
 
     pub of_round : (fault : CommandFault) → Cause fault → IsOfMachineInRound fault
     of_round (faults.Usage text) cause =
-        absurd (none_so (faults.Usage text) (λ x. x) (λ F R o r f p x. x) (λ z s a x. x) (λ r p x. x) cause)
+        absurd (none_so (faults.Usage text) (λ x. x) (λ b p x. x) (λ n p x. x) (λ z s a o p x. x) cause)
     of_round faults.Unread cause = inl tt
     of_round (faults.Refused fault) cause =
-        absurd (none_so (faults.Refused fault) (λ x. x) (λ F R o r f p x. x) (λ z s a x. x) (λ r p x. x) cause)
+        absurd (none_so (faults.Refused fault) (λ x. x) (λ b p x. x) (λ n p x. x) (λ z s a o p x. x) cause)
     of_round faults.CubeUnread cause = inl tt
     of_round (faults.CubeRefused fault) cause =
-        absurd (none_so (faults.CubeRefused fault) (λ x. x) (λ F R o r f p x. x) (λ z s a x. x) (λ r p x. x) cause)
+        absurd (none_so (faults.CubeRefused fault) (λ x. x) (λ b p x. x) (λ n p x. x) (λ z s a o p x. x) cause)
     of_round (faults.NotOpened stream) cause = inl tt
     of_round (faults.Layout fault) cause =
-        absurd (none_so (faults.Layout fault) (λ x. x) (λ F R o r f p x. x)
-        (λ sizes sized are wrong. (provided.ready sizes sized are).layout fault wrong) (λ r p x. x) cause)
+        absurd (none_so (faults.Layout fault) (λ x. x) (λ b p x. x) (λ n p x. x)
+        (λ sizes sized are opened path wrong. (provided.ready sizes sized are).layout fault wrong.0) cause)
     of_round (faults.Spawn stream) cause = inl tt
     of_round (faults.Ring stream) cause = inl tt
     of_round faults.Memory cause = inl tt
     of_round faults.Unwritten cause =
-        absurd (none_so faults.Unwritten (λ x. x) (λ F R o r f p x. x) (λ z s a x. x) (λ r p x. x) cause)
+        absurd (none_so faults.Unwritten (λ x. x) (λ b p x. x) (λ n p x. x) (λ z s a o p x. x) cause)
     of_round faults.NotCreated cause = inl tt
     of_round (faults.NotSaved fault) cause =
-        absurd (none_so (faults.NotSaved fault) (λ x. x) (λ F R o r f p x. x) (λ z s a x. x) (λ r p x. x) cause)
+        absurd (none_so (faults.NotSaved fault) (λ x. x) (λ b p x. x) (λ n p x. x) (λ z s a o p x. x) cause)
     of_round faults.TwoCheckpoints cause =
-        absurd (none_so faults.TwoCheckpoints (λ x. x) (λ F R o r f p x. x) (λ z s a x. x) (λ r p x. x) cause)
+        absurd (none_so faults.TwoCheckpoints (λ x. x) (λ b p x. x) (λ n p x. x) (λ z s a o p x. x) cause)
     of_round faults.SizesUnread cause = inr refl
     of_round faults.Sizes cause =
-        absurd (none_so faults.Sizes (λ none. provided.sizes none) (λ F R o r f p x. x) (λ z s a x. x) (λ r p x. x) cause)
+        absurd (none_so faults.Sizes (λ none. provided.sizes after none) (λ b p x. x) (λ n p x. x) (λ z s a o p x. x) cause)
 
 -- Rounds
 
@@ -133,8 +134,8 @@ check_in Before Last last its plan number round is = record {
 }
 
 -- the rounds before one that follows another
-abbrev before_them : (files : FilesView) (given : CommandLine) (folder : Text) (round b : Round files.State files.Reader)
-    (more : List (Round files.State files.Reader)) → WereRounds files given folder round (b ∷ more) → WereRounds files given folder b more
+abbrev before_them : (files : FilesView) (given : CommandLine) (folder : Text) (round b : Round files.its.State files.its.Reader)
+    (more : List (Round files.its.State files.its.Reader)) → WereRounds files given folder round (b ∷ more) → WereRounds files given folder b more
 before_them files given folder round b more were = record {
   alone = were.alone;
   formula = were.formula;
@@ -157,15 +158,15 @@ module _ (Mode : Bool → Type 0) (Before Last : RoundAsk) (Early Late : Loss) (
     (last : ℕ) (ask : AskForRightRounds Before Last files words folder last)
     (mode : (given : CommandLine) → IsCommandLineOf words given → Mode given.serial) where
   -- the words ask for no checkpoint
-  two_files : ¬ IsCause files words faults.TwoCheckpoints
-  two_files cause =
+  two_files : (after : files.its.State) → ¬ IsCause files words faults.TwoCheckpoints after
+  two_files after cause =
       let no : Some cause.1 ≡ None = sym cause.3.path_is ∙ sym ask.asks.command_line.said.checkpoint ∙ ask.alone in cc
 
   -- a round that was reached was asked for
   is_asked : (given : CommandLine) → IsCommandLineOf words given
-      → (round : Round files.State files.Reader) (before : List (Round files.State files.Reader))
+      → (round : Round files.its.State files.its.Reader) (before : List (Round files.its.State files.its.Reader))
       → (were : WereRounds files given folder round before) → length (round ∷ before) ≤ last
-      → IsAsked Before Last last (deeds_of files) (plan_at given were.cube folder) (length (round ∷ before)) round
+      → IsAsked Before Last last files.its (plan_at given were.cube folder) (length (round ∷ before)) round
   is_asked given line round [] were few =
       let first = were.rounds in
       let asks = ask.asks in
@@ -196,20 +197,20 @@ module _ (Mode : Bool → Type 0) (Before Last : RoundAsk) (Early Late : Loss) (
       let number : length (b ∷ more) + 1 ≡ length (round ∷ b ∷ more) = omega arith in
       record {
         cnf = text_cnf comes.goes_on.saving.bytes round.formula comes.goes_on.saving.carried.text;
-        tells = files.tells_at comes.sized;
+        tells = files.its.tells comes.sized;
         paths = stream_paths folder (length (b ∷ more) + 1) round.sizes.streams;
         left = comes.opened.left;
         checked = comes.checked;
-        asked = subst (λ (n : ℕ). IsAskedOf Before Last last n round.formula round.sizes (files.tells_at comes.sized)
+        asked = subst (λ (n : ℕ). IsAskedOf Before Last last n round.formula round.sizes (files.its.tells comes.sized)
             (stream_paths folder (length (b ∷ more) + 1) round.sizes.streams)) number ready.streams;
       }
 
   -- in the round with this number some stream was stopped
-  abbrev Lost : ℕ → Round files.State files.Reader → Type 0
+  abbrev Lost : ℕ → Round files.its.State files.its.Reader → Type 0
   Lost number round = HasStopped Early Late last number round
 
   -- who was stopped hasn't ended
-  unended : (number : ℕ) (round : Round files.State files.Reader) → Lost number round → ¬ HaveEnded round.reports
+  unended : (number : ℕ) (round : Round files.its.State files.its.Reader) → Lost number round → ¬ HaveEnded round.reports
   unended number round (s, report, says, inl early) ended =
       early_open (layout_in round.formula round.sizes) s report early.1 (ended_at round.reports (s - 1) report says.1 ended)
   unended number round (s, report, says, inr late) ended =
@@ -217,24 +218,24 @@ module _ (Mode : Bool → Type 0) (Before Last : RoundAsk) (Early Late : Loss) (
 
   -- what became of it
   fate : (given : CommandLine) → IsCommandLineOf words given
-      → (round : Round files.State files.Reader) (before : List (Round files.State files.Reader))
+      → (round : Round files.its.State files.its.Reader) (before : List (Round files.its.State files.its.Reader))
       → WereRounds files given folder round before → length (round ∷ before) ≤ last
       → (HaveEnded round.reports × (length (round ∷ before) < last))
       ⊎ ((round.verdict ≡ Unsatisfiable) ⊎ Lost (length (round ∷ before)) round)
   fate given line round before were few =
-      let its = deeds_of files in
+      let its = files.its in
       let plan = plan_at given were.cube folder in
       let number = length (round ∷ before) in
       let is = is_asked given line round before were few in
       let check = check_in Before Last last its plan number round is in
       elim (cases_lt number last) [
-        | inl below ↦ elim (ends_so files.Reader files.reading check (mode given line) is.cnf (is.asked.earlier below)) [
+        | inl below ↦ elim (ends_so files.its.Reader files.its.reading check (mode given line) is.cnf (is.asked.earlier below)) [
           | inl ended ↦ inl (ended, below)
           | inr lost ↦ inr (inr (lost.0, lost.1, lost.2, inl (below, lost.3)))
         ]
         | inr above ↦
             let at_last : number ≡ last = omega (arith, above, few) in
-            elim (refutes_so files.Reader files.reading check (mode given line) is.cnf (is.asked.at_last at_last)) [
+            elim (refutes_so files.its.Reader files.its.reading check (mode given line) is.cnf (is.asked.at_last at_last)) [
               | inl refuted ↦ inr (inl refuted)
               | inr lost ↦ inr (inr (lost.0, lost.1, lost.2, inr (at_last, lost.3)))
             ]
@@ -242,9 +243,9 @@ module _ (Mode : Bool → Type 0) (Before Last : RoundAsk) (Early Late : Loss) (
 
   -- one that goes on isn't the last
   goes_below : (given : CommandLine) → IsCommandLineOf words given
-      → (round : Round files.State files.Reader) (before : List (Round files.State files.Reader))
+      → (round : Round files.its.State files.its.Reader) (before : List (Round files.its.State files.its.Reader))
       → (were : WereRounds files given folder round before) → length (round ∷ before) ≤ last → (next : Cnf)
-      → CarriesOn (deeds_of files) (plan_at given were.cube folder) (length (round ∷ before)) round next
+      → CarriesOn files.its (plan_at given were.cube folder) (length (round ∷ before)) round next
       → length (round ∷ before) < last
   goes_below given line round before were few next goes = elim (fate given line round before were few) [
     | inl (ended, below) ↦ below
@@ -254,7 +255,7 @@ module _ (Mode : Bool → Type 0) (Before Last : RoundAsk) (Early Late : Loss) (
 
   -- there are no more
   few_rounds : (given : CommandLine) → IsCommandLineOf words given
-      → (round : Round files.State files.Reader) (before : List (Round files.State files.Reader))
+      → (round : Round files.its.State files.its.Reader) (before : List (Round files.its.State files.its.Reader))
       → WereRounds files given folder round before → length (round ∷ before) ≤ last
   few_rounds given line round [] were = omega (arith, ask.some)
   few_rounds given line round (b ∷ more) were =
@@ -265,17 +266,17 @@ module _ (Mode : Bool → Type 0) (Before Last : RoundAsk) (Early Late : Loss) (
 
   -- a round that is asked for is provided for
   provided_for : (given : CommandLine) → IsCommandLineOf words given
-      → (round : Round files.State files.Reader) (before : List (Round files.State files.Reader))
+      → (round : Round files.its.State files.its.Reader) (before : List (Round files.its.State files.its.Reader))
       → (were : WereRounds files given folder round before) → (next : Cnf)
-      → CarriesOn (deeds_of files) (plan_at given were.cube folder) (length (round ∷ before)) round next
-      → IsProvided Before Last last (deeds_of files) folder (length (round ∷ before) + 1) round.sizes next round.after
+      → CarriesOn files.its (plan_at given were.cube folder) (length (round ∷ before)) round next
+      → IsProvided Before Last last files.its folder (length (round ∷ before) + 1) round.sizes next round.after
   provided_for given line round before were next goes =
       let few = few_rounds given line round before were in
       ask.later given round before next line were (goes_below given line round before were few next goes) goes
 
   -- without assumed literals nothing is said of them
   under_some : (given : CommandLine) → IsCommandLineOf words given
-      → (round : Round files.State files.Reader) (before : List (Round files.State files.Reader))
+      → (round : Round files.its.State files.its.Reader) (before : List (Round files.its.State files.its.Reader))
       → (were : WereRounds files given folder round before) → (path : Option Text) → assumed_at given ≡ path
       → AreAssumed (WasReadIn files) were.formula.vars were.next path were.cube were.later
       → round.verdict ≡ UnsatisfiableUnder → (asked : Text) × (assumed_at given ≡ Some asked)
@@ -284,17 +285,17 @@ module _ (Mode : Bool → Type 0) (Before Last : RoundAsk) (Early Late : Loss) (
       let plan = plan_at given were.cube folder in
       let number = length (round ∷ before) in
       let asked = is_asked given line round before were (few_rounds given line round before were) in
-      absurd (never_under files.reading (check_in Before Last last (deeds_of files) plan number round asked) serial bare assumed.0 under)
+      absurd (never_under files.its.reading (check_in Before Last last files.its plan number round asked) serial bare assumed.0 under)
 
   asked_under : (given : CommandLine) → IsCommandLineOf words given
-      → (round : Round files.State files.Reader) (before : List (Round files.State files.Reader))
+      → (round : Round files.its.State files.its.Reader) (before : List (Round files.its.State files.its.Reader))
       → WereRounds files given folder round before → round.verdict ≡ UnsatisfiableUnder
       → (asked : Text) × (assumed_at given ≡ Some asked)
   asked_under given line round before were under =
       under_some given line round before were (assumed_at given) refl were.assumed under
 
   -- The rounds are over without an answer: a stream was stopped.
-  lost_in : (given : CommandLine) → IsCommandLineOf words given → (after : files.State) (out err : SinkChange) (status : ℕ)
+  lost_in : (given : CommandLine) → IsCommandLineOf words given → (after : files.its.State) (out err : SinkChange) (status : ℕ)
       → (ends : ReportsRounds files given folder after out err status) → ends.last.verdict ≡ Unknown → ends.last.unsaved ≡ None
       → Lost (length (ends.last ∷ ends.before)) ends.last
   lost_in given line after out err status ends unknown saved =
@@ -314,7 +315,7 @@ module _ (Mode : Bool → Type 0) (Before Last : RoundAsk) (Early Late : Loss) (
         ])
       ]
 
-  module _ (after : files.State) (out err : SinkChange) (status : ℕ) where
+  module _ (after : files.its.State) (out err : SinkChange) (status : ℕ) where
     abbrev Goal : Type 0
     Goal = (status ≡ 0) ⊎ IsExcusedInRounds files words folder Early Late last after out err status
 
@@ -360,12 +361,12 @@ module _ (Mode : Bool → Type 0) (Before Last : RoundAsk) (Early Late : Loss) (
           | inr short ↦ inr (printed given line ends written (subst (Short given ends) (sym is) short))
         ]
 
-    failed_so : (given : CommandLine) → IsCommandLineOf words given → FailsInRound files given folder out err status → Goal
+    failed_so : (given : CommandLine) → IsCommandLineOf words given → FailsInRound files given folder after out err status → Goal
     failed_so given line ends =
         let cause = ends.cause in
         let provided = provided_for given line ends.last ends.before ends.were cause.0 cause.1 in
-        let machine = of_round (deeds_of files) (plan_at given ends.were.cube folder) (length (ends.last ∷ ends.before)) ends.last.sizes
-        cause.0 ends.last.after Before Last last provided ends.fault cause.2 in
+        let machine = of_round files.its (plan_at given ends.were.cube folder) (length (ends.last ∷ ends.before)) ends.last.sizes
+        cause.0 ends.last.after after Before Last last provided ends.fault cause.2 in
         inr (not_gone_on given line ends machine
         (subst (λ (n : ℕ). (n ≡ 5) ⊎ (n ≡ 6)) (sym ends.status_is) (round_status ends.fault machine)))
 
@@ -377,7 +378,7 @@ module _ (Mode : Bool → Type 0) (Before Last : RoundAsk) (Early Late : Loss) (
           folder_is = sym asks.command_line.said.rounds ∙ asks.rounds;
         }))
     rounds_say (inr (inl ends)) =
-        let machine = of_machine one_formula no_fault alike files (Some folder) words ask.asks two_files ends.fault ends.cause in
+        let machine = of_machine one_formula no_fault alike files (Some folder) words ask.asks after (two_files after) ends.fault ends.cause in
         inr (not_begun ends machine
         (subst (λ (n : ℕ). (n ≡ 5) ⊎ (n ≡ 6)) (sym ends.status_is) (machine_status ends.fault machine)))
     rounds_say (inr (inr ends)) =
@@ -385,7 +386,7 @@ module _ (Mode : Bool → Type 0) (Before Last : RoundAsk) (Early Late : Loss) (
         let same : Some ends.folder ≡ Some folder =
         sym ends.asked ∙ ends.command_line.said.rounds ∙ sym asks.command_line.said.rounds ∙ asks.rounds in
         let folders : ends.folder ≡ folder = cc in
-        elim (subst (λ (d : Text). ReportsRounds files ends.given d after out err status ⊎ FailsInRound files ends.given d out err status)
+        elim (subst (λ (d : Text). ReportsRounds files ends.given d after out err status ⊎ FailsInRound files ends.given d after out err status)
         folders ends.ending) [
           | inl report ↦ reported_so ends.given ends.command_line report out.failed refl report.status_is
           | inr fails ↦ failed_so ends.given ends.command_line fails

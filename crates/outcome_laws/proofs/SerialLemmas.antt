@@ -48,25 +48,25 @@ serial_outcomes_agree one_formula decide files others words other_words reports 
     ∙ ap (λ (x : OptionsValue). record { layout = layout_at a.given a.formula; cube = a.cube; tries = x.tries }) ask.options in
     let mine = check_of files words reports verdict a in
     let others_check = check_of others other_words other_reports other_verdict b in
-    let told = told_of files.reading mine in
-    let other_told = told_of others.reading others_check in
+    let told = told_of files.its.reading mine in
+    let other_told = told_of others.its.reading others_check in
     let theirs : StandsOnStreams other_told (λ streams. IsOrderedByTurns a.formula terms streams other_reports) =
     subst (λ (t : TermsValue). StandsOnStreams other_told (λ streams. IsOrderedByTurns a.formula t streams other_reports)) same_terms
     (subst (λ (g : Cnf). StandsOnStreams other_told
     (λ streams. IsOrderedByTurns g (terms_given b.given b.cube b.formula) streams other_reports)) formulas
-    (turns_of others.reading others_check ask.too)) in
+    (turns_of others.its.reading others_check ask.too)) in
     let bytes : HaveSameBytes told other_told = λ s telling other at there.
-    let path = path_at files.reading mine s telling at in
-    let other_path = path_at others.reading others_check s other there in
+    let path = path_at files.its.reading mine s telling at in
+    let other_path = path_at others.its.reading others_check s other there in
     let both = ask.streams s path.0 other_path.0 path.1 other_path.1 in (
       both.0,
-      entry_at files.reading mine s telling path.0 both.0 at path.1 both.1,
-      entry_at others.reading others_check s other other_path.0 both.0 there other_path.1 both.2,
+      entry_at files.its.reading mine s telling path.0 both.0 at path.1 both.1,
+      entry_at others.its.reading others_check s other other_path.0 both.0 there other_path.1 both.2,
     ) in
     let same : reports ≡ other_reports =
     decide a.formula terms told other_told reports other_reports
-    (told_length files.reading mine) (told_length others.reading others_check ∙ ask.count)
-    bytes (turns_of files.reading mine ask.serial) theirs fine good in
+    (told_length files.its.reading mine) (told_length others.its.reading others_check ∙ ask.count)
+    bytes (turns_of files.its.reading mine ask.serial) theirs fine good in
     (same, a.checked.is_verdict ∙ ap verdict_of same ∙ sym b.checked.is_verdict)
 
 -- Right streams, by turns
@@ -150,10 +150,10 @@ module _ (one_formula : OneFormula) (no_fault : NoFormulaFault) (serial_run : Se
       subst (λ (x : Cnf). IsRightOrder x (layout_at a.given a.formula) ask.steps) (sym is.formulas)
       (subst (λ (p : LayoutValue). IsRightOrder asks.formula p ask.steps) is.layouts ask.order) in
       let on_one : a.given.serial ≡ true = a.command_line.said.serial ∙ sym asks.command_line.said.serial ∙ ask.serial in
-      by_turns_refutes files.reading (check_of files words reports verdict a) is.cnf right on_one ask.steps order ask.turns
+      by_turns_refutes files.its.reading (check_of files words reports verdict a) is.cnf right on_one ask.steps order ask.turns
       (λ t path names. ask.tells t path (subst (λ (x : List Text). IsOfStream x t path) is.streams names)) fine serial_run empty s ask.empty
 
-  turns_say : (after : files.State) (out err : SinkChange) (status : ℕ) → EndsWithReport files words after out err status
+  turns_say : (after : files.its.State) (out err : SinkChange) (status : ℕ) → EndsWithReport files words after out err status
       → (status ≡ 0) ⊎ ((t : ℕ) × IsExcused files words t IsCutOff after out err status)
   turns_say after out err status ends = elim (some_cut ends.reports) [
     | inl cut ↦ elim (with_report files IsCutOff words after cut.0 out err status ends (inr (cut.1, cut.2, cut.3))) [

@@ -72,16 +72,16 @@ OutcomesAgree files others =
 
 -- Where the words ask for no rounds, the program ends with the report of a single run, or without one, for a cause of such a run.
 abbrev pub PlainEnds : FilesView → Type 0
-PlainEnds files = (words : List Text) (after : files.State) (out err : SinkChange) (status : ℕ)
+PlainEnds files = (words : List Text) (after : files.its.State) (out err : SinkChange) (status : ℕ)
     → ((folder : Text) → ¬ AskForRounds words folder) → ProgramEnds files words after out err status
-    → EndsWithReport files words after out err status ⊎ EndsWithFault files words out err status
+    → EndsWithReport files words after out err status ⊎ EndsWithFault files words after out err status
 
 -- What the ending of a single run says of status 0: the words have a command line, and what was read at its FORMULA is a text of a formula
 -- that no assignment satisfies. So all that isn't in the clause `sound` of what the words say is in the clause `ends`.
 abbrev pub Status0HasACommandLine : FilesView → Type 0
-Status0HasACommandLine files = (words : List Text) (after : files.State) (out err : SinkChange)
-    → EndsWithReport files words after out err 0 ⊎ EndsWithFault files words out err 0
-    → (given : CommandLine) × (bytes : List ℕ) × (f : Cnf) × (next : files.State)
+Status0HasACommandLine files = (words : List Text) (after : files.its.State) (out err : SinkChange)
+    → EndsWithReport files words after out err 0 ⊎ EndsWithFault files words after out err 0
+    → (given : CommandLine) × (bytes : List ℕ) × (f : Cnf) × (next : files.its.State)
     × IsCommandLineOf words given
     × WasReadIn files files.first given.formula.now bytes next
     × IsFormulaText bytes f × IsUnsatisfiable f

@@ -23,7 +23,7 @@ pub record ShowsBadLine (s : ℕ) (sink : SinkChange) : Type 0 where
   pub is : sink.after ≡ Some (before ++ (stream_lines 1 others ++ (stream_line s blamed ++ more)))
 
 -- the report that wasn't written says 'unsatisfiable'
-pub record HoldsBackRefuted (files : FilesView) (words : List Text) (after : files.State)
+pub record HoldsBackRefuted (files : FilesView) (words : List Text) (after : files.its.State)
     (out err : SinkChange) (status : ℕ) : Type 0 where
   pub ends : EndsWithReport files words after out err status
   pub refuted : ends.verdict ≡ Unsatisfiable
@@ -32,7 +32,7 @@ pub record HoldsBackRefuted (files : FilesView) (words : List Text) (after : fil
 -- Where the words ask for a right refutation as stream s, a bad line of it is shown only with status 0, or with 7 where the report says
 -- 'unsatisfiable': a line behind the refutation may be bad. With each other status none is.
 abbrev pub NoBadLineShown : FilesView → Type 0
-NoBadLineShown files = (words : List Text) (after : files.State) (s : ℕ) (out err : SinkChange)
+NoBadLineShown files = (words : List Text) (after : files.its.State) (s : ℕ) (out err : SinkChange)
     (status : ℕ) → AskForRightRefutation files words s
-    → EndsWithReport files words after out err status ⊎ EndsWithFault files words out err status
+    → EndsWithReport files words after out err status ⊎ EndsWithFault files words after out err status
     → ShowsBadLine s out → (status ≡ 0) ⊎ HoldsBackRefuted files words after out err status

@@ -115,7 +115,7 @@ IsOpen words unsaved verdict status =
 -- these lines is wrong. How the program ended says what it wrote to `out` and to `err`: the report's text, or a beginning of it where
 -- `out` failed; without a report nothing, and the fault's text.
 pub data IsExcused (files : FilesView) (words : List Text) (s : ℕ) (Lost : Report → Type 0)
-    (after : files.State) (out err : SinkChange) (status : ℕ) : Type 0 where
+    (after : files.its.State) (out err : SinkChange) (status : ℕ) : Type 0 where
   -- the report wasn't written, and says 'unsatisfiable', or that stream s was stopped so
   unwritten :
       (ends : EndsWithReport files words after out err status) (failed : out.failed ≡ true)
@@ -123,7 +123,7 @@ pub data IsExcused (files : FilesView) (words : List Text) (s : ℕ) (Lost : Rep
       → IsExcused files words s Lost after out err status
   -- there is no report, for a fault of the machine
   no_report :
-      (ends : EndsWithFault files words out err status) (machine : IsOfMachine ends.fault)
+      (ends : EndsWithFault files words after out err status) (machine : IsOfMachine ends.fault)
       (is : (status ≡ 5) ⊎ (status ≡ 6))
       → IsExcused files words s Lost after out err status
   -- a report was written, and says that stream s was stopped in its right lines, for such a
@@ -138,18 +138,18 @@ pub data IsExcused (files : FilesView) (words : List Text) (s : ℕ) (Lost : Rep
 -- or 6, for a fault of the machine; or with 3 or 8, or 9 in their place, and then memory ran out, or a read failed, in the refutation's
 -- lines.
 abbrev pub RightRefutationSays : FilesView → Type 0
-RightRefutationSays files = (words : List Text) (after : files.State) (s : ℕ) (out err : SinkChange)
+RightRefutationSays files = (words : List Text) (after : files.its.State) (s : ℕ) (out err : SinkChange)
     (status : ℕ) → (ask : AskForRightRefutation files words s)
-    → EndsWithReport files words after out err status ⊎ EndsWithFault files words out err status
+    → EndsWithReport files words after out err status ⊎ EndsWithFault files words after out err status
     → (status ≡ 0)
     ⊎ IsExcused files words s (IsCutOffIn (length ask.right.lines)) after out err status
 
 -- Where the words ask for streams whose lines have a right order, the program ends so too, with one more reason for these: one of that
 -- stream's lines cites a clause of another stream that wasn't there, or wasn't any more.
 abbrev pub RightOrderSays : FilesView → Type 0
-RightOrderSays files = (words : List Text) (after : files.State) (s : ℕ) (out err : SinkChange)
+RightOrderSays files = (words : List Text) (after : files.its.State) (s : ℕ) (out err : SinkChange)
     (status : ℕ) → (ask : AskForRightOrder files words s)
-    → EndsWithReport files words after out err status ⊎ EndsWithFault files words out err status
+    → EndsWithReport files words after out err status ⊎ EndsWithFault files words after out err status
     → (status ≡ 0)
     ⊎ IsExcused files words s
     (IsHeldUp files words ask.asks s (length (lines_by s ask.steps))) after out err status

@@ -19,10 +19,10 @@ use Rattle.checkpoint.specs.declared.saving.SaveFault.{SaveFault}
 use Rattle.command_line.specs.CommandLine.{IsCommandLineOf}
 use Rattle.command_line.specs.declared.sizes.Sizes.{Sizes}
 use Rattle.command_line.specs.declared.words.CommandLine.{CommandLine}
-use Rattle.command.specs.Commands.{EndsWithFault, FilesView, SinkChange, Text, assumed_at, checkpoint_at}
+use Rattle.command.specs.Commands.{Deeds, EndsWithFault, FilesView, SinkChange, Text, assumed_at, checkpoint_at}
 use Rattle.command.specs.Paths.{sizes_path, stream_path, stream_paths}
-use Rattle.command.specs.Rounds.{AreSized, CarriesOn, Deeds, FailsInRound, HaveEnded, HoldsNoSizes, ProgramEnds, ReportsRounds, Round, WereRounds}
-use Rattle.command.specs.Rounds.{deeds_of, options_by, plan_at, sizes_of}
+use Rattle.command.specs.Rounds.{AreSized, CarriesOn, FailsInRound, HaveEnded, HoldsNoSizes, ProgramEnds, ReportsRounds, Round, WereRounds}
+use Rattle.command.specs.Rounds.{options_by, plan_at, sizes_of}
 use Rattle.command.specs.declared.fault.CommandFault.{CommandFault}
 use Rattle.command.specs.declared.fault.CommandFault.TheVariants as faults
 use Rattle.outcome_laws.specs.Right.{AskWell, IsOfMachine}
@@ -96,7 +96,7 @@ pub record IsRoundReady (Before Last : RoundAsk) (last : ℕ) (its : Deeds) (fol
 -- with these, or with those before if there is no such file.
 pub record IsProvided (Before Last : RoundAsk) (last : ℕ) (its : Deeds) (folder : Text) (number : ℕ)
     (old : Sizes) (formula : Cnf) (before : its.State) : Type 0 where
-  pub sizes : ¬ HoldsNoSizes its before (sizes_path folder number)
+  pub sizes : (after : its.State) → ¬ HoldsNoSizes its before (sizes_path folder number) after
   pub ready : (sizes : Sizes) (sized : its.State)
       → AreSized its (sizes_path folder number) old before sizes sized
       → IsRoundReady Before Last last its folder number formula sizes sized
@@ -112,13 +112,13 @@ pub record AskForRightRounds (Before Last : RoundAsk) (files : FilesView) (words
   pub few : last + 2 ≤ 2 ^ 64
   pub first : IsAskedOf Before Last last 1 asks.formula (sizes_of asks.given) files.tells
       asks.given.streams
-  pub later : (given : CommandLine) (round : Round files.State files.Reader)
-      (before : List (Round files.State files.Reader)) (next : Cnf)
+  pub later : (given : CommandLine) (round : Round files.its.State files.its.Reader)
+      (before : List (Round files.its.State files.its.Reader)) (next : Cnf)
       → IsCommandLineOf words given → (were : WereRounds files given folder round before)
       → length (round ∷ before) < last
-      → CarriesOn (deeds_of files) (plan_at given were.cube folder) (length (round ∷ before)) round
+      → CarriesOn files.its (plan_at given were.cube folder) (length (round ∷ before)) round
       next
-      → IsProvided Before Last last (deeds_of files) folder (length (round ∷ before) + 1)
+      → IsProvided Before Last last files.its folder (length (round ∷ before) + 1)
       round.sizes next round.after
 
 -- the fault of a round is the machine's: as of a run, or a file of sizes wasn't opened or read (5)
@@ -170,7 +170,7 @@ pub data FallsShort {F R : Type 0} (given : CommandLine) (Early Late : Loss) (la
 -- of the report of the last round that there was, or a beginning of it where `out` failed; without a report nothing, and the
 -- fault's text.
 pub data IsExcusedInRounds (files : FilesView) (words : List Text) (folder : Text)
-    (Early Late : Loss) (last : ℕ) (after : files.State) (out err : SinkChange)
+    (Early Late : Loss) (last : ℕ) (after : files.its.State) (out err : SinkChange)
     (status : ℕ) : Type 0 where
   -- the report wasn't written: it says 'unsatisfiable', or falls short of it so
   not_printed :
@@ -183,13 +183,13 @@ pub data IsExcusedInRounds (files : FilesView) (words : List Text) (folder : Tex
       → IsExcusedInRounds files words folder Early Late last after out err status
   -- there is no report, for a fault of the machine, in round 1 or before
   not_begun :
-      (ends : EndsWithFault files words out err status) (machine : IsOfMachine ends.fault)
+      (ends : EndsWithFault files words after out err status) (machine : IsOfMachine ends.fault)
       (is : (status ≡ 5) ⊎ (status ≡ 6))
       → IsExcusedInRounds files words folder Early Late last after out err status
   -- there is none, for a fault of the machine, in a later round
   not_gone_on :
       (given : CommandLine) (line : IsCommandLineOf words given)
-      (ends : FailsInRound files given folder out err status)
+      (ends : FailsInRound files given folder after out err status)
       (machine : IsOfMachineInRound ends.fault) (is : (status ≡ 5) ⊎ (status ≡ 6))
       → IsExcusedInRounds files words folder Early Late last after out err status
   -- the report was written, and falls short of 'unsatisfiable' so
@@ -209,7 +209,7 @@ IsCutOffOf s count layout t report = (t ≡ s) × IsCutOffIn count report
 -- and the report says 'unsatisfiable under assumptions'; or with 3, and then the report says that memory ran out, or a read failed: in
 -- the refutation's lines, or in some stream of a round before the last.
 abbrev pub RightRoundsSay : FilesView → Type 0
-RightRoundsSay files = (words : List Text) (folder : Text) (last s count : ℕ) (after : files.State)
+RightRoundsSay files = (words : List Text) (folder : Text) (last s count : ℕ) (after : files.its.State)
     (out err : SinkChange) (status : ℕ)
     → AskForRightRounds AreRightAlone (IsRefutedAlone s count) files words folder last
     → ProgramEnds files words after out err status
@@ -236,7 +236,7 @@ IsStoppedOf s count layout t report =
 -- stream s adds the empty clause, the program ends so too, with one more reason for 3: such a line cites a clause of another stream
 -- that wasn't there, or wasn't any more.
 abbrev pub RightOrdersSay : FilesView → Type 0
-RightOrdersSay files = (words : List Text) (folder : Text) (last s count : ℕ) (after : files.State)
+RightOrdersSay files = (words : List Text) (folder : Text) (last s count : ℕ) (after : files.its.State)
     (out err : SinkChange) (status : ℕ)
     → AskForRightRounds AreRightInOrder (IsRefutedInOrder s count) files words folder last
     → ProgramEnds files words after out err status
@@ -247,7 +247,7 @@ RightOrdersSay files = (words : List Text) (folder : Text) (last s count : ℕ) 
 -- some line of stream s adds the empty clause, the program ends so too; with 3 the report says that memory ran out in some stream, or
 -- that a read of it failed.
 abbrev pub RightTurnRoundsSay : FilesView → Type 0
-RightTurnRoundsSay files = (words : List Text) (folder : Text) (last s : ℕ) (after : files.State)
+RightTurnRoundsSay files = (words : List Text) (folder : Text) (last s : ℕ) (after : files.its.State)
     (out err : SinkChange) (status : ℕ)
     → (ask : AskForRightRounds AreRightByTurns (IsRefutedByTurns s) files words folder last)
     → ask.asks.given.serial ≡ true

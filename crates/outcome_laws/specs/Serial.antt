@@ -63,7 +63,7 @@ IsCutOff report = IsOfMemory report ⊎ IsOfFailure report
 -- Then the program ends with status 0; or with 7, for a report that wasn't written; or with 5 or 6, for a fault of the machine; or with
 -- 3 or 8, or 9 in their place, and then memory ran out in some stream, or a read of it failed.
 abbrev pub RightTurnsSay : FilesView → Type 0
-RightTurnsSay files = (words : List Text) (after : files.State) (s : ℕ) (out err : SinkChange)
+RightTurnsSay files = (words : List Text) (after : files.its.State) (s : ℕ) (out err : SinkChange)
     (status : ℕ) → AskForRightTurns files words s
-    → EndsWithReport files words after out err status ⊎ EndsWithFault files words out err status
+    → EndsWithReport files words after out err status ⊎ EndsWithFault files words after out err status
     → (status ≡ 0) ⊎ ((t : ℕ) × IsExcused files words t IsCutOff after out err status)

@@ -8,7 +8,7 @@ ghost use Rattle.outcome_laws.specs.Serial.{RightTurnsSay, SerialOutcomesAgree};
 ghost use Rattle.outcome_laws.specs.Laws.{NoCubeJudgesAlike, SameBytesSayTheSame, SameWordsAskAlike, OutcomesAgree, PlainEnds, Status0HasACommandLine};
 
 use checkpoint::laws::{files_refute, files_refute_under};
-use command::Files;
+use command::Machine;
 use dimacs::laws::{formula_or_fault, one_formula};
 use run_laws::groups::{same_bytes_agree, serial_run};
 use run_laws::right::{right_begins, right_empty, right_reported, right_together, together_begins};
@@ -39,9 +39,9 @@ pub fn same_words_ask_alike()
 /// In two outcomes of the program, over files that stand before the runs, a stream that cites within itself has the same line: where
 /// the options and the number of streams are the same, and the files of the formula and of the stream tell the same bytes, unless a
 /// report of the stream is of memory or of a failed read.
-pub fn outcomes_agree<F: Files, G: Files>(files: &F, others: &G)
-    ensures { let view = files_view F.Files F.Input.Source F.Output.Sink files.now in
-        let other = files_view G.Files G.Input.Source G.Output.Sink others.now in
+pub fn outcomes_agree<F: Machine, G: Machine>(files: &F, others: &G)
+    ensures { let view = files_view F.Files F.Machine.own F.Input.Source F.Output.Sink files.now in
+        let other = files_view G.Files G.Machine.own G.Input.Source G.Output.Sink others.now in
         OutcomesAgree view other }
 {
     one_formula();
@@ -51,23 +51,23 @@ pub fn outcomes_agree<F: Files, G: Files>(files: &F, others: &G)
 
 /// Where the words ask for no rounds, the clause `ends` of `command` says what the other laws take: a report of a single run, or none
 /// and the cause.
-pub fn plain_ends<F: Files>(files: &F)
-    ensures { let view = files_view F.Files F.Input.Source F.Output.Sink files.now in
+pub fn plain_ends<F: Machine>(files: &F)
+    ensures { let view = files_view F.Files F.Machine.own F.Input.Source F.Output.Sink files.now in
         PlainEnds view }
 {}
 
 /// With status 0 of a single run the words have a whole command line, and what was read at its FORMULA is a text of a formula that no
 /// assignment satisfies: the clause `ends` of `command` says so.
-pub fn status_0_has_a_command_line<F: Files>(files: &F)
-    ensures { let view = files_view F.Files F.Input.Source F.Output.Sink files.now in
+pub fn status_0_has_a_command_line<F: Machine>(files: &F)
+    ensures { let view = files_view F.Files F.Machine.own F.Input.Source F.Output.Sink files.now in
         Status0HasACommandLine view }
 {}
 
 /// Where the words ask for a right refutation, the program ends with status 0; or with 7, for a report that wasn't written; or with
 /// 5 or 6, for a fault of the machine; or with 3 or 8, and then memory ran out, or a read failed, in the refutation's lines; or with
 /// 9 in their place, for a checkpoint that the words ask for and that wasn't saved: the clause `ends` of `command` says so.
-pub fn right_refutation_says<F: Files>(files: &F)
-    ensures { let view = files_view F.Files F.Input.Source F.Output.Sink files.now in
+pub fn right_refutation_says<F: Machine>(files: &F)
+    ensures { let view = files_view F.Files F.Machine.own F.Input.Source F.Output.Sink files.now in
         RightRefutationSays view }
 {
     one_formula();
@@ -81,8 +81,8 @@ pub fn right_refutation_says<F: Files>(files: &F)
 /// Where the words ask for a right refutation, no bad line of its stream is printed, but with status 0, or with 7 where the report says
 /// 'unsatisfiable'. The law `right_refutation_says` alone says so: a status 5 or 6 leaves standard output as it was, and each other
 /// report tells that the stream was stopped by the machine.
-pub fn no_bad_line_shown<F: Files>(files: &F)
-    ensures { let view = files_view F.Files F.Input.Source F.Output.Sink files.now in
+pub fn no_bad_line_shown<F: Machine>(files: &F)
+    ensures { let view = files_view F.Files F.Machine.own F.Input.Source F.Output.Sink files.now in
         NoBadLineShown view }
 {
     right_refutation_says(files);
@@ -91,8 +91,8 @@ pub fn no_bad_line_shown<F: Files>(files: &F)
 /// Where the words ask for streams whose lines have a right order, one of which adds the empty clause, the program ends so too; or with
 /// 3 or 8, or 9 in their place, and then a line of that stream cites a clause of another stream, which wasn't there, or wasn't any
 /// more.
-pub fn right_order_says<F: Files>(files: &F)
-    ensures { let view = files_view F.Files F.Input.Source F.Output.Sink files.now in
+pub fn right_order_says<F: Machine>(files: &F)
+    ensures { let view = files_view F.Files F.Machine.own F.Input.Source F.Output.Sink files.now in
         RightOrderSays view }
 {
     one_formula();
@@ -106,9 +106,9 @@ pub fn right_order_says<F: Files>(files: &F)
 /// In two outcomes of the program on one thread, over files that stand before the runs, the reports are the same: where the options
 /// and the assumed literals are the same, and the files of the formula and of each stream tell the same bytes, unless some report
 /// is of memory or of a failed read.
-pub fn serial_outcomes_agree<F: Files, G: Files>(files: &F, others: &G)
-    ensures { let view = files_view F.Files F.Input.Source F.Output.Sink files.now in
-        let other = files_view G.Files G.Input.Source G.Output.Sink others.now in
+pub fn serial_outcomes_agree<F: Machine, G: Machine>(files: &F, others: &G)
+    ensures { let view = files_view F.Files F.Machine.own F.Input.Source F.Output.Sink files.now in
+        let other = files_view G.Files G.Machine.own G.Input.Source G.Output.Sink others.now in
         SerialOutcomesAgree view other }
 {
     one_formula();
@@ -119,8 +119,8 @@ pub fn serial_outcomes_agree<F: Files, G: Files>(files: &F, others: &G)
 /// clause, the program ends with status 0; or with 7, for a report that wasn't written; or with 5 or 6, for a fault of the machine;
 /// or with 3 or 8, or 9 in their place, and then memory ran out in some stream, or a read of it failed: the clause `ends` of `command`
 /// says so.
-pub fn right_turns_say<F: Files>(files: &F)
-    ensures { let view = files_view F.Files F.Input.Source F.Output.Sink files.now in
+pub fn right_turns_say<F: Machine>(files: &F)
+    ensures { let view = files_view F.Files F.Machine.own F.Input.Source F.Output.Sink files.now in
         RightTurnsSay view }
 {
     one_formula();
@@ -137,8 +137,8 @@ pub fn right_turns_say<F: Files>(files: &F)
 /// 8, and then there are assumed literals, and the report says 'unsatisfiable under assumptions'; or with 3, and then the report says
 /// that memory ran out, or a read failed: in the refutation's lines, or in some stream of a round before the last. The clause `ends` of
 /// `command` says so.
-pub fn right_rounds_say<F: Files>(files: &F)
-    ensures { let view = files_view F.Files F.Input.Source F.Output.Sink files.now in
+pub fn right_rounds_say<F: Machine>(files: &F)
+    ensures { let view = files_view F.Files F.Machine.own F.Input.Source F.Output.Sink files.now in
         RightRoundsSay view }
 {
     one_formula();
@@ -154,8 +154,8 @@ pub fn right_rounds_say<F: Files>(files: &F)
 /// Where in each round before the last lines of all streams have a right order, and in the last one some stream of such an order adds
 /// the empty clause, the program ends so too; or with 3, and then such a line cites a clause of another stream, which wasn't there, or
 /// wasn't any more.
-pub fn right_orders_say<F: Files>(files: &F)
-    ensures { let view = files_view F.Files F.Input.Source F.Output.Sink files.now in
+pub fn right_orders_say<F: Machine>(files: &F)
+    ensures { let view = files_view F.Files F.Machine.own F.Input.Source F.Output.Sink files.now in
         RightOrdersSay view }
 {
     one_formula();
@@ -171,8 +171,8 @@ pub fn right_orders_say<F: Files>(files: &F)
 /// Where the words ask for rounds on one thread, in each of which lines of all streams have a right order by turns, and in the last
 /// one some stream adds the empty clause, the program ends so too; with 3 the report says that memory ran out in some stream, or that
 /// a read of it failed.
-pub fn right_turn_rounds_say<F: Files>(files: &F)
-    ensures { let view = files_view F.Files F.Input.Source F.Output.Sink files.now in
+pub fn right_turn_rounds_say<F: Machine>(files: &F)
+    ensures { let view = files_view F.Files F.Machine.own F.Input.Source F.Output.Sink files.now in
         RightTurnRoundsSay view }
 {
     one_formula();
@@ -186,15 +186,15 @@ pub fn right_turn_rounds_say<F: Files>(files: &F)
 
 /// Where runs of the program follow one another, each on the checkpoint that the one before it saved, and the last one ends with
 /// status 0, what the first one read is a text of a formula that no assignment satisfies: the clause `ends` of `command` says so.
-pub fn outcomes_refute<F: Files>(_files: &F)
-    ensures { OutcomesRefute (files_view F.Files F.Input.Source F.Output.Sink) }
+pub fn outcomes_refute<F: Machine>(_files: &F)
+    ensures { OutcomesRefute (files_view F.Files F.Machine.own F.Input.Source F.Output.Sink) }
 {
     files_refute();
 }
 
 /// Where the last one ends with status 8, no assignment makes the literals that it assumed true besides.
-pub fn outcomes_refute_under<F: Files>(_files: &F)
-    ensures { OutcomesRefuteUnder (files_view F.Files F.Input.Source F.Output.Sink) }
+pub fn outcomes_refute_under<F: Machine>(_files: &F)
+    ensures { OutcomesRefuteUnder (files_view F.Files F.Machine.own F.Input.Source F.Output.Sink) }
 {
     files_refute_under();
 }
