@@ -3,8 +3,8 @@ ghost use Rattle.stream_check.specs.Laws.{FreshLeft, PendingGrows, GoodLineTaken
 
 use lrup_model::laws::{propagation_sound, vacant_above_stays};
 use lrup_text::laws::{
-    a_text_has_one_fault, a_text_spells_one_line, bytes_begin_with_one_line, no_bytes_have_no_lines,
-    no_text_begins_another, texts_are_lines,
+    a_text_has_one_fault, a_text_spells_one_line, bytes_begin_with_one_line,
+    no_bytes_have_no_lines, no_text_begins_another, texts_are_lines,
 };
 
 /// Without bytes and blocks a checker stays fresh.
