@@ -40,7 +40,7 @@ use Rattle.stream_threads.specs.Jobs.{JobsValue, FoundValue, CanBegin, Finishes,
 use Rattle.lrup_text.specs.ReadOut.{SourceView}
 use Rattle.runs.specs.Readings.{AreRead, IsStreamOf}
 use Rattle.runs.specs.Streams.{Stream, tellings, IsTold, JudgesStream, StandsOnStreams, TermsValue, setting_of}
-use Rattle.run_laws.specs.GroupLaws.{EarlyIsDecided, RunIsolated}
+use Rattle.run_laws.specs.GroupLaws.{RunIsolated}
 use Rattle.run_laws.specs.Groups.{AreIsolated}
 use Rattle.run_laws.specs.OrderLaws.{RunSerializable}
 use Rattle.run_laws.specs.Serializable.{IsSerializable}
@@ -365,11 +365,11 @@ module _ {S : Type 0} (view : SourceView S) where
     pub read : AreRead S view.reads firsts (map (λ x. x.reader) fs) streams
     pub dropped : HaveDropped terms s streams (map (λ x. x.report) fs) (map (λ x. x.dropped.ids) fs)
 
-  pub judged_by : EarlyIsDecided → (f : Cnf) (terms : TermsValue) (store : StoreValue) → store.layout ≡ terms.layout
+  pub judged_by : (f : Cnf) (terms : TermsValue) (store : StoreValue) → store.layout ≡ terms.layout
       → (s : ℕ) (firsts : List S) (js : List (JobsValue S)) (fs : List (FoundValue S)) (vs : List View)
       → HaveReadyJobs store f terms s firsts js → AllFinish view js fs → AreMet (views (map (λ x. x.pass) fs)) vs
       → Judged terms s firsts fs vs
-  judged_by law f terms store same s [] [] [] [] ready all met = record {
+  judged_by f terms store same s [] [] [] [] ready all met = record {
     streams = [];
     out = tt;
     told = tt;
@@ -377,13 +377,13 @@ module _ {S : Type 0} (view : SourceView S) where
     read = tt;
     dropped = tt;
   }
-  judged_by law f terms store same s [] [] [] (v ∷ vs) ready all met = absurd met
-  judged_by law f terms store same s [] [] (x ∷ fs) vs ready all met = absurd all
-  judged_by law f terms store same s [] (j ∷ js) fs vs ready all met = absurd ready
-  judged_by law f terms store same s (e ∷ es) [] fs vs ready all met = absurd ready
-  judged_by law f terms store same s (e ∷ es) (j ∷ js) [] vs ready all met = absurd all
-  judged_by law f terms store same s (e ∷ es) (j ∷ js) (x ∷ fs) [] ready all met = absurd met
-  judged_by law f terms store same s (e ∷ es) (j ∷ js) (x ∷ fs) (v ∷ vs) ready all met =
+  judged_by f terms store same s [] [] [] (v ∷ vs) ready all met = absurd met
+  judged_by f terms store same s [] [] (x ∷ fs) vs ready all met = absurd all
+  judged_by f terms store same s [] (j ∷ js) fs vs ready all met = absurd ready
+  judged_by f terms store same s (e ∷ es) [] fs vs ready all met = absurd ready
+  judged_by f terms store same s (e ∷ es) (j ∷ js) [] vs ready all met = absurd all
+  judged_by f terms store same s (e ∷ es) (j ∷ js) (x ∷ fs) [] ready all met = absurd met
+  judged_by f terms store same s (e ∷ es) (j ∷ js) (x ∷ fs) (v ∷ vs) ready all met =
       let here = ready.0 in
       let fresh = subst (λ (n : ℕ). Leaves j.checker.setting [] [] (checker_state j.checker n))
       (opened_room f terms.layout store s j.pass same here.opened) here.checker.left in
@@ -392,8 +392,8 @@ module _ {S : Type 0} (view : SourceView S) where
       let calls = (ends f terms.layout store s j x v same here.opened all.0 met.0 met.1).mine in
       let judged = subst (λ (c : Setting). JudgesStream c one.0 all.0.blocks x.report) here.checker.setting one.3 in
       let dropped = subst (λ (c : Setting). HasDropped c one.0.bytes x.report x.dropped.ids) here.checker.setting
-      (job_drops law j.checker (pass_place j.pass.view).room one.0.bytes all.0.blocks x.report x.dropped.ids fresh one.4) in
-      let more = judged_by law f terms store same (s + 1) es js fs vs ready.1 all.1 met.2 in
+      (job_drops j.checker (pass_place j.pass.view).room one.0.bytes all.0.blocks x.report x.dropped.ids fresh one.4) in
+      let more = judged_by f terms store same (s + 1) es js fs vs ready.1 all.1 met.2 in
       record {
         streams = one.0 ∷ more.streams;
         out = (one.1, more.out);
@@ -404,22 +404,22 @@ module _ {S : Type 0} (view : SourceView S) where
       }
 
   -- Of the first streams alone, whose passes have met: one legal history has the events by which each is judged.
-  pub were_judged : EarlyIsDecided → (f : Cnf) (terms : TermsValue) (store : StoreValue) → store.layout ≡ terms.layout
+  pub were_judged : (f : Cnf) (terms : TermsValue) (store : StoreValue) → store.layout ≡ terms.layout
       → (firsts : List S) (js : List (JobsValue S)) (fs : List (FoundValue S)) (vs : List View)
       → HaveReadyJobs store f terms 1 firsts js → AllFinish view js fs → AreMet (views (map (λ x. x.pass) fs)) vs → HaveMet vs
       → WereJudged view f terms firsts
-  were_judged law f terms store same [] [] [] vs ready all met one = record {
+  were_judged f terms store same [] [] [] vs ready all met one = record {
     history = [];
     legal = record { events = tt; room = λ s. omega arith };
     lasts = [];
     reports = [];
     judged = record { streams = []; are_told = tt; judged = (tt, tt, tt) };
   }
-  were_judged law f terms store same [] [] (x ∷ fs) vs ready all met one = absurd all
-  were_judged law f terms store same [] (j ∷ js) fs vs ready all met one = absurd ready
-  were_judged law f terms store same (e ∷ es) [] fs vs ready all met one = absurd ready
-  were_judged law f terms store same (e ∷ es) (j ∷ js) fs vs ready all met one =
-      let so = judged_by law f terms store same 1 (e ∷ es) (j ∷ js) fs vs ready all met in
+  were_judged f terms store same [] [] (x ∷ fs) vs ready all met one = absurd all
+  were_judged f terms store same [] (j ∷ js) fs vs ready all met one = absurd ready
+  were_judged f terms store same (e ∷ es) [] fs vs ready all met one = absurd ready
+  were_judged f terms store same (e ∷ es) (j ∷ js) fs vs ready all met one =
+      let so = judged_by f terms store same 1 (e ∷ es) (j ∷ js) fs vs ready all met in
       let calls = have_calls f terms store one.0 same 1 (e ∷ es) (j ∷ js) fs vs ready all met one.1 in
       record {
         history = one.0;
@@ -456,16 +456,16 @@ module _ {S : Type 0} (view : SourceView S) where
       one_history f terms _ _ _ so.found vs begun.is begun.store_is (begun_count begun) begun.ready so.finish so.met so.one
 
   pub run_reports : {f : Cnf} {terms : TermsValue} {store : StoreValue} {firsts : List S} {js : List (JobsValue S)}
-      → IsBegun f terms store firsts js → EarlyIsDecided
+      → IsBegun f terms store firsts js
       → (vs : List View) (reports : List Report) (lasts : List S) (dropped : List DroppedValue)
       → AreGathered view js vs reports lasts dropped
       → StandsOnStreams (tellings view firsts lasts)
       (λ streams. AllByRecursion (λ stream. IsSome stream.end) streams × AreJudgedIn terms (λ s. true) (seen_by vs) 1 streams reports
       × AreRead S view.reads firsts lasts streams
       × HaveDropped terms 1 streams reports (map (λ d. d.ids) dropped))
-  run_reports {f} {terms} {store} {firsts} begun law vs reports lasts dropped so =
+  run_reports {f} {terms} {store} {firsts} begun vs reports lasts dropped so =
       let fs = so.found in
-      let j = judged_by law f terms _ begun.store_is _ _ _ fs vs begun.ready so.finish so.met in
+      let j = judged_by f terms _ begun.store_is _ _ _ fs vs begun.ready so.finish so.met in
       let one = run_history begun vs reports lasts dropped so in
       let gone : map (λ (d : DroppedValue). d.ids) dropped ≡ map (λ (x : FoundValue S). x.dropped.ids) fs =
       ap (map (λ (d : DroppedValue). d.ids)) so.dropped_are ∙ map-map (λ (d : DroppedValue). d.ids) (λ (x : FoundValue S). x.dropped) fs in
@@ -482,34 +482,34 @@ module _ {S : Type 0} (view : SourceView S) where
 
   -- the streams before the one that a ring's fault names
   pub run_before : {f : Cnf} {terms : TermsValue} {store : StoreValue} {firsts : List S} {js : List (JobsValue S)}
-      → IsBegun f terms store firsts js → EarlyIsDecided → (n : ℕ) → WereGathered view (take n js)
+      → IsBegun f terms store firsts js → (n : ℕ) → WereGathered view (take n js)
       → WereJudged view f terms (take n firsts)
-  run_before {f} {terms} begun law n (vs, reports, lasts, dropped, so) =
-      were_judged law f terms _ begun.store_is _ _ so.found vs (ready_take _ _ _ _ n _ _ begun.ready) so.finish so.met so.one
+  run_before {f} {terms} begun n (vs, reports, lasts, dropped, so) =
+      were_judged f terms _ begun.store_is _ _ so.found vs (ready_take _ _ _ _ n _ _ begun.ready) so.finish so.met so.one
 
   told_count : {f : Cnf} {terms : TermsValue} {store : StoreValue} {firsts : List S} {js : List (JobsValue S)}
-      → IsBegun f terms store firsts js → EarlyIsDecided
+      → IsBegun f terms store firsts js
       → (vs : List View) (reports : List Report) (lasts : List S) (dropped : List DroppedValue)
       → AreGathered view js vs reports lasts dropped → length (tellings view firsts lasts) ≡ terms.layout.streams
-  told_count {firsts = firsts} begun law vs reports lasts dropped so =
-      told_as_many view firsts lasts _ (run_reports begun law vs reports lasts dropped so).judged.2 ∙ begun.count
+  told_count {firsts = firsts} begun vs reports lasts dropped so =
+      told_as_many view firsts lasts _ (run_reports begun vs reports lasts dropped so).judged.2 ∙ begun.count
 
   pub run_isolated : {f : Cnf} {terms : TermsValue} {store : StoreValue} {firsts : List S} {js : List (JobsValue S)}
-      → IsBegun f terms store firsts js → EarlyIsDecided → RunIsolated
+      → IsBegun f terms store firsts js → RunIsolated
       → (vs : List View) (reports : List Report) (lasts : List S) (dropped : List DroppedValue)
       → AreGathered view js vs reports lasts dropped
       → AreIsolated f terms (tellings view firsts lasts)
       (λ streams. AreJudgedIn terms (λ s. true) (seen_by vs) 1 streams reports) reports
-  run_isolated {f} {terms} begun decided law vs reports lasts dropped so =
-      law f terms (seen_by vs) vs _ reports begun.fits (told_count begun decided vs reports lasts dropped so)
+  run_isolated {f} {terms} begun law vs reports lasts dropped so =
+      law f terms (seen_by vs) vs _ reports begun.fits (told_count begun vs reports lasts dropped so)
       (run_history begun vs reports lasts dropped so)
 
   pub run_serializable : {f : Cnf} {terms : TermsValue} {store : StoreValue} {firsts : List S} {js : List (JobsValue S)}
-      → IsBegun f terms store firsts js → EarlyIsDecided → RunSerializable
+      → IsBegun f terms store firsts js → RunSerializable
       → (vs : List View) (reports : List Report) (lasts : List S) (dropped : List DroppedValue)
       → AreGathered view js vs reports lasts dropped → IsSerializable f terms (tellings view firsts lasts) (seen_by vs) reports
-  run_serializable {f} {terms} begun decided law vs reports lasts dropped so =
-      law f terms (seen_by vs) vs _ reports begun.fits (told_count begun decided vs reports lasts dropped so)
+  run_serializable {f} {terms} begun law vs reports lasts dropped so =
+      law f terms (seen_by vs) vs _ reports begun.fits (told_count begun vs reports lasts dropped so)
       (run_history begun vs reports lasts dropped so)
 
   -- each stream's dropped identities

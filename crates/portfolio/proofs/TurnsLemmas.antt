@@ -30,9 +30,7 @@ use Rattle.portfolio.proofs.EmptyLemmas.{sound_in_order}
 use Rattle.portfolio.proofs.RoundLemmas.{tagged, within-tagged, events_more, blocks_more, blocks_beside, round_opened, round_turned}
 use Rattle.portfolio.proofs.RoundLemmas.{round_passed, round_over}
 use Rattle.portfolio.proofs.WorkingLemmas.{not_over}
-use Rattle.portfolio.proofs.DroppingLemmas.{read_drops}
-use Rattle.portfolio.specs.Dropping.{AreDroppedBy, HaveDropped}
-use Rattle.run_laws.specs.GroupLaws.{EarlyIsDecided}
+use Rattle.portfolio.specs.Dropping.{HasDropped, HaveDropped}
 use Rattle.portfolio.specs.Outcomes.{OptionsValue, layout_of}
 use Rattle.lrup_text.specs.ReadOut.{SourceView}
 use Rattle.runs.specs.Readings.{AreRead, IsStreamOf}
@@ -400,31 +398,31 @@ module _ {S : Type 0} (view : SourceView S) where
       → WorksBy view o first w free blocks
       → (stream : Stream) × IsStreamOf view first w.reader stream
       × JudgesStream w.checker.setting stream blocks (report_of_tally w.checker.tally ending)
-      × (IsSome stream.end → AreDroppedBy w.checker.setting stream.bytes w.checker.dropped)
+      × HasDropped w.checker.setting stream.bytes (report_of_tally w.checker.tally ending) w.checker.dropped
   told_over o ending first w free blocks is works =
       let at : WorksBy view (Some ending) first w free blocks = subst (λ e. WorksBy view e first w free blocks) is works in at
 
-  -- each stream is what its reader told, is judged by its blocks, and has dropped what its lines drop
-  pub streams_over : EarlyIsDecided
-      → (terms : TermsValue) (blocks : List Block) (m : Plain) (k : ℕ) (firsts : List S) (ws : List (WorkerValue S)) (reports : List Report)
+  -- each stream is what its reader told, is judged by its blocks, and has dropped what its bytes and its report say
+  pub streams_over : (terms : TermsValue) (blocks : List Block) (m : Plain) (k : ℕ) (firsts : List S) (ws : List (WorkerValue S))
+      (reports : List Report)
       → AreWorking view terms blocks m k firsts ws → HaveReports ws reports
       → (streams : List Stream) × AllZip IsTold (tellings view firsts (map (λ w. w.reader) ws)) streams × AreRead S view.reads firsts
       (map (λ w. w.reader) ws) streams × AreJudged terms (λ s. true) (λ s events. events ≡ blocks_of s blocks) k streams reports
       × HaveDropped terms k streams reports (map (λ w. w.checker.dropped) ws)
-  streams_over law terms blocks m k [] [] [] working have = ([], tt, tt, tt, tt)
-  streams_over law terms blocks m k [] [] (r ∷ reports) working have = absurd have
-  streams_over law terms blocks m k [] (w ∷ ws) reports working have = absurd working
-  streams_over law terms blocks m k (first ∷ firsts) [] reports working have = absurd working
-  streams_over law terms blocks m k (first ∷ firsts) (w ∷ ws) [] working have = absurd have
-  streams_over law terms blocks m k (first ∷ firsts) (w ∷ ws) (r ∷ reports) working have =
-      let others = streams_over law terms blocks m (k + 1) firsts ws reports working.1 have.1 in
+  streams_over terms blocks m k [] [] [] working have = ([], tt, tt, tt, tt)
+  streams_over terms blocks m k [] [] (r ∷ reports) working have = absurd have
+  streams_over terms blocks m k [] (w ∷ ws) reports working have = absurd working
+  streams_over terms blocks m k (first ∷ firsts) [] reports working have = absurd working
+  streams_over terms blocks m k (first ∷ firsts) (w ∷ ws) [] working have = absurd have
+  streams_over terms blocks m k (first ∷ firsts) (w ∷ ws) (r ∷ reports) working have =
+      let others = streams_over terms blocks m (k + 1) firsts ws reports working.1 have.1 in
       let told = told_over w.checker.ending have.0.0 first w (free_at m k) (blocks_of k blocks) have.0.1 working.0.works in
       let judged : JudgesStream (setting_of terms k) told.0 (blocks_of k blocks) r =
       subst (λ (c : Setting). JudgesStream c told.0 (blocks_of k blocks) r) working.0.setting
       (subst (λ (x : Report). JudgesStream w.checker.setting told.0 (blocks_of k blocks) x) (sym have.0.2) told.2) in
-      let drops : IsSome told.0.end → AreDroppedBy (setting_of terms k) told.0.bytes w.checker.dropped =
-      subst (λ (c : Setting). IsSome told.0.end → AreDroppedBy c told.0.bytes w.checker.dropped) working.0.setting told.3 in
-      let dropped = read_drops law (setting_of terms k) told.0 (blocks_of k blocks) r w.checker.dropped judged drops in (
+      let dropped : HasDropped (setting_of terms k) told.0.bytes r w.checker.dropped =
+      subst (λ (c : Setting). HasDropped c told.0.bytes r w.checker.dropped) working.0.setting
+      (subst (λ (x : Report). HasDropped w.checker.setting told.0.bytes x w.checker.dropped) (sym have.0.2) told.3) in (
         told.0 ∷ others.0,
         (told.1.0, others.1),
         (told.1.1, others.2),
@@ -433,14 +431,13 @@ module _ {S : Type 0} (view : SourceView S) where
       )
 
   -- the reports have an order of lines, by turns, whose events leave the map as it is
-  pub ordered_over : EarlyIsDecided
-      → (f : Cnf) (terms : TermsValue) (firsts : List S) (m : Plain) (ws : List (WorkerValue S)) (reports : List Report)
+  pub ordered_over : (f : Cnf) (terms : TermsValue) (firsts : List S) (m : Plain) (ws : List (WorkerValue S)) (reports : List Report)
       → Runs view f terms firsts 0 m ws → HaveReports ws reports
       → (streams : List Stream) × AllZip IsTold (tellings view firsts (map (λ w. w.reader) ws)) streams
       × AreRead S view.reads firsts (map (λ w. w.reader) ws) streams × ((ordered : IsOrderedByTurns f terms streams reports)
       × HaveDropped terms 1 streams reports (map (λ w. w.checker.dropped) ws) × (plain_state m ≡ state f (events_in ordered.order.blocks)))
-  ordered_over law f terms firsts m ws reports runs have =
-      let streams = streams_over law terms runs.blocks m 1 firsts ws reports runs.workers_are have in (
+  ordered_over f terms firsts m ws reports runs have =
+      let streams = streams_over terms runs.blocks m 1 firsts ws reports runs.workers_are have in (
         streams.0,
         streams.1,
         streams.2,
@@ -479,14 +476,14 @@ pub sound_over : (f : Cnf) (terms : TermsValue) (streams : List Stream) (reports
 sound_over f terms streams reports ordered some = sound_among f terms ordered.blocks 1 streams reports ordered.legal ordered.judged some
 
 -- the whole run: begun, gone on with, and over
-pub run_ordered : {S : Type 0} (view : SourceView S) (law : EarlyIsDecided) (f : Cnf) (terms : TermsValue) (firsts : List S) (m : Plain)
+pub run_ordered : {S : Type 0} (view : SourceView S) (f : Cnf) (terms : TermsValue) (firsts : List S) (m : Plain)
     (ws : List (WorkerValue S)) → Runs view f terms firsts 0 m ws
     → (n : Plain) (reports : List Report) (lasts : List S) (dropped : List DroppedValue) → AreRun view m ws n reports lasts dropped
     → StandsOnStreams (tellings view firsts lasts)
     (λ streams. (ordered : IsOrderedByTurns f terms streams reports) × AreRead S view.reads firsts lasts streams
     × HaveDropped terms 1 streams reports (map (λ d. d.ids) dropped) × (plain_state n ≡ state f (events_in ordered.order.blocks)))
-run_ordered {S} view law f terms firsts m ws begun n reports lasts dropped so =
-    let ordered = ordered_over view law f terms firsts n so.ended reports (so.goes f terms firsts begun) so.reports_are in
+run_ordered {S} view f terms firsts m ws begun n reports lasts dropped so =
+    let ordered = ordered_over view f terms firsts n so.ended reports (so.goes f terms firsts begun) so.reports_are in
     record {
       streams = ordered.0;
       are_told = subst (λ (ls : List S). AllZip IsTold (tellings view firsts ls) ordered.0) (sym so.readers_are) ordered.1;

@@ -12,18 +12,19 @@ use Rattle.lrup_text.specs.declared.device.StreamEnd.TheVariants as stream_ends
 use Rattle.stream_check.specs.declared.report.Ending.{Ending}
 use Rattle.stream_check.specs.declared.report.Report.{Report}
 use Rattle.stream_check.specs.Setting.{Setting}
-use Rattle.stream_check.specs.Judging.{JudgesBlocks}
+use Rattle.stream_check.specs.Judging.{ending_at, JudgesBlocks}
 use Rattle.stream_check.specs.declared.progress.CheckTurn.{CheckTurn}
 use Rattle.stream_check.specs.declared.progress.CheckTurn.TheVariants as turns
-use Rattle.stream_check.specs.Leaving.{Leaves, LeavesGoing}
-use Rattle.stream_check.specs.CheckerValue.{report_of_tally, CheckerValue}
-use Rattle.stream_check.specs.Checker.{AreBlocksOf, holding_of, state_by, checker_state, LeavesOn, EndsBy, Ends, ReportsEnd}
+use Rattle.stream_check.specs.Leaving.{Leaves}
+use Rattle.stream_check.specs.CheckerValue.{Tally, report_of_tally, CheckerValue}
+use Rattle.stream_check.specs.Checker.{AreBlocksOf, state_by, checker_state, LeavesOn, EndsBy, Ends, ReportsEnd}
 use Rattle.lrup_text.specs.ReadLemmas.{gave_more}
 use Rattle.lrup_text.specs.ReadOut.{EndsSo, IsLastRead, SourceView}
 use Rattle.lrup_text.specs.Reads.{Gave}
 use Rattle.runs.specs.StreamLemmas.{judged_out}
-use Rattle.portfolio.specs.Dropping.{AreDroppedBy}
+use Rattle.portfolio.specs.Dropping.{HasDropped}
 use Rattle.portfolio.specs.Working.{AreBlocksOfTurn, WorkerValue, WorksBy, Works, WorksOn}
+use Rattle.portfolio.proofs.DroppingLemmas.{going_drops, stopped_drops}
 
 -- ---- going on
 
@@ -60,13 +61,19 @@ over_without (Some ending) over = omega arith
 
 -- ---- what is dropped
 
--- what a checker that isn't over has dropped, its lines drop
-pub going_drops : (c : Setting) (v : CheckerValue) (room : ℕ) (bytes : List ℕ) (blocks : List History)
-    → v.ending ≡ None → Leaves c bytes blocks (checker_state v room) → AreDroppedBy c bytes v.dropped
-going_drops c v room bytes blocks going leaves =
-    let left : LeavesGoing c bytes blocks (holding_of v room) =
-    subst (λ (e : Option Ending). Leaves c bytes blocks (state_by v room e)) going leaves in
-    record { lines = left.lines; rest = v.pending; cut = left.cut; are = left.standing.gone }
+-- what a checker that isn't over dropped, it has dropped at its end
+end_drops : (end : StreamEnd) (v u : CheckerValue) (room : ℕ) (bytes : List ℕ) (blocks : List History) (ending : Ending)
+    → v.ending ≡ None → Leaves v.setting bytes blocks (checker_state v room) → EndsBy None end v u → u.ending ≡ Some ending
+    → HasDropped u.setting bytes (report_of_tally u.tally ending) u.dropped
+end_drops end v u room bytes blocks ending going leaves ended is =
+    let its = ending_at end v.pending v.line in
+    let same : its ≡ ending = let e : Some its ≡ Some ending = sym ended.2 ∙ is in cc in
+    let drops : HasDropped v.setting bytes (report_of_tally v.tally its) v.dropped =
+    going_drops v.setting v room bytes blocks end going leaves in
+    subst (λ (c : Setting). HasDropped c bytes (report_of_tally u.tally ending) u.dropped) (sym ended.0)
+    (subst (HasDropped v.setting bytes (report_of_tally u.tally ending)) (sym ended.4)
+    (subst (λ (e : Ending). HasDropped v.setting bytes (report_of_tally u.tally e) v.dropped) same
+    (subst (λ (t : Tally). HasDropped v.setting bytes (report_of_tally t its) v.dropped) (sym ended.1) drops)))
 
 -- ---- a worker's steps
 
@@ -116,7 +123,6 @@ module _ {S : Type 0} (view : SourceView S) where
       let gave : Gave S view.reads first here.0 old = subst (λ (t : List ℕ). Gave S view.reads first t old) all here.2 in
       let ended : EndsBy None end v u = subst (λ e. EndsBy e end v u) going ends in
       let same : u.setting ≡ v.setting = ended.0 in
-      let drops : AreDroppedBy v.setting here.0 v.dropped = going_drops v.setting v room here.0 before going here.3 in
       let judged = reports here.0 before room here.3 in
       let report = report_of_tally u.tally judged.0 in
       subst (λ e. WorksBy view e first (worker_of new rest u) room (before ++ [])) (sym judged.1)
@@ -132,8 +138,7 @@ module _ {S : Type 0} (view : SourceView S) where
         ),
         judged_out u.setting here.0 [] end before report
             (subst (λ (c : Setting). JudgesBlocks c here.0 end before report) (sym same) judged.2),
-        λ out. subst (λ (c : Setting). AreDroppedBy c here.0 u.dropped) (sym same)
-            (subst (AreDroppedBy v.setting here.0) (sym ended.4) drops),
+        end_drops end v u room here.0 before judged.0 going here.3 ended judged.1,
       ))
 
   -- the bytes so far left the checker so, and it is over or not
@@ -146,8 +151,8 @@ module _ {S : Type 0} (view : SourceView S) where
   works_at (Some ending) first reader bytes rest v room blocks is running given gave leaves = (
     record { bytes = bytes; unneeded = rest; end = None },
     (record { consumes = given; ends = running; needed = λ out. absurd (let no : false ≡ true = out in cc) }, gave),
-    λ end may. either_end v.setting bytes blocks (report_of_tally v.tally ending) end leaves.0 leaves.1,
-    λ out. absurd (let no : false ≡ true = out in cc),
+    λ end may. either_end v.setting bytes blocks (report_of_tally v.tally ending) end leaves.0.0 leaves.0.1,
+    stopped_drops ending v.setting bytes v.tally v.dropped leaves.1,
   )
 
   -- what the checker took of the bytes that were read

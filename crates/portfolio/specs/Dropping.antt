@@ -1,11 +1,12 @@
 -- Which identities the streams of a run dropped (this project's own).
-use Rattle.std.specs.Prelude.{◌≡◌, ◌⊎◌, ◌+◌, ℕ, List, [], ◌∷◌}
+use Rattle.std.specs.Prelude.{◌≡◌, ◌+◌, ℕ, List, [], ◌∷◌}
 use Rattle.lrup_text.specs.Lines.{StreamLine, Cut}
+use Rattle.stream_check.specs.declared.report.Ending.{Ending}
 use Rattle.stream_check.specs.declared.report.Ending.TheVariants as endings
 use Rattle.stream_check.specs.declared.report.Report.{Report}
-use Rattle.stream_check.specs.Laws.{IsOfFailure}
 use Rattle.stream_check.specs.Setting.{Setting}
 use Rattle.stream_check.specs.Standing.{is_among, standing_of}
+use Rattle.stream_check.specs.Stopping.{DropsUntilStop}
 use Rattle.runs.specs.Streams.{Stream, TermsValue, setting_of}
 
 -- These are the identities that the lines of the bytes drop: of those that a deletion among them names, the formula's and other
@@ -16,11 +17,20 @@ pub record AreDroppedBy (setting : Setting) (bytes ids : List ℕ) : Type 0 wher
   pub cut : Cut bytes lines rest
   pub are : (id : ℕ) → is_among ids id ≡ (standing_of setting lines).gone id
 
+-- what a stream dropped that ended so
+abbrev pub HasDroppedBy : Ending → Setting → List ℕ → Report → List ℕ → Type 0
+HasDroppedBy endings.Ended setting bytes report ids = AreDroppedBy setting bytes ids
+HasDroppedBy (endings.Bad line fault) setting bytes report ids =
+    DropsUntilStop setting bytes report (is_among ids)
+HasDroppedBy (endings.ReadFailed line) setting bytes report ids = AreDroppedBy setting bytes ids
+HasDroppedBy (endings.Memory line) setting bytes report ids =
+    DropsUntilStop setting bytes report (is_among ids)
+
 -- Where the report says that the stream ended, or that a read failed, so that all its lines were good, these are the identities that
--- they drop. Of a stream with a bad line, or that memory ran out for, nothing is said.
+-- they drop. Where it says that a line is bad, or that memory ran out in it, these are the identities that the lines before it drop,
+-- and that the line itself does, up to where it stopped.
 abbrev pub HasDropped : Setting → List ℕ → Report → List ℕ → Type 0
-HasDropped setting bytes report ids =
-    (report.ending ≡ endings.Ended) ⊎ IsOfFailure report → AreDroppedBy setting bytes ids
+HasDropped setting bytes report ids = HasDroppedBy report.ending setting bytes report ids
 
 -- so it is with each stream, counted on from s
 abbrev pub HaveDropped : TermsValue → ℕ → List Stream → List Report → List (List ℕ) → Type 0

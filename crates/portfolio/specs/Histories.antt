@@ -37,7 +37,7 @@ IsHistoryOf false formula terms history streams reports =
 
 -- What the reports of a run, and the identities that its streams dropped, stand on: this history, which is legal, and streams. Each of
 -- these is what its reader told, and what the reader's reads gave; it is judged by its own events of the history, as its report says;
--- and where that says that it ended, or that a read failed, it dropped just what its lines drop.
+-- and it dropped just what its lines drop, or where one stopped it what was dropped until then.
 pub record StandsOnHistory {S : Type 0} (view : SourceView S) (serial : Bool) (formula : Cnf)
     (terms : TermsValue) (history : History) (firsts lasts : List S) (reports : List Report)
     (dropped : List DroppedValue) : Type 0 where

@@ -10,7 +10,7 @@ use Rattle.lrup_text.specs.ReadOut.{SourceView}
 use Rattle.lrup_text.specs.Reads.{Gave}
 use Rattle.runs.specs.Readings.{IsStreamOf}
 use Rattle.runs.specs.Streams.{Stream, JudgesStream, TermsValue, setting_of}
-use Rattle.portfolio.specs.Dropping.{AreDroppedBy}
+use Rattle.portfolio.specs.Dropping.{HasDropped}
 
 -- the reader, the bytes read and not checked yet, and the checker
 pub record WorkerValue (S : Type 0) : Type 0 where
@@ -28,11 +28,12 @@ WorksBy {S} view (Some ending) first worker free blocks =
     (stream : Stream) × IsStreamOf view first worker.reader stream
     × JudgesStream worker.checker.setting stream blocks
     (report_of_tally worker.checker.tally ending)
-    × (IsSome stream.end → AreDroppedBy worker.checker.setting stream.bytes worker.checker.dropped)
+    × HasDropped worker.checker.setting stream.bytes
+    (report_of_tally worker.checker.tally ending) worker.checker.dropped
 
 -- What the worker's stream has come to by these blocks of events, where its reader was the first before any read and so much room
--- is left now: the bytes checked so far leave the checker as it is; or the stream is judged as the checker's report says, and where it
--- was read to its end, its lines drop what the checker dropped.
+-- is left now: the bytes checked so far leave the checker as it is; or the stream is judged as the checker's report says, and dropped
+-- what the checker did.
 abbrev pub Works : {S : Type 0} → SourceView S → S → WorkerValue S → ℕ → List History → Type 0
 Works view first worker free blocks = WorksBy view worker.checker.ending first worker free blocks
 

@@ -25,7 +25,7 @@ use crate::outcome::{RunFault, SerialOutcome, Verdict};
 use crate::worker::Worker;
 use lrup_model::{Cube, Formula, PlainMap};
 use lrup_text::Source;
-use run_laws::groups::{alone_has_one_report, early_is_decided, serial_isolated};
+use run_laws::groups::{alone_has_one_report, serial_isolated};
 use runs::Terms;
 use std::alloc::{AllocError, Global};
 use std::sync::Wait;
@@ -53,8 +53,8 @@ pub fn run_serial<W: Wait, R: Source + Drop, G: Gate + Drop>(
     ensures no_spawn { (stream : ℕ) → result ≢ Err (RunFault.Spawn stream) }
     ensures no_ring { (stream : ℕ) → result ≢ Err (RunFault.Ring stream) }
     // Each stream is what its reader told, and what the reader's reads gave, and the reports have an
-    // order of lines, which is by turns. Where a report says that its stream ended, or that a read
-    // failed, the stream dropped just what its lines drop. The map has what the order leaves.
+    // order of lines, which is by turns. Each stream dropped just what its lines drop, or where one
+    // stopped it what was dropped until then. The map has what the order leaves.
     ensures ordered { let terms = terms_of options cube.now formula.now (length readers.items) in
         IfOk result (λ outcome. StandsOnStreams
         (tellings (source_view R.left R.has_failed R.reads) readers.items outcome.readers.items)
@@ -89,7 +89,6 @@ pub fn run_serial<W: Wait, R: Source + Drop, G: Gate + Drop>(
         → IsUnsatisfiableUnder formula.now cube.now) }
 {
     let (map, workers) = open(alloc, formula, cube, options, readers, gates)?;
-    early_is_decided();
     serial_isolated();
     alone_has_one_report();
     check(wait, alloc, map, workers)

@@ -23,7 +23,7 @@ use crate::outcome::{Outcome, RunFault, Verdict};
 use clause_store::{Pass, Store};
 use lrup_model::{Cube, Formula, Layout};
 use lrup_text::Source;
-use run_laws::groups::{alone_has_one_report, early_is_decided, run_isolated};
+use run_laws::groups::{alone_has_one_report, run_isolated};
 use run_laws::orders::run_serializable;
 use runs::Terms;
 use std::alloc::{AllocError, Global};
@@ -65,8 +65,8 @@ pub fn run<T: Threads + Wait + Sync, R: Source + Send + Drop, G: Gate + Send + D
         HaveOneHistory formula.now (layout_of options formula.now (length readers.items))
         (seen_by passes) passes) }
     // Each stream is what its reader told, and what the reader's reads gave, to its end or to the read
-    // that failed, and its report is the judgement of its bytes and its events of that history. Where
-    // that says that it ended, or that a read failed, it dropped just what its lines drop.
+    // that failed, and its report is the judgement of its bytes and its events of that history. It
+    // dropped just what its lines drop, or where one stopped it what was dropped until then.
     ensures reports { let terms = terms_of options cube.now formula.now (length readers.items) in
         IfOk result (λ outcome. StandsOnStreams
         (tellings (source_view R.left R.has_failed R.reads) readers.items outcome.readers.items)
@@ -111,7 +111,6 @@ pub fn run<T: Threads + Wait + Sync, R: Source + Send + Drop, G: Gate + Send + D
         → IsUnsatisfiableUnder formula.now cube.now) }
 {
     let (store, layout, jobs) = open(alloc, formula, cube, options, readers, gates)?;
-    early_is_decided();
     run_isolated();
     alone_has_one_report();
     run_serializable();

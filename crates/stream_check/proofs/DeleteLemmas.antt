@@ -116,12 +116,28 @@ no_memory_at : (side : Side) (c : Setting) (first earlier old new : List ℕ) (i
     → DeletesSide side c id old new es (Err stops.Memory)
     → (es ≡ []) × (is_shared (side_of c id) ≡ true) × ((is_among first id || is_among earlier id) ≡ false)
 no_memory_at sides.Formula c first earlier old new id es is before deletes =
-    (deletes.0, ap is_shared is, dropped_shared_is c first earlier old id false (ap is_shared is) before deletes.1)
+    (deletes.0, ap is_shared is, dropped_shared_is c first earlier old id false (ap is_shared is) before deletes.1.0)
 no_memory_at sides.Own c first earlier old new id es is before deletes = absurd deletes
 no_memory_at sides.Foreign c first earlier old new id es is before deletes =
-    (deletes.0, ap is_shared is, dropped_shared_is c first earlier old id false (ap is_shared is) before deletes.1)
+    (deletes.0, ap is_shared is, dropped_shared_is c first earlier old id false (ap is_shared is) before deletes.1.0)
 no_memory_at sides.Outside c first earlier old new id es is before deletes =
     absurd (let e : Err stops.Memory ≡ Err (stops.Bad (faults.NotLive id)) = deletes.1 in cc)
+
+-- what stopped the deletion drops nothing itself
+kept_at : (side : Side) (c : Setting) (old new : List ℕ) (id : ℕ) (es : History) (stop : LineStop)
+    → DeletesSide side c id old new es (Err stop) → new ≡ old
+kept_at sides.Formula c old new id es (stops.Bad fault) deletes = deletes.1.2
+kept_at sides.Formula c old new id es stops.Memory deletes = deletes.1.1
+kept_at sides.Own c old new id es (stops.Bad fault) deletes = deletes.2
+kept_at sides.Own c old new id es stops.Memory deletes = absurd deletes
+kept_at sides.Foreign c old new id es (stops.Bad fault) deletes = deletes.1.2
+kept_at sides.Foreign c old new id es stops.Memory deletes = deletes.1.1
+kept_at sides.Outside c old new id es stop deletes = deletes.2
+
+dropped_until : (c : Setting) (first earlier old new : List ℕ) (id : ℕ) (es : History) (stop : LineStop) → AreDropped c first earlier old
+    → DeletesOne c id old new es (Err stop) → AreDropped c first earlier new
+dropped_until c first earlier old new id es stop before deletes =
+    subst (AreDropped c first earlier) (sym (kept_at (side_of c id) c old new id es stop deletes)) before
 
 -- One after the other
 
@@ -159,8 +175,14 @@ stopped_deletion c first earlier old new id later ids es fs (stops.Bad fault) is
     let v : LineVerdict = Bad (length earlier) fault in
     let here : JudgesDeletion c (is_among first) earlier (id ∷ later) fs v =
     bad_at (side_of c id) c first earlier old new id fs fault
-    (λ x. JudgesDeletion c (is_among first) (earlier ++ id ∷ []) later x v) refl dropped deletes in
-    subst (λ (js : List ℕ). JudgesDeletion c (is_among first) [] js (es ++ fs) v) (sym is) (before (id ∷ later) fs v here)
+    (λ x. JudgesDeletion c (is_among first) (earlier ++ id ∷ []) later x v) refl dropped deletes in (
+      earlier,
+      id ∷ later,
+      refl,
+      is,
+      subst (λ (js : List ℕ). JudgesDeletion c (is_among first) [] js (es ++ fs) v) (sym is) (before (id ∷ later) fs v here),
+      dropped_until c first earlier old new id fs (stops.Bad fault) dropped deletes,
+    )
 stopped_deletion c first earlier old new id later ids es fs stops.Memory is before dropped deletes =
     let at = no_memory_at (side_of c id) c first earlier old new id fs refl dropped deletes in (
       earlier,
@@ -174,6 +196,7 @@ stopped_deletion c first earlier old new id later ids es fs stops.Memory is befo
         shared = at.1;
         new = at.2;
       },
+      dropped_until c first earlier old new id fs stops.Memory dropped deletes,
     )
 
 -- all are deleted

@@ -28,7 +28,7 @@ use Rattle.stream_check.specs.declared.stream_state.StreamState.{StreamState}
 use Rattle.stream_check.specs.Setting.{Setting, side_of, is_shared}
 use Rattle.stream_check.specs.Standing.{is_among}
 use Rattle.stream_check.specs.Judging.{ending_at, JudgesBlocks}
-use Rattle.stream_check.specs.Leaving.{Going, Over, Leaves, IsFresh}
+use Rattle.stream_check.specs.Leaving.{Going, Over, JudgesBothEnds, Leaves, IsFresh}
 use Rattle.stream_check.specs.CheckerValue.{Tally, report_of_tally, CheckerValue}
 use Rattle.stream_check.specs.Checker.{read_of, value_of, checker_state, state_by, holding_of, tally_at, IsReadyAt, IsSound, LeavesOn}
 use Rattle.stream_check.specs.Checker.{IsNew, EndsBy, Ends, ReportsEnd}
@@ -123,16 +123,17 @@ reads_on r read e = e ∙ ap (λ (b : List ℕ). Ok b) (sym (ap read_of e))
 
 -- the reading ends
 pub feeds_over : (h : StreamState) (read used : List ℕ) (blocks : List History) (free : ℕ) (ending : Option Ending) (report : Report)
-    → ending ≡ None
-    → LeavesOn h.setting (Going (hold h read free)) used blocks (Over report)
-    → LeavesOn h.setting (checker_state (value_of h read ending) free) used blocks (Over report)
-feeds_over h read used blocks free ending report none leaves =
-    subst (λ (o : Option Ending). LeavesOn h.setting (checker_state (value_of h read o) free) used blocks (Over report)) (sym none) leaves
+    (gone : ℕ → Bool) → ending ≡ None
+    → LeavesOn h.setting (Going (hold h read free)) used blocks (Over report gone)
+    → LeavesOn h.setting (checker_state (value_of h read ending) free) used blocks (Over report gone)
+feeds_over h read used blocks free ending report gone none leaves =
+    subst (λ (o : Option Ending). LeavesOn h.setting (checker_state (value_of h read o) free) used blocks (Over report gone)) (sym none)
+    leaves
 
 -- The end of the stream, or a failed read
 
 either_report : (c : Setting) (bytes : List ℕ) (blocks : List History) (end : StreamEnd) (report : Report)
-    → Leaves c bytes blocks (Over report) → JudgesBlocks c bytes end blocks report
+    → JudgesBothEnds c bytes blocks report → JudgesBlocks c bytes end blocks report
 either_report c bytes blocks stream_ends.Ended report over = over.0
 either_report c bytes blocks stream_ends.Failed report over = over.1
 
@@ -145,7 +146,7 @@ reports_over end v ending over bytes blocks free leaves = (
   ending,
   over,
   either_report v.setting bytes blocks end (report_of_tally v.tally ending)
-      (subst (λ (o : Option Ending). Leaves v.setting bytes blocks (state_by v free o)) over leaves),
+      (subst (λ (o : Option Ending). Leaves v.setting bytes blocks (state_by v free o)) over leaves).0,
 )
 
 -- one that isn't over has this ending then

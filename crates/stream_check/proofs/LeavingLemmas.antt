@@ -1,6 +1,6 @@
 -- What a checker is left as.
-use Rattle.std.proofs.Common.{◌≡◌, ◌+◌, ◌-◌, ◌^◌, min, ℕ, List, [], ◌∷◌, ◌++◌, length, refl, sym, ap, subst, ◌∙◌, arith, append_assoc}
-use Rattle.std.proofs.Common.{append-nil, length-append}
+use Rattle.std.proofs.Common.{◌≡◌, ◌+◌, ◌-◌, ◌^◌, ◌||◌, ◌&&◌, min, ℕ, Bool, List, [], ◌∷◌, ◌++◌, length, inl, inr, refl, sym}
+use Rattle.std.proofs.Common.{ap, subst, ◌∙◌, arith, append_assoc, append-nil, length-append}
 use Rattle.std.specs.List.{flat_map, AllByRecursion}
 use Rattle.std.proofs.lemmas.Grind.{flat_map-append}
 use Rattle.lrup_model.specs.Event.{History}
@@ -14,8 +14,9 @@ use Rattle.stream_check.specs.declared.fault.Fault.TheVariants as faults
 use Rattle.stream_check.specs.declared.report.Ending.{Ending}
 use Rattle.stream_check.specs.declared.report.Ending.TheVariants as endings
 use Rattle.stream_check.specs.declared.report.Report.{Report}
-use Rattle.stream_check.specs.Setting.{Setting}
-use Rattle.stream_check.specs.Standing.{Standing, standing_of, capped}
+use Rattle.stream_check.specs.Setting.{Setting, side_of, is_shared}
+use Rattle.stream_check.specs.Standing.{Standing, standing_of, is_among, capped}
+use Rattle.stream_check.specs.Stopping.{StopsAtLine, DropsMore, AreDeletedFirst, DropsUntilStop}
 use Rattle.stream_check.specs.Verdicts.{Good, Bad}
 use Rattle.stream_check.specs.Deletions.{StopsDeletion}
 use Rattle.stream_check.specs.Judging.{JudgesLine, AreGood, report_of, EndsAfter, at_bad_line, at_bad_text, at_memory, at_end, ending_at}
@@ -25,6 +26,7 @@ use Rattle.stream_check.specs.Leaving.{Holding, SameStanding, LeavesGoing, stand
 use Rattle.stream_check.specs.Laws.{FreshLeft, PendingGrows, GoodLineTaken, BadLineTaken, BadTextRead, MemoryWanted, EndJudged, OverStays}
 use Rattle.stream_check.specs.Laws.{IsDecided, EitherEnd, DecidedBeforeFailure}
 use Rattle.stream_check.specs.StandingLemmas.{standing_of-snoc, counts_of, tally_is, tally_says, counts_of-snoc, same_standing}
+use Rattle.stream_check.specs.StoppingLemmas.{drops_none}
 
 -- one good line more, with its block
 good_snoc : (c : Setting) (before lines : List StreamLine) (blocks : List History) (line : StreamLine) (block : History)
@@ -174,28 +176,56 @@ held_more c bytes blocks old deleted ending before =
     ∙ ap (λ (n : ℕ). record r { deleted = n }) count
     ∙ ap (λ n. report_of c before.lines deleted (ending n)) before.line
 
+-- and what was dropped until then
+held_drops : (c : Setting) (bytes piece : List ℕ) (blocks : List History) (old : Holding) (ids : List ℕ) (gone : ℕ → Bool) (report : Report)
+    → (before : LeavesGoing c bytes blocks old) → StopsAtLine report.ending (capped (length before.lines + 1))
+    → AreDeletedFirst ids (old.pending ++ piece)
+    → report.deleted ≡ (report_of c before.lines (length ids) endings.Ended).deleted → DropsMore c old.standing.gone ids gone
+    → DropsUntilStop c (bytes ++ piece) report gone
+held_drops c bytes piece blocks old ids gone report before number first count drops = record {
+  lines = before.lines;
+  rest = old.pending ++ piece;
+  text = text_grows (flat_map line_text before.lines) bytes old.pending piece before.cut.bytes;
+  fits = before.cut.each;
+  number = number;
+  ids = ids;
+  are_first = first;
+  count = count;
+  drops = λ id. drops id ∙ ap (λ (b : Bool). b || is_shared (side_of c id) && is_among ids id) (before.standing.gone id);
+}
+
 whole_text : (line : StreamLine) (bytes : List ℕ) → LineText line bytes → bytes ≡ line_text line ++ []
 whole_text line bytes text = text.1 ∙ sym (append-nil (line_text line))
 
 pub bad_line_taken : BadLineTaken
-bad_line_taken c bytes piece blocks block old line deleted fault before text judged =
+bad_line_taken c bytes piece blocks block old line ids later fault gone before text deletes judged drops =
+    let deleted = length ids in
     let report = report_of_tally (with_deleted old.tally deleted) (endings.Bad old.line fault) in
+    let says = held_more c bytes blocks old deleted (λ n. endings.Bad n fault) before in
+    let whole = whole_text line (old.pending ++ piece) text in
     let judges : (end : StreamEnd) → JudgesBlocks c (bytes ++ piece) end (blocks ++ block ∷ []) report =
     λ end. ends_behind c bytes piece blocks (block ∷ []) old end report before
-    (at_bad_line line [] (whole_text line (old.pending ++ piece) text) text.0 block refl deleted fault
-    (by_lines c old before.lines (λ st. JudgesLine c st line block (Bad deleted fault)) before.standing judged)
-    (held_more c bytes blocks old deleted (λ n. endings.Bad n fault) before)) in
-    (judges stream_ends.Ended, judges stream_ends.Failed)
+    (at_bad_line line [] whole text.0 block refl deleted fault
+    (by_lines c old before.lines (λ st. JudgesLine c st line block (Bad deleted fault)) before.standing judged) says) in (
+      (judges stream_ends.Ended, judges stream_ends.Failed),
+      held_drops c bytes piece blocks old ids gone report before before.line (inr (line, text.0, later, [], whole, deletes))
+          (ap (λ (r : Report). r.deleted) says) drops,
+    )
 
 pub memory_wanted : MemoryWanted
-memory_wanted c bytes piece blocks block old lead ids earlier before text stops =
+memory_wanted c bytes piece blocks block old lead ids earlier gone before text stops drops =
     let report = report_of_tally (with_deleted old.tally (length earlier)) (endings.Memory old.line) in
+    let says = held_more c bytes blocks old (length earlier) (λ n. endings.Memory n) before in
+    let whole = whole_text (Deletion lead ids) (old.pending ++ piece) text in
     let judges : (end : StreamEnd) → JudgesBlocks c (bytes ++ piece) end (blocks ++ block ∷ []) report =
     λ end. ends_behind c bytes piece blocks (block ∷ []) old end report before
-    (at_memory lead ids [] (whole_text (Deletion lead ids) (old.pending ++ piece) text) text.0 block refl earlier
-    (by_lines c old before.lines (λ st. StopsDeletion c st.gone ids block earlier) before.standing stops)
-    (held_more c bytes blocks old (length earlier) (λ n. endings.Memory n) before)) in
-    (judges stream_ends.Ended, judges stream_ends.Failed)
+    (at_memory lead ids [] whole text.0 block refl earlier
+    (by_lines c old before.lines (λ st. StopsDeletion c st.gone ids block earlier) before.standing stops) says) in (
+      (judges stream_ends.Ended, judges stream_ends.Failed),
+      held_drops c bytes piece blocks old earlier gone report before before.line
+          (inr (Deletion lead ids, text.0, stops.id ∷ stops.later, [], whole, stops.identities)) (ap (λ (r : Report). r.deleted) says)
+          drops,
+    )
 
 refused_alone : (bytes : List ℕ) (fault : LineFault) → IsRefused bytes fault → HasTextFault bytes fault
 refused_alone bytes fault refused = (bytes, [], sym (append-nil bytes), refused)
@@ -203,12 +233,15 @@ refused_alone bytes fault refused = (bytes, [], sym (append-nil bytes), refused)
 pub bad_text_read : BadTextRead
 bad_text_read c bytes piece blocks old fault before refused =
     let report = report_of_tally old.tally (endings.Bad old.line (faults.Text fault)) in
+    let says = held_report c bytes blocks old (λ n. endings.Bad n (faults.Text fault)) before in
     let judges : (end : StreamEnd) → JudgesBlocks c (bytes ++ piece) end blocks report =
     λ end. subst (λ b. JudgesBlocks c (bytes ++ piece) end b report) (append-nil blocks)
     (ends_behind c bytes piece blocks [] old end report before
-    (at_bad_text fault (refused_alone (old.pending ++ piece) fault refused) refl
-    (held_report c bytes blocks old (λ n. endings.Bad n (faults.Text fault)) before))) in
-    (judges stream_ends.Ended, judges stream_ends.Failed)
+    (at_bad_text fault (refused_alone (old.pending ++ piece) fault refused) refl says)) in (
+      (judges stream_ends.Ended, judges stream_ends.Failed),
+      held_drops c bytes piece blocks old [] old.standing.gone report before before.line (inl refl) (ap (λ (r : Report). r.deleted) says)
+          (drops_none c old.standing.gone),
+    )
 
 pub end_judged : EndJudged
 end_judged c bytes blocks old end before =

@@ -1,4 +1,5 @@
 pub mod LeavingLemmas
+pub mod StoppedLemmas
 pub mod TryLemmas
 pub mod AskLemmas
 pub mod AddLemmas

@@ -26,12 +26,13 @@ use Rattle.stream_check.specs.Additions.{published_by, JudgesAddition}
 use Rattle.stream_check.specs.Imports.{JudgesImport}
 use Rattle.stream_check.specs.Leaving.{tally_after}
 use Rattle.stream_check.specs.DroppedValue.{DroppedValue}
-use Rattle.stream_check.specs.Checking.{IsPlaceOf, IsFetch, IsRetire, MakesEvents, Deletes}
+use Rattle.stream_check.specs.Checking.{IsPlaceOf, IsFetch, IsRetire, MakesEvents, AreDropped, Deletes}
 use Rattle.stream_check.specs.Checker.{standing_at, tally_at, deleted_at, KeepsLines}
 use Rattle.stream_check.specs.Taking.{IsReady, DeletesMore, TakesBy}
 use Rattle.stream_check.proofs.AddLemmas.{spent-skips, spent-fetches, still_at}
 use Rattle.stream_check.specs.AdditionLemmas.{run-fetches}
 use Rattle.stream_check.specs.StandingLemmas.{same_tally}
+use Rattle.stream_check.specs.StoppingLemmas.{drops_none}
 
 -- The place after fetches alone
 
@@ -232,11 +233,12 @@ still_ready mid new q setting last ready = record {
 
 -- What is held after a line that stopped
 
-pub deletes_more : (old mid : StreamState) (count : ℕ) → KeepsLines old mid → deleted_at mid ≡ capped (deleted_at old + count)
-    → DeletesMore old mid count
-deletes_more old mid count kept more = record {
+pub deletes_more : (old mid : StreamState) (ids : List ℕ) → KeepsLines old mid → deleted_at mid ≡ capped (deleted_at old + length ids)
+    → AreDropped old.setting old.dropped.ids ids mid.dropped.ids → DeletesMore old mid ids
+deletes_more old mid ids kept more dropped = record {
   added = kept.added;
   deleted = more;
+  dropped = dropped;
   empty = kept.empty;
   within = kept.within;
   line = kept.line;
@@ -247,21 +249,31 @@ pub stops_deletion : (old mid : StreamState) (free left : ℕ) (lead : ℕ) (ids
     → Deletes old.setting old.dropped.ids mid.dropped.ids ids es count (Err stop)
     → TakesBy old free mid left (Deletion lead ids) es (Err stop)
 stops_deletion old mid free left lead ids es count (stops.Bad fault) kept more deletes =
-    (count, deletes, deletes_more old mid count kept more)
+    (deletes.0, deletes.1, deletes.3, deletes.4, deletes_more old mid deletes.0 kept (omega (arith, more, deletes.2)) deletes.5)
 stops_deletion old mid free left lead ids es count stops.Memory kept more deletes =
-    (lead, ids, deletes.0, refl, deletes.2, deletes_more old mid (length deletes.0) kept (omega (arith, more, deletes.1)))
+    (lead, ids, deletes.0, refl, deletes.2, deletes_more old mid deletes.0 kept (omega (arith, more, deletes.1)) deletes.3)
+
+deletes_none : (old : StreamState) → DeletesMore old old []
+deletes_none old = record {
+  added = refl;
+  deleted = omega arith;
+  dropped = drops_none old.setting (is_among old.dropped.ids);
+  empty = refl;
+  within = refl;
+  line = refl;
+}
 
 pub stops_addition : (old : StreamState) (free left : ℕ) (id : ℕ) (lits : List ℤ) (hints : List ℕ) (es : History) (fault : Fault)
     → JudgesAddition old.setting (standing_at old free) id lits hints es (Bad 0 fault)
     → TakesBy old free old left (Addition id lits hints) es (Err (stops.Bad fault))
 stops_addition old free left id lits hints es fault judged =
-    (0, judged, record { added = refl; deleted = omega arith; empty = refl; within = refl; line = refl })
+    ([], [], refl, judged, deletes_none old)
 
 pub stops_import : (old : StreamState) (free left : ℕ) (id : ℕ) (lits : List ℤ) (es : History) (fault : Fault)
     → JudgesImport old.setting (standing_at old free) id lits es (Bad 0 fault)
     → TakesBy old free old left (Import id lits) es (Err (stops.Bad fault))
 stops_import old free left id lits es fault judged =
-    (0, judged, record { added = refl; deleted = omega arith; empty = refl; within = refl; line = refl })
+    ([], [], refl, judged, deletes_none old)
 
 -- a good addition's identity is above the last one
 pub above_last : (c : Setting) (st : Standing) (id : ℕ) (lits : List ℤ) (hints : List ℕ) (es : History)

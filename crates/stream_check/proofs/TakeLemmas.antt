@@ -11,7 +11,7 @@ use Rattle.stream_check.specs.declared.report.Report.{Report}
 use Rattle.stream_check.specs.declared.stream_state.StreamState.{StreamState}
 use Rattle.stream_check.specs.declared.line_stop.LineStop.{LineStop}
 use Rattle.stream_check.specs.declared.line_stop.LineStop.TheVariants as stops
-use Rattle.stream_check.specs.Standing.{capped}
+use Rattle.stream_check.specs.Standing.{capped, is_among}
 use Rattle.stream_check.specs.CheckerValue.{report_of_tally}
 use Rattle.stream_check.specs.Leaving.{Going, Over, Leaves}
 use Rattle.stream_check.specs.Checker.{tally_at, LeavesOn}
@@ -20,12 +20,12 @@ use Rattle.stream_check.specs.Laws.{GoodLineTaken}
 use Rattle.stream_check.proofs.LeavingLemmas.{pending_grows, bad_line_taken, bad_text_read, memory_wanted}
 
 -- the report after a line that stopped: what it deleted is counted already
-report_is : (old new : StreamState) (count : ℕ) (ending : ℕ → Ending) → DeletesMore old new count
-    → report_of_tally (record (tally_at old) { deleted = capped ((tally_at old).deleted + count) }) (ending old.line)
+report_is : (old new : StreamState) (ids : List ℕ) (ending : ℕ → Ending) → DeletesMore old new ids
+    → report_of_tally (record (tally_at old) { deleted = capped ((tally_at old).deleted + length ids) }) (ending old.line)
     ≡ report_of_tally (tally_at new) (ending new.line)
-report_is old new count ending more =
+report_is old new ids ending more =
     let made : ℕ → ℕ → Bool → Bool → Ending → Report = λ a d e w x. record { added = a; deleted = d; empty = e; within = w; ending = x } in
-    ap (λ a. made a (capped ((tally_at old).deleted + count)) old.empty old.within (ending old.line)) (sym more.added)
+    ap (λ a. made a (capped ((tally_at old).deleted + length ids)) old.empty old.within (ending old.line)) (sym more.added)
     ∙ ap (λ d. made new.added d old.empty old.within (ending old.line)) (sym more.deleted)
     ∙ ap (λ e. made new.added (tally_at new).deleted e old.within (ending old.line)) (sym more.empty)
     ∙ ap (λ w. made new.added (tally_at new).deleted new.empty w (ending old.line)) (sym more.within)
@@ -41,16 +41,18 @@ leaves_good law old new free left read used line es text takes bytes before leav
 -- a line that stopped
 pub leaves_stopped : (old new : StreamState) (free left : ℕ) (read used : List ℕ) (line : StreamLine) (es : History) (stop : LineStop)
     → LineText line (read ++ used) → TakesBy old free new left line es (Err stop)
-    → LeavesOn old.setting (Going (hold old read free)) used (es ∷ []) (Over (report_of_tally (tally_at new) (ending_of new.line stop)))
+    → LeavesOn old.setting (Going (hold old read free)) used (es ∷ [])
+    (Over (report_of_tally (tally_at new) (ending_of new.line stop)) (is_among new.dropped.ids))
 leaves_stopped old new free left read used line es (stops.Bad fault) text takes bytes before leaves =
-    subst (λ (r : Report). Leaves old.setting (bytes ++ used) (before ++ es ∷ []) (Over r))
-    (report_is old new takes.0 (λ n. endings.Bad n fault) takes.2)
-    (bad_line_taken old.setting bytes used before es (hold old read free) line takes.0 fault leaves text takes.1)
+    subst (λ (r : Report). Leaves old.setting (bytes ++ used) (before ++ es ∷ []) (Over r (is_among new.dropped.ids)))
+    (report_is old new takes.0 (λ n. endings.Bad n fault) takes.4)
+    (bad_line_taken old.setting bytes used before es (hold old read free) line takes.0 takes.1 fault (is_among new.dropped.ids) leaves text
+    takes.2 takes.3 takes.4.dropped)
 leaves_stopped old new free left read used line es stops.Memory text takes bytes before leaves =
-    subst (λ (r : Report). Leaves old.setting (bytes ++ used) (before ++ es ∷ []) (Over r))
-    (report_is old new (length takes.2) (λ n. endings.Memory n) takes.5)
-    (memory_wanted old.setting bytes used before es (hold old read free) takes.0 takes.1 takes.2 leaves
-    (subst (λ (l : StreamLine). LineText l (read ++ used)) takes.3 text) takes.4)
+    subst (λ (r : Report). Leaves old.setting (bytes ++ used) (before ++ es ∷ []) (Over r (is_among new.dropped.ids)))
+    (report_is old new takes.2 (λ n. endings.Memory n) takes.5)
+    (memory_wanted old.setting bytes used before es (hold old read free) takes.0 takes.1 takes.2 (is_among new.dropped.ids) leaves
+    (subst (λ (l : StreamLine). LineText l (read ++ used)) takes.3 text) takes.4 takes.5.dropped)
 
 -- the front of a line
 pub leaves_front : (old : StreamState) (free : ℕ) (read piece : List ℕ) → IsPending (read ++ piece)
@@ -62,8 +64,8 @@ leaves_front old free read piece pending bytes before leaves =
 -- a text that begins no line
 pub leaves_refused : (old : StreamState) (free : ℕ) (read used : List ℕ) (fault : LineFault) → IsRefused (read ++ used) fault
     → LeavesOn old.setting (Going (hold old read free)) used []
-    (Over (report_of_tally (tally_at old) (endings.Bad old.line (faults.Text fault))))
+    (Over (report_of_tally (tally_at old) (endings.Bad old.line (faults.Text fault))) (is_among old.dropped.ids))
 leaves_refused old free read used fault refused bytes before leaves =
     subst (λ (blocks : List History). Leaves old.setting (bytes ++ used) blocks
-    (Over (report_of_tally (tally_at old) (endings.Bad old.line (faults.Text fault))))) (sym (append-nil before))
+    (Over (report_of_tally (tally_at old) (endings.Bad old.line (faults.Text fault))) (is_among old.dropped.ids))) (sym (append-nil before))
     (bad_text_read old.setting bytes used before (hold old read free) fault leaves refused)

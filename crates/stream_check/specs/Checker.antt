@@ -110,7 +110,8 @@ holding_of checker free = record {
 
 abbrev pub state_by : CheckerValue → ℕ → Option Ending → CheckerState
 state_by checker free None = Going (holding_of checker free)
-state_by checker free (Some ending) = Over (report_of_tally checker.tally ending)
+state_by checker free (Some ending) =
+    Over (report_of_tally checker.tally ending) (is_among checker.dropped)
 
 -- what the checker is left as, where so much room is left
 abbrev pub checker_state : CheckerValue → ℕ → CheckerState

@@ -24,6 +24,7 @@ use Rattle.stream_check.specs.Verdicts.{LineVerdict, Good, Bad, Test}
 use Rattle.stream_check.specs.Asking.{Asks}
 use Rattle.stream_check.specs.Additions.{JudgesHints, published_by}
 use Rattle.stream_check.specs.Deletions.{JudgesDeletion, StopsDeletion}
+use Rattle.stream_check.specs.Stopping.{DropsMore}
 
 -- the place is this stream's, at this layout
 pub record IsPlaceOf (setting : Setting) (place : Place) : Type 0 where
@@ -99,6 +100,7 @@ DeletesOwn setting id old new history (Ok _) =
     (history ≡ events.retire setting.stream id retiring.Done ∷ []) × (new ≡ old)
 DeletesOwn setting id old new history (Err (stops.Bad fault)) =
     (history ≡ events.retire setting.stream id retiring.NotLive ∷ []) × (fault ≡ faults.NotLive id)
+    × (new ≡ old)
 DeletesOwn setting id old new history (Err stops.Memory) = ⊥
 
 -- one of the formula's or of another stream's: it is kept among the dropped ones, where it isn't yet
@@ -106,8 +108,8 @@ abbrev pub DropsShared : ℕ → List ℕ → List ℕ → Result (Unit {0}) Lin
 DropsShared id old new (Ok _) =
     (is_among old id ≡ false) × ((j : ℕ) → is_among new j ≡ (is_among old j || id == j))
 DropsShared id old new (Err (stops.Bad fault)) =
-    (is_among old id ≡ true) × (fault ≡ faults.NotLive id)
-DropsShared id old new (Err stops.Memory) = is_among old id ≡ false
+    (is_among old id ≡ true) × (fault ≡ faults.NotLive id) × (new ≡ old)
+DropsShared id old new (Err stops.Memory) = (is_among old id ≡ false) × (new ≡ old)
 
 abbrev pub DeletesSide : Side → Setting → ℕ → List ℕ → List ℕ → History
     → Result (Unit {0}) LineStop → Type 0
@@ -118,7 +120,7 @@ DeletesSide sides.Own setting id old new history result =
 DeletesSide sides.Foreign setting id old new history result =
     (history ≡ []) × DropsShared id old new result
 DeletesSide sides.Outside setting id old new history result =
-    (history ≡ []) × (result ≡ Err (stops.Bad (faults.NotLive id)))
+    (history ≡ []) × (result ≡ Err (stops.Bad (faults.NotLive id))) × (new ≡ old)
 
 -- what became of one identity to delete, where these were dropped before, and these are afterwards
 abbrev pub DeletesOne : Setting → ℕ → List ℕ → List ℕ → History → Result (Unit {0}) LineStop
@@ -133,18 +135,18 @@ counted (Err stop) = 0
 
 -- The dropped ones are those of before, and the shared ones of these identities.
 abbrev pub AreDropped : Setting → List ℕ → List ℕ → List ℕ → Type 0
-AreDropped setting old ids new =
-    (id : ℕ) → is_among new id
-    ≡ (is_among old id || is_shared (side_of setting id) && is_among ids id)
+AreDropped setting old ids new = DropsMore setting (is_among old) ids (is_among new)
 
--- What a deletion came to: it is good, or bad, or out of memory, after so many identities.
+-- What a deletion came to: it is good, or bad, or out of memory, after so many identities; the shared ones of these were dropped.
 abbrev pub Deletes : Setting → List ℕ → List ℕ → List ℕ → History → ℕ → Result (Unit {0}) LineStop
     → Type 0
 Deletes setting old new ids history count (Ok _) =
     JudgesDeletion setting (is_among old) [] ids history Good × (count ≡ length ids)
     × AreDropped setting old ids new
 Deletes setting old new ids history count (Err (stops.Bad fault)) =
-    JudgesDeletion setting (is_among old) [] ids history (Bad count fault)
+    (earlier later : List ℕ) × (count ≡ length earlier) × (ids ≡ earlier ++ later)
+    × JudgesDeletion setting (is_among old) [] ids history (Bad (length earlier) fault)
+    × AreDropped setting old earlier new
 Deletes setting old new ids history count (Err stops.Memory) =
     (earlier : List ℕ) × (count ≡ length earlier)
-    × StopsDeletion setting (is_among old) ids history earlier
+    × StopsDeletion setting (is_among old) ids history earlier × AreDropped setting old earlier new

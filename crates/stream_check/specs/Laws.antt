@@ -1,5 +1,5 @@
 -- Laws of judging, each the contract of a function in `src/laws.rt`, and the words that they need.
-use Rattle.std.specs.Prelude.{◌≡◌, ◌≢◌, ◌↔◌, ◌≤◌, ◌+◌, ◌++◌, ℕ, ℤ, Bool, IsTrue, List, [], ◌∷◌, map, length}
+use Rattle.std.specs.Prelude.{◌≡◌, ◌≢◌, ◌↔◌, ◌≤◌, ◌<◌, ◌^◌, ◌+◌, ◌-◌, ◌++◌, ℕ, ℤ, Bool, IsTrue, List, [], ◌∷◌, map, length}
 use Rattle.std.specs.List.{AllByRecursion, Any}
 use Rattle.lrup_model.specs.Cube.{CubeValue, Within}
 use Rattle.lrup_model.specs.Formula.{Cnf}
@@ -27,12 +27,13 @@ use Rattle.stream_check.specs.Deletions.{StopsDeletion}
 use Rattle.stream_check.specs.Judging.{JudgesLine, joined, ending_at, JudgesBlocks, Judges}
 use Rattle.stream_check.specs.Forks.{NeverFork}
 use Rattle.lrup_model.specs.Distinct.{distinct}
-use Rattle.stream_check.specs.Standing.{Standing, additions_of, capped}
+use Rattle.stream_check.specs.Standing.{Standing, additions_of, deleted_by, capped}
+use Rattle.stream_check.specs.Stopping.{StopsAtLine, DropsMore, DropsUntilStop}
 use Rattle.stream_check.specs.Additions.{JudgesAddition}
 use Rattle.stream_check.specs.Reducing.{reduced, IsEarly, TriesAgain}
 use Rattle.stream_check.specs.Finding.{IsGoodAddition, FindsSound}
 use Rattle.stream_check.specs.Verdicts.{LineVerdict, Good, Bad}
-use Rattle.stream_check.specs.Leaving.{Holding, Going, Over, Leaves, IsFresh, TakesLine}
+use Rattle.stream_check.specs.Leaving.{Holding, Going, Over, JudgesBothEnds, Leaves, IsFresh, TakesLine}
 use Rattle.stream_check.specs.CheckerValue.{report_of_tally, CheckerValue}
 use Rattle.stream_check.specs.Checker.{IsNew, IsReadyAt}
 
@@ -56,15 +57,17 @@ GoodLineTaken = (c : Setting) (bytes piece : List ℕ) (blocks : List History) (
     → JudgesLine c old.standing line block Good → TakesLine c old line new
     → Leaves c (bytes ++ piece) (blocks ++ block ∷ []) (Going new)
 
--- a bad line
+-- a bad line, which deleted these identities before its fault
 abbrev pub BadLineTaken : Type 0
 BadLineTaken = (c : Setting) (bytes piece : List ℕ) (blocks : List History) (block : History)
-    (old : Holding) (line : StreamLine) (deleted : ℕ) (fault : Fault)
+    (old : Holding) (line : StreamLine) (ids later : List ℕ) (fault : Fault) (gone : ℕ → Bool)
     → Leaves c bytes blocks (Going old) → LineText line (old.pending ++ piece)
-    → JudgesLine c old.standing line block (Bad deleted fault)
+    → deleted_by line ≡ ids ++ later
+    → JudgesLine c old.standing line block (Bad (length ids) fault)
+    → DropsMore c old.standing.gone ids gone
     → Leaves c (bytes ++ piece) (blocks ++ block ∷ [])
-    (Over (report_of_tally (record old.tally { deleted = capped (old.tally.deleted + deleted) })
-    (endings.Bad old.line fault)))
+    (Over (report_of_tally (record old.tally { deleted = capped (old.tally.deleted + length ids) })
+    (endings.Bad old.line fault)) gone)
 
 -- a text that begins no line
 abbrev pub BadTextRead : Type 0
@@ -72,18 +75,19 @@ BadTextRead = (c : Setting) (bytes piece : List ℕ) (blocks : List History) (ol
     (fault : LineFault)
     → Leaves c bytes blocks (Going old) → IsRefused (old.pending ++ piece) fault
     → Leaves c (bytes ++ piece) blocks
-    (Over (report_of_tally old.tally (endings.Bad old.line (faults.Text fault))))
+    (Over (report_of_tally old.tally (endings.Bad old.line (faults.Text fault))) old.standing.gone)
 
--- a deletion that ran out of memory
+-- a deletion that ran out of memory, after these identities
 abbrev pub MemoryWanted : Type 0
 MemoryWanted = (c : Setting) (bytes piece : List ℕ) (blocks : List History) (block : History)
-    (old : Holding) (lead : ℕ) (ids earlier : List ℕ)
+    (old : Holding) (lead : ℕ) (ids earlier : List ℕ) (gone : ℕ → Bool)
     → Leaves c bytes blocks (Going old) → LineText (Deletion lead ids) (old.pending ++ piece)
     → StopsDeletion c old.standing.gone ids block earlier
+    → DropsMore c old.standing.gone earlier gone
     → Leaves c (bytes ++ piece) (blocks ++ block ∷ [])
     (Over (report_of_tally
     (record old.tally { deleted = capped (old.tally.deleted + length earlier) })
-    (endings.Memory old.line)))
+    (endings.Memory old.line)) gone)
 
 -- the end of the stream, or a failed read
 abbrev pub EndJudged : Type 0
@@ -92,10 +96,10 @@ EndJudged = (c : Setting) (bytes : List ℕ) (blocks : List History) (old : Hold
     → JudgesBlocks c bytes end blocks
     (report_of_tally old.tally (ending_at end old.pending old.line))
 
--- a checker that is over stays as it is, whatever follows
+-- a report that is right for both ends stays so, whatever follows
 abbrev pub OverStays : Type 0
 OverStays = (c : Setting) (bytes more : List ℕ) (blocks : List History) (report : Report)
-    → Leaves c bytes blocks (Over report) → Leaves c (bytes ++ more) blocks (Over report)
+    → JudgesBothEnds c bytes blocks report → JudgesBothEnds c (bytes ++ more) blocks report
 
 -- the ending doesn't depend on how the stream ended, nor on what followed: a bad line or text, or memory that ran out
 abbrev pub IsDecided : Ending → Type 0
@@ -121,6 +125,13 @@ DecidedBeforeFailure = (c : Setting) (bytes more : List ℕ) (end : StreamEnd) (
     (report : Report)
     → ¬ IsOfFailure report → JudgesBlocks c bytes stream_ends.Failed blocks report
     → JudgesBlocks c (bytes ++ more) end blocks report
+
+-- where its numbers are below 2^64 - 1, a report decides what a stream dropped that a line stopped
+abbrev pub DroppedOnce : Type 0
+DroppedOnce = (c : Setting) (bytes : List ℕ) (report : Report) (gone other : ℕ → Bool) (line : ℕ)
+    → StopsAtLine report.ending line → line < 2 ^ 64 - 1 → report.deleted < 2 ^ 64 - 1
+    → DropsUntilStop c bytes report gone → DropsUntilStop c bytes report other
+    → (id : ℕ) → gone id ≡ other id
 
 -- Where a checker may be fed
 

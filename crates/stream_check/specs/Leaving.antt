@@ -1,5 +1,5 @@
 -- What a checker is, and what it is left as by the bytes so far and the blocks of events of their lines (this project's own).
-use Rattle.std.specs.Prelude.{◌≡◌, ◌==◌, ◌+◌, ◌-◌, ◌&&◌, ◌||◌, ℕ, false, List, [], ◌∷◌, length}
+use Rattle.std.specs.Prelude.{◌≡◌, ◌==◌, ◌+◌, ◌-◌, ◌&&◌, ◌||◌, ℕ, Bool, false, List, [], ◌∷◌, length}
 use Rattle.std.specs.List.{list_any, sum_by}
 use Rattle.lrup_model.specs.Event.{History}
 use Rattle.lrup_text.specs.Lines.{StreamLine, Addition, Deletion, Import, Cut, IsPending}
@@ -10,6 +10,7 @@ use Rattle.stream_check.specs.Setting.{Setting, side_of, is_shared}
 use Rattle.stream_check.specs.Standing.{Standing, standing_of, additions_of, is_among, is_within, deleted_by, capped}
 use Rattle.stream_check.specs.Judging.{AreGood, report_of, JudgesBlocks}
 use Rattle.stream_check.specs.CheckerValue.{Tally, report_of_tally}
+use Rattle.stream_check.specs.Stopping.{DropsUntilStop}
 
 -- what a checker holds that isn't over: its counts, what good lines left, the text read of the next line, and that line's number
 pub record Holding : Type 0 where
@@ -18,9 +19,10 @@ pub record Holding : Type 0 where
   pub pending : List ℕ
   pub line : ℕ
 
+-- what it holds, or the report of one that is over, and what it dropped
 pub data CheckerState : Type 0 where
   Going : Holding → CheckerState
-  Over : Report → CheckerState
+  Over : (report : Report) (gone : ℕ → Bool) → CheckerState
 
 -- the same last identity and room, and the same dropped ones
 pub record SameStanding (standing other : Standing) : Type 0 where
@@ -41,12 +43,17 @@ pub record LeavesGoing (setting : Setting) (bytes : List ℕ) (blocks : List His
   pub standing : SameStanding now.standing (standing_of setting lines)
   pub line : now.line ≡ capped (length lines + 1)
 
--- The bytes so far, whose lines have these blocks of events, leave the checker so. One that is over has a report that is right whatever the end is.
-abbrev pub Leaves : Setting → List ℕ → List History → CheckerState → Type 0
-Leaves setting bytes blocks (Going now) = LeavesGoing setting bytes blocks now
-Leaves setting bytes blocks (Over report) =
+-- the report is right whatever the end is
+abbrev pub JudgesBothEnds : Setting → List ℕ → List History → Report → Type 0
+JudgesBothEnds setting bytes blocks report =
     JudgesBlocks setting bytes stream_ends.Ended blocks report
     × JudgesBlocks setting bytes stream_ends.Failed blocks report
+
+-- The bytes so far, whose lines have these blocks of events, leave the checker so. One that is over has a report that is right whatever the end is, and dropped what was deleted until a line stopped it.
+abbrev pub Leaves : Setting → List ℕ → List History → CheckerState → Type 0
+Leaves setting bytes blocks (Going now) = LeavesGoing setting bytes blocks now
+Leaves setting bytes blocks (Over report gone) =
+    JudgesBothEnds setting bytes blocks report × DropsUntilStop setting bytes report gone
 
 -- One good line more
 

@@ -8,6 +8,7 @@ pub mod Additions
 pub mod Deletions
 pub mod Imports
 pub mod Judging
+pub mod Stopping
 pub mod Leaving
 pub mod Checking
 pub mod CheckerValue
@@ -19,6 +20,7 @@ pub mod Finding
 pub mod CubeLemmas
 pub mod AdditionLemmas
 pub mod StandingLemmas
+pub mod StoppingLemmas
 pub mod ReportLemmas
 pub mod ReducingLemmas
 pub mod Laws

@@ -1,5 +1,5 @@
 -- What a checker's line leaves of it (this project's own).
-use Rattle.std.specs.Prelude.{◌≡◌, ◌+◌, ℕ, List, [], length, Result, Ok, Err}
+use Rattle.std.specs.Prelude.{◌≡◌, ◌+◌, ◌++◌, ℕ, List, [], length, Result, Ok, Err}
 use Rattle.lrup_model.specs.Event.{History}
 use Rattle.lrup_model.specs.Place.{Place, IsVacantAbove}
 use Rattle.lrup_text.specs.Lines.{StreamLine, Deletion}
@@ -8,12 +8,12 @@ use Rattle.stream_check.specs.declared.report.Ending.TheVariants as endings
 use Rattle.stream_check.specs.declared.stream_state.StreamState.{StreamState}
 use Rattle.stream_check.specs.declared.line_stop.LineStop.{LineStop}
 use Rattle.stream_check.specs.declared.line_stop.LineStop.TheVariants as stops
-use Rattle.stream_check.specs.Standing.{capped, is_among}
+use Rattle.stream_check.specs.Standing.{capped, is_among, deleted_by}
 use Rattle.stream_check.specs.Verdicts.{Good, Bad}
 use Rattle.stream_check.specs.Deletions.{StopsDeletion}
 use Rattle.stream_check.specs.Judging.{JudgesLine}
 use Rattle.stream_check.specs.Leaving.{Holding, TakesLine}
-use Rattle.stream_check.specs.Checking.{IsPlaceOf}
+use Rattle.stream_check.specs.Checking.{IsPlaceOf, AreDropped}
 use Rattle.stream_check.specs.Checker.{standing_at, tally_at, deleted_at}
 
 -- what is held, with this text read of the next line, where so much room is left
@@ -30,10 +30,11 @@ pub record IsReady (state : StreamState) (place : Place) : Type 0 where
   pub at : IsPlaceOf state.setting place
   pub vacant : IsVacantAbove place state.last
 
--- so many identities more were deleted, and nothing else was counted
-pub record DeletesMore (old new : StreamState) (count : ℕ) : Type 0 where
+-- these identities more were deleted, and of them the shared ones dropped, and nothing else was counted
+pub record DeletesMore (old new : StreamState) (ids : List ℕ) : Type 0 where
   pub added : new.added ≡ old.added
-  pub deleted : deleted_at new ≡ capped (deleted_at old + count)
+  pub deleted : deleted_at new ≡ capped (deleted_at old + length ids)
+  pub dropped : AreDropped old.setting old.dropped.ids ids new.dropped.ids
   pub empty : new.empty ≡ old.empty
   pub within : new.within ≡ old.within
   pub line : new.line ≡ old.line
@@ -45,12 +46,13 @@ TakesBy old free new left line history (Ok _) =
     JudgesLine old.setting (standing_at old free) line history Good
     × ((read : List ℕ) → TakesLine old.setting (hold old read free) line (hold new [] left))
 TakesBy old free new left line history (Err (stops.Bad fault)) =
-    (count : ℕ) × JudgesLine old.setting (standing_at old free) line history (Bad count fault)
-    × DeletesMore old new count
+    (ids later : List ℕ) × (deleted_by line ≡ ids ++ later)
+    × JudgesLine old.setting (standing_at old free) line history (Bad (length ids) fault)
+    × DeletesMore old new ids
 TakesBy old free new left line history (Err stops.Memory) =
     (lead : ℕ) × (ids earlier : List ℕ) × (line ≡ Deletion lead ids)
     × StopsDeletion old.setting (is_among old.dropped.ids) ids history earlier
-    × DeletesMore old new (length earlier)
+    × DeletesMore old new earlier
 
 -- a line that stopped ends the reading so
 abbrev pub ending_of : ℕ → LineStop → Ending

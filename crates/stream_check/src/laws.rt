@@ -1,10 +1,10 @@
 //! Laws of judging. Each function does nothing; its contract is the law, which holds of every stream, layout and history.
-ghost use Rattle.stream_check.specs.Laws.{FreshLeft, PendingGrows, GoodLineTaken, BadLineTaken, BadTextRead, MemoryWanted, EndJudged, OverStays, EitherEnd, DecidedBeforeFailure, ReadyNew, ReadyStays, ReadyBeside, OneReport, RepliesDecide, BlocksGoAlike, LegalNeverFork, AloneDecides, GoodExactlyIf, GoodFollows, LineCalls, EarlyEvents, VacantTriesAgain, ReducedLine, ReducedStream, JudgedLinesCut, CitedFetched, WithinReported, EmptyCubeReported, CountsWithin};
+ghost use Rattle.stream_check.specs.Laws.{FreshLeft, PendingGrows, GoodLineTaken, BadLineTaken, BadTextRead, MemoryWanted, EndJudged, OverStays, EitherEnd, DecidedBeforeFailure, DroppedOnce, ReadyNew, ReadyStays, ReadyBeside, OneReport, RepliesDecide, BlocksGoAlike, LegalNeverFork, AloneDecides, GoodExactlyIf, GoodFollows, LineCalls, EarlyEvents, VacantTriesAgain, ReducedLine, ReducedStream, JudgedLinesCut, CitedFetched, WithinReported, EmptyCubeReported, CountsWithin};
 
 use lrup_model::laws::{propagation_sound, vacant_above_stays};
 use lrup_text::laws::{
-    a_text_has_one_fault, a_text_spells_one_line, no_bytes_have_no_lines, no_text_begins_another,
-    texts_are_lines,
+    a_text_has_one_fault, a_text_spells_one_line, bytes_begin_with_one_line,
+    no_bytes_have_no_lines, no_text_begins_another, texts_are_lines,
 };
 
 /// Without bytes and blocks a checker stays fresh.
@@ -48,7 +48,7 @@ pub fn end_judged()
     ensures { EndJudged }
 {}
 
-/// A checker that is over stays as it is, whatever follows.
+/// A report that is right for both ends stays so, whatever follows.
 pub fn over_stays()
     ensures { OverStays }
 {}
@@ -62,6 +62,13 @@ pub fn either_end()
 pub fn decided_before_failure()
     ensures { DecidedBeforeFailure }
 {}
+
+/// Where its numbers are below 2^64 - 1, a report decides what a stream dropped that a line stopped.
+pub fn dropped_once()
+    ensures { DroppedOnce }
+{
+    bytes_begin_with_one_line();
+}
 
 /// A new checker may be fed at the opening of a run.
 pub fn ready_new()

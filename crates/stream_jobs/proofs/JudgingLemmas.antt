@@ -9,11 +9,14 @@ use Rattle.stream_check.specs.declared.report.Report.{Report}
 use Rattle.stream_check.specs.declared.progress.CheckTurn.{CheckTurn}
 use Rattle.stream_check.specs.declared.progress.CheckTurn.TheVariants as turns
 use Rattle.stream_check.specs.Checker.{state_by, checker_state, LeavesOn, Turns, EndsBy, Ends, ReportsEnd}
-use Rattle.stream_check.specs.CheckerValue.{report_of_tally, CheckerValue}
+use Rattle.stream_check.specs.CheckerValue.{Tally, report_of_tally, CheckerValue}
 use Rattle.stream_check.specs.Judging.{JudgesBlocks}
 use Rattle.stream_check.specs.Laws.{OverStays}
 use Rattle.stream_check.specs.Leaving.{CheckerState, Over, Leaves}
 use Rattle.stream_check.specs.Setting.{Setting}
+use Rattle.stream_check.specs.Standing.{is_among}
+use Rattle.stream_check.specs.StoppingLemmas.{drops_longer}
+use Rattle.stream_jobs.specs.Judged.{ending_with}
 
 pub leaves_append : (c : Setting) (one two three : CheckerState) (xs ys : List ℕ) (front back : List History)
     → LeavesOn c one xs front two → LeavesOn c two ys back three → LeavesOn c one (xs ++ ys) (front ++ back) three
@@ -28,10 +31,14 @@ over_takes : OverStays
     → v.ending ≡ Some ending → LeavesOn c old used blocks (checker_state v free)
     → LeavesOn c old (used ++ rest) blocks (checker_state v free)
 over_takes stays c old used rest blocks v free ending is leaves bytes before left =
-    let over : checker_state v free ≡ Over (report_of_tally v.tally ending) = ap (state_by v free) is in
+    let report = report_of_tally v.tally ending in
+    let gone : ℕ → Bool = is_among v.dropped in
+    let over : checker_state v free ≡ Over report gone = ap (state_by v free) is in
     let taken = subst (Leaves c (bytes ++ used) (before ++ blocks)) over (leaves bytes before left) in
-    let all = subst (λ (t : List ℕ). Leaves c t (before ++ blocks) (Over (report_of_tally v.tally ending))) (append_assoc bytes used rest)
-    (stays c (bytes ++ used) rest (before ++ blocks) (report_of_tally v.tally ending) taken) in
+    let all = subst (λ (t : List ℕ). Leaves c t (before ++ blocks) (Over report gone)) (append_assoc bytes used rest) (
+      stays c (bytes ++ used) rest (before ++ blocks) report taken.0,
+      drops_longer c (bytes ++ used) rest report gone taken.1,
+    ) in
     subst (Leaves c (bytes ++ (used ++ rest)) (before ++ blocks)) (sym over) all
 
 -- a call that ends no line has come to the piece's end, or to the checker's
@@ -87,11 +94,16 @@ closes end v u report reports told bytes blocks free leaves =
     subst (λ (e : Option Ending). IfSome e (λ ending. report ≡ report_of_tally u.tally ending)) judged.1 told in
     subst (JudgesBlocks v.setting bytes end blocks) (sym same) judged.2
 
--- where it was over before, its ending stays
-pub stays_over : (end : StreamEnd) (v u : CheckerValue) (report : Report) → Ends end v u
+-- it is of the counts before the end, and where it was over before, its ending stays
+says_by : (o : Option Ending) (end : StreamEnd) (v u : CheckerValue) → v.ending ≡ o → EndsBy o end v u
+    → (u.ending ≡ Some (ending_with o end v)) × (u.tally ≡ v.tally)
+says_by None end v u is ends = (ends.2, ends.1)
+says_by (Some ending) end v u is ends = (ap (λ (w : CheckerValue). w.ending) ends ∙ is, ap (λ (w : CheckerValue). w.tally) ends)
+
+pub says_with : (end : StreamEnd) (v u : CheckerValue) (report : Report) → Ends end v u
     → IfSome u.ending (λ ending. report ≡ report_of_tally u.tally ending)
-    → (ending : Ending) → v.ending ≡ Some ending → report.ending ≡ ending
-stays_over end v u report ends told ending is =
-    let same : u ≡ v = subst (λ (o : Option Ending). EndsBy o end v u) is ends in
-    let at : u.ending ≡ Some ending = ap (λ (w : CheckerValue). w.ending) same ∙ is in
-    ap (λ (r : Report). r.ending) (subst (λ (o : Option Ending). IfSome o (λ its. report ≡ report_of_tally u.tally its)) at told)
+    → report ≡ report_of_tally v.tally (ending_with v.ending end v)
+says_with end v u report ends told =
+    let by = says_by v.ending end v u refl ends in
+    subst (λ (o : Option Ending). IfSome o (λ its. report ≡ report_of_tally u.tally its)) by.0 told
+    ∙ ap (λ (t : Tally). report_of_tally t (ending_with v.ending end v)) by.1

@@ -1,17 +1,22 @@
 -- How the bytes that a checking thread received are judged.
-use Rattle.std.specs.Prelude.{◌≡◌, ℕ, List, [], Some}
+use Rattle.std.specs.Prelude.{◌≡◌, ℕ, List, [], Option, None, Some}
 use Rattle.lrup_model.specs.Event.{History}
 use Rattle.lrup_text.specs.declared.device.StreamEnd.{StreamEnd}
 use Rattle.stream_check.specs.declared.report.Ending.{Ending}
 use Rattle.stream_check.specs.declared.report.Report.{Report}
 use Rattle.stream_check.specs.Checker.{checker_state, LeavesOn}
-use Rattle.stream_check.specs.CheckerValue.{CheckerValue}
-use Rattle.stream_check.specs.Judging.{JudgesBlocks}
+use Rattle.stream_check.specs.CheckerValue.{report_of_tally, CheckerValue}
+use Rattle.stream_check.specs.Judging.{ending_at, JudgesBlocks}
 use Rattle.stream_check.specs.Leaving.{Leaves}
 use Rattle.stream_ring.specs.Items.{EndsAtMark}
 
+-- the ending of a checker that takes this end: one that was over keeps its own
+abbrev pub ending_with : Option Ending → StreamEnd → CheckerValue → Ending
+ending_with None end checker = ending_at end checker.pending checker.line
+ending_with (Some ending) end checker = ending
+
 -- The bytes, whose lines have these blocks of events, bring a checker, which had this room, to one that has dropped these
--- identities; and where that one is over, the report has its ending. Where a line was bad, nothing is said of the identities.
+-- identities, and the report is what that one says at some end of the stream.
 pub record DropsBy (checker : CheckerValue) (room : ℕ) (bytes : List ℕ) (blocks : List History)
     (ids : List ℕ) (report : Report) : Type 0 where
   pub last : CheckerValue
@@ -19,7 +24,8 @@ pub record DropsBy (checker : CheckerValue) (room : ℕ) (bytes : List ℕ) (blo
   pub left : LeavesOn checker.setting (checker_state checker room) bytes blocks
       (checker_state last free)
   pub are : ids ≡ last.dropped
-  pub over : (ending : Ending) → last.ending ≡ Some ending → report.ending ≡ ending
+  pub end : StreamEnd
+  pub reports : report ≡ report_of_tally last.tally (ending_with last.ending end last)
 
 -- The items received end at a mark; and the bytes before it, with the end that the mark tells and these blocks of events, are
 -- judged so, where no byte had been taken when the checker had this room. The lines drop these identities.

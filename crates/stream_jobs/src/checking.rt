@@ -1,13 +1,13 @@
 //! The job of the thread that checks a stream.
-ghost use Rattle.std.specs.Prelude.{◌≡◌, ◌<◌, ◌≤◌, ℕ, List, [], Some, false, length, vec_len, IfOk, IfErr, IfSome, IsSome};
+ghost use Rattle.std.specs.Prelude.{◌≡◌, ◌<◌, ◌≤◌, ℕ, List, [], false, length, vec_len, IfOk, IfErr, IfSome, IsSome};
 ghost use Rattle.lrup_model.specs.Event.{History};
 ghost use Rattle.lrup_model.specs.Layout.{IsStream};
 ghost use Rattle.rtrb.specs.Ring.{received, SameConsumer};
-ghost use Rattle.stream_check.specs.declared.report.Ending.{Ending};
 ghost use Rattle.stream_check.specs.Checker.{IsNew, IsReadyAt, LeavesOn, checker_state};
+ghost use Rattle.stream_check.specs.CheckerValue.{report_of_tally};
 ghost use Rattle.stream_check.specs.Judging.{joined, JudgesBlocks};
 ghost use Rattle.stream_check.specs.Leaving.{Leaves};
-ghost use Rattle.stream_jobs.specs.Judged.{JudgesAtMark};
+ghost use Rattle.stream_jobs.specs.Judged.{JudgesAtMark, ending_with};
 ghost use Rattle.stream_ring.specs.Items.{EndsAtMark};
 
 use crate::start::wait_for_start;
@@ -155,7 +155,8 @@ fn finish_and_notify_gate<G: Gate>(checker: &mut Checker, gate: &mut G, end: Str
         → JudgesBlocks checker.old.setting bytes end blocks result }
     ensures dropped { checker.new.dropped ≡ checker.old.dropped }
     // One that was over keeps its ending.
-    ensures over { (ending : Ending) → checker.old.ending ≡ Some ending → result.ending ≡ ending }
+    ensures reports { result ≡ report_of_tally checker.old.tally
+        (ending_with checker.old.ending end checker.old) }
 {
     let was_over = checker.is_over();
     let report = finish_checker(checker, end);
@@ -172,7 +173,8 @@ fn finish_checker(checker: &mut Checker, end: StreamEnd) -> Report
         → JudgesBlocks checker.old.setting bytes end blocks result }
     ensures dropped { checker.new.dropped ≡ checker.old.dropped }
     // One that was over keeps its ending.
-    ensures over { (ending : Ending) → checker.old.ending ≡ Some ending → result.ending ≡ ending }
+    ensures reports { result ≡ report_of_tally checker.old.tally
+        (ending_with checker.old.ending end checker.old) }
 {
     match end {
         StreamEnd::Ended => checker.end(),

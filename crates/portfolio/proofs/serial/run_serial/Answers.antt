@@ -41,7 +41,7 @@ returns-clause-ordered g c =
     let view = source_view g.R.Source.left g.R.Source.has_failed g.R.Source.reads in
     let wanted = terms_of c.args.options c.args.cube.now c.args.formula.now (length c.args.readers.items) in
     IfOk-weaker c.check.result _ _
-    (λ outcome ran. run_ordered view c.early_is_decided.ensures _ wanted _ _ _ c.in_ok-map.ensures.runs _ _ _ _ ran) c.check.ensures.ran
+    (λ outcome ran. run_ordered view _ wanted _ _ _ c.in_ok-map.ensures.runs _ _ _ _ ran) c.check.ensures.ran
 
 -- the law's premise is the layout of the formula and the readers
 pub returns-clause-isolated : goal.returns-clause-isolated

@@ -36,7 +36,7 @@ pub returns-clause-first : goal.returns-clause-first
 returns-clause-first g c = λ stream e.
     let view = source_view g.R.Source.left g.R.Source.has_failed g.R.Source.reads in
     let wanted = terms_of c.args.options c.args.cube.now c.args.formula.now (length c.args.readers.items) in
-    run_before view {terms = wanted} c.in_ok-store.ensures.begun c.early_is_decided.ensures (stream - 1) (c.check.ensures.first stream e)
+    run_before view {terms = wanted} c.in_ok-store.ensures.begun (stream - 1) (c.check.ensures.first stream e)
 
 pub returns-clause-history : goal.returns-clause-history
 returns-clause-history g c =
@@ -50,7 +50,7 @@ returns-clause-reports g c =
     let view = source_view g.R.Source.left g.R.Source.has_failed g.R.Source.reads in
     let wanted = terms_of c.args.options c.args.cube.now c.args.formula.now (length c.args.readers.items) in
     IfOk-weaker c.check.result _ _
-    (λ outcome found. run_reports view {terms = wanted} c.in_ok-store.ensures.begun c.early_is_decided.ensures _ _ _ _ found)
+    (λ outcome found. run_reports view {terms = wanted} c.in_ok-store.ensures.begun _ _ _ _ found)
     c.check.ensures.found
 
 pub returns-clause-isolated : goal.returns-clause-isolated
@@ -58,8 +58,7 @@ returns-clause-isolated g c =
     let view = source_view g.R.Source.left g.R.Source.has_failed g.R.Source.reads in
     let wanted = terms_of c.args.options c.args.cube.now c.args.formula.now (length c.args.readers.items) in
     IfOk-weaker c.check.result _ _
-    (λ outcome found. run_isolated view {terms = wanted} c.in_ok-store.ensures.begun c.early_is_decided.ensures
-    c.run_isolated.ensures _ _ _ _ found)
+    (λ outcome found. run_isolated view {terms = wanted} c.in_ok-store.ensures.begun c.run_isolated.ensures _ _ _ _ found)
     c.check.ensures.found
 
 pub returns-clause-alone : goal.returns-clause-alone
@@ -72,8 +71,7 @@ returns-clause-serializable g c =
     let view = source_view g.R.Source.left g.R.Source.has_failed g.R.Source.reads in
     let wanted = terms_of c.args.options c.args.cube.now c.args.formula.now (length c.args.readers.items) in
     IfOk-weaker c.check.result _ _
-    (λ outcome found. run_serializable view {terms = wanted} c.in_ok-store.ensures.begun c.early_is_decided.ensures
-    c.run_serializable.ensures _ _ _ _ found)
+    (λ outcome found. run_serializable view {terms = wanted} c.in_ok-store.ensures.begun c.run_serializable.ensures _ _ _ _ found)
     c.check.ensures.found
 
 pub returns-clause-dropped : goal.returns-clause-dropped
@@ -97,7 +95,7 @@ returns-clause-sound g c =
     let wanted = terms_of c.args.options c.args.cube.now c.args.formula.now (length c.args.readers.items) in
     let begun = c.in_ok-store.ensures.begun in
     if_both c.check.result c.check.ensures.found c.check.ensures.verdict (λ outcome found verdict.
-    let reports = run_reports view {terms = wanted} begun c.early_is_decided.ensures _ _ _ _ found in
+    let reports = run_reports view {terms = wanted} begun _ _ _ _ found in
     sound_run _ wanted _ reports.streams _ _ (run_history view {terms = wanted} begun _ _ _ _ found).legal reports.judged.1 verdict)
 
 pub returns-clause-sound_under : goal.returns-clause-sound_under
@@ -106,5 +104,5 @@ returns-clause-sound_under g c =
     let wanted = terms_of c.args.options c.args.cube.now c.args.formula.now (length c.args.readers.items) in
     let begun = c.in_ok-store.ensures.begun in
     if_both c.check.result c.check.ensures.found c.check.ensures.verdict (λ outcome found verdict.
-    let reports = run_reports view {terms = wanted} begun c.early_is_decided.ensures _ _ _ _ found in
+    let reports = run_reports view {terms = wanted} begun _ _ _ _ found in
     sound_under_run _ wanted _ reports.streams _ _ (run_history view {terms = wanted} begun _ _ _ _ found).legal reports.judged.1 verdict)

@@ -10,5 +10,5 @@ returns-in-Outside-clause-deletes g c =
     let h = c.args.state.now in
     let outside = subst
     (λ (side : Side). DeletesSide side h.setting c.args.id h.dropped.ids h.dropped.ids [] (Err (stops.Bad (faults.NotLive c.args.id))))
-    (sym c.in-Outside.ensures) (refl, refl) in
+    (sym c.in-Outside.ensures) (refl, refl, refl) in
     ([], g.met.M.ClauseMap.moves_none c.args.map.now, tt, outside)

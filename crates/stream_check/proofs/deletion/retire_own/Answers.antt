@@ -23,7 +23,7 @@ returns-in-Done-clause-count g c =
 pub returns-in-NotLive-clause-deletes : goal.returns-in-NotLive-clause-deletes
 returns-in-NotLive-clause-deletes g c =
     let es : History = retire (g.M.ClauseMap.place c.args.map.now).caller.stream c.args.id retiring.NotLive ∷ [] in
-    (es, c.in-NotLive.ensures.event, (tt, tt), (ap (λ s. retire s c.args.id retiring.NotLive ∷ []) c.requires.at.stream, refl))
+    (es, c.in-NotLive.ensures.event, (tt, tt), (ap (λ s. retire s c.args.id retiring.NotLive ∷ []) c.requires.at.stream, refl, refl))
 
 pub returns-in-NotLive-clause-count : goal.returns-in-NotLive-clause-count
 returns-in-NotLive-clause-count g c = omega arith

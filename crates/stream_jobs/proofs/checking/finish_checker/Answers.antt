@@ -3,7 +3,7 @@ use Rattle.lrup_text.specs.declared.device.StreamEnd.{StreamEnd}
 use Rattle.lrup_text.specs.declared.device.StreamEnd.TheVariants as stream_ends
 use Rattle.stream_check.specs.Checker.{Ends, ReportsEnd}
 use Rattle.stream_check.specs.CheckerValue.{CheckerValue}
-use Rattle.stream_jobs.proofs.JudgingLemmas.{closes, ends_dropped, stays_over}
+use Rattle.stream_jobs.proofs.JudgingLemmas.{closes, ends_dropped, says_with}
 use Rattle.stream_jobs.proofs.checking.finish_checker.Goals as goal
 use Rattle.stream_jobs.proofs.checking.finish_checker.Goals.{in-Ended, in-Failed}
 
@@ -26,8 +26,8 @@ returns-clause-dropped c = elim c.match-end.branch [
       ∙ ends_dropped stream_ends.Failed c.args.checker.now w.read_failed.new.self w.read_failed.ensures.ends
 ]
 
-pub returns-clause-over : goal.returns-clause-over
-returns-clause-over c =
+pub returns-clause-reports : goal.returns-clause-reports
+returns-clause-reports c =
     let old = c.args.checker.now in
     let ends : Ends c.args.end old c.match-end.checker = elim c.match-end.branch [
       | in-Ended w ↦ subst (λ (e : StreamEnd). Ends e old c.match-end.checker) (sym w.in-Ended.is)
@@ -35,4 +35,4 @@ returns-clause-over c =
       | in-Failed w ↦ subst (λ (e : StreamEnd). Ends e old c.match-end.checker) (sym w.in-Failed.is)
           (subst (Ends stream_ends.Failed old) (sym w.checker-is) w.read_failed.ensures.ends)
     ] in
-    stays_over c.args.end old c.match-end.checker c.report.result ends c.report.ensures
+    says_with c.args.end old c.match-end.checker c.report.result ends c.report.ensures

@@ -23,7 +23,8 @@ returns-clause-judged g c =
           free = free;
           left = took.4;
           are = c.finish_and_notify_gate.ensures.dropped;
-          over = c.finish_and_notify_gate.ensures.over;
+          end = end;
+          reports = c.finish_and_notify_gate.ensures.reports;
         };
         judged = λ fresh. subst (λ (d : Setting). JudgesBlocks d took.0 end took.1 c.finish_and_notify_gate.result) setting
             (c.finish_and_notify_gate.ensures.judges took.0 took.1 free

@@ -9,6 +9,7 @@ use Rattle.stream_check.specs.declared.fault.Fault.TheVariants as faults
 use Rattle.stream_check.specs.declared.report.Ending.{Ending}
 use Rattle.stream_check.specs.declared.report.Ending.TheVariants as endings
 use Rattle.stream_check.specs.Leaving.{Going, Over}
+use Rattle.stream_check.specs.Standing.{is_among}
 use Rattle.stream_check.specs.CheckerValue.{report_of_tally, CheckerValue}
 use Rattle.stream_check.specs.Checker.{read_of, value_of, checker_state, tally_at, LeavesOn}
 use Rattle.stream_check.specs.Taking.{hold, ending_of}
@@ -141,18 +142,19 @@ returns-in-Err-clause-left g c =
     (c.self.invariant.reads none) (subst (λ (t : ReaderTurn). Feeds r piece used t) c.in-Line.is c.feed-fed.ensures.gives) in
     let taken = c.in-Err.ensures.taken in
     let stopped : LeavesOn h.setting (Going (hold h read p.room)) (take used piece) (taken.0 ∷ [])
-    (Over (report_of_tally (tally_at n) c.ending.result)) =
+    (Over (report_of_tally (tally_at n) c.ending.result) (is_among n.dropped.ids)) =
     subst (λ (e : Ending). LeavesOn h.setting (Going (hold h read p.room)) (take used piece) (taken.0 ∷ [])
-    (Over (report_of_tally (tally_at n) e))) (sym (c.ending.ensures ∙ ap (λ (k : ℕ). ending_of k c.in-Err.stop) c.line.ensures))
+    (Over (report_of_tally (tally_at n) e) (is_among n.dropped.ids)))
+    (sym (c.ending.ensures ∙ ap (λ (k : ℕ). ending_of k c.in-Err.stop) c.line.ensures))
     (leaves_stopped h n p.room q.room read (take used piece) (line_of line) taken.0 c.in-Err.stop gives.2 taken.2) in
     let left = feeds_over h read (take used piece) (taken.0 ∷ []) p.room c.self.inside.ending
-    (report_of_tally (tally_at n) c.ending.result) none stopped in
+    (report_of_tally (tally_at n) c.ending.result) (is_among n.dropped.ids) none stopped in
     rw c.tell.ensures (
       taken.0 ∷ [],
       subst (g.M.ClauseMap.moves c.args.map.now c.take_line.new.map) (sym (append-nil taken.0)) taken.1,
       omega arith,
       subst (λ (v : CheckerValue). LeavesOn v.setting (checker_state v p.room) (take used piece) (taken.0 ∷ [])
-          (Over (report_of_tally (tally_at n) c.ending.result))) c.self.view_is left,
+          (Over (report_of_tally (tally_at n) c.ending.result) (is_among n.dropped.ids))) c.self.view_is left,
     )
 
 pub returns-in-Err-clause-turn : goal.returns-in-Err-clause-turn
@@ -181,15 +183,16 @@ returns-in-Fault-clause-left g c =
     let none = none_of c.self.inside.ending (sym c.is_some.ensures ∙ c.if-is_some.false) in
     let gives : Feeds (Ok read) piece used (turns.Fault fault) = subst (λ (s : ReaderState). Feeds s piece used (turns.Fault fault))
     (c.self.invariant.reads none) (subst (λ (t : ReaderTurn). Feeds r piece used t) c.in-Fault.is c.feed-fed.ensures.gives) in
-    let left = feeds_over h read (take used piece) [] p.room c.self.inside.ending report none
+    let left = feeds_over h read (take used piece) [] p.room c.self.inside.ending report (is_among h.dropped.ids) none
     (subst (λ (n : ℕ). LeavesOn h.setting (Going (hold h read p.room)) (take used piece) []
-    (Over (report_of_tally (tally_at h) (endings.Bad n (faults.Text fault))))) (sym c.line-in-Fault.ensures)
+    (Over (report_of_tally (tally_at h) (endings.Bad n (faults.Text fault))) (is_among h.dropped.ids))) (sym c.line-in-Fault.ensures)
     (leaves_refused h p.room read (take used piece) fault gives.2)) in
     rw c.tell-in-Fault.ensures (
       [],
       g.met.M.ClauseMap.moves_none c.args.map.now,
       omega arith,
-      subst (λ (v : CheckerValue). LeavesOn v.setting (checker_state v p.room) (take used piece) [] (Over report)) c.self.view_is left,
+      subst (λ (v : CheckerValue). LeavesOn v.setting (checker_state v p.room) (take used piece) []
+          (Over report (is_among h.dropped.ids))) c.self.view_is left,
     )
 
 pub returns-in-Fault-clause-turn : goal.returns-in-Fault-clause-turn

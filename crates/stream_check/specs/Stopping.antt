@@ -1,0 +1,45 @@
+-- What a stream dropped that a line of it stopped (this project's own).
+use Rattle.std.specs.Prelude.{◌≡◌, ◌⊎◌, ◌+◌, ◌++◌, ◌||◌, ◌&&◌, ℕ, Bool, List, [], length}
+use Rattle.std.specs.List.{AllByRecursion, flat_map, sum_by}
+use Rattle.lrup_text.specs.Lines.{StreamLine, IsWithinLimits, line_text}
+use Rattle.stream_check.specs.declared.report.Ending.{Ending}
+use Rattle.stream_check.specs.declared.report.Ending.TheVariants as endings
+use Rattle.stream_check.specs.declared.report.Report.{Report}
+use Rattle.stream_check.specs.Setting.{Setting, side_of, is_shared}
+use Rattle.stream_check.specs.Standing.{standing_of, is_among, deleted_by, capped}
+
+-- the line of this number is bad, or memory ran out in it
+abbrev pub StopsAtLine : Ending → ℕ → Type 0
+StopsAtLine endings.Ended number = ⊥
+StopsAtLine (endings.Bad line fault) number = line ≡ number
+StopsAtLine (endings.ReadFailed line) number = ⊥
+StopsAtLine (endings.Memory line) number = line ≡ number
+
+-- of these identities those of the formula and of other streams were dropped, too
+abbrev pub DropsMore : Setting → (ℕ → Bool) → List ℕ → (ℕ → Bool) → Type 0
+DropsMore setting old ids new =
+    (id : ℕ) → new id ≡ (old id || is_shared (side_of setting id) && is_among ids id)
+
+-- They are none, or the first ones that a line deletes with which the bytes begin.
+abbrev pub AreDeletedFirst : List ℕ → List ℕ → Type 0
+AreDeletedFirst ids bytes =
+    (ids ≡ [])
+    ⊎ ((line : StreamLine) × IsWithinLimits line × (later more : List ℕ)
+    × (bytes ≡ line_text line ++ more) × (deleted_by line ≡ ids ++ later))
+
+-- What a stream dropped whose report says that a line is bad, or that memory ran out in it: of the identities that the lines before it
+-- delete, and of the first ones that it deletes itself, those of the formula and of other streams. The report tells both, up to
+-- 2^64 - 1: by its number how many lines are before it, and by its count how many of its own identities come before the one at which it
+-- stopped. Where no line begins there, or one that deletes nothing, these are none.
+pub record DropsUntilStop (setting : Setting) (bytes : List ℕ) (report : Report)
+    (gone : ℕ → Bool) : Type 0 where
+  pub lines : List StreamLine
+  pub rest : List ℕ
+  pub text : bytes ≡ flat_map line_text lines ++ rest
+  pub fits : AllByRecursion IsWithinLimits lines
+  pub number : StopsAtLine report.ending (capped (length lines + 1))
+  pub ids : List ℕ
+  pub are_first : AreDeletedFirst ids rest
+  pub count : report.deleted
+      ≡ capped (sum_by (λ line. length (deleted_by line)) lines + length ids)
+  pub drops : DropsMore setting (standing_of setting lines).gone ids gone

@@ -1,0 +1,37 @@
+-- Lemmas on what a stream dropped that a line of it stopped.
+use Rattle.std.proofs.Common.{◌≡◌, ◌||◌, ◌&&◌, ◌∙◌, ℕ, Bool, true, false, List, [], ◌++◌, inl, inr, refl, sym, ap, append_assoc}
+use Rattle.std.specs.List.{flat_map}
+use Rattle.lrup_text.specs.Lines.{line_text}
+use Rattle.stream_check.specs.declared.report.Report.{Report}
+use Rattle.stream_check.specs.Setting.{Setting, side_of, is_shared}
+use Rattle.stream_check.specs.Stopping.{AreDeletedFirst, DropsMore, DropsUntilStop}
+
+or_none : (before shared : Bool) → (before || shared && false) ≡ before
+or_none true shared = refl
+or_none false true = refl
+or_none false false = refl
+
+-- no identities drop nothing
+pub drops_none : (c : Setting) (gone : ℕ → Bool) → DropsMore c gone [] gone
+drops_none c gone id = sym (or_none (gone id) (is_shared (side_of c id)))
+
+first_longer : (ids bytes more : List ℕ) → AreDeletedFirst ids bytes
+    → AreDeletedFirst ids (bytes ++ more)
+first_longer ids bytes more (inl none) = inl none
+first_longer ids bytes more (inr (line, fits, later, rest, text, deletes)) =
+    inr (line, fits, later, rest ++ more, ap (λ (b : List ℕ). b ++ more) text ∙ append_assoc (line_text line) rest more, deletes)
+
+-- whatever follows
+pub drops_longer : (c : Setting) (bytes more : List ℕ) (report : Report) (gone : ℕ → Bool)
+    → DropsUntilStop c bytes report gone → DropsUntilStop c (bytes ++ more) report gone
+drops_longer c bytes more report gone d = record {
+  lines = d.lines;
+  rest = d.rest ++ more;
+  text = ap (λ (b : List ℕ). b ++ more) d.text ∙ append_assoc (flat_map line_text d.lines) d.rest more;
+  fits = d.fits;
+  number = d.number;
+  ids = d.ids;
+  are_first = first_longer d.ids d.rest more d.are_first;
+  count = d.count;
+  drops = d.drops;
+}
