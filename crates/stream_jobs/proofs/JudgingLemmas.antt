@@ -1,6 +1,6 @@
 -- What a checker took, piece by piece, and what both ends know together.
-use Rattle.std.proofs.Common.{◌≡◌, ◌++◌, ◌∙◌, ◌⊎◌, inl, inr, ℕ, Bool, true, false, List, [], Option, Some, None, IsSome, IfSome, refl, sym}
-use Rattle.std.proofs.Common.{ap, subst, append_assoc, append-nil}
+use Rattle.std.proofs.Common.{◌≡◌, ◌++◌, ◌∙◌, ◌⊎◌, inl, inr, ℕ, Bool, true, false, List, [], ◌∷◌, Option, Some, None, IsSome, IfSome}
+use Rattle.std.proofs.Common.{refl, sym, ap, subst, append_assoc, append-nil}
 use Rattle.lrup_model.specs.Event.{History}
 use Rattle.lrup_text.specs.declared.device.StreamEnd.{StreamEnd}
 use Rattle.lrup_text.specs.declared.device.StreamEnd.TheVariants as stream_ends
@@ -14,6 +14,7 @@ use Rattle.stream_check.specs.Judging.{JudgesBlocks}
 use Rattle.stream_check.specs.Laws.{OverStays}
 use Rattle.stream_check.specs.Leaving.{CheckerState, Over, Leaves}
 use Rattle.stream_check.specs.Setting.{Setting}
+use Rattle.stream_ring.specs.Items.{EndsBeforeMark}
 
 pub leaves_append : (c : Setting) (one two three : CheckerState) (xs ys : List ℕ) (front back : List History)
     → LeavesOn c one xs front two → LeavesOn c two ys back three → LeavesOn c one (xs ++ ys) (front ++ back) three
@@ -95,3 +96,8 @@ stays_over end v u report ends told ending is =
     let same : u ≡ v = subst (λ (o : Option Ending). EndsBy o end v u) is ends in
     let at : u.ending ≡ Some ending = ap (λ (w : CheckerValue). w.ending) same ∙ is in
     ap (λ (r : Report). r.ending) (subst (λ (o : Option Ending). IfSome o (λ its. report ≡ report_of_tally u.tally its)) at told)
+
+-- where nothing was received, there was no mark
+pub none_before : EndsBeforeMark []
+none_before [] item e = cc
+none_before (x ∷ taken) item e = cc
