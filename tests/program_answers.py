@@ -7,13 +7,15 @@ what is wanted.
 It shows what is off; the last line is 'N passed, M failed', and the status is 1 where a row failed.
 """
 import re
+import socket
+import subprocess
 import sys
 from pathlib import Path
 from typing import Dict, Iterator, List, Tuple
 
 sys.dont_write_bytecode = True
-from harness import (FOUR, ROOT, Failure, Pieces, Row, Wanted, answered, answers, example, report, run_all, want,
-                     with_memory, words_given)
+from harness import (FOUR, ROOT, Failure, Pieces, Row, Wanted, Words, answered, answers, example, report, run_all, started, want,
+                     with_memory, words_given, written)
 
 sys.path.append(str(ROOT / "gate"))
 import tables
@@ -25,6 +27,9 @@ FILES = {"formula": FOUR, "one": ONE, "two": TWO}
 FOUR_SOLVERS = [f"bmc-four.{number}" for number in range(1, 5)]
 ASSUMED = [example("assumed.cnf"), example("assumed.lrup")]
 CUBE = example("assumed.cube")
+# What is watched, and how many lines are told: the end of each stream in each round, and each round's beginning but the first's.
+TOLD = [(["--watch", *options, "formula", *["one"] * count], count) for options in ([], ["--serial"]) for count in (1, 5)]
+TOLD += [(["--watch", *options, "--rounds", "d", "formula", "d/round-1.stream-1"], 3) for options in ([], ["--serial"])]
 ADDED = "1 added, 0 deleted, ended"
 BOTH_ADDED = "2 added, 0 deleted, ended"
 
@@ -342,6 +347,17 @@ def many_watched(program: str, work: Path) -> None:
     want((out, sorted(err.splitlines()), status), (plain.out, sorted(told), 3), "the answer")
 
 
+def told_by_lines(program: str, words: Words, lines: int, work: Path) -> None:
+    """Each of so many lines of --watch goes out by one write: a socket of packets keeps writes apart."""
+    for name, text in {**FILES, "d/round-1.stream-1": ONE, "d/round-2.stream-1": "6 0 5 3 4 0\n"}.items():
+        written(text, work, name)
+    reader, writer = socket.socketpair(socket.AF_UNIX, socket.SOCK_SEQPACKET)
+    with reader, started([program, *words], cwd=work, stdout=subprocess.DEVNULL, stderr=writer):
+        writer.close()
+        packets = [*iter(lambda: reader.recv(65536), b"")]
+    want((len(packets), [packet for packet in packets if packet.find(b"\n") != len(packet) - 1]), (lines, []), "the writes")
+
+
 def rows(program: str) -> Iterator[Row]:
     for table in (examples, one_stream, faults, several_streams, pipes, paths, refused_formulas, refused_files, version,
                   assumptions, refused_assumptions, watched, large, little_memory, full_outputs):
@@ -353,6 +369,8 @@ def rows(program: str) -> Iterator[Row]:
         yield name, usage, program, words
     yield "the words of help", help_told, program
     yield "64 streams, watched", many_watched, program
+    for words, lines in TOLD:
+        yield f"a write for each line of {' '.join(words)}", told_by_lines, program, words, lines
 
 
 def main() -> int:

@@ -1,6 +1,6 @@
 -- What a checker took, piece by piece, and what both ends know together.
-use Rattle.std.proofs.Common.{◌≡◌, ◌++◌, ◌∙◌, ◌⊎◌, inl, inr, ℕ, Bool, true, false, List, [], Option, Some, None, IsSome, IfSome, refl, sym}
-use Rattle.std.proofs.Common.{ap, subst, append_assoc, append-nil}
+use Rattle.std.proofs.Common.{◌≡◌, ◌++◌, ◌∙◌, ◌⊎◌, inl, inr, ℕ, Bool, true, false, List, [], ◌∷◌, Option, Some, None, IsSome, IfSome}
+use Rattle.std.proofs.Common.{refl, sym, ap, subst, append_assoc, append-nil}
 use Rattle.lrup_model.specs.Event.{History}
 use Rattle.lrup_text.specs.declared.device.StreamEnd.{StreamEnd}
 use Rattle.lrup_text.specs.declared.device.StreamEnd.TheVariants as stream_ends
@@ -17,6 +17,7 @@ use Rattle.stream_check.specs.Setting.{Setting}
 use Rattle.stream_check.specs.Standing.{is_among}
 use Rattle.stream_check.specs.StoppingLemmas.{drops_longer}
 use Rattle.stream_jobs.specs.Judged.{ending_with}
+use Rattle.stream_ring.specs.Items.{EndsBeforeMark}
 
 pub leaves_append : (c : Setting) (one two three : CheckerState) (xs ys : List ℕ) (front back : List History)
     → LeavesOn c one xs front two → LeavesOn c two ys back three → LeavesOn c one (xs ++ ys) (front ++ back) three
@@ -107,3 +108,8 @@ says_with end v u report ends told =
     let by = says_by v.ending end v u refl ends in
     subst (λ (o : Option Ending). IfSome o (λ its. report ≡ report_of_tally u.tally its)) by.0 told
     ∙ ap (λ (t : Tally). report_of_tally t (ending_with v.ending end v)) by.1
+
+-- where nothing was received, there was no mark
+pub none_before : EndsBeforeMark []
+none_before [] item e = cc
+none_before (x ∷ taken) item e = cc

@@ -1,5 +1,5 @@
 //! The job of the thread that checks a stream.
-ghost use Rattle.std.specs.Prelude.{◌≡◌, ◌<◌, ◌≤◌, ℕ, List, [], false, length, vec_len, IfOk, IfErr, IfSome, IsSome};
+ghost use Rattle.std.specs.Prelude.{◌≡◌, ◌<◌, ◌≤◌, ℕ, List, [], Some, false, length, vec_len, IfOk, IfErr, IfNone, IfSome, IsSome};
 ghost use Rattle.lrup_model.specs.Event.{History};
 ghost use Rattle.lrup_model.specs.Layout.{IsStream};
 ghost use Rattle.rtrb.specs.Ring.{received, SameConsumer};
@@ -8,7 +8,7 @@ ghost use Rattle.stream_check.specs.CheckerValue.{report_of_tally};
 ghost use Rattle.stream_check.specs.Judging.{joined, JudgesBlocks};
 ghost use Rattle.stream_check.specs.Leaving.{Leaves};
 ghost use Rattle.stream_jobs.specs.Judged.{JudgesAtMark, ending_with};
-ghost use Rattle.stream_ring.specs.Items.{EndsAtMark};
+ghost use Rattle.stream_ring.specs.Items.{EndsAtMark, EndsBeforeMark};
 
 use crate::start::wait_for_start;
 use lrup_model::ClauseMap;
@@ -96,6 +96,8 @@ pub fn check_when_told<'a, W: Wait, G: Gate + Drop, M: ClauseMap>(
         (blocks : List History) × M.moves map.old map.new (joined blocks)
         × JudgesAtMark job.checker (M.place map.old).room (received checked.consumer)
         blocks checked.dropped.ids report)) }
+    ensures no_mark { IfOk result (λ checked.
+        IfNone checked.report (EndsBeforeMark (received checked.consumer))) }
 {
     let token = wait_for_start(wait, signal);
     if !*signal.value(&token) {
@@ -143,6 +145,7 @@ fn judge<W: Wait, G: Gate, M: ClauseMap>(
         (blocks : List History) × M.moves map.old map.new (joined blocks)
         × JudgesAtMark checker.old (M.place map.old).room (received receiver.new.consumer)
         blocks checker.new.dropped report) }
+    ensures no_mark { IfNone result (EndsBeforeMark (received receiver.new.consumer)) }
 {
     let end = check_received(wait, checker, gate, receiver, items, bytes, map)?;
     Some(finish_and_notify_gate(checker, gate, end))
@@ -205,6 +208,7 @@ fn check_received<W: Wait, G: Gate, M: ClauseMap>(
         × M.moves map.old map.new (joined blocks)
         × EndsAtMark fed end (received receiver.new.consumer)
         × LeavesOn checker.old.setting old fed blocks new) }
+    ensures no_mark { IfNone result (EndsBeforeMark (received receiver.new.consumer)) }
 {
     for _ in wait.forever() {
         match receiver.receive(wait, items, bytes) {

@@ -1,5 +1,5 @@
 //! The two jobs of a stream before their threads start, and what came of them after both have ended.
-ghost use Rattle.std.specs.Prelude.{◌≡◌, ℕ, List, [], false, IfOk, IsSome};
+ghost use Rattle.std.specs.Prelude.{◌≡◌, ◌++◌, ℕ, List, [], false, IfOk, IsSome};
 ghost use Rattle.lrup_model.specs.Event.{History};
 ghost use Rattle.lrup_model.specs.Layout.{IsStream};
 ghost use Rattle.lrup_text.specs.ReadOut.{source_view};
@@ -48,13 +48,21 @@ pub fn jobs<R: Source + Drop, G: Gate + Drop>(
     Ok((reading, checking))
 }
 
-/// What both threads gave back, in one thread again: the stream that was judged is what its reader told and its reads gave, to its
-/// end or to the read that failed.
+/// What both threads gave back, in one thread again: what was received is the beginning of what was sent; and the stream that was
+/// judged is what its reader told and its reads gave, to its end or to the read that failed.
 pub fn meet<R: Source + Drop>(sent: &mut Sent<R>, checked: &mut Checked)
     requires { IsPair sent.old.producer checked.old.consumer }
     ensures reader { sent.new.reader ≡ sent.old.reader }
     ensures report { checked.new.report ≡ checked.old.report }
     ensures dropped { checked.new.dropped ≡ checked.old.dropped }
+    ensures beginning { (left : List ℕ)
+        × (Rattle.rtrb.specs.Ring.sent sent.old.producer
+        ≡ received checked.old.consumer ++ left) }
+    ensures read { (first : R)
+        → SendsAll _ (source_view R.left R.has_failed R.reads) first sent.old.reader
+        (Rattle.rtrb.specs.Ring.sent sent.old.producer)
+        → (stream : Stream) × IsSome stream.end
+        × IsStreamOf (source_view R.left R.has_failed R.reads) first sent.old.reader stream }
     ensures judged { (first : R) (v : CheckerValue) (room : ℕ)
         (blocks : List History) (ids : List ℕ) (report : Report)
         → SendsAll _ (source_view R.left R.has_failed R.reads) first sent.old.reader

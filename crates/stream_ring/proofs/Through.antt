@@ -7,7 +7,7 @@ use Rattle.std.proofs.Math.Seq.{take-suc, take-append_seam}
 use Rattle.std.proofs.lemmas.List.{map-append, length-map, length-take-le, length-append}
 use Rattle.lrup_text.specs.declared.device.StreamEnd.{StreamEnd}
 use Rattle.lrup_text.specs.declared.device.StreamEnd.TheVariants as stream_ends
-use Rattle.stream_ring.specs.Items.{EndsAtMark, IsSentOf, mark_of, end_told, byte_of}
+use Rattle.stream_ring.specs.Items.{EndsAtMark, EndsBeforeMark, IsSentOf, mark_of, end_told, byte_of}
 
 head_below : (x : ℕ) (xs : List ℕ) → All (λ b. b < 256) (x ∷ xs) → x < 256
 head_below x xs h = h 0 0 (omega arith)
@@ -43,22 +43,43 @@ same_mark (x ∷ taken) (y ∷ bytes) rest mark m b p q e =
     let l : byte_of x ≡ y = byte_stays x h ∙ s.0 in
     (cc (l, t.0), t.1)
 
+-- the items popped, and the last of them apart
+pub front_and_last : (past items : List ℕ) (n : ℕ) → 0 < n → n ≤ length items
+    → past ++ take n items ≡ (past ++ take (n - 1) items) ++ get_or items (n - 1) 0 ∷ []
+front_and_last past items n some fits =
+    let i : suc (n - 1) ≡ n = omega (arith, some) in
+    let below : n - 1 < length items = omega (arith, some, fits) in
+    let e : take n items ≡ take (n - 1) items ++ get_or items (n - 1) 0 ∷ [] = ap (λ k. take k items) (sym i)
+    ∙ take-suc items (n - 1) 0 below in
+    ap (λ u. past ++ u) e ∙ sym (append_assoc past (take (n - 1) items) (get_or items (n - 1) 0 ∷ []))
+
+-- one list has one last element
+one_last : (xs ys : List ℕ) (x y : ℕ) → xs ++ x ∷ [] ≡ ys ++ y ∷ [] → x ≡ y
+one_last [] [] x y e = cc
+one_last [] (b ∷ ys) x y e = absurd (omega (arith, no_more y 0 ys [] (sym (cons_parts x b [] (ys ++ y ∷ []) e).1)))
+one_last (a ∷ xs) [] x y e = absurd (omega (arith, no_more x 0 xs [] (cons_parts a y (xs ++ x ∷ []) [] e).1))
+one_last (a ∷ xs) (b ∷ ys) x y e = one_last xs ys x y (cons_parts a b (xs ++ x ∷ []) (ys ++ y ∷ []) e).1
+
+-- the last item popped is a byte's
+pub byte_is_last : (past items : List ℕ) (n : ℕ) → 0 < n → n ≤ length items → get_or items (n - 1) 0 < 256
+    → EndsBeforeMark (past ++ take n items)
+byte_is_last past items n some fits small taken item e =
+    let last : get_or items (n - 1) 0 ≡ item =
+    one_last (past ++ take (n - 1) items) taken (get_or items (n - 1) 0) item (sym (front_and_last past items n some fits) ∙ e) in
+    omega (arith, last, small)
+
 -- the last item popped is a mark
 pub last_is_mark : (past items bytes : List ℕ) (n : ℕ) → 0 < n → n ≤ length items
     → 256 ≤ get_or items (n - 1) 0 → take (n - 1) bytes ≡ map byte_of (take (n - 1) items)
     → EndsAtMark (map byte_of past ++ take (n - 1) bytes) (end_told (get_or items (n - 1) 0)) (past ++ take n items)
 last_is_mark past items bytes n some fits m same =
-    let i : suc (n - 1) ≡ n = omega (arith, some) in
-    let below : n - 1 < length items = omega (arith, some, fits) in
-    let e : take n items ≡ take (n - 1) items ++ get_or items (n - 1) 0 ∷ [] = ap (λ k. take k items) (sym i)
-    ∙ take-suc items (n - 1) 0 below in
     record {
       taken = past ++ take (n - 1) items;
       mark = get_or items (n - 1) 0;
       bytes_are = ap (λ u. map byte_of past ++ u) same ∙ sym (map-append byte_of past (take (n - 1) items));
       is_mark = m;
       end_is = refl;
-      items_are = ap (λ u. past ++ u) e ∙ sym (append_assoc past (take (n - 1) items) (get_or items (n - 1) 0 ∷ []));
+      items_are = front_and_last past items n some fits;
     }
 
 -- the bytes before the last of a block

@@ -42,3 +42,7 @@ pub record EndsAtMark (bytes : List ℕ) (end : StreamEnd) (items : List ℕ) : 
   pub is_mark : 256 ≤ mark
   pub end_is : end ≡ end_told mark
   pub items_are : items ≡ taken ++ mark ∷ []
+
+-- what was received ends at no mark: the last item, if there is one, is a byte's
+abbrev pub EndsBeforeMark : List ℕ → Type 0
+EndsBeforeMark items = (taken : List ℕ) (item : ℕ) → items ≡ taken ++ item ∷ [] → item < 256

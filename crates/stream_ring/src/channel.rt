@@ -2,7 +2,7 @@
 ghost use Rattle.std.specs.Prelude.{◌≡◌, ◌<◌, ◌≤◌, ℕ, List, [], ◌++◌, ◌∷◌, false, length, take, map, All, IfOk};
 ghost use Rattle.rtrb.specs.Ring.{sent, received, SameProducer, SameConsumer, IsPair};
 ghost use Rattle.lrup_text.specs.ReadOut.{EndsSo, source_view};
-ghost use Rattle.stream_ring.specs.Items.{EndsAtMark, IsSentOf, SendsAll, byte_of, end_told};
+ghost use Rattle.stream_ring.specs.Items.{EndsAtMark, EndsBeforeMark, IsSentOf, SendsAll, byte_of, end_told};
 
 use crate::blocks::{narrow, widen};
 use crossbeam_utils::Backoff;
@@ -231,6 +231,10 @@ impl Receiver {
             (count ≤ length bytes.new) × EndsAtMark
             (map byte_of (received self.old.consumer) ++ take count bytes.new)
             end (received self.new.consumer) }
+        ensures no_mark { (count : ℕ) → result ≡ Received.Bytes count →
+            EndsBeforeMark (received self.new.consumer) }
+        ensures gone { result ≡ Received.Gone →
+            received self.new.consumer ≡ received self.old.consumer }
     {
         let count = self.pop_some(wait, items);
         if count == 0 {
@@ -256,10 +260,13 @@ fn end_of(mark: u16) -> StreamEnd
     }
 }
 
-/// Both ends in one thread again, after what was received ended at a mark: the bytes and the mark are those that were sent.
+/// Both ends in one thread again: what was received is the beginning of what was sent. Where it ended at a mark, the bytes and the
+/// mark are those that were sent.
 pub fn came_through(producer: &mut Producer<u16>, consumer: &mut Consumer<u16>)
     requires { IsPair producer.old consumer.old }
-    ensures { (bytes came : List ℕ) (sent_end end : StreamEnd)
+    ensures beginning { (left : List ℕ)
+        × (sent producer.old ≡ received consumer.old ++ left) }
+    ensures same { (bytes came : List ℕ) (sent_end end : StreamEnd)
         → IsSentOf bytes sent_end (sent producer.old)
         → EndsAtMark came end (received consumer.old)
         → (came ≡ bytes) × (end ≡ sent_end) }

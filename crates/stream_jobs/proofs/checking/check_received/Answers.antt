@@ -3,8 +3,8 @@ use Rattle.std.proofs.lemmas.List.{length-take-le}
 use Rattle.rtrb.specs.Ring.{received}
 use Rattle.stream_check.specs.Checker.{LeavesOn, checker_state}
 use Rattle.stream_check.specs.ReportLemmas.{joined-append, leaves_still}
-use Rattle.stream_ring.specs.Items.{byte_of}
-use Rattle.stream_jobs.proofs.JudgingLemmas.{leaves_more}
+use Rattle.stream_ring.specs.Items.{EndsBeforeMark, byte_of}
+use Rattle.stream_jobs.proofs.JudgingLemmas.{leaves_more, none_before}
 use Rattle.stream_jobs.proofs.checking.check_received.Goals as goal
 
 pub loop-init : goal.loop-init
@@ -16,6 +16,7 @@ loop-init g c =
       some = c.requires.some;
       room = c.requires.room;
       ready = c.requires.ready;
+      no_mark = subst EndsBeforeMark (sym c.requires.nothing) none_before;
       setting = refl;
       took = (
         [],
@@ -42,6 +43,7 @@ loop-preserved g c =
       some = search rules;
       room = search rules;
       ready = c.take_all.ensures.ready;
+      no_mark = c.receive.ensures.no_mark c.in-Bytes.count c.in-Bytes.is;
       setting = c.take_all.ensures.setting ∙ c.loop.invariant.setting;
       took = (
         old.0 ++ fed.0,
@@ -80,3 +82,6 @@ returns-in-Mark-clause-took g c =
           (map byte_of (received c.loop.receiver.consumer)) (take c.in-Mark.count c.receive.new.bytes) bytes old.0 fed.0
           c.loop.invariant.setting refl old.2 fed.2,
     )
+
+pub returns-in-Gone-clause-no_mark : goal.returns-in-Gone-clause-no_mark
+returns-in-Gone-clause-no_mark g c = subst EndsBeforeMark (sym (c.receive.ensures.gone c.in-Gone.is)) c.loop.invariant.no_mark

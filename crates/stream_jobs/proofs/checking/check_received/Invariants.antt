@@ -3,7 +3,7 @@ use Rattle.lrup_model.specs.Event.{History}
 use Rattle.rtrb.specs.Ring.{received, SameConsumer}
 use Rattle.stream_check.specs.Checker.{IsReadyAt, LeavesOn, checker_state}
 use Rattle.stream_check.specs.Judging.{joined}
-use Rattle.stream_ring.specs.Items.{byte_of}
+use Rattle.stream_ring.specs.Items.{EndsBeforeMark, byte_of}
 use Rattle.stream_jobs.proofs.checking.check_received.Given as goal
 
 abbrev pub invariant-loop : goal.invariant-loop
@@ -16,6 +16,7 @@ invariant-loop g l =
       some : 0 < length l.items;
       room : length l.items ≡ length l.bytes;
       ready : IsReadyAt l.checker q;
+      no_mark : EndsBeforeMark (received l.receiver.consumer);
       setting : l.checker.setting ≡ l.fn.checker.setting;
       took : (blocks : List History) × g.M.ClauseMap.moves l.fn.map l.map (joined blocks)
           × LeavesOn l.fn.checker.setting (checker_state l.fn.checker p.room) (map byte_of (received l.receiver.consumer)) blocks

@@ -6,9 +6,24 @@ use Rattle.runs.specs.StreamLemmas.{judged_out}
 use Rattle.stream_jobs.specs.Judged.{DropsBy}
 use Rattle.stream_jobs.proofs.pair.meet.Goals as goal
 
+-- what was sent is what the reader told, and its reads gave
+pub returns-clause-read : goal.returns-clause-read
+returns-clause-read g c first sent = (
+  record { bytes = sent.bytes; unneeded = []; end = Some sent.end },
+  refl,
+  (
+    record {
+      consumes = subst (Consumes _ _) (sym (append-nil sent.bytes)) sent.told;
+      ends = sent.ends;
+      needed = λ out. refl;
+    },
+    sent.read,
+  ),
+)
+
 pub returns-clause-judged : goal.returns-clause-judged
 returns-clause-judged g c first v room blocks ids report sent marked fresh =
-    let same = c.came_through.ensures sent.bytes marked.bytes sent.end marked.end sent.sent marked.marked in (
+    let same = c.came_through.ensures.same sent.bytes marked.bytes sent.end marked.end sent.sent marked.marked in (
       record { bytes = sent.bytes; unneeded = []; end = Some sent.end },
       refl,
       (
