@@ -90,7 +90,7 @@ exact: c-and-python ## build: the filter that makes streams of other solvers' pr
 	@mkdir -p $(dir $(EXACT))
 	@$(CC) -std=c11 -O2 -Wall -Wextra -o $(EXACT).new tools/exact/*.c && mv $(EXACT).new $(EXACT)
 
-# Neither verified nor trusted.
+# Not verified. Engines and filters aren't trusted; the process that starts lrupd and prints its answer is believed.
 solve: solve-objects ## build: lrup-solve, from a formula to a proved verdict, at tools/solve/out; wants CaDiCaL's library
 	@$(CXX) -std=c++17 $(SOLVE_FLAGS) -Wall -Wextra -DVERSION='"$(VERSION)"' -o $(SOLVE).new $(ALONE) $(SOLVE).objects/*.o -lcadical && \
 	mv $(SOLVE).new $(SOLVE)

@@ -23,7 +23,8 @@ from typing import IO, Any, Callable, Dict, Iterable, List, Sequence, Tuple, Uni
 
 sys.dont_write_bytecode = True
 from harness import (FILTER, FOUR, LIMIT, ROOT, TESTS, Failure, Ran, Row, Skipped, example, generated, piped, report,
-                     run, run_all, started, want, words_given, written)
+                     run, run_all, started, want, with_memory, words_given, written)
+from lrat import lrat_fault
 from proof_forms import FORMS, Step, code, codes, read_formula, read_steps, varint
 
 USING = ROOT / "docs" / "USING.md"
@@ -136,6 +137,21 @@ def without_hints(program: str, formula: Path, proof: Path, stream: int, count: 
     want((said, status), ("", 0), proof.name)
     added = sum(not line.startswith("d") for line in proof.read_text().splitlines())
     check(program, formula, at_place((written(text, work, "exact"), added), stream, count))
+
+
+def as_lrat(formula: Path, proof: Path, work: Path) -> None:
+    """What comes out of a proof alone is LRAT, for any checker of that; and what isn't right in it is found."""
+    text, said, status = exact([formula, proof])
+    clauses, lines = read_formula(formula), text.splitlines(True)
+    want((lrat_fault(clauses, text), said, status), ("", "", 0), "as LRAT")
+    *others, last = lines
+    first = next(number for number, line in enumerate(lines, 1) if " d " not in line)
+    head, _, hints = lines[first - 1].rpartition(" 0 ")
+    without = "".join([*lines[:first - 1], " ".join([head, "0", *hints.split()[:-2], "0\n"]), *lines[first:]])
+    for changed, fault in (("".join(others), "no empty clause"), (without, f"line {first}: not "),
+                           (text + last, f"line {len(lines) + 1}: the identity "), (f"1 i 1 0\n{text}", "line 1: not of LRAT's")):
+        found = lrat_fault(clauses, changed)
+        want(found[:len(fault)], fault, "what is off")
 
 
 def in_form(program: str, formula_name: str, name: str, form: str, told: bool, work: Path) -> None:
@@ -576,30 +592,35 @@ def pipes_and_files() -> List[Row]:
 # The solvers that people have, beside the filter and the program.
 
 
-CADICAL = """\
+SIZES = "--lines 4000000 --room 60000000 "
+CADICAL = f"""\
 cadical -q formula.cnf proof > answer &
-lrupd formula.cnf <(tools/exact/out/exact --format binary-drat formula.cnf proof)
+lrupd {SIZES}formula.cnf \\
+    <(tools/exact/out/exact --format binary-drat formula.cnf proof)
 """
-CADICAL_TWICE = """\
+CADICAL_TWICE = f"""\
 cadical -q formula.cnf proof1 > answer1 &
 cadical -q --seed=2 formula.cnf proof2 > answer2 &
-lrupd formula.cnf <(tools/exact/out/exact --stream 1 --streams 2 --format binary-drat formula.cnf proof1) \\
+lrupd {SIZES}formula.cnf \\
+    <(tools/exact/out/exact --stream 1 --streams 2 --format binary-drat formula.cnf proof1) \\
     <(tools/exact/out/exact --stream 2 --streams 2 --format binary-drat formula.cnf proof2)
 """
-CRYPTOMINISAT = """\
+CRYPTOMINISAT = f"""\
 cryptominisat5 --verb 0 formula.cnf proof > answer &
-lrupd formula.cnf <(tools/exact/out/exact formula.cnf proof)
+lrupd {SIZES}formula.cnf <(tools/exact/out/exact formula.cnf proof)
 """
-CRYPTOMINISAT_TWICE = """\
+CRYPTOMINISAT_TWICE = f"""\
 cryptominisat5 --verb 0 formula.cnf proof1 > answer1 &
 cryptominisat5 --verb 0 --random 2 formula.cnf proof2 > answer2 &
-lrupd formula.cnf <(tools/exact/out/exact --stream 1 --streams 2 formula.cnf proof1) \\
+lrupd {SIZES}formula.cnf \\
+    <(tools/exact/out/exact --stream 1 --streams 2 formula.cnf proof1) \\
     <(tools/exact/out/exact --stream 2 --streams 2 formula.cnf proof2)
 """
-BOTH = """\
+BOTH = f"""\
 cadical -q formula.cnf proof1 > answer1 &
 cryptominisat5 --verb 0 formula.cnf proof2 > answer2 &
-lrupd formula.cnf <(tools/exact/out/exact --stream 1 --streams 2 --format binary-drat formula.cnf proof1) \\
+lrupd {SIZES}formula.cnf \\
+    <(tools/exact/out/exact --stream 1 --streams 2 --format binary-drat formula.cnf proof1) \\
     <(tools/exact/out/exact --stream 2 --streams 2 formula.cnf proof2)
 """
 IN_ROUNDS = """\
@@ -682,7 +703,9 @@ def while_it_runs(commands: str, words: str, work: Path) -> None:
 
 def solvers(program: str) -> List[Row]:
     formulas = ("random 150 1", "pigeons 7", "order 15", "bmc.cnf")
-    runs: List[Row] = [(f"{name}, {words}", beside, program, commands, words) for name, commands in COMMANDS for words in formulas]
+    runs: List[Row] = [(f"{name}, {words}", beside, program, commands.replace(SIZES, ""), words)
+                       for name, commands in COMMANDS for words in formulas]
+    runs += [("CaDiCaL, more than the default sizes hold", with_memory, beside, program, CADICAL, "pigeons 9")]
     runs += [(f"USING, {name}", in_using, commands) for name, commands in COMMANDS]
     runs += [("USING, in rounds", in_using, IN_ROUNDS)]
     runs += [(f"in rounds with {memory}", in_rounds, program, memory, rounds) for memory, rounds in (("500K", 3), ("512M", 1))]
@@ -705,6 +728,7 @@ def recorded(program: str) -> List[Row]:
     for path, name in ((example("pigeonhole.cnf"), "pigeonhole.drat"), (proofs / "random.cnf", "random.drat")):
         for stream, count in ((1, 1), (2, 3)):
             runs.append((name, without_hints, program, path, proofs / name, stream, count))
+        runs.append((f"{name}, as LRAT", as_lrat, path, proofs / name))
     for formula, name in (("four-clause.cnf", "four-clause.lrup"), ("pigeonhole.cnf", "pigeonhole.lrup"), ("bmc.cnf", "bmc.lrup")):
         for form in FORMS:
             for told in (True, False):

@@ -29,6 +29,7 @@ from typing import Any, Dict, List, Optional, Sequence, Tuple
 sys.dont_write_bytecode = True
 from harness import (EXAMPLES, FOUR, LIMIT, ROOT, Failure, Ran, Row, Skipped, dimacs, example, generated, piped, random_clauses, run,
                      started, until, want, words_given, written)
+from lrat import lrat_fault
 from proof_forms import read_formula
 from solving import (EARLY, ELIMINATING, OUT, PROGRAM, SOLVE, Answer, before_lrupd, check_again, children_of, command, end_group,
                      goes_on, in_environment, in_place_of_lrupd, is_alive, kill_children, random_formula, run_built, solve, want_answer)
@@ -83,6 +84,14 @@ def keeps(words: List[str], work: Path) -> None:
     kept, formula = work / "what's kept", shutil.copy(example("bmc.cnf"), work / "a formula")
     want_answer(solve([*words, "--proofs", kept, formula]), 20)
     check_again(kept)
+
+
+def keeps_lrat(words: str, work: Path) -> None:
+    """The stream of an engine alone, in one round, is LRAT, for any checker of that."""
+    kept, formula = work / "kept", generated(words, work)
+    want_answer(solve(["-j", "1", "--memory", "256M", "--proofs", kept, formula], tested={"FIRST_WORDS": 1 << 24}), 20)
+    want(sorted(os.listdir(kept)), ["command", "report", "round-1.sizes", "round-1.stream-1"], "what is kept")
+    want(lrat_fault(read_formula(formula), (kept / "round-1.stream-1").read_text()), "", "as LRAT")
 
 
 def keeps_standard_input(work: Path) -> None:
@@ -550,7 +559,8 @@ def words_and_files() -> List[Row]:
     under = "s UNSATISFIABLE UNDER ASSUMPTIONS"
     runs: List[Row] = [("standard input" + word, standard_input, [word] * bool(word)) for word in ("", "-")]
     runs += [("a FIFO", from_fifo), ("where lrupd is", beside), ("-q", quiet), ("keeps", keeps, []),
-             ("keeps four", keeps, ["-j", "4"]), ("keeps standard input", keeps_standard_input),
+             ("keeps four", keeps, ["-j", "4"]), ("keeps LRAT", keeps_lrat, "pigeons 7"),
+             ("keeps LRAT, random", keeps_lrat, "random 150 1"), ("keeps standard input", keeps_standard_input),
              ("keeps by short names", keeps_by_short_names), ("an earlier run", earlier_run),
              ("links in a record", links_in_a_record), ("a report that can't be kept", unkept),
              ("a name with an end of line", name_with_an_end_of_line), ("the link to lrupd", relative_link),

@@ -4,9 +4,9 @@
     ./table.py [--rounds N] [--work FOLDER] [--svg FILE] SOLVE LRUPD
 
 The formulas are formulas.py's. `cadical -q` solves each without a proof, and lrup-solve with two and with four engines; all run
-by turns, N times, 5 if not said, and the median of each counts. Where other work has the cores, time by the clock says little.
-So it counts what four cores that are free would take at least: the larger of the longest part's processor time, of an engine or
-a filter, and a quarter of all. Wants Python 3, and `cadical` on the PATH.
+by turns, N times, 5 if not said, and the median of each counts. --svg draws the time by the clock, which says little where other
+work has the cores. So there is a lower bound beside it, reckoned from processor time: no run on four cores takes less than its
+longest part, an engine or a filter, nor less than a quarter of all. Wants Python 3, and `cadical` on the PATH.
 """
 import argparse
 import os
@@ -16,6 +16,7 @@ import statistics
 import subprocess
 import sys
 import tempfile
+import time
 
 sys.dont_write_bytecode = True
 HERE = os.path.dirname(os.path.abspath(__file__))
@@ -35,13 +36,13 @@ def make_formula(words, work):
 
 
 def alone(formula):
-    """Processor seconds of CaDiCaL."""
-    before = resource.getrusage(resource.RUSAGE_CHILDREN)
+    """Of CaDiCaL the seconds by the clock, and those of processor time."""
+    began, before = time.monotonic(), resource.getrusage(resource.RUSAGE_CHILDREN)
     done = subprocess.run(["cadical", "-q", formula], stdout=subprocess.DEVNULL)
-    after = resource.getrusage(resource.RUSAGE_CHILDREN)
+    took, after = time.monotonic() - began, resource.getrusage(resource.RUSAGE_CHILDREN)
     if done.returncode != REFUTED:
         sys.exit(f"cadical ended with status {done.returncode}: {formula}")
-    return after.ru_utime + after.ru_stime - before.ru_utime - before.ru_stime
+    return took, after.ru_utime + after.ru_stime - before.ru_utime - before.ru_stime
 
 
 def numbers(pattern, text):
@@ -52,9 +53,11 @@ def numbers(pattern, text):
 
 
 def solved(given, formula, engines):
-    """The longest part, what four cores would take, the verdict after the answer, lrupd's part of all, and the filters' beside
-    the engines'."""
+    """The seconds by the clock; of processor time the longest part, and what four cores take at least; the verdict after the answer;
+    and lrupd's and the filters' processor time beside the engines'."""
+    began = time.monotonic()
     done = subprocess.run([given.solve, "--lrupd", given.lrupd, "-v", "-j", str(engines), formula], capture_output=True, text=True)
+    took = time.monotonic() - began
     if done.returncode != REFUTED:
         sys.exit(f"lrup-solve ended with status {done.returncode}: {formula}\n{done.stdout}{done.stderr}")
     pairs = re.findall(r"^c engine \d+: ([\d.]+) s, its filter ([\d.]+) s", done.stdout, re.M)
@@ -62,18 +65,18 @@ def solved(given, formula, engines):
     pattern = r"([\d.]+) s of processor time: engines ([\d.]+), filters ([\d.]+), lrupd ([\d.]+)"
     all_of, its_engines, filters, lrupd = numbers(pattern, done.stdout)
     verdict, = numbers(r"the verdict came ([\d.]+) s after", done.stdout)
-    return max(parts), max(max(parts), all_of / CORES), verdict, lrupd / all_of, filters / its_engines
+    return took, max(parts), max(max(parts), all_of / CORES), verdict, lrupd / its_engines, filters / its_engines
 
 
-def chart(rows, path):
-    """A bar for each formula and number of engines, beside CaDiCaL alone."""
+def chart(rows, runs, path):
+    """A bar for each formula and number of engines, beside CaDiCaL alone; `runs` says how often each ran."""
     left, scale, high, gap, top = 215, 300, 12, 18, 46
     colours = {2: "#2a6f97", 4: "#89c2d9"}
     height = top + len(rows) * (len(ENGINES) * high + gap) + 14
     lines = [f'<svg xmlns="http://www.w3.org/2000/svg" width="{left + scale * 2 + 30}" height="{height}" '
              'font-family="sans-serif" font-size="12">',
              '<rect width="100%" height="100%" fill="white"/>',
-             f'<text x="{left}" y="16">a proved verdict on four cores, beside the time of CaDiCaL alone</text>']
+             f'<text x="{left}" y="16">time by the clock to a proved verdict, beside CaDiCaL alone; four cores, {runs}</text>']
     for place, engines in enumerate(ENGINES):
         lines.append(f'<rect x="{left + 120 * place}" y="24" width="{high}" height="{high}" fill="{colours[engines]}"/>'
                      f'<text x="{left + 120 * place + 18}" y="34">{engines} engines</text>')
@@ -102,9 +105,9 @@ def main():
     arguments.add_argument("lrupd")
     given = arguments.parse_args()
     rows = []
-    print("| Formula | CaDiCaL alone, s | 2 engines: longest part | 4 cores | 4 engines: longest part | 4 cores | Verdict after, s | "
-          "`lrupd` of all | Filters by engines |")
-    print("|---|---|---|---|---|---|---|---|---|", flush=True)
+    print("| Formula | CaDiCaL alone, s, by the clock | Processor time | 2 engines: by the clock | Longest part | At least | "
+          "4 engines: by the clock | Longest part | At least | Verdict after, s | `lrupd` by engines | Filters by engines |")
+    print("|---|---|---|---|---|---|---|---|---|---|---|---|", flush=True)
     with tempfile.TemporaryDirectory() as temporary:
         work = given.work or temporary
         os.makedirs(work, exist_ok=True)
@@ -114,15 +117,15 @@ def main():
                 lone.append(alone(formula))
                 for engines in ENGINES:
                     runs[engines].append(solved(given, formula, engines))
-            base = statistics.median(lone)
+            clock, processor = (statistics.median(column) for column in zip(*lone))
             medians = {engines: [statistics.median(column) for column in zip(*runs[engines])] for engines in ENGINES}
-            cells = [f"{medians[engines][column] / base:.2f}" for engines in ENGINES for column in (0, 1)]
-            rest = [f"{medians[2][2]:.2f}, {medians[4][2]:.2f}", f"{100 * medians[2][3]:.0f}, {100 * medians[4][3]:.0f} %",
-                    f"{medians[2][4]:.2f}, {medians[4][4]:.2f}"]
-            print(f"| {title} | {base:.1f} | " + " | ".join(cells + rest) + " |", flush=True)
-            rows.append((title, {engines: medians[engines][1] / base for engines in ENGINES}))
+            cells = [f"{medians[engines][column] / base:.2f}" for engines in ENGINES
+                     for column, base in enumerate((clock, processor, processor))]
+            rest = [", ".join(f"{medians[engines][column]:.2f}" for engines in ENGINES) for column in (3, 4, 5)]
+            print(f"| {title} | {clock:.1f} | {processor:.1f} | " + " | ".join(cells + rest) + " |", flush=True)
+            rows.append((title, {engines: medians[engines][0] / clock for engines in ENGINES}))
     if given.svg:
-        chart(rows, given.svg)
+        chart(rows, "one run each" if given.rounds == 1 else f"medians of {given.rounds} runs", given.svg)
 
 
 main()

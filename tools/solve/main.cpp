@@ -1,4 +1,5 @@
-// Unverified, and trusted for nothing: where this says 's UNSATISFIABLE', lrupd ended with status 0 on that formula.
+// Unverified. Where this says 's UNSATISFIABLE', lrupd ended with status 0 on that formula: engines and filters are trusted for
+// nothing. That this process copies a formula unchanged, starts lrupd on it, and prints its answer, is believed.
 //
 //     engine process --pipe: its proof--> filter process --file: LRUP--> first process --pipe--> lrupd
 //           ^                                   |

@@ -1,7 +1,7 @@
 //! What `--help` says of the program and of its arguments, and `--version` of the program.
 
 /// The program's version, that of the file VERSION.
-pub const VERSION: &str = "1.0.0";
+pub const VERSION: &str = "1.1.0";
 
 /// What the program does.
 pub const PROGRAM: &str = "\

@@ -1,0 +1,48 @@
+"""A checker of LRAT text without RAT steps, as the paper on LRAT has the format (docs/RELATED.md), and not as this repository does.
+
+    id literals 0 hints 0       derives a clause by reverse unit propagation
+    id d ids 0                  deletes clauses
+
+Identities are positive, and those of additions go up. Of the hints all but the last are unit in turn, and the last is the conflict.
+"""
+import re
+from typing import List, Optional
+
+NUMBER = "[1-9][0-9]*"
+GRAMMAR = re.compile(f"{NUMBER}( -?{NUMBER})* 0( {NUMBER})* 0\n|{NUMBER} d( {NUMBER})* 0\n")
+
+
+def lrat_fault(formula: List[List[int]], proof: str) -> str:
+    """What is off in the first line where something is; an empty text where all are right, and one derives the empty clause."""
+    clauses, last, is_refuted = dict(enumerate(formula, 1)), len(formula), False
+    for number, line in enumerate(proof.splitlines(True), 1):
+        if not GRAMMAR.fullmatch(line):
+            return f"line {number}: not of LRAT's grammar"
+        words = line.split()
+        if words[1] == "d":
+            if any(clauses.pop(int(word), None) is None for word in words[2:-1]):
+                return f"line {number}: no clause to delete"
+            continue
+        end = words.index("0", 1)
+        identity, clause, hints = int(words[0]), [int(word) for word in words[1:end]], [int(word) for word in words[end + 1:-1]]
+        if identity <= last:
+            return f"line {number}: the identity {identity} after {last}"
+        if not is_implied(clause, [clauses.get(hint) for hint in hints]):
+            return f"line {number}: not shown by its hints"
+        clauses[identity], last, is_refuted = clause, identity, is_refuted or not clause
+    return "" if is_refuted else "no empty clause"
+
+
+def is_implied(clause: List[int], hinted: List[Optional[List[int]]]) -> bool:
+    """By unit propagation over the hinted clauses, in their order."""
+    false = set(clause)
+    for place, hint in enumerate(hinted, 1):
+        if hint is None:
+            return False
+        left = set(hint) - false
+        if not left:
+            return place == len(hinted)
+        if len(left) > 1 or any(-literal in false for literal in left):
+            return False
+        false.update(-literal for literal in left)
+    return False
