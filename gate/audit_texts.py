@@ -500,6 +500,9 @@ ROUNDS_PHRASES: Rows = [
      last fault]]: of its sizes ([[IsSizesCause]]), of the opening of its streams, or of their start ([[IsStartCause]]), each once what
      comes before it went well ([[IsRoundCause]]). What is said then has the round's number,
      [[FailsInRound: said : SinkTook err (round_error_text (length (last ∷ before) + 1) fault)]]."""),
+    ("nothing more was done to the files than by then, but that a created file was discarded", """each cause has the files `after` it, as
+     [[IsSizesCause: its.fails before path open_faults.NotOpened after]], each step from those that the one before it left; where a
+     thread wasn't started the file that was created is discarded ([[IsLeftUnused]])."""),
     ("Where in each round before the last all streams are right by themselves, or by an order of all lines", """the laws
      [[law right_rounds_say]], [[law right_orders_say]] and, with `--serial`, [[law right_turn_rounds_say]]: as
      [[AskForRightRounds]] has it of each round that may be reached, since its formula is known only once the one before is over."""),
