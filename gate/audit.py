@@ -186,7 +186,7 @@ def audit_page() -> Tuple[Page, List[Definition]]:
     things = [command, *first, *more, *laws, *last]
     count = str(len(definitions_of(first)))
     return Page("AUDIT.md", [
-        english.AUDIT_TOP, sound[0], english.SIGNATURE, command, "Phrase by phrase:", sound[1], english.ACCOUNT,
+        english.AUDIT_TOP, sound[0], english.SIGNATURE, command, sound[1], english.ACCOUNT,
         english.AUDIT_HOW.replace("{count}", count).replace("{twins}", twins(things)), *first,
         english.STATUS_8_TOP, *under, f"{len(definitions_of(more))} definitions more.", *more,
         english.CHECKPOINTS_TOP, *chained, english.CHECKPOINTS_ACCOUNT, *laws,

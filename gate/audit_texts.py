@@ -57,7 +57,7 @@ STATUS_0_PHRASES: Rows = [
 ]
 
 ACCOUNT = """**Which reads?** Whoever hands in the files chooses what `opens` and `reads` are; [[Files]] and [[Source]] promise
-of each call that it stands in them. The machine's files tell nothing and allow all, so of them the clause says only that
+of each call that it stands in them. The machine's files tell nothing and allow all, so of them alone the clause says only that
 the words have no fault. But `command` hands the bytes
 that it has read to [[fn check_formula]], of which this is proved: [[fn check_formula.sound: result ≡ 0 → (f : Cnf) × IsFormulaText
 asked.entry.formula.items f × IsUnsatisfiable f]]. So one loop, `read_all`, which fills their list, is left to an argument: take
@@ -148,7 +148,7 @@ TRUST = """## What one has to trust
   hands files, arguments and outputs to `command_with_arguments`, and returns what that answers: [[fn command_with_arguments.sound: exit_status result ≡ 0 → IsOkAnd arguments (λ given. NameUnsatisfiable
   _ read files.old (words_after_name given))]]. `exit_status` is the status; `IsOkAnd`: they were given, and of them it holds;
   `words_after_name`: those after the first.
-- **The machine's files**: that reads give what the file holds, and that it is the one you mean. No clause says so."""
+- **The machine's files**: that reads give what the file holds, and that it is the one you mean."""
 
 GLOSSES = """
 `AllByRecursion P xs` P of each element
@@ -513,8 +513,8 @@ ROUNDS_PHRASES: Rows = [
      Unsatisfiable) ⊎ ((wanted : ℕ) × FallsShort given Early Late last (length (ends.last ∷ ends.before)) ends.last wanted))]]."""),
 ]
 
-ROUNDS_ACCOUNT = """Of the machine's files this is an argument, as with single runs: they allow all that `opens`, `lacks`, `creates` and
-`keeps` may be."""
+ROUNDS_ACCOUNT = """Of the machine's files this is an argument, as with single runs: they allow all that the relations of their calls
+may be."""
 
 RUNS_HOW = """## How to read it
 
