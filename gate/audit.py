@@ -24,7 +24,7 @@ from typing import Dict, List, Match, Optional, Sequence, Set, Tuple, Union
 sys.dont_write_bytecode = True
 import audit_texts as english
 from audit_sources import ALL_CRATES, DOCS, ROOT, Contract, Definition, Key, Law, RustType, Thing, closure, definitions_of
-from audit_sources import part_of, rust_type, specs, top_down, whole, words_in
+from audit_sources import rust_type, specs, top_down, whole, words_in
 from audit_texts import Rows
 
 Block = Union[str, Thing]
@@ -178,20 +178,22 @@ def audit_page() -> Tuple[Page, List[Definition]]:
     first = top_down(by_mention(command.named_by(["sound"]) + [rust_type("command", "Files")], sound[1]), placed)
     more = top_down(by_mention(command.named_by(["sound_under"]), under[1]), placed)
     chained = phrase_by_phrase(sentence("docs/PROOFS.md", "Runs can be chained."), english.CHECKPOINT_PHRASES)
-    kept = [part_of(rust_type("command", "Files"), "creation"), rust_type("lrup_text", "Sink")]
+    kept = [rust_type("command", "Machine"), rust_type("lrup_text", "Sink")]
     laws = [Law(f"checkpoint/src/laws.rt: {name}") for name in "files_refute files_refute_under".split()]
+    linked = [thing for thing in closure(command.named_by(["saved"])) if thing.name in english.LINKED]
+    placed.update({thing.key(): thing for thing in linked})
     last = top_down(by_mention(command.named_by(["saved"]) + kept + of_all(laws), chained[1]), placed)
     things = [command, *first, *more, *laws, *last]
     count = str(len(definitions_of(first)))
     return Page("AUDIT.md", [
-        english.AUDIT_TOP, sound[0], english.SIGNATURE, command, "Phrase by phrase:", sound[1], english.ACCOUNT,
+        english.AUDIT_TOP, sound[0], english.SIGNATURE, command, sound[1], english.ACCOUNT,
         english.AUDIT_HOW.replace("{count}", count).replace("{twins}", twins(things)), *first,
         english.STATUS_8_TOP, *under, f"{len(definitions_of(more))} definitions more.", *more,
         english.CHECKPOINTS_TOP, *chained, english.CHECKPOINTS_ACCOUNT, *laws,
         f"{len(definitions_of(last))} definitions more.", *last,
         english.AUDIT_LIBRARIES, libraries(things, []), english.TRUST], cited=[
             arguments, check, Law("command_line/src/laws.rt: plain_words"), Law("dimacs/src/laws.rt: one_formula"),
-            Law("outcome_laws/src/laws.rt: outcomes_refute"), Law("outcome_laws/src/laws.rt: outcomes_refute_under"),
+            Law("outcome_laws/src/laws.rt: outcomes_refute"), Law("outcome_laws/src/laws.rt: outcomes_refute_under"), *linked,
         ]), definitions_of(first)
 
 

@@ -142,10 +142,10 @@ class Definition(Thing):
 class RustType(Thing):
     """A type or a trait of a crate's code, with its doc comment, and what contracts see of it."""
 
-    def __init__(self, crate: str, path: Path, text: str, whole: bool = False, part: str = "") -> None:
+    def __init__(self, crate: str, path: Path, text: str, whole: bool = False) -> None:
         self.crate, self.path, self.whole = crate, path, whole
         self.is_trait = re.search(r"^pub trait ", text, re.M) is not None
-        self.name = re.search(r"^pub (?:struct|enum|trait) (\w+)", text, re.M).group(1) + part
+        self.name = re.search(r"^pub (?:struct|enum|trait) (\w+)", text, re.M).group(1)
         self.given, self.text = text, self.short(text)
         match = re.search(rf"^impl(?:<.*?>)? Model for {self.name}\b.*?^}}", path.read_text(), re.M | re.S)
         value = match and re.search(r"ghost Value = \{ (.*?) \};", match.group(0))
@@ -156,7 +156,7 @@ class RustType(Thing):
 
     def short(self, text: str) -> str:
         """The text without blank lines, attributes and private fields, and of a trait the members that SHOWN names."""
-        lines = [line for line in text.split("\n") if line.strip() and not line.strip().startswith("#[")]
+        lines = [line for line in text.split("\n") if line.strip() and not line.strip().startswith(("#[", "ghost use "))]
         if self.is_trait and self.name in SHOWN and not self.whole:
             lines = shown_members(self.name, lines)
         if re.search(r"^pub struct .*\{$", text, re.M):
@@ -174,8 +174,8 @@ class RustType(Thing):
         if self.value:
             return code.used(self.value), []
         without_variants = re.sub(r"^    [A-Z]\w*", "", self.text, flags=re.M)
-        types = [thing for thing in code.types(without_variants) if thing.name not in UNSEEN]
-        return types + (code.used(self.text) if self.is_trait else []), []
+        found = code.types(without_variants) + (code.used(self.text) if self.is_trait else [])
+        return [thing for thing in found if thing.name not in UNSEEN], []
 
     def of_libraries(self) -> Set[Tuple[str, str]]:
         return rust(self.crate, self.path).of_libraries(self.text) if self.is_trait else set()
@@ -184,11 +184,6 @@ class RustType(Thing):
 def whole(thing: RustType) -> RustType:
     """A trait with all of its members."""
     return RustType(thing.crate, thing.path, thing.given, whole=True)
-
-
-def part_of(thing: RustType, part: str) -> RustType:
-    """A trait with other members, which SHOWN names under its name and this one."""
-    return RustType(thing.crate, thing.path, thing.given, part=f", {part}")
 
 
 def shown_members(trait: str, lines: Sequence[str]) -> List[str]:

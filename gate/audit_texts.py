@@ -11,13 +11,16 @@ Rows = List[Tuple[str, str]]
 # Of these traits what the clauses rest on: the members, and the clauses of each.
 SHOWN: Dict[str, Dict[str, List[Optional[str]]]] = {
     "Files": {"Input": [], "tells": [], "opens": [], "open": ["opens"]},
-    "Files, creation": {"Output": [], "creates": [], "keeps": [], "create": ["creates"], "keep": [None]},
+    "Machine": {"Output": [], "creates": [], "keeps": [], "create": ["creates"], "keep": ["keeps"]},
     "Source": {"reads": [], "read": ["reads"]},
     "Sink": {"written": [], "write": ["bytes"]},
 }
 
 # Names in signatures of which no clause on the pages speaks.
 UNSEEN = {"DimacsFault", "OpenFault", "ReadFault", "Sink", "WriteFault"}
+
+# What the page on status 0 and 8 links to in the sources: who believes checkpoints needs no more of it than is quoted.
+LINKED = ("IsCommandLineOf", "IsSaidBy", "CommandLine", "assumed_at", "AreOpened")
 
 MOST_WORDS = 6000       # of the page on status 0 and 8, and on checkpoints
 
@@ -28,8 +31,8 @@ AUDIT_TOP = f"""# What there is to believe: status 0 and 8
 {MADE}
 
 The prover shows that the code keeps its contracts. That the contracts say what one wants to rely on is for a reader to judge.
-This page has all that the clauses behind status 0 and 8, and behind checkpoints, rest on, down to names of libraries, which have
-a line each; whole runs, and rounds, are on [AUDIT-RUNS](AUDIT-RUNS.md). At each definition ask: is this what the words mean? [DEFINITIONS](DEFINITIONS.md) has
+This page has all that the clauses behind status 0 and 8 rest on, and of checkpoints what the sentences say, down to names
+of libraries, which have a line each; whole runs are on [AUDIT-RUNS](AUDIT-RUNS.md). At each definition ask: is this what the words mean? [DEFINITIONS](DEFINITIONS.md) has
 examples.
 
 No clause says that something is answered: 'out of memory' may always come.
@@ -42,10 +45,10 @@ after the program's name. `out` and `err` take bytes, and haven't failed before.
 where memory is from."""
 
 STATUS_0_PHRASES: Rows = [
-    ("with status 0", "[[fn command.sound: result ≡ 0 →]], where `result` is the status."),
+    ("with status 0", "[[fn command.sound: result ≡ 0 →]]."),
     ("the bytes that were read", """they are the `bytes` of [[NameUnsatisfiable: Read first formula_path bytes after]], and `Read` is
-     [[fn command.sound: WasRead F.opens F.Input.Source.reads (F.tells files.old)]]: the first opening, of `files.old`, opened
-     the file, and its reads gave these bytes, up to one that gave none ([[WasRead]], [[GaveAll]])."""),
+     [[fn command.sound: WasRead F.opens F.Input.Source.reads (F.tells files.old)]]: the first opening, of `files.old`, was the
+     file's, and its reads gave these bytes, up to one that gave none ([[WasRead]], [[GaveAll]])."""),
     ("from the formula's file", """[[NameUnsatisfiable: AskFor words formula_path assume]]: the words have no fault, and their FORMULA
      is the path `formula_path` that was read ([[AskFor]])."""),
     ("are DIMACS CNF of a formula", """[[NameUnsatisfiable: IsFormulaText bytes formula]]: a text of `formula`
@@ -61,8 +64,7 @@ asked.entry.formula.items f × IsUnsatisfiable f]]. So one loop, `read_all`, whi
 any run, and files that play its calls back, where `opens` and `reads` hold of these calls alone. `command` would do the same
 with them, since it knows files only by the calls of their traits, and there only what was read can be meant.
 
-**And `--rounds`?** Neither clause knows of rounds: however many there were, each speaks of FORMULA, and of no file in the folder.
-[AUDIT-RUNS](AUDIT-RUNS.md#runs-in-rounds) says what each round is to the next."""
+**And `--rounds`?** However many there were, both clauses speak of FORMULA, and of no file in the folder."""
 
 AUDIT_HOW = """## How to read it
 
@@ -84,8 +86,7 @@ AUDIT_HOW = """## How to read it
   `F.Input.Source.reads` that of `Source` for F's own type `Input`. Contracts see a slice as a list.
 {twins}
 
-Definitions stand word for word, but for `pub` and `abbrev`, which are for the prover; `..` stands for what is left out of code.
-Below each are its crate, with a link to the file, and what it uses.
+Definitions stand word for word, without the prover's `pub` and `abbrev`; `..` stands for code that is left out.
 
 ## The definitions of status 0
 
@@ -111,30 +112,30 @@ CHECKPOINT_PHRASES: Rows = [
      [[AskToSave]]."""),
     ("the bytes that went to the checkpoint", """they are the `saved` of [[NameCheckpoint]], by [[SavesFrom: Save before path saved last]], and
      `Save` is [[fn command.saved: WasSaved F.creates F.Output.Sink.written F.keeps]]: a file was created at the path, with nothing
-     in it ([[Files, creation]]); these bytes went to it, [[WasSaved: wrote : Appends (written first) (written last) bytes]]
-     ([[Sink]]); and it was kept, which led to the files that the caller has afterwards ([[WasSaved]])."""),
+     in it ([[Machine]]); these bytes went to it, [[WasSaved: wrote : Appends (written first) (written last) bytes]]
+     ([[Sink]]); and it was kept, which left the caller's files as they are then."""),
     ("are a text of a formula over the same variables, each clause of which follows from the run's formula", """[[SavesFrom:
      IsCheckpoint formula saved]]: [[IsCheckpoint: text : IsFormulaText bytes formula]], with [[Entails: vars : g.vars ≡ f.vars]] and
-     [[Entails: each : AllByRecursion (Follows f) g.clauses]]. The run's formula is `formula`, by [[SavesFrom: Read first formula_path
-     bytes next × IsFormulaText bytes formula]], as above."""),
+     [[Entails: each : AllByRecursion (Follows f) g.clauses]]. The run's formula is `formula`, by [[SavesFrom: Read first
+     given.formula.now bytes next × IsFormulaText bytes formula]]; `given` is what the words say ([[IsCommandLineOf]]), of FORMULA
+     [[IsSaidBy: formula : first_of (codes "FORMULA") rows ≡ Some given.formula.now]]. In between assumptions were read and streams
+     opened ([[AreOpened]])."""),
     ("where each run of a chain read as its formula what the one before had saved", """a premise, of the bytes that were read and
      saved: then by the [[fn command.saved]] of each run they are [[AreCheckpoints: ((formula : Cnf) × IsFormulaText bytes formula ×
-     IsCheckpoint formula next) × AreCheckpoints next more]]. No clause says what a file gives that was kept, and is opened later."""),
+     IsCheckpoint formula next) × AreCheckpoints next more]]."""),
     ("the last ends with status 0, no assignment satisfies the first formula", """the law [[law files_refute]]: the last run's
      bytes are `last_file bytes more`, of which the [[fn command.sound]] says [[IsUnsatisfiableText: (formula : Cnf) × IsFormulaText
      bytes formula × IsUnsatisfiable formula]]; so that holds of the first run's `bytes`. [[law outcomes_refute]] says it at once, of
-     runs without rounds, as the clause `ends` of `command` has them."""),
+     runs without rounds."""),
     ("where it ends with status 8, none satisfies it and makes the literals true that the last run assumed", """the law
      [[law files_refute_under]], with the [[fn command.sound_under]] of the last run; and [[law outcomes_refute_under]]."""),
 ]
 
-CHECKPOINTS_ACCOUNT = """Of the machine's files all this is an argument, as with reads: they allow all that `creates` and `keeps` may
-be, and tell nothing of what was written. Take any run, and files that play its calls back: `command` would write the same to
-them. Who chains runs by files believes, besides, that these hold what was written."""
+CHECKPOINTS_ACCOUNT = """Of the machine's files all this is an argument, as with reads, by files that play a run's calls back. Who chains runs by files believes, besides, that these hold what was written."""
 
 AUDIT_LIBRARIES = """## What the libraries define
 
-In short. In full it stands in the module of `clap` that is named (`clap.specs.Words` is `rattle/clap/specs/Words.antt`, beside
+In full it stands in the module of `clap` that is named (`clap.specs.Words` is `rattle/clap/specs/Words.antt`, beside
 the page that `rt doc` prints), else in Rattle's `std`."""
 
 TRUST = """## What one has to trust
@@ -142,12 +143,12 @@ TRUST = """## What one has to trust
 - **That the prover is right**: Rattle's logic and built libraries, with what they promise of `clap`, files and threads; two
   compilers, which the gate compares; the linker, the system and the machine.
 - **The lines above** on names of libraries, and `gate/audit.py`, that it left nothing out. Which word is FORMULA, `clap` says;
-  where no word begins with a hyphen it is the first of two or more ([[law plain_words]]).
+  where no word begins with a hyphen it is the first ([[law plain_words]]).
 - **[`main`](../crates/lrupd/src/main.rt)**, which has no contract. It opens the machine's file at the path that it is given,
   hands files, arguments and outputs to `command_with_arguments`, and returns what that answers: [[fn command_with_arguments.sound: exit_status result ≡ 0 → IsOkAnd arguments (λ given. NameUnsatisfiable
   _ read files.old (words_after_name given))]]. `exit_status` is the status; `IsOkAnd`: they were given, and of them it holds;
   `words_after_name`: those after the first.
-- **The machine's files**: that reads give what the file holds, and that it is the one you mean. No clause says so."""
+- **The machine's files**: that reads give what the file holds, and that it is the one you mean."""
 
 GLOSSES = """
 `AllByRecursion P xs` P of each element
@@ -319,7 +320,7 @@ By the [[fn run.isolated+alone]], and those of [[fn run_serial]]."""
 
 ISOLATION_PHRASES: Rows = [
     ("Streams that cite and import only clauses of each other and of the formula", """they are a closed set:
-     [[AreIsolated: (set : ℕ → Bool) → IsClosed terms.layout set streams]]. No line of a stream of it cites what a stream outside
+     [[AreIsolated: (set : ℕ → Bool) → ClosesSink terms.layout set streams]]. No line of a stream of it cites what a stream outside
      it owns, [[CiteWithin: AllByRecursion (IsOwnedWithin layout set) (cited_by line)]], hints and imports ([[cited_by]]); nobody owns
      the formula's identities."""),
     ("have such reports as they may have", """[[AreIsolated: IsGroup formula terms set streams reports]]: some legal history judges the
@@ -333,7 +334,7 @@ ISOLATION_PHRASES: Rows = [
      or on one thread in an order of lines, [[fn run_serial.isolated: IsOrdered formula.now terms (λ s. true) streams
      outcome.reports.items]]. Those of [[fn run.reports]] and of [[fn run_serial.ordered]] are among them."""),
     ("unless memory ran out", "[[AreIsolated: NoneOutOfMemory set reports]]."),
-    ("A stream that cites and imports only its own and the formula's", """[[fn run.alone]], [[HaveReportsAlone: IsClosed
+    ("A stream that cites and imports only its own and the formula's", """[[fn run.alone]], [[HaveReportsAlone: ClosesSink
      terms.layout (one s) streams]]."""),
     ("with the same formula, options, assumptions and number of streams", """the `formula` and the `terms` of [[HaveReportsAlone:
      IsReportAlone formula terms s whole end other]], which are [[fn run.alone: terms_of options cube.now formula.now (length
@@ -352,7 +353,7 @@ SERIALIZABLE_TOP = """## Lines are serializable
 By the [[fn run.serializable]]; the [[fn run_serial.ordered]] says it of all streams, without the premise."""
 
 SERIALIZABLE_PHRASES: Rows = [
-    ("The lines of such a group", """of each closed set: [[IsSerializable: (set : ℕ → Bool) → IsClosed terms.layout set
+    ("The lines of such a group", """of each closed set: [[IsSerializable: (set : ℕ → Bool) → ClosesSink terms.layout set
      streams]]."""),
     ("if no stream retires (deletes for all) a clause that another one found", """[[IsSerializable: FoundStays formula terms.layout set
      history]]: what a stream of the set found live, and isn't its own, the run's history doesn't leave retired,
@@ -429,8 +430,8 @@ RIGHT_PHRASES: Rows = [
     ("the status is 0", """the laws [[law right_refutation_says]], [[RightRefutationSays: (status ≡ 0)]], and
      [[law right_order_says]], of all that `command` may do by its clause `ends`; with `--serial` [[law right_turns_say]], and
      [[law serial_outcomes_agree]]."""),
-    ("or 5 or 6, by a fault of the machine, and then no report is begun", """[[IsExcused: no_report : (ends : EndsWithFault files words out
-     err status) (machine : IsOfMachine ends.fault)]], which a stream's file that isn't opened is too; [[EndsWithFault: untouched :
+    ("or 5 or 6, by a fault of the machine, and then no report is begun", """[[IsExcused: no_report : (ends : EndsWithFault files words after
+     out err status) (machine : IsOfMachine ends.fault)]], which a stream's file that isn't opened is too; [[EndsWithFault: untouched :
      IsUntouched out]]."""),
     ("or 3, 8 or 9, and then it stopped so in these lines", """[[IsExcused: lost : (ends : EndsWithReport files words after out err status)
      (written : out.failed ≡ false) (report : Report) (says : IsOfStream ends.reports s report) (why : Lost report)]], with
@@ -453,7 +454,7 @@ ROUNDS_PHRASES: Rows = [
      [[ProgramEnds: EndsWithReport files words after out err status × ((folder : Text) → ¬ AskForRounds words folder)]] the report of a
      single run then never comes."""),
     ("a run that gave a report had one round or more, one after the other", """[[ReportsRounds: were : WereRounds files given folder last
-     before]], and [[WereRounds: rounds : AreRounds (deeds_of files) (plan_at given cube folder) formula (sizes_of given) later
+     before]], and [[WereRounds: rounds : AreRounds files.its (plan_at given cube folder) formula (sizes_of given) later
      given.streams (last ∷ before)]]: a list with the last round first ([[AreRounds]]). A [[Round]] has its formula, sizes and
      readers, its reports and verdict, and the files after its streams were opened and after its end."""),
     ("the report is that of the last", """[[ReportsRounds: printed : SinkTook out (last_text (length (last ∷ before)) last.reports
@@ -482,24 +483,26 @@ ROUNDS_PHRASES: Rows = [
     ("over the same variables, each clause of which follows from the round's", """[[SavesRound: carried : IsCheckpointOf round.formula bytes
      next]], and there [[IsCheckpointOf: entails : Entails original next]]."""),
     ("a text of it went to its checkpoint, which was kept", """[[IsCheckpointOf: text : IsFormulaText bytes next]], of the bytes of
-     [[SavesRound: saved : WasSaved its.creates its.written its.keeps round.opened (formula_path plan.folder (number + 1)) bytes
-     round.after]]: a file was created at DIR/round-(R+1).cnf ([[formula_path]]) once the round's streams were opened, and kept before
+     [[SavesRound: saved : WasSavedBy its round.opened (formula_path plan.folder (number + 1)) bytes round.after]]: a file was created at DIR/round-(R+1).cnf ([[formula_path]]) once the round's streams were opened, and kept before
      the files of the next round are opened."""),
     ("The streams of each are checked as those of a single run", """[[WasChecked: AreChecked its.reading plan.serial round.formula
      (terms_by plan round.formula round.sizes) round.readers round.reports round.verdict]]: with a layout, by one history or, with
      `--serial`, one order of lines of its own. Tries, assumed literals and `--serial` are those of all rounds ([[Plan]])."""),
     ("only if its verdict is 'unknown', all its streams ended, and its checkpoint was saved", """[[CarriesOn: verdict : round.verdict ≡
      Unknown]], [[CarriesOn: ended : HaveEnded round.reports]] and [[CarriesOn: unsaved : round.unsaved ≡ None]]."""),
-    ("the last one isn't so, or the next had no file as its stream 1, or the numbers, below 2^64 - 1, are used up", """[[ReportsRounds: over : RoundsEnd (deeds_of files) (plan_at given
+    ("the last one isn't so, or the next had no file as its stream 1, or the numbers, below 2^64 - 1, are used up", """[[ReportsRounds: over : RoundsEnd files.its (plan_at given
      were.cube folder) (length (last ∷ before)) last after]]: [[IsBarred]] of it, or it goes on, and
      [[RoundsEnd: its.lacks sized (stream_path plan.folder (number + 1) 1) after]], once the sizes were read; or
      [[RoundsEnd: (2 ^ 64 < number + 3)]]. What became of the last checkpoint says [[IsBarred: checkpoint : LeavesBehind]], or what goes
      on."""),
-    ("Where there is no report the cause is one of round 1, or of a round after such rounds", """[[ProgramEnds: EndsWithFault files words out
-     err status]], or [[FailsInRound: cause : IsNextCause (deeds_of files) (plan_at given were.cube folder) (length (last ∷ before))
+    ("Where there is no report the cause is one of round 1, or of a round after such rounds", """[[ProgramEnds: EndsWithFault files words after
+     out err status]], or [[FailsInRound: cause : IsNextCause files.its (plan_at given were.cube folder) (length (last ∷ before))
      last fault]]: of its sizes ([[IsSizesCause]]), of the opening of its streams, or of their start ([[IsStartCause]]), each once what
      comes before it went well ([[IsRoundCause]]). What is said then has the round's number,
      [[FailsInRound: said : SinkTook err (round_error_text (length (last ∷ before) + 1) fault)]]."""),
+    ("nothing more was done to the files than by then, but that a created file was discarded", """each cause has the files `after` it, as
+     [[IsSizesCause: its.fails before path open_faults.NotOpened after]], each step from those that the one before it left; where a
+     thread wasn't started the file that was created is discarded ([[IsLeftUnused]])."""),
     ("Where in each round before the last all streams are right by themselves, or by an order of all lines", """the laws
      [[law right_rounds_say]], [[law right_orders_say]] and, with `--serial`, [[law right_turn_rounds_say]]: as
      [[AskForRightRounds]] has it of each round that may be reached, since its formula is known only once the one before is over."""),
@@ -510,8 +513,8 @@ ROUNDS_PHRASES: Rows = [
      Unsatisfiable) ⊎ ((wanted : ℕ) × FallsShort given Early Late last (length (ends.last ∷ ends.before)) ends.last wanted))]]."""),
 ]
 
-ROUNDS_ACCOUNT = """Of the machine's files this is an argument, as with single runs: they allow all that `opens`, `lacks`, `creates` and
-`keeps` may be."""
+ROUNDS_ACCOUNT = """Of the machine's files this is an argument, as with single runs: they allow all that the relations of their calls
+may be."""
 
 RUNS_HOW = """## How to read it
 

@@ -101,11 +101,13 @@ pub names_unsatisfiable_under : (files : FilesView) (words : List Text) (given :
     (tells : Text → Option (List ℕ))
     → tells ≡ files.tells → IsCommandLineOf words given → WasReadIn files files.first given.formula.now bytes next
     → (f : Cnf) × (cube : CubeValue) × (after : files.its.State) × IsFormulaText bytes f
-    × AreAssumed (WasRead files.its.opens files.its.reading.reads tells) f.vars next (assumed_at given) cube after × IsUnsatisfiableUnder f cube
+    × AreAssumed (WasRead files.its.opens files.its.reading.reads tells) f.vars next (assumed_at given) cube after × IsUnsatisfiableUnder f
+    cube
     → NameUnsatisfiableUnder files.its.State (WasReadIn files) files.first words
 names_unsatisfiable_under files words given bytes next tells told line read (f, cube, after, text, assumed, refuted) =
     let same =
-    subst (λ (t : Text → Option (List ℕ)). AreAssumed (WasRead files.its.opens files.its.reading.reads t) f.vars next (assumed_at given) cube after)
+    subst (λ (t : Text → Option (List ℕ)). AreAssumed (WasRead files.its.opens files.its.reading.reads t) f.vars next (assumed_at given)
+    cube after)
     told assumed in
     (given.formula.now, assumed_at given, bytes, f, cube, next, after, ask_for words given line, read, text, same, refuted)
 

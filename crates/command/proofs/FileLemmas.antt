@@ -30,7 +30,8 @@ reading_cause files before path reader after opened left faults.Memory cause = i
 reading_cause files before path reader after opened left fault cause = absurd cause
 
 -- what was read of a file that was opened
-pub was_read : (files : FilesView) (before : files.its.State) (path : Text) (reader : files.its.Reader) (after : files.its.State) {T E : Type 0}
+pub was_read : (files : FilesView) (before : files.its.State) (path : Text) (reader : files.its.Reader) (after : files.its.State) {T E :
+    Type 0}
     (items : T → List ℕ) (read : Result T E)
     → files.its.opens before path reader after → files.its.reading.left reader ≡ files.tells path
     → IfOk read (λ bytes. GaveAll files.its.Reader files.its.reading.reads reader (items bytes))

@@ -15,9 +15,9 @@ use Rattle.stream_check.specs.declared.report.Report.{Report}
 use Rattle.checkpoint.specs.Checkpoints.{IsCheckpoint, IsCheckpointOf}
 use Rattle.checkpoint.specs.declared.saving.SaveFault.{SaveFault}
 use Rattle.checkpoint.specs.declared.saving.SaveFault.TheVariants as faults
-use Rattle.command.specs.Commands.{Deeds, IsClosed, IsLeftUnused, LeavesBehind, SavesCheckpoint, Text}
+use Rattle.command.specs.Commands.{Deeds, ClosesSink, IsLeftUnused, LeavesBehind, SavesCheckpoint, Text}
 use Rattle.command.specs.Rounds.{CarriesCheckpoint}
-use Rattle.command.specs.Running.{HasHistory, StandsBehind, dropped_in, layout_in}
+use Rattle.command.specs.Running.{HasHistory, StandsBehind, dropped_in, left_layout}
 use Rattle.command.specs.Saving.{ClosesCheckpoint, CreatesCheckpoint, DiscardsIt, KeepsNext, SavesAndCloses}
 use Rattle.command.specs.declared.running.LeftClauses.{LeftClauses}
 
@@ -78,9 +78,9 @@ module _ (its : Deeds) (serial : Bool) (f : Cnf) (terms : TermsValue) (firsts : 
       → ((f : Cnf) (h : History) → HasHistory f h left → IfOk result (λ _. (bytes : List ℕ)
       × Appends (its.written first) (its.written last) bytes × IsCheckpoint f bytes))
       → ((f : Cnf) (h : History) → HasHistory f h left
-      → SavesState its.written result (state f h) (layout_in left) (is_wanted (dropped_in left)) first last)
+      → SavesState its.written result (state f h) (left_layout left) (is_wanted (dropped_in left)) first last)
       → IsTrue (its.has_failed last) ↔ (result ≡ Err faults.Unwritten)
-      → IsClosed its other before last unsaved after
+      → ClosesSink its other before last unsaved after
       → SavesAndCloses its (SavesCheckpoint its serial f terms firsts reports) before first unsaved after
   saves_and_closes result other same checkpoint saves failed closed = record {
     result = result;
@@ -97,14 +97,14 @@ module _ (its : Deeds) (serial : Bool) (f : Cnf) (terms : TermsValue) (firsts : 
       };
       failed = failed;
     };
-    closed = subst (λ (r : Result (Unit {0}) SaveFault). IsClosed its r before last unsaved after) (sym same) closed;
+    closed = subst (λ (r : Result (Unit {0}) SaveFault). ClosesSink its r before last unsaved after) (sym same) closed;
   }
 
   carrying : (result : Result Cnf SaveFault)
       → ((f : Cnf) (h : History) → HasHistory f h left → IfOk result (λ next. (bytes : List ℕ)
       × Appends (its.written first) (its.written last) bytes × IsCheckpointOf f bytes next))
       → ((f : Cnf) (h : History) → HasHistory f h left
-      → CarriesState its.written result (state f h) (layout_in left) (is_wanted (dropped_in left)) first last)
+      → CarriesState its.written result (state f h) (left_layout left) (is_wanted (dropped_in left)) first last)
       → IsTrue (its.has_failed last) ↔ (result ≡ Err faults.Unwritten)
       → CarriesCheckpoint its serial f terms firsts reports result first last
   carrying result next carries failed = record {
@@ -124,22 +124,22 @@ module _ (its : Deeds) (serial : Bool) (f : Cnf) (terms : TermsValue) (firsts : 
       → ((f : Cnf) (h : History) → HasHistory f h left → IfOk result (λ next. (bytes : List ℕ)
       × Appends (its.written first) (its.written last) bytes × IsCheckpointOf f bytes next))
       → ((f : Cnf) (h : History) → HasHistory f h left
-      → CarriesState its.written result (state f h) (layout_in left) (is_wanted (dropped_in left)) first last)
+      → CarriesState its.written result (state f h) (left_layout left) (is_wanted (dropped_in left)) first last)
       → IsTrue (its.has_failed last) ↔ (result ≡ Err faults.Unwritten)
-      → IsClosed its other before last unsaved after
+      → ClosesSink its other before last unsaved after
       → SavesAndCloses its (CarriesCheckpoint its serial f terms firsts reports) before first unsaved after
   carries_and_closes result other same next carries failed closed = record {
     result = result;
     last = last;
     saving = carrying result next carries failed;
-    closed = subst (λ (r : Result Cnf SaveFault). IsClosed its r before last unsaved after) (sym same) closed;
+    closed = subst (λ (r : Result Cnf SaveFault). ClosesSink its r before last unsaved after) (sym same) closed;
   }
 
   pub keeps_next : (result : Result Cnf SaveFault) (made : Cnf) → result ≡ Ok made
       → ((f : Cnf) (h : History) → HasHistory f h left → IfOk result (λ next. (bytes : List ℕ)
       × Appends (its.written first) (its.written last) bytes × IsCheckpointOf f bytes next))
       → ((f : Cnf) (h : History) → HasHistory f h left
-      → CarriesState its.written result (state f h) (layout_in left) (is_wanted (dropped_in left)) first last)
+      → CarriesState its.written result (state f h) (left_layout left) (is_wanted (dropped_in left)) first last)
       → IsTrue (its.has_failed last) ↔ (result ≡ Err faults.Unwritten)
       → its.keeps before last after
       → KeepsNext its (CarriesCheckpoint its serial f terms firsts reports) before first after made

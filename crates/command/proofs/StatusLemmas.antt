@@ -1,5 +1,6 @@
 -- What a status says.
-use Rattle.std.proofs.Common.{◌≡◌, ◌∙◌, ◌⊎◌, ℕ, Bool, IsTrue, true, false, List, [], Option, None, Some, Result, Ok, Err, inl, inr, refl, sym, subst}
+use Rattle.std.proofs.Common.{◌≡◌, ◌∙◌, ◌⊎◌, ℕ, Bool, IsTrue, true, false, List, []}
+use Rattle.std.proofs.Common.{Option, None, Some, Result, Ok, Err, inl, inr, refl, sym, subst}
 use Rattle.std.specs.Prelude.{◌↔◌}
 use Rattle.std.specs.Option.{ForSome}
 use Rattle.lrup_model.specs.Formula.{Cnf}
@@ -11,7 +12,7 @@ use Rattle.portfolio.specs.declared.outcome.Verdict.TheVariants.{Unsatisfiable, 
 use Rattle.checkpoint.specs.Checkpoints.{IsCheckpoint}
 use Rattle.checkpoint.specs.declared.saving.SaveFault.{SaveFault}
 use Rattle.command_line.specs.CommandLine.{AskToSave}
-use Rattle.command.specs.Commands.{Deeds, EndsWithFault, EndsWithReport, FilesView, IsAssumeCause, IsCause, IsClosed, IsOutcome}
+use Rattle.command.specs.Commands.{Deeds, EndsWithFault, EndsWithReport, FilesView, IsAssumeCause, IsCause, ClosesSink, IsOutcome}
 use Rattle.command.specs.Commands.{LeavesBehind, LeavesFile, NameCheckpoint, SavesCheckpoint, SinkChange, Text, WasLeftEmpty, WasReadIn}
 use Rattle.command.specs.Commands.{WasSavedBy, assumed_at, checkpoint_at, report_status, terms_given}
 use Rattle.command.specs.Faults.{status_of}
@@ -132,7 +133,7 @@ no_fault faults.Sizes is = neither 2 (λ e. cc) (λ e. cc) is
 saved_of : (its : Deeds) (serial : Bool) (f : Cnf) (terms : TermsValue) (readers : List its.Reader) (reports : List Report)
     (before next after : its.State) (path : Text) (result : Result (Unit {0}) SaveFault) (first last : its.Output)
     → its.creates before path first next → ForSome (its.written first) (λ all. all ≡ [])
-    → SavesCheckpoint its serial f terms readers reports result first last → IsClosed its result next last None after
+    → SavesCheckpoint its serial f terms readers reports result first last → ClosesSink its result next last None after
     → (bytes : List ℕ) × WasSavedBy its before path bytes after × IsCheckpoint f bytes
 saved_of its serial f terms readers reports before next after path (Ok done) first last created empty saves closed =
     let wrote = saves.checkpoint in (

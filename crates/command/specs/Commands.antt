@@ -313,12 +313,12 @@ pub record SavesCheckpoint (its : Deeds) (serial : Bool) (formula : Cnf) (terms 
 
 -- How a sink was closed, to which something was saved with this result, and why that isn't saved, if it isn't: what was saved was kept,
 -- or that failed; else the sink was discarded.
-abbrev pub IsClosed : {A : Type 0} → (its : Deeds) → Result A SaveFault → its.State → its.Output
+abbrev pub ClosesSink : {A : Type 0} → (its : Deeds) → Result A SaveFault → its.State → its.Output
     → Option SaveFault → its.State → Type 0
-IsClosed its (Ok _) before last None after = its.keeps before last after
-IsClosed its (Ok _) before last (Some fault) after =
+ClosesSink its (Ok _) before last None after = its.keeps before last after
+ClosesSink its (Ok _) before last (Some fault) after =
     (fault ≡ saves.Unwritten) × its.loses before last after
-IsClosed its (Err fault) before last unsaved after =
+ClosesSink its (Err fault) before last unsaved after =
     (unsaved ≡ Some fault) × its.discards before last after
 
 -- A file was created at the path, from the files before. Where its device tells its bytes, it was empty. Something was saved to it, and it
@@ -333,7 +333,7 @@ pub record LeavesFile {A : Type 0} (its : Deeds)
   pub result : Result A SaveFault
   pub last : its.Output
   pub saving : Saves result first last
-  pub closed : IsClosed its result next last unsaved after
+  pub closed : ClosesSink its result next last unsaved after
 
 -- What a run with this verdict leaves as its checkpoint, and why that wasn't saved, if it wasn't. Without a path: nothing. With
 -- 'unsatisfiable': a file to which nothing went. Else a file to which the checkpoint was saved.

@@ -334,9 +334,11 @@ pub record EndsInRounds (files : FilesView) (words : List Text) (after : files.i
 
 -- How the program ends: with a report of a single run, where the words ask for no rounds; without one, for a cause of a single run or
 -- of round 1; or in rounds.
-abbrev pub ProgramEnds : (files : FilesView) → List Text → files.its.State → SinkChange → SinkChange → ℕ
+abbrev pub ProgramEnds : (files : FilesView) → List Text → files.its.State → SinkChange → SinkChange
+    → ℕ
     → Type 0
 ProgramEnds files words after out err status =
     (EndsWithReport files words after out err status
     × ((folder : Text) → ¬ AskForRounds words folder))
-    ⊎ (EndsWithFault files words after out err status ⊎ EndsInRounds files words after out err status)
+    ⊎ (EndsWithFault files words after out err status ⊎ EndsInRounds files words after out err
+    status)

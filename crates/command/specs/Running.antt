@@ -19,9 +19,9 @@ use Rattle.command.specs.declared.running.LeftClauses.{LeftClauses}
 use Rattle.command.specs.declared.running.LeftClauses.TheVariants as lefts
 
 -- the layout by which clauses were left
-abbrev pub layout_in : LeftClauses → LayoutValue
-layout_in (lefts.Shared left) = left.layout
-layout_in (lefts.Plain left) = left.map.layout
+abbrev pub left_layout : LeftClauses → LayoutValue
+left_layout (lefts.Shared left) = left.layout
+left_layout (lefts.Plain left) = left.map.layout
 
 -- the identities that the streams dropped
 abbrev pub dropped_in : LeftClauses → List DroppedValue
@@ -36,11 +36,11 @@ HasHistory formula history (lefts.Plain left) =
     (formula_of left.map ≡ formula) × (plain_state left.map ≡ state formula history)
 
 -- they can be saved
-abbrev pub IsReady : LeftClauses → Type 0
-IsReady (lefts.Shared left) =
+abbrev pub CanBeSaved : LeftClauses → Type 0
+CanBeSaved (lefts.Shared left) =
     AreOf left.store left.passes.items × (left.store.layout ≡ left.layout)
     × (0 < vec_len left.passes)
-IsReady (lefts.Plain left) = Fits left.map.layout (formula_of left.map)
+CanBeSaved (lefts.Plain left) = Fits left.map.layout (formula_of left.map)
 
 -- The reports of streams, and the clauses that these left, stand on one history.
 pub record StandsBehind {R : Type 0} (view : SourceView R) (serial : Bool) (formula : Cnf)
@@ -50,7 +50,7 @@ pub record StandsBehind {R : Type 0} (view : SourceView R) (serial : Bool) (form
   pub lasts : List R
   pub stands : StandsOnHistory view serial formula terms history firsts lasts reports
       (dropped_in left)
-  pub layout : layout_in left ≡ terms.layout
+  pub layout : left_layout left ≡ terms.layout
   pub has : HasHistory formula history left
 
 -- why streams aren't checked: there is no layout

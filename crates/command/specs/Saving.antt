@@ -5,7 +5,7 @@ use Rattle.lrup_model.specs.Formula.{Cnf}
 use Rattle.portfolio.specs.declared.outcome.Verdict.{Verdict}
 use Rattle.portfolio.specs.declared.outcome.Verdict.TheVariants.{Unsatisfiable}
 use Rattle.checkpoint.specs.declared.saving.SaveFault.{SaveFault}
-use Rattle.command.specs.Commands.{Deeds, IsClosed, IsRefusedNew, Text}
+use Rattle.command.specs.Commands.{Deeds, ClosesSink, IsRefusedNew, Text}
 use Rattle.command.specs.declared.fault.CommandFault.{CommandFault}
 use Rattle.command.specs.declared.fault.CommandFault.TheVariants as faults
 use Rattle.command.specs.declared.files.OpenFault.TheVariants as open_faults
@@ -39,7 +39,7 @@ pub record SavesAndCloses {A : Type 0} (its : Deeds)
   pub result : Result A SaveFault
   pub last : its.Output
   pub saving : Saves result first last
-  pub closed : IsClosed its result before last unsaved after
+  pub closed : ClosesSink its result before last unsaved after
 
 -- What became of the file, if there is one, by the verdict: with 'unsatisfiable' it was discarded.
 abbrev pub ClosesCheckpoint : {A : Type 0} → (its : Deeds)

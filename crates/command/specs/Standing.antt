@@ -163,10 +163,11 @@ IsUnsized reading first fault = ⊥
 
 -- What a run begins with: the assumed literals were read, and then the streams of the command line were opened.
 pub record HasBegun (files : FilesView) (given : CommandLine) (formula : Cnf) (cube : CubeValue)
-    (next : files.its.State) (readers : List files.its.Reader) (last : files.its.State) : Type 0 where
-  pub later : files.its.State
-  pub assumed : AreAssumed (WasReadIn files) formula.vars next (assumed_at given) cube later
-  pub opened : AreOpened files.its.opens later given.streams readers last
-  pub left : map files.its.reading.left readers
-      ≡ map files.tells given.streams
-  pub told : files.its.tells later ≡ files.tells
+    (next : files.its.State) (readers : List files.its.Reader) (last : files.its.State) : Type 0
+  where
+    pub later : files.its.State
+    pub assumed : AreAssumed (WasReadIn files) formula.vars next (assumed_at given) cube later
+    pub opened : AreOpened files.its.opens later given.streams readers last
+    pub left : map files.its.reading.left readers
+        ≡ map files.tells given.streams
+    pub told : files.its.tells later ≡ files.tells

@@ -54,7 +54,8 @@ pub fn command_with_arguments<
         → IsOkAnd arguments (λ given.
         NameUnsatisfiableUnder _ read files.old (words_after_name given)) }
     // A report of what the words and the files come to, or none and the cause; what goes out; and the status.
-    ensures ends { let view = files_view F.Files F.Machine.own F.Input.Source F.Output.Sink files.old in
+    ensures ends { let view = files_view F.Files F.Machine.own F.Input.Source F.Output.Sink
+        files.old in
         let output = change (O.written out.old) (O.written out.new) (O.has_failed out.new) in
         let errors = change (E.written err.old) (E.written err.new) (E.has_failed err.new) in
         IfOk arguments (λ given.
@@ -107,7 +108,8 @@ fn with_words<T: Threads + Wait + Sync, C: Clock + Sync, F: Machine, O: Sink, E:
         result ≡ 0 → NameUnsatisfiable _ read files.old (words_after_name arguments) }
     ensures sound_under { let read = WasRead F.opens F.Input.Source.reads (F.tells files.old) in
         result ≡ 8 → NameUnsatisfiableUnder _ read files.old (words_after_name arguments) }
-    ensures ends { let view = files_view F.Files F.Machine.own F.Input.Source F.Output.Sink files.old in
+    ensures ends { let view = files_view F.Files F.Machine.own F.Input.Source F.Output.Sink
+        files.old in
         let output = change (O.written out.old) (O.written out.new) (O.has_failed out.new) in
         let errors = change (E.written err.old) (E.written err.new) (E.has_failed err.new) in
         ProgramEnds view (words_after_name arguments) files.new output errors result }

@@ -62,10 +62,12 @@ pub fn read_asked<'a, W: Wait, F: Machine>(
     files: &mut F,
 ) -> Result<Asked<'a>, CommandFault>
     ensures line { IfOk result (λ asked. IsCommandLineOf (texts words.now) asked.line) }
-    ensures bytes { let view = files_view F.Files F.Machine.own F.Input.Source F.Output.Sink files.old in
+    ensures bytes { let view = files_view F.Files F.Machine.own F.Input.Source F.Output.Sink
+        files.old in
         IfOk result (λ asked. WasReadIn view files.old
         asked.line.formula.now asked.formula.items files.new) }
-    ensures cause { let view = files_view F.Files F.Machine.own F.Input.Source F.Output.Sink files.old in
+    ensures cause { let view = files_view F.Files F.Machine.own F.Input.Source F.Output.Sink
+        files.old in
         IfErr result (λ fault. IsCause view (texts words.now) fault files.new) }
     ensures stays { F.tells files.new ≡ F.tells files.old }
 {
@@ -86,7 +88,8 @@ pub fn check_asked<T: Threads + Wait + Sync, C: Clock + Sync, F: Machine>(
     requires tries { asked.line.tries ≤ max_tries }
     requires once { rounds_at asked.line ≡ None }
     ensures outcome { (words : List Text) (first : F) →
-        let view = from_first (files_view F.Files F.Machine.own F.Input.Source F.Output.Sink files.old) first in
+        let view = from_first (files_view F.Files F.Machine.own F.Input.Source F.Output.Sink
+        files.old) first in
         IsCommandLineOf words asked.entry.line
         → WasReadIn view first asked.entry.line.formula.now asked.entry.formula.items files.old
         → IfOk result (λ found. (outcome : IsOutcome view words found.reports.items found.verdict)
@@ -101,7 +104,8 @@ pub fn check_asked<T: Threads + Wait + Sync, C: Clock + Sync, F: Machine>(
         × AreAssumed read f.vars files.old (assumed_at asked.entry.line) cube after
         × IsUnsatisfiableUnder f cube) }
     ensures cause { (words : List Text) (first : F) →
-        let view = from_first (files_view F.Files F.Machine.own F.Input.Source F.Output.Sink files.old) first in
+        let view = from_first (files_view F.Files F.Machine.own F.Input.Source F.Output.Sink
+        files.old) first in
         IsCommandLineOf words asked.entry.line
         → WasReadIn view first asked.entry.line.formula.now asked.entry.formula.items files.old
         → IfErr result (λ fault. IsCause view words fault files.new) }
@@ -164,13 +168,15 @@ pub(crate) fn begin<W: Wait, F: Machine>(
     files: &mut F,
 ) -> Result<Beginning<F::Input>, CommandFault>
     ensures formula { IfOk result (λ begun. IsFormulaText bytes.items begun.formula) }
-    ensures begun { let view = files_view F.Files F.Machine.own F.Input.Source F.Output.Sink files.old in
+    ensures begun { let view = files_view F.Files F.Machine.own F.Input.Source F.Output.Sink
+        files.old in
         IfOk result (λ begun. HasBegun view line.now begun.formula begun.cube files.old
         begun.readers.items files.new) }
     ensures running { IfOk result (λ begun.
         AllByRecursion (λ r. F.Input.Source.has_failed r ≡ false) begun.readers.items) }
     ensures cause { (words : List Text) (first : F) →
-        let view = from_first (files_view F.Files F.Machine.own F.Input.Source F.Output.Sink files.old) first in
+        let view = from_first (files_view F.Files F.Machine.own F.Input.Source F.Output.Sink
+        files.old) first in
         IsCommandLineOf words line.now
         → WasReadIn view first line.now.formula.now bytes.items files.old
         → IfErr result (λ fault. IsCause view words fault files.new) }
@@ -202,10 +208,12 @@ fn read_assumed<W: Wait, F: Machine>(
     path: Option<&str>,
     formula: &Formula,
 ) -> Result<Cube, CommandFault>
-    ensures cube { let view = files_view F.Files F.Machine.own F.Input.Source F.Output.Sink files.old in
+    ensures cube { let view = files_view F.Files F.Machine.own F.Input.Source F.Output.Sink
+        files.old in
         IfOk result (λ cube. AreAssumed (WasReadIn view) formula.now.vars files.old
         (path_of path.entry) cube files.new) }
-    ensures cause { let view = files_view F.Files F.Machine.own F.Input.Source F.Output.Sink files.old in
+    ensures cause { let view = files_view F.Files F.Machine.own F.Input.Source F.Output.Sink
+        files.old in
         IfErr result (λ fault. IsAssumeCause view formula.now.vars files.old
         (path_of path.entry) fault files.new) }
     ensures stays { F.tells files.new ≡ F.tells files.old }
@@ -224,10 +232,12 @@ fn read_cube_at<W: Wait, F: Machine>(
     path: &str,
     formula: &Formula,
 ) -> Result<Cube, CommandFault>
-    ensures cube { let view = files_view F.Files F.Machine.own F.Input.Source F.Output.Sink files.old in
+    ensures cube { let view = files_view F.Files F.Machine.own F.Input.Source F.Output.Sink
+        files.old in
         IfOk result (λ cube. AreAssumed (WasReadIn view) formula.now.vars files.old
         (Some path.now) cube files.new) }
-    ensures cause { let view = files_view F.Files F.Machine.own F.Input.Source F.Output.Sink files.old in
+    ensures cause { let view = files_view F.Files F.Machine.own F.Input.Source F.Output.Sink
+        files.old in
         IfErr result (λ fault. IsAssumeCause view formula.now.vars files.old (Some path.now) fault
         files.new) }
     ensures stays { F.tells files.new ≡ F.tells files.old }
@@ -255,10 +265,12 @@ fn read_file<W: Wait, F: Machine>(
     files: &mut F,
     path: &str,
 ) -> Result<Vec<u8>, CommandFault>
-    ensures bytes { let view = files_view F.Files F.Machine.own F.Input.Source F.Output.Sink files.old in
+    ensures bytes { let view = files_view F.Files F.Machine.own F.Input.Source F.Output.Sink
+        files.old in
         IfOk result (λ bytes.
         WasReadIn view files.old path.now bytes.items files.new) }
-    ensures cause { let view = files_view F.Files F.Machine.own F.Input.Source F.Output.Sink files.old in
+    ensures cause { let view = files_view F.Files F.Machine.own F.Input.Source F.Output.Sink
+        files.old in
         IfErr result (λ fault. IsFileCause view files.old path.now fault files.new) }
     ensures stays { F.tells files.new ≡ F.tells files.old }
 {

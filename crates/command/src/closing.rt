@@ -5,7 +5,7 @@ ghost use Rattle.lrup_model.specs.Formula.{Cnf};
 ghost use Rattle.runs.specs.Streams.{TermsValue};
 ghost use Rattle.command.specs.Commands.{SavesCheckpoint, deeds, path_of, readers_view};
 ghost use Rattle.command.specs.Rounds.{CarriesCheckpoint};
-ghost use Rattle.command.specs.Running.{IsReady, StandsBehind};
+ghost use Rattle.command.specs.Running.{CanBeSaved, StandsBehind};
 ghost use Rattle.command.specs.Saving.{ClosesCheckpoint, CreatesCheckpoint, DiscardsIt, IsNotCreated, KeepsNext, SavesAndCloses};
 
 use crate::fault::CommandFault;
@@ -76,7 +76,7 @@ pub(crate) fn close_checkpoint<F: Machine>(
     left: LeftClauses,
     output: Option<F::Output>,
 ) -> Option<SaveFault>
-    requires ready { IsReady left }
+    requires ready { CanBeSaved left }
     requires running { ForSome output (λ sink. F.Output.Sink.has_failed sink ≡ false) }
     ensures { let its = deeds F.Files F.Machine.own F.Input.Source F.Output.Sink in
         (serial : Bool) (f : Cnf) (terms : TermsValue) (readers : List F.Input)
@@ -106,7 +106,7 @@ fn save_and_close<F: Machine>(
     left: LeftClauses,
     mut output: F::Output,
 ) -> Option<SaveFault>
-    requires ready { IsReady left }
+    requires ready { CanBeSaved left }
     requires running { F.Output.Sink.has_failed output ≡ false }
     ensures { let its = deeds F.Files F.Machine.own F.Input.Source F.Output.Sink in
         (serial : Bool) (f : Cnf) (terms : TermsValue) (readers : List F.Input)
@@ -143,7 +143,7 @@ pub(crate) fn close_round<F: Machine>(
     left: LeftClauses,
     output: F::Output,
 ) -> CarriedClauses
-    requires ready { IsReady left }
+    requires ready { CanBeSaved left }
     requires running { F.Output.Sink.has_failed output ≡ false }
     ensures closes { let its = deeds F.Files F.Machine.own F.Input.Source F.Output.Sink in
         (serial : Bool) (f : Cnf) (terms : TermsValue) (readers : List F.Input)
@@ -181,7 +181,7 @@ fn carry_and_close<F: Machine>(
     left: LeftClauses,
     mut output: F::Output,
 ) -> CarriedClauses
-    requires ready { IsReady left }
+    requires ready { CanBeSaved left }
     requires running { F.Output.Sink.has_failed output ≡ false }
     ensures closes { let its = deeds F.Files F.Machine.own F.Input.Source F.Output.Sink in
         (serial : Bool) (f : Cnf) (terms : TermsValue) (readers : List F.Input)

@@ -68,7 +68,8 @@ pub fn command<T: Threads + Wait + Sync, C: Clock + Sync, F: Machine, O: Sink, E
     ensures sound_under { let read = WasRead F.opens F.Input.Source.reads (F.tells files.old) in
         result ≡ 8 → NameUnsatisfiableUnder _ read files.old (texts words.now) }
     // A report of what the words and the files come to, or none and the cause; what goes out; and the status.
-    ensures ends { let view = files_view F.Files F.Machine.own F.Input.Source F.Output.Sink files.old in
+    ensures ends { let view = files_view F.Files F.Machine.own F.Input.Source F.Output.Sink
+        files.old in
         let output = change (O.written out.old) (O.written out.new) (O.has_failed out.new) in
         let errors = change (E.written err.old) (E.written err.new) (E.has_failed err.new) in
         ProgramEnds view (texts words.now) files.new output errors result }
@@ -122,7 +123,8 @@ pub fn check_formula<T: Threads + Wait + Sync, C: Clock + Sync, F: Machine, O: S
     // Where words give this command line, and the bytes are what was read of FORMULA by the first opening of files that were `first`
     // before it: a report of what these words and files come to, or none and the cause; what goes out; and the status.
     ensures ends { (words : List Text) (first : F) →
-        let view = from_first (files_view F.Files F.Machine.own F.Input.Source F.Output.Sink files.old) first in
+        let view = from_first (files_view F.Files F.Machine.own F.Input.Source F.Output.Sink
+        files.old) first in
         let output = change (O.written out.old) (O.written out.new) (O.has_failed out.new) in
         let errors = change (E.written err.old) (E.written err.new) (E.has_failed err.new) in
         IsCommandLineOf words asked.entry.line
@@ -158,7 +160,8 @@ fn check_once<T: Threads + Wait + Sync, C: Clock + Sync, F: Machine, O: Sink, E:
         × AreAssumed read f.vars files.old (assumed_at asked.entry.line) cube after
         × IsUnsatisfiableUnder f cube }
     ensures ends { (words : List Text) (first : F) →
-        let view = from_first (files_view F.Files F.Machine.own F.Input.Source F.Output.Sink files.old) first in
+        let view = from_first (files_view F.Files F.Machine.own F.Input.Source F.Output.Sink
+        files.old) first in
         let output = change (O.written out.old) (O.written out.new) (O.has_failed out.new) in
         let errors = change (E.written err.old) (E.written err.new) (E.has_failed err.new) in
         IsCommandLineOf words asked.entry.line
@@ -196,7 +199,8 @@ fn check_in_rounds<T: Threads + Wait + Sync, C: Clock + Sync, F: Machine, O: Sin
         × AreAssumed read f.vars files.old (assumed_at asked.entry.line) cube after
         × IsUnsatisfiableUnder f cube }
     ensures ends { (words : List Text) (first : F) →
-        let view = from_first (files_view F.Files F.Machine.own F.Input.Source F.Output.Sink files.old) first in
+        let view = from_first (files_view F.Files F.Machine.own F.Input.Source F.Output.Sink
+        files.old) first in
         let output = change (O.written out.old) (O.written out.new) (O.has_failed out.new) in
         let errors = change (E.written err.old) (E.written err.new) (E.has_failed err.new) in
         IsCommandLineOf words asked.entry.line

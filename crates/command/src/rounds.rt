@@ -62,10 +62,12 @@ fn check_round<T: Threads + Wait + Sync, C: Clock + Sync, F: Machine>(
         (deeds F.Files F.Machine.own F.Input.Source F.Output.Sink) (plan_of course.now)
         (round_of round.formula round.readers.items files.old found.last files.new)) }
     ensures next { IfOk result (λ found. ForSome found.next
-        (CarriesOn (deeds F.Files F.Machine.own F.Input.Source F.Output.Sink) (plan_of course.now) round.number
+        (CarriesOn (deeds F.Files F.Machine.own F.Input.Source F.Output.Sink) (plan_of course.now)
+        round.number
         (round_of round.formula round.readers.items files.old found.last files.new))) }
     ensures over { IfOk result (λ found. found.next ≡ None
-        → IsBarred (deeds F.Files F.Machine.own F.Input.Source F.Output.Sink) (plan_of course.now) round.number
+        → IsBarred (deeds F.Files F.Machine.own F.Input.Source F.Output.Sink) (plan_of course.now)
+        round.number
         (round_of round.formula round.readers.items files.old found.last files.new)) }
     ensures number { IfOk result (λ found. found.last.number ≡ round.number) }
     ensures sizes { IfOk result (λ found. found.last.sizes ≡ round.sizes) }
@@ -260,13 +262,16 @@ fn next_round<T: Threads + Wait + Sync, C: Clock + Sync, F: Machine>(
     requires after { number ≡ last.now.number + 1 }
     requires number { number < u64.MAX }
     ensures stands { (given : Cnf) (sizes : Sizes) (first : F) (paths : List Text) →
-        RoundsStand (deeds F.Files F.Machine.own F.Input.Source F.Output.Sink) (plan_of course.now) given sizes
+        RoundsStand (deeds F.Files F.Machine.own F.Input.Source F.Output.Sink) (plan_of course.now)
+        given sizes
         first paths last.now (Some formula) files.old → IfOk result (λ next. ForSome next (λ found.
-        RoundsStand (deeds F.Files F.Machine.own F.Input.Source F.Output.Sink) (plan_of course.now) given sizes
+        RoundsStand (deeds F.Files F.Machine.own F.Input.Source F.Output.Sink) (plan_of course.now)
+        given sizes
         first paths found.last found.next files.new)) }
     ensures number { IfOk result (λ next. ForSome next (λ found.
         found.last.number ≡ number)) }
-    ensures over { result ≡ Ok None → IsAlone (deeds F.Files F.Machine.own F.Input.Source F.Output.Sink)
+    ensures over { result ≡ Ok None → IsAlone (deeds F.Files F.Machine.own F.Input.Source
+        F.Output.Sink)
         (plan_of course.now) last.now files.old files.new }
     ensures cause { IfErr result (λ fault. IsUnchecked
         (deeds F.Files F.Machine.own F.Input.Source F.Output.Sink) (plan_of course.now) last.now
@@ -307,12 +312,15 @@ fn go_on<T: Threads + Wait + Sync, C: Clock + Sync, F: Machine>(
     requires count { length round.readers.items ≡ round.sizes.streams }
     requires one { round.number ≡ 1 }
     ensures over { (first : F) (paths : List Text) →
-        StreamsOpened (deeds F.Files F.Machine.own F.Input.Source F.Output.Sink) first paths round.readers.items
+        StreamsOpened (deeds F.Files F.Machine.own F.Input.Source F.Output.Sink) first paths
+        round.readers.items
         files.old → IfOk result (λ last.
-        EndsAt (deeds F.Files F.Machine.own F.Input.Source F.Output.Sink) (plan_of course.now) round.formula
+        EndsAt (deeds F.Files F.Machine.own F.Input.Source F.Output.Sink) (plan_of course.now)
+        round.formula
         round.sizes first paths last files.new) }
     ensures cause { (first : F) (paths : List Text) →
-        StreamsOpened (deeds F.Files F.Machine.own F.Input.Source F.Output.Sink) first paths round.readers.items
+        StreamsOpened (deeds F.Files F.Machine.own F.Input.Source F.Output.Sink) first paths
+        round.readers.items
         files.old → IfErr result (λ failed.
         FailsAt (deeds F.Files F.Machine.own F.Input.Source F.Output.Sink) (plan_of course.now)
         round.formula round.sizes first paths files.old failed files.new) }
@@ -357,7 +365,8 @@ pub(crate) fn check_rounds<T: Threads + Wait + Sync, C: Clock + Sync, F: Machine
     requires tries { asked.line.tries ≤ max_tries }
     requires folder { rounds_at asked.line ≡ Some folder.now }
     ensures reported { (words : List Text) (first : F) →
-        let view = from_first (files_view F.Files F.Machine.own F.Input.Source F.Output.Sink files.old) first in
+        let view = from_first (files_view F.Files F.Machine.own F.Input.Source F.Output.Sink
+        files.old) first in
         IsCommandLineOf words asked.entry.line
         → WasReadIn view first asked.entry.line.formula.now asked.entry.formula.items files.old
         → IfOk result (λ last. IsReported view asked.entry.line folder.now last files.new) }
@@ -370,7 +379,8 @@ pub(crate) fn check_rounds<T: Threads + Wait + Sync, C: Clock + Sync, F: Machine
         × AreAssumed read f.vars files.old (assumed_at asked.entry.line) cube after
         × IsUnsatisfiableUnder f cube) }
     ensures cause { (words : List Text) (first : F) →
-        let view = from_first (files_view F.Files F.Machine.own F.Input.Source F.Output.Sink files.old) first in
+        let view = from_first (files_view F.Files F.Machine.own F.Input.Source F.Output.Sink
+        files.old) first in
         IsCommandLineOf words asked.entry.line
         → WasReadIn view first asked.entry.line.formula.now asked.entry.formula.items files.old
         → IfErr result (λ failed.

@@ -8,7 +8,7 @@ ghost use Rattle.lrup_model.specs.State.{state};
 ghost use Rattle.checkpoint.specs.Checkpoints.{IsCheckpoint, IsCheckpointOf};
 ghost use Rattle.portfolio.specs.Saving.{CarriesState, SavesState, is_wanted};
 ghost use Rattle.command.specs.Commands.{AreChecked, readers_view, terms_on};
-ghost use Rattle.command.specs.Running.{HasHistory, IsReady, IsRunCause, StandsBehind, dropped_in, layout_in};
+ghost use Rattle.command.specs.Running.{HasHistory, CanBeSaved, IsRunCause, StandsBehind, dropped_in, left_layout};
 
 use crate::fault::CommandFault;
 use crate::files::Machine;
@@ -85,7 +85,7 @@ pub(crate) fn run_streams<T: Threads + Wait + Sync, C: Clock + Sync, F: Machine>
     ensures stands { let terms = terms_on setup.now (length readers.items) in
         IfOk result (λ run. StandsBehind (readers_view F.Input.Source) setup.now.serial
         setup.now.formula.now terms readers.items run.reports.items run.left) }
-    ensures ready { IfOk result (λ run. IsReady run.left) }
+    ensures ready { IfOk result (λ run. CanBeSaved run.left) }
     ensures cause { let terms = terms_on setup.now (length readers.items) in
         IfErr result (IsRunCause setup.now.serial terms.layout) }
 {
@@ -112,7 +112,7 @@ fn run_by_turns<W: Wait, C: Clock + Sync, F: Machine>(
     ensures stands { let terms = terms_on setup.now (length readers.items) in
         IfOk result (λ run. StandsBehind (readers_view F.Input.Source) true setup.now.formula.now
         terms readers.items run.reports.items run.left) }
-    ensures ready { IfOk result (λ run. IsReady run.left) }
+    ensures ready { IfOk result (λ run. CanBeSaved run.left) }
     ensures cause { let terms = terms_on setup.now (length readers.items) in
         IfErr result (IsRunCause true terms.layout) }
 {
@@ -156,7 +156,7 @@ fn run_in_threads<T: Threads + Wait + Sync, C: Clock + Sync, F: Machine>(
     ensures stands { let terms = terms_on setup.now (length readers.items) in
         IfOk result (λ run. StandsBehind (readers_view F.Input.Source) false setup.now.formula.now
         terms readers.items run.reports.items run.left) }
-    ensures ready { IfOk result (λ run. IsReady run.left) }
+    ensures ready { IfOk result (λ run. CanBeSaved run.left) }
     ensures cause { let terms = terms_on setup.now (length readers.items) in
         IfErr result (IsRunCause false terms.layout) }
 {
@@ -197,13 +197,13 @@ pub(crate) fn save_left<W: Sink>(
     left: LeftClauses,
     sink: &mut W,
 ) -> Result<(), SaveFault>
-    requires ready { IsReady left }
+    requires ready { CanBeSaved left }
     requires running { W.has_failed sink.old ≡ false }
     ensures checkpoint { (f : Cnf) (h : History) → HasHistory f h left → IfOk result (λ _.
         (bytes : List ℕ) × Appends (W.written sink.old) (W.written sink.new) bytes
         × IsCheckpoint f bytes) }
     ensures saves { (f : Cnf) (h : History) → HasHistory f h left
-        → SavesState W.written result (state f h) (layout_in left) (is_wanted (dropped_in left))
+        → SavesState W.written result (state f h) (left_layout left) (is_wanted (dropped_in left))
         sink.old sink.new }
     ensures failed { IsTrue (W.has_failed sink.new) ↔ (result ≡ Err SaveFault.Unwritten) }
 {
@@ -228,13 +228,13 @@ pub(crate) fn carry_left<W: Sink>(
     left: LeftClauses,
     sink: &mut W,
 ) -> Result<Formula, SaveFault>
-    requires ready { IsReady left }
+    requires ready { CanBeSaved left }
     requires running { W.has_failed sink.old ≡ false }
     ensures next { (f : Cnf) (h : History) → HasHistory f h left → IfOk result (λ next.
         (bytes : List ℕ) × Appends (W.written sink.old) (W.written sink.new) bytes
         × IsCheckpointOf f bytes next) }
     ensures carries { (f : Cnf) (h : History) → HasHistory f h left
-        → CarriesState W.written result (state f h) (layout_in left) (is_wanted (dropped_in left))
+        → CarriesState W.written result (state f h) (left_layout left) (is_wanted (dropped_in left))
         sink.old sink.new }
     ensures failed { IsTrue (W.has_failed sink.new) ↔ (result ≡ Err SaveFault.Unwritten) }
 {

@@ -28,7 +28,8 @@ use Rattle.portfolio.specs.declared.outcome.Verdict.TheVariants.{Unsatisfiable, 
 use Rattle.checkpoint.specs.declared.saving.SaveFault.{SaveFault}
 use Rattle.command_line.specs.CommandLine.{AskToSave, IsCommandLineOf}
 use Rattle.command_line.specs.declared.words.CommandLine.{CommandLine}
-use Rattle.command.specs.Commands.{Deeds, LeavesBehind, EndsWithFault, EndsWithReport, FilesView, IsAssumeCause, IsCause, IsFormulaAt, IsOutcome, IsReadCause}
+use Rattle.command.specs.Commands.{Deeds, LeavesBehind, EndsWithFault, EndsWithReport, FilesView}
+use Rattle.command.specs.Commands.{IsAssumeCause, IsCause, IsFormulaAt, IsOutcome, IsReadCause}
 use Rattle.command.specs.Commands.{LeavesCheckpoint, SinkChange, Text, assumed_at, checkpoint_at, layout_at, options_of, report_status}
 use Rattle.command.specs.Commands.{verdict_status}
 use Rattle.command.specs.Faults.{status_of}
@@ -75,7 +76,8 @@ module _ (its : Deeds) (Saves : Result (Unit {0}) SaveFault → its.Output → i
   asked_for verdict before (Some path) fault after leaves = (path, refl)
 
 -- what comes of a report: of one that says 'unsatisfiable', or that the stream was stopped
-module _ (files : FilesView) (Lost : Report → Type 0) (words : List Text) (after : files.its.State) (s : ℕ) (out err : SinkChange) (status : ℕ)
+module _ (files : FilesView) (Lost : Report → Type 0) (words : List Text) (after : files.its.State) (s : ℕ) (out err : SinkChange) (status :
+    ℕ)
     (ends : EndsWithReport files words after out err status) where
   -- where the checkpoint wasn't saved the verdict isn't 'unsatisfiable', and the words ask for it
   none_refuted : (fault : SaveFault) → ends.unsaved ≡ Some fault → ends.verdict ≢ Unsatisfiable
@@ -183,7 +185,8 @@ module _ (one_formula : OneFormula) (serial : SerialRun) (alike : SameWordsAskAl
       subst (λ (x : Cnf). IsRightBeginning x (layout_at a.given a.formula) s ask.bytes lines) (sym is.formulas)
       (subst (λ (p : LayoutValue). IsRightBeginning asks.formula p s ask.bytes lines) is.layouts ask.right.right) in
       let names : IsOfStream a.given.streams s ask.path = subst (λ (x : List Text). IsOfStream x s ask.path) (sym is.streams) ask.names in
-      refutes files.its.reading (check_of files words reports verdict a) serial begins empty is.cnf s ask.path ask.bytes lines names ask.tells
+      refutes files.its.reading (check_of files words reports verdict a) serial begins empty is.cnf s ask.path ask.bytes lines names
+      ask.tells
       right ask.right.empty
 
   order_says : TogetherBegins
@@ -197,7 +200,8 @@ module _ (one_formula : OneFormula) (serial : SerialRun) (alike : SameWordsAskAl
       let order : IsRightOrder a.formula (layout_at a.given a.formula) ask.steps =
       subst (λ (x : Cnf). IsRightOrder x (layout_at a.given a.formula) ask.steps) (sym is.formulas)
       (subst (λ (p : LayoutValue). IsRightOrder asks.formula p ask.steps) is.layouts ask.order) in
-      elim (orders files.its.reading (check_of files words reports verdict a) serial together empty is.cnf s ask.set ask.steps order ask.members
+      elim (orders files.its.reading (check_of files words reports verdict a) serial together empty is.cnf s ask.set ask.steps order
+      ask.members
       (λ t path member names. ask.tells t path member (subst (λ (x : List Text). IsOfStream x t path) is.streams names)) ask.empty) [
         | inl says ↦ inl says
         | inr (report, says, inl cut) ↦ inr (report, says, inl cut)
@@ -290,7 +294,8 @@ module _ (one_formula : OneFormula) (no_fault : NoFormulaFault) (alike : SameWor
               let formulas = formula_at words ask cause.0 later.0 later.1 cause.1 later.2 in
               not_assumed ask.formula.vars later.1 (assumed_at ask.given) fault after ask.assumptions
               (subst (λ (p : Option Text). IsAssumeCause files ask.formula.vars later.1 p (faults.CubeRefused fault) after) assumed
-              (subst (λ (f : Cnf). IsAssumeCause files f.vars later.1 (assumed_at cause.0) (faults.CubeRefused fault) after) formulas assume))
+              (subst (λ (f : Cnf). IsAssumeCause files f.vars later.1 (assumed_at cause.0) (faults.CubeRefused fault) after) formulas
+              assume))
           | inr last ↦ elim last.3 [ inl opens ↦ opens | inr start ↦ start.3 ]
         ]
       ]
@@ -357,7 +362,8 @@ pub without_report : OneFormula → NoFormulaFault → SameWordsAskAlike → (fi
     (after : files.its.State) (s : ℕ) (out err : SinkChange) (status : ℕ) → AskWell files words None
     → EndsWithFault files words after out err status → IsExcused files words s Lost after out err status
 without_report one_formula no_fault alike files Lost words after s out err status ask ends =
-    let machine = of_machine one_formula no_fault alike files None words ask after (no_rounds files words after ask) ends.fault ends.cause in
+    let machine = of_machine one_formula no_fault alike files None words ask after (no_rounds files words after ask) ends.fault ends.cause
+    in
     no_report ends machine (subst (λ (n : ℕ). (n ≡ 5) ⊎ (n ≡ 6)) (sym ends.status_is) (machine_status ends.fault machine))
 
 pub right_refutation_says : OneFormula → NoFormulaFault → SerialRun → SameWordsAskAlike → RightBegins → RightEmpty

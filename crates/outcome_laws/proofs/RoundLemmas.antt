@@ -64,7 +64,8 @@ module _ (its : Deeds) (plan : Plan) (number : ℕ) (old : Sizes) (formula : Cnf
       first sized (stream_path plan.folder (number + 1) 1) cause
   none_so fault sizes first opens starts (inr (read, sized, are, inl (inr (one, next, opened, cause)))) =
       opens next (drop 1 (stream_paths plan.folder (number + 1) read.streams)) cause
-  none_so fault sizes first opens starts (inr (read, sized, are, inr (readers, opened, so, cause))) = starts read sized are opened (Some (formula_path plan.folder (number + 1 + 1))) cause
+  none_so fault sizes first opens starts (inr (read, sized, are, inr (readers, opened, so, cause))) = starts read sized are opened (Some
+      (formula_path plan.folder (number + 1 + 1))) cause
 
   module _ (Before Last : RoundAsk) (last : ℕ)
       (provided : IsProvided Before Last last its plan.folder (number + 1) old formula before) where
@@ -135,7 +136,8 @@ check_in Before Last last its plan number round is = record {
 
 -- the rounds before one that follows another
 abbrev before_them : (files : FilesView) (given : CommandLine) (folder : Text) (round b : Round files.its.State files.its.Reader)
-    (more : List (Round files.its.State files.its.Reader)) → WereRounds files given folder round (b ∷ more) → WereRounds files given folder b more
+    (more : List (Round files.its.State files.its.Reader)) → WereRounds files given folder round (b ∷ more) → WereRounds files given folder
+    b more
 before_them files given folder round b more were = record {
   alone = were.alone;
   formula = were.formula;
@@ -378,7 +380,8 @@ module _ (Mode : Bool → Type 0) (Before Last : RoundAsk) (Early Late : Loss) (
           folder_is = sym asks.command_line.said.rounds ∙ asks.rounds;
         }))
     rounds_say (inr (inl ends)) =
-        let machine = of_machine one_formula no_fault alike files (Some folder) words ask.asks after (two_files after) ends.fault ends.cause in
+        let machine = of_machine one_formula no_fault alike files (Some folder) words ask.asks after (two_files after) ends.fault ends.cause
+        in
         inr (not_begun ends machine
         (subst (λ (n : ℕ). (n ≡ 5) ⊎ (n ≡ 6)) (sym ends.status_is) (machine_status ends.fault machine)))
     rounds_say (inr (inr ends)) =
@@ -386,7 +389,8 @@ module _ (Mode : Bool → Type 0) (Before Last : RoundAsk) (Early Late : Loss) (
         let same : Some ends.folder ≡ Some folder =
         sym ends.asked ∙ ends.command_line.said.rounds ∙ sym asks.command_line.said.rounds ∙ asks.rounds in
         let folders : ends.folder ≡ folder = cc in
-        elim (subst (λ (d : Text). ReportsRounds files ends.given d after out err status ⊎ FailsInRound files ends.given d after out err status)
+        elim (subst (λ (d : Text). ReportsRounds files ends.given d after out err status ⊎ FailsInRound files ends.given d after out err
+        status)
         folders ends.ending) [
           | inl report ↦ reported_so ends.given ends.command_line report out.failed refl report.status_is
           | inr fails ↦ failed_so ends.given ends.command_line fails

@@ -74,7 +74,8 @@ OutcomesAgree files others =
 abbrev pub PlainEnds : FilesView → Type 0
 PlainEnds files = (words : List Text) (after : files.its.State) (out err : SinkChange) (status : ℕ)
     → ((folder : Text) → ¬ AskForRounds words folder) → ProgramEnds files words after out err status
-    → EndsWithReport files words after out err status ⊎ EndsWithFault files words after out err status
+    → EndsWithReport files words after out err status ⊎ EndsWithFault files words after out err
+    status
 
 -- What the ending of a single run says of status 0: the words have a command line, and what was read at its FORMULA is a text of a formula
 -- that no assignment satisfies. So all that isn't in the clause `sound` of what the words say is in the clause `ends`.

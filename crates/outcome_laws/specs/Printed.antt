@@ -34,5 +34,6 @@ pub record HoldsBackRefuted (files : FilesView) (words : List Text) (after : fil
 abbrev pub NoBadLineShown : FilesView → Type 0
 NoBadLineShown files = (words : List Text) (after : files.its.State) (s : ℕ) (out err : SinkChange)
     (status : ℕ) → AskForRightRefutation files words s
-    → EndsWithReport files words after out err status ⊎ EndsWithFault files words after out err status
+    → EndsWithReport files words after out err status ⊎ EndsWithFault files words after out err
+    status
     → ShowsBadLine s out → (status ≡ 0) ⊎ HoldsBackRefuted files words after out err status

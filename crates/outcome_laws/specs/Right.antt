@@ -138,9 +138,11 @@ pub data IsExcused (files : FilesView) (words : List Text) (s : ℕ) (Lost : Rep
 -- or 6, for a fault of the machine; or with 3 or 8, or 9 in their place, and then memory ran out, or a read failed, in the refutation's
 -- lines.
 abbrev pub RightRefutationSays : FilesView → Type 0
-RightRefutationSays files = (words : List Text) (after : files.its.State) (s : ℕ) (out err : SinkChange)
+RightRefutationSays files = (words : List Text) (after : files.its.State) (s : ℕ) (out err :
+    SinkChange)
     (status : ℕ) → (ask : AskForRightRefutation files words s)
-    → EndsWithReport files words after out err status ⊎ EndsWithFault files words after out err status
+    → EndsWithReport files words after out err status ⊎ EndsWithFault files words after out err
+    status
     → (status ≡ 0)
     ⊎ IsExcused files words s (IsCutOffIn (length ask.right.lines)) after out err status
 
@@ -149,7 +151,8 @@ RightRefutationSays files = (words : List Text) (after : files.its.State) (s : �
 abbrev pub RightOrderSays : FilesView → Type 0
 RightOrderSays files = (words : List Text) (after : files.its.State) (s : ℕ) (out err : SinkChange)
     (status : ℕ) → (ask : AskForRightOrder files words s)
-    → EndsWithReport files words after out err status ⊎ EndsWithFault files words after out err status
+    → EndsWithReport files words after out err status ⊎ EndsWithFault files words after out err
+    status
     → (status ≡ 0)
     ⊎ IsExcused files words s
     (IsHeldUp files words ask.asks s (length (lines_by s ask.steps))) after out err status

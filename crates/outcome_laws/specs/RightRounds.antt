@@ -209,7 +209,8 @@ IsCutOffOf s count layout t report = (t ≡ s) × IsCutOffIn count report
 -- and the report says 'unsatisfiable under assumptions'; or with 3, and then the report says that memory ran out, or a read failed: in
 -- the refutation's lines, or in some stream of a round before the last.
 abbrev pub RightRoundsSay : FilesView → Type 0
-RightRoundsSay files = (words : List Text) (folder : Text) (last s count : ℕ) (after : files.its.State)
+RightRoundsSay files = (words : List Text) (folder : Text) (last s count : ℕ) (after :
+    files.its.State)
     (out err : SinkChange) (status : ℕ)
     → AskForRightRounds AreRightAlone (IsRefutedAlone s count) files words folder last
     → ProgramEnds files words after out err status
@@ -236,7 +237,8 @@ IsStoppedOf s count layout t report =
 -- stream s adds the empty clause, the program ends so too, with one more reason for 3: such a line cites a clause of another stream
 -- that wasn't there, or wasn't any more.
 abbrev pub RightOrdersSay : FilesView → Type 0
-RightOrdersSay files = (words : List Text) (folder : Text) (last s count : ℕ) (after : files.its.State)
+RightOrdersSay files = (words : List Text) (folder : Text) (last s count : ℕ) (after :
+    files.its.State)
     (out err : SinkChange) (status : ℕ)
     → AskForRightRounds AreRightInOrder (IsRefutedInOrder s count) files words folder last
     → ProgramEnds files words after out err status
@@ -247,7 +249,8 @@ RightOrdersSay files = (words : List Text) (folder : Text) (last s count : ℕ) 
 -- some line of stream s adds the empty clause, the program ends so too; with 3 the report says that memory ran out in some stream, or
 -- that a read of it failed.
 abbrev pub RightTurnRoundsSay : FilesView → Type 0
-RightTurnRoundsSay files = (words : List Text) (folder : Text) (last s : ℕ) (after : files.its.State)
+RightTurnRoundsSay files = (words : List Text) (folder : Text) (last s : ℕ) (after :
+    files.its.State)
     (out err : SinkChange) (status : ℕ)
     → (ask : AskForRightRounds AreRightByTurns (IsRefutedByTurns s) files words folder last)
     → ask.asks.given.serial ≡ true

@@ -65,5 +65,6 @@ IsCutOff report = IsOfMemory report ⊎ IsOfFailure report
 abbrev pub RightTurnsSay : FilesView → Type 0
 RightTurnsSay files = (words : List Text) (after : files.its.State) (s : ℕ) (out err : SinkChange)
     (status : ℕ) → AskForRightTurns files words s
-    → EndsWithReport files words after out err status ⊎ EndsWithFault files words after out err status
+    → EndsWithReport files words after out err status ⊎ EndsWithFault files words after out err
+    status
     → (status ≡ 0) ⊎ ((t : ℕ) × IsExcused files words t IsCutOff after out err status)

@@ -55,6 +55,7 @@ returns-in-Err-Memory-clause-cause g c =
 pub returns-in_err-readers-clause-cause : goal.returns-in_err-readers-clause-cause
 returns-in_err-readers-clause-cause g c =
     let before = c.args.files.now in
-    let Cause : CommandFault → Type 0 = λ fault. IsOpenCause (deeds g.F.Files g.F.Machine g.F.Input.Source g.F.Output.Sink) 0 before (texts c.args.paths.now) fault before in
+    let Cause : CommandFault → Type 0 = λ fault. IsOpenCause (deeds g.F.Files g.F.Machine g.F.Input.Source g.F.Output.Sink) 0 before (texts
+    c.args.paths.now) fault before in
     let cause : Cause faults.Memory = inr (0, [], refl) in
     err_given c.from_residual.result _ Cause (λ fault is. subst Cause (sym is) cause) c.from_residual.ensures.1

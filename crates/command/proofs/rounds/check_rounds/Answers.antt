@@ -12,7 +12,8 @@ use Rattle.command.proofs.rounds.check_rounds.Goals as goal
 -- a fault of what the rounds begin with is one of round 1
 pub returns-in-Err-clause-cause : goal.returns-in-Err-clause-cause
 returns-in-Err-clause-cause g c words first good at =
-    let Cause : CommandFault → Type 0 = λ fault. IsCause (from_first (files_view g.F.Files g.F.Machine g.F.Input.Source g.F.Output.Sink c.args.files.now) first) words fault
+    let Cause : CommandFault → Type 0 = λ fault. IsCause (from_first (files_view g.F.Files g.F.Machine g.F.Input.Source g.F.Output.Sink
+    c.args.files.now) first) words fault
     c.begin.new.files in
     let cause : Cause c.in-Err.fault = c.in-Err.ensures.cause words first good at in
     let of = c.of_first-in-Err.ensures in

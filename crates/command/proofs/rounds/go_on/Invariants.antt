@@ -9,7 +9,8 @@ invariant-loop-number g l =
     record {
       stands : (first : g.row.F.Denot) (paths : List Text)
           → StreamsOpened (deeds g.F.Files g.F.Machine g.F.Input.Source g.F.Output.Sink) first paths l.fn.round.readers.items l.fn.files
-          → RoundsStand (deeds g.F.Files g.F.Machine g.F.Input.Source g.F.Output.Sink) (plan_of l.course) l.fn.round.formula l.fn.round.sizes
+          → RoundsStand (deeds g.F.Files g.F.Machine g.F.Input.Source g.F.Output.Sink) (plan_of l.course) l.fn.round.formula
+          l.fn.round.sizes
           first paths l.last l.next l.files;
       number : l.number ≡ l.last.number + 1;
     }
