@@ -320,7 +320,7 @@ By the [[fn run.isolated+alone]], and those of [[fn run_serial]]."""
 
 ISOLATION_PHRASES: Rows = [
     ("Streams that cite and import only clauses of each other and of the formula", """they are a closed set:
-     [[AreIsolated: (set : ℕ → Bool) → ClosesSink terms.layout set streams]]. No line of a stream of it cites what a stream outside
+     [[AreIsolated: (set : ℕ → Bool) → IsClosed terms.layout set streams]]. No line of a stream of it cites what a stream outside
      it owns, [[CiteWithin: AllByRecursion (IsOwnedWithin layout set) (cited_by line)]], hints and imports ([[cited_by]]); nobody owns
      the formula's identities."""),
     ("have such reports as they may have", """[[AreIsolated: IsGroup formula terms set streams reports]]: some legal history judges the
@@ -334,7 +334,7 @@ ISOLATION_PHRASES: Rows = [
      or on one thread in an order of lines, [[fn run_serial.isolated: IsOrdered formula.now terms (λ s. true) streams
      outcome.reports.items]]. Those of [[fn run.reports]] and of [[fn run_serial.ordered]] are among them."""),
     ("unless memory ran out", "[[AreIsolated: NoneOutOfMemory set reports]]."),
-    ("A stream that cites and imports only its own and the formula's", """[[fn run.alone]], [[HaveReportsAlone: ClosesSink
+    ("A stream that cites and imports only its own and the formula's", """[[fn run.alone]], [[HaveReportsAlone: IsClosed
      terms.layout (one s) streams]]."""),
     ("with the same formula, options, assumptions and number of streams", """the `formula` and the `terms` of [[HaveReportsAlone:
      IsReportAlone formula terms s whole end other]], which are [[fn run.alone: terms_of options cube.now formula.now (length
@@ -353,7 +353,7 @@ SERIALIZABLE_TOP = """## Lines are serializable
 By the [[fn run.serializable]]; the [[fn run_serial.ordered]] says it of all streams, without the premise."""
 
 SERIALIZABLE_PHRASES: Rows = [
-    ("The lines of such a group", """of each closed set: [[IsSerializable: (set : ℕ → Bool) → ClosesSink terms.layout set
+    ("The lines of such a group", """of each closed set: [[IsSerializable: (set : ℕ → Bool) → IsClosed terms.layout set
      streams]]."""),
     ("if no stream retires (deletes for all) a clause that another one found", """[[IsSerializable: FoundStays formula terms.layout set
      history]]: what a stream of the set found live, and isn't its own, the run's history doesn't leave retired,
