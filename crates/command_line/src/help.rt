@@ -82,4 +82,4 @@ The clauses and literals of the formula, the identities and the room of all
 streams are at most 268,435,455 together.
 
 Example:
-  lrupd --tries 1000000 big.cnf solver1.lrup solver2.lrup";
+  lrupd --tries 1000000 --lines 4000000 --room 60000000 big.cnf one.lrup two.lrup";

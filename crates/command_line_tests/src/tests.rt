@@ -608,7 +608,7 @@ static HELP: [&str; 15] = [
     "--rounds <DIR>\n",
     "--serial\n",
     "--watch\n",
-    "\n  lrupd --tries 1000000 big.cnf solver1.lrup solver2.lrup\n",
+    "\n  lrupd --tries 1000000 --lines 4000000 --room 60000000 big.cnf one.lrup two.lrup\n",
 ];
 
 #[test]
