@@ -221,7 +221,7 @@ module _ (its : Deeds) (serial : Bool) (layout : LayoutValue) (before : its.Stat
   pub create_start : (fault : CommandFault) (after : its.State) → HasNoFault layout → IsNotCreated its before path fault after
       → IsStartCause its serial layout before path fault after
   create_start faults.NotCreated after none cause = (none, cause)
-  create_start faults.Memory after none cause = inr (inl cause)
+  create_start faults.Memory after none cause = inr (none, inl cause)
   create_start fault after none cause = absurd cause
 
   -- or it was, and was discarded since the run had a fault
@@ -230,7 +230,7 @@ module _ (its : Deeds) (serial : Bool) (layout : LayoutValue) (before : its.Stat
   run_start (faults.Layout fault) after none cause unused = absurd (none fault cause)
   run_start (faults.Spawn stream) after none cause unused = (cause.0, cause.1, cause.2, unused)
   run_start (faults.Ring stream) after none cause unused = (cause.0, cause.1, cause.2, unused)
-  run_start faults.Memory after none cause unused = inr (inr unused)
+  run_start faults.Memory after none cause unused = inr (none, inr unused)
   run_start fault after none cause unused = absurd cause
 
 -- so by the layout that a run has

@@ -209,8 +209,11 @@ module _ (its : Deeds) (plan : Plan) (formula : Cnf) (sizes : Sizes) (first : it
   pub ends_high : (last : LastRound) (next : Option Cnf) (after : its.State)
       → RoundsStand its plan formula sizes first paths last next after
       → 2 ^ 64 < last.number + 3 → EndsAt its plan formula sizes first paths last after
-  ends_high last next after stands high =
-      ends_so last next after after stands (inr (inr (subst (λ (n : ℕ). 2 ^ 64 < n + 3) stands.number high, stands.left)))
+  ends_high last None after stands high = ends_barred last after stands
+  ends_high last (Some next) after stands high =
+      let goes_on = subst (λ (n : ℕ). CarriesOn its plan n stands.round next) stands.number (stands.is_found.goes_on next refl) in
+      ends_so last (Some next) after after stands
+      (inr (inr ((next, goes_on), subst (λ (n : ℕ). 2 ^ 64 < n + 3) stands.number high, stands.left)))
 
   -- the next one has no report
   pub fails_after : (last : LastRound) (next : Cnf) (before after : its.State) (failed : RoundFault)

@@ -471,7 +471,8 @@ IsStartCause its serial layout before path (faults.Ring stream) after =
     × IsLeftUnused its before path after
 IsStartCause its serial layout before path faults.Memory after =
     (after ≡ before)
-    ⊎ (IsRefusedNew its before path open_faults.Memory after ⊎ IsLeftUnused its before path after)
+    ⊎ (HasNoFault layout × (IsRefusedNew its before path open_faults.Memory after
+    ⊎ IsLeftUnused its before path after))
 IsStartCause its serial layout before path fault after = ⊥
 
 -- the cause of a fault of the formula; or, of a formula that was read, of a fault of the assumed literals; or, of both that were read,
@@ -491,7 +492,7 @@ IsCauseAt files given fault after =
     after)))))
 
 -- Why there is no outcome, by the words and the files, and the files then. Words with a fault, or the want of memory for them, leave the
--- files as they were; that there are two checkpoints is told once the formula was read.
+-- files as they were; that there are two checkpoints is told once the file of the formula was read.
 abbrev pub IsCause : (files : FilesView) → List Text → CommandFault → files.its.State → Type 0
 IsCause files words (faults.Usage text) after = HaveFault words × (after ≡ files.first)
 IsCause files words faults.TwoCheckpoints after =

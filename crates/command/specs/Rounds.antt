@@ -176,7 +176,7 @@ AreRounds its plan formula sizes first paths (round ∷ before ∷ more) =
     × AreRounds its plan formula sizes first paths (before ∷ more)
 
 -- why there is no round after the last one, with this number, and what became of the files: it doesn't go on; or the next one has its
--- sizes, and there is no file of its stream 1; or its number would be 2 ^ 64 - 1 or more
+-- sizes, and there is no file of its stream 1; or it goes on, and the next one's number would be 2 ^ 64 - 1 or more
 abbrev pub RoundsEnd : (its : Deeds) → Plan → ℕ → Round its.State its.Reader → its.State → Type 0
 RoundsEnd its plan number last after =
     (IsBarred its plan number last × (after ≡ last.after))
@@ -184,7 +184,8 @@ RoundsEnd its plan number last after =
     × ((sizes : Sizes) × (sized : its.State)
     × AreSized its (sizes_path plan.folder (number + 1)) last.sizes last.after sizes sized
     × its.lacks sized (stream_path plan.folder (number + 1) 1) after))
-    ⊎ ((2 ^ 64 < number + 3) × (after ≡ last.after)))
+    ⊎ (((next : Cnf) × CarriesOn its plan number last next) × (2 ^ 64 < number + 3)
+    × (after ≡ last.after)))
 
 -- Causes.
 

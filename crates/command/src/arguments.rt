@@ -77,6 +77,8 @@ pub fn command_with_arguments<
         (change (O.written out.old) (O.written out.new) (O.has_failed out.new))
         (change (E.written err.old) (E.written err.new) (E.has_failed err.new))
         (exit_status result)) }
+    // Nor was anything done to the files.
+    ensures untouched { IfErr arguments (λ _. files.new ≡ files.old) }
     // Words with a fault have a status of their own, unless memory ran out.
     ensures usage { IfOk arguments (λ given. HaveFault (words_after_name given)
         → (exit_status result ≡ 2) ⊎ (exit_status result ≡ 6)) }

@@ -313,7 +313,7 @@ module _ (Mode : Bool → Type 0) (Before Last : RoundAsk) (Early Late : Loss) (
           ]
           | inr (inl (next, goes, (sizes, sized, are, lacks))) ↦
               ((provided_for given line ends.last ends.before ends.were next goes).ready sizes sized are).there after lacks
-          | inr (inr (high, same)) ↦ omega (arith, high, below, ask.few)
+          | inr (inr (goes, high, same)) ↦ omega (arith, high, below, ask.few)
         ])
       ]
 

@@ -29,8 +29,8 @@ AreDeletedFirst ids bytes =
 
 -- What a stream dropped whose report says that a line is bad, or that memory ran out in it: of the identities that the lines before it
 -- delete, and of the first ones that it deletes itself, those of the formula and of other streams. The report tells both, up to
--- 2^64 - 1: by its number how many lines are before it, and by its count how many of its own identities come before the one at which it
--- stopped. Where no line begins there, or one that deletes nothing, these are none.
+-- 2^64 - 1: by its number how many lines are before it, and by its count how many of the identities that the line names come before the
+-- one at which it stopped. Where no line begins there, or one that deletes nothing, these are none.
 pub record DropsUntilStop (setting : Setting) (bytes : List ℕ) (report : Report)
     (gone : ℕ → Bool) : Type 0 where
   pub lines : List StreamLine
