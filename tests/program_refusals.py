@@ -31,14 +31,16 @@ from rounds import ONE, TWO, Proof
 
 class Test(NamedTuple):
     """A test, its answers where an allocation is refused, and how many streams it starts threads for; whether it reports each
-    refusal, since none of its allocations is made by a call that has no such answer; and the last allocation that is refused, where
-    those behind it are for threads of the test's own that wait for each other."""
+    refusal, since none of its allocations is made by a call that has no such answer; the last allocation that is refused, where
+    those behind it are for threads of the test's own that wait for each other; and whether it looks itself at what a refusal leads
+    to, and passes."""
     crate: str
     name: str
     causes: List[str]
     streams: int = 0
     always: bool = False
     last: Optional[int] = None
+    looks: bool = False
 
 
 FOUR_SOLVERS = [EXAMPLES / f"bmc-four.{number}" for number in range(1, 5)]
@@ -234,6 +236,9 @@ def tests() -> Iterator[Test]:
     yield Test("propagate", "the_ninth_allocation_comes_after_all_calls", ["AllocError", "AllocFailed { .. }"],
                always=True)
     yield Test("clause_store", "memory::the_last_allocation_comes_after_all_calls", ["AllocError"], always=True)
+    # What was created is kept or discarded.
+    yield Test("command", "checkpoints::memory_that_runs_out", [], 2, looks=True)
+    yield Test("command", "rounds::refusals::rounds_that_are_refused_memory", [], 4, looks=True)
 
 
 def program_of_tests(crate: str, rt: str) -> str:
@@ -260,7 +265,9 @@ def sweep_test(machine: Machine, test: Test, kind: str) -> Tuple[int, List[str]]
         if not refused or number == test.last:
             break
         causes.add(cause)
-        if kind == "thread":
+        if test.looks:
+            right = not cause
+        elif kind == "thread":
             right = (test.streams > 0 and cause == f"Spawn({(number - 1) % test.streams + 1})"
                      and machine.has_waited_for(number - 1))
         else:

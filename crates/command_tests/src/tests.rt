@@ -1,7 +1,7 @@
 //! Runs of the whole program over files and sinks of the tests' own.
 ghost use Rattle.std.specs.Prelude.{None, true, false};
 
-use command::{Files, OpenFault, command};
+use command::{Files, Machine, OpenFault, command};
 use lrup_text::{ReadFault, Sink, Source, WriteFault};
 use std::alloc::Global;
 use std::fmt;
@@ -125,15 +125,7 @@ impl<'a> Shelf<'a> {
 impl<'a> Files for Shelf<'a> {
     type Input = OpenFile<'a>;
 
-    type Output = Nowhere;
-
-    type Watcher = Ear<'a>;
-
     ghost tells = { λ _ _. None };
-
-    ghost may_refuse = { λ _ _. true };
-
-    ghost may_refuse_new = { λ _ _. true };
 
     fn open(&mut self, path: &str) -> Result<OpenFile<'a>, OpenFault> {
         if self.is_full {
@@ -150,6 +142,12 @@ impl<'a> Files for Shelf<'a> {
         let fails_at = if path == failing { number } else { 0 };
         Ok(OpenFile(Pieces::new(text, self.most, fails_at)))
     }
+}
+
+impl<'a> Machine for Shelf<'a> {
+    type Output = Nowhere;
+
+    type Watcher = Ear<'a>;
 
     fn open_if_there(&mut self, path: &str) -> Result<Option<OpenFile<'a>>, OpenFault> {
         if self.text_at(path).is_none() {
@@ -167,6 +165,8 @@ impl<'a> Files for Shelf<'a> {
         Err(WriteFault)
     }
 
+    fn discard(&mut self, _output: Nowhere) {}
+
     fn watcher(&self) -> Ear<'a> {
         Ear::new(self.told)
     }
@@ -182,6 +182,19 @@ const ONE_AND_TWO_ADDED: &str = "c stream 1: 1 added, 0 deleted, ended
 c stream 2: 2 added, 0 deleted, ended
 s UNSATISFIABLE
 ";
+
+/// A text that takes no more memory for what a few rounds do, unless it has none now.
+fn reserved(alloc: Global) -> String {
+    String::with_capacity(alloc, 512).unwrap_or(String::new(alloc))
+}
+
+/// Whether a discarding was the last that was done, if there was one.
+fn discards_last(done: &str) -> bool {
+    match done.split_once(" -") {
+        None => true,
+        Some((_, rest)) => rest.matches(" ").count() == 1,
+    }
+}
 
 /// The formula and the streams, which come three bytes a read.
 fn shelf_of<'a>(alloc: Global, formula: &'a str, streams: &'a [&'a str]) -> Shelf<'a> {
@@ -203,7 +216,7 @@ fn shelf_with<'a>(
             path: "",
             number: 0,
         },
-        opened: String::new(alloc),
+        opened: reserved(alloc),
         most: 3,
         is_full: false,
         told,
@@ -230,7 +243,7 @@ struct Ran {
 }
 
 /// Runs the program over the files. The sinks fail at these writes, from 1 on; 0 for none.
-fn run_on<T: Threads + Wait + Sync + Clock, F: Files>(
+fn run_on<T: Threads + Wait + Sync + Clock, F: Machine>(
     rt: &T,
     alloc: Global,
     words: &[&str],

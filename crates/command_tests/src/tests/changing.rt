@@ -39,15 +39,9 @@ struct Changing<'a> {
 impl<'a> Files for Changing<'a> {
     type Input = Account<'a>;
 
-    type Output = Nowhere;
-
-    type Watcher = Nowhere;
-
     ghost tells = { λ _ _. None };
 
-    ghost may_refuse = { λ _ _. false };
-
-    ghost may_refuse_new = { λ _ _. true };
+    ghost refuses = { λ _ _ _ _. ⊥ };
 
     ghost opens = { λ before _ input after. (input.0.left.now ≡ before.text.now)
         × (after.text.now ≡ before.later.now) × (after.later.now ≡ before.later.now) };
@@ -57,6 +51,12 @@ impl<'a> Files for Changing<'a> {
         self.text = self.later;
         Ok(Account(Pieces::new(text, 3, 0)))
     }
+}
+
+impl<'a> Machine for Changing<'a> {
+    type Output = Nowhere;
+
+    type Watcher = Nowhere;
 
     fn open_if_there(&mut self, path: &str) -> Result<Option<Account<'a>>, OpenFault> {
         Ok(Some(self.open(path)?))
@@ -69,6 +69,8 @@ impl<'a> Files for Changing<'a> {
     fn keep(&mut self, _output: Nowhere) -> Result<(), WriteFault> {
         Err(WriteFault)
     }
+
+    fn discard(&mut self, _output: Nowhere) {}
 
     fn watcher(&self) -> Nowhere {
         Nowhere

@@ -1,4 +1,4 @@
-//! Runs that are asked for a checkpoint: what is created, written and kept, and what is said where it wasn't.
+//! Runs that are asked for a checkpoint: what is created, written, kept and discarded, and what is said where it wasn't saved.
 ghost use Rattle.std.specs.Prelude.{None, true};
 
 use super::*;
@@ -50,7 +50,7 @@ const WELL: Manner = Manner {
 };
 
 /// Files of a shelf, and a place for a checkpoint. What was done is told in order: a path for an opening, `+` before it for a
-/// creation, `=` for a keeping, each followed by a space.
+/// creation, `=` for a keeping, `-` for a discarding, each followed by a space.
 #[derive(Drop)]
 struct Folder<'a> {
     alloc: Global,
@@ -58,6 +58,8 @@ struct Folder<'a> {
     manner: Manner,
     taken: &'a AtomicU64,
     kept: Vec<u8>,
+    /// How many files were created, and neither kept nor discarded.
+    unclosed: usize,
 }
 
 /// The one path that may be created.
@@ -66,19 +68,17 @@ const PATH: &str = "ck";
 impl<'a> Files for Folder<'a> {
     type Input = OpenFile<'a>;
 
-    type Output = Page<'a>;
-
-    type Watcher = Nowhere;
-
     ghost tells = { λ _ _. None };
-
-    ghost may_refuse = { λ _ _. true };
-
-    ghost may_refuse_new = { λ _ _. true };
 
     fn open(&mut self, path: &str) -> Result<OpenFile<'a>, OpenFault> {
         self.shelf.open(path)
     }
+}
+
+impl<'a> Machine for Folder<'a> {
+    type Output = Page<'a>;
+
+    type Watcher = Nowhere;
 
     fn open_if_there(&mut self, path: &str) -> Result<Option<OpenFile<'a>>, OpenFault> {
         self.shelf.open_if_there(path)
@@ -92,6 +92,7 @@ impl<'a> Files for Folder<'a> {
         if self.manner.is_there || path != PATH {
             return Err(OpenFault::NotOpened);
         }
+        self.unclosed = self.unclosed.saturating_add(1);
         Ok(Page {
             path: PATH,
             text: Paper::new(self.alloc, 7, self.manner.fails_at),
@@ -105,11 +106,17 @@ impl<'a> Files for Folder<'a> {
             text,
             taken: _,
         } = output;
+        self.unclosed = self.unclosed.saturating_sub(1);
         if tell(&mut self.shelf.opened, "=", path).is_err() || self.manner.is_lost {
             return Err(WriteFault);
         }
         self.kept = text.bytes;
         Ok(())
+    }
+
+    fn discard(&mut self, output: Page<'a>) {
+        self.unclosed = self.unclosed.saturating_sub(1);
+        let _ = tell(&mut self.shelf.opened, "-", output.path);
     }
 
     fn watcher(&self) -> Nowhere {
@@ -138,6 +145,7 @@ fn folder_of<'a>(
         manner,
         taken,
         kept: Vec::new(alloc),
+        unclosed: 0,
     }
 }
 
@@ -220,7 +228,12 @@ s UNKNOWN
 const UNDER_OF_DROPS: &str =
     "c stream 1: 1 added, 1 deleted, ended\ns UNSATISFIABLE UNDER ASSUMPTIONS\n";
 
-static CHECKPOINTS: [Row; 6] = [
+const BAD_BESIDE: &str = "c stream 1: 0 added, 0 deleted, bad line 1 (spelling)
+c stream 2: 2 added, 0 deleted, ended
+s UNSATISFIABLE
+";
+
+static CHECKPOINTS: [Row; 8] = [
     Row {
         words: &["f", "1"],
         streams: &[DROPS],
@@ -255,7 +268,19 @@ static CHECKPOINTS: [Row; 6] = [
         words: &["--checkpoint", "ck", "f", "1"],
         streams: &["5 2 0 1 2 0\n6 0 5 3 4 0\n"],
         ends: (0, REFUTED, ""),
-        left: ("f 1 +ck ", "", 0),
+        left: ("f 1 +ck -ck ", "", 0),
+    },
+    Row {
+        words: &["--checkpoint", "ck", "--assume", "a", "f", "1"],
+        streams: &["5 2 0 1 2 0\n6 0 5 3 4 0\n"],
+        ends: (0, REFUTED, ""),
+        left: ("f a 1 +ck -ck ", "", 0),
+    },
+    Row {
+        words: &["--checkpoint", "ck", "f", "1", "2"],
+        streams: &["6 6\n", "6 2 0 1 2 0\n8 0 6 3 4 0\n"],
+        ends: (0, BAD_BESIDE, ""),
+        left: ("f 1 2 +ck -ck ", "", 0),
     },
 ];
 
@@ -334,12 +359,12 @@ const LOST: Manner = Manner {
     ..WELL
 };
 
-/// The checkpoint fails at its first, second, .. and last write, and isn't kept; or at its keeping.
+/// The checkpoint fails at its first, second, .. and last write, and is discarded; or at its keeping, and isn't.
 #[test]
 fn checkpoints_that_are_not_written(rt: HostRuntime) {
     for fails_at in 1..=LESS.len().div_ceil(7) {
         let manner = Manner { fails_at, ..WELL };
-        let left = ("f 1 +ck ", "", (fails_at as u64 - 1) * 7);
+        let left = ("f 1 +ck -ck ", "", (fails_at as u64 - 1) * 7);
         assert_unsaved(&rt, rt.alloc(), manner, 0, NOT_WRITTEN, left);
     }
     let left = ("f 1 +ck =ck ", "", 64);
@@ -362,11 +387,11 @@ static UNREPORTED: [(Manner, &str, Left); 2] = [
     (
         BROKEN,
         "lrupd: checkpoint not written\nlrupd: cannot write report\n",
-        ("f 1 +ck ", "", 0),
+        ("f 1 +ck -ck ", "", 0),
     ),
 ];
 
-/// The checkpoint is kept, or not; the status tells of the report, and standard error of both.
+/// The checkpoint is kept, or discarded; the status tells of the report, and standard error of both.
 #[test]
 fn checkpoints_without_a_report(rt: HostRuntime) {
     for &(manner, said, left) in &UNREPORTED {
@@ -397,32 +422,50 @@ fn checkpoints_whose_fault_is_not_said(rt: HostRuntime) {
     }
 }
 
-/// Whether a run that may have been refused memory ended so, and kept this: all of the checkpoint, or nothing, and said which.
-fn may_end(ran: &Ran, kept: &[u8]) -> bool {
+/// Whether a run of these streams that may have been refused memory, or a thread, ended so, after this was done to the files; and kept
+/// all of the checkpoint, or discarded it, and said which.
+fn may_end(ran: &Ran, done: &str, kept: &[u8]) -> bool {
     let said = ran.err.as_slice();
-    let is_whole = kept == LESS.as_bytes() || kept == ALL.as_bytes();
+    let is_kept = done == "f 1 +ck =ck " && (kept == LESS.as_bytes() || kept == ALL.as_bytes());
+    let is_discarded = done == "f 1 +ck -ck " && kept.is_empty();
     match ran.status {
-        3 => is_whole && said.is_empty(),
+        0 => is_discarded && said.is_empty(),
+        3 => is_kept && said.is_empty(),
         6 => kept.is_empty() && ran.out.is_empty(),
-        7 => is_whole || kept.is_empty(),
-        9 => kept.is_empty() && said.starts_with(b"lrupd: checkpoint not written"),
+        7 => is_kept || is_discarded,
+        9 => is_discarded && said.starts_with(b"lrupd: checkpoint not written"),
         _ => false,
     }
 }
 
-/// A run of these words ends as one may that was refused memory.
-fn assert_may_end<T: Threads + Wait + Sync + Clock + Abort>(rt: &T, alloc: Global, words: &[&str]) {
+/// A run of these words over the streams ends as one may that was refused memory, or a thread: what was created was closed, and a
+/// discarding was the last.
+fn assert_may_end<T: Threads + Wait + Sync + Clock + Abort>(
+    rt: &T,
+    alloc: Global,
+    words: &[&str],
+    streams: &[&str],
+) {
     let taken = AtomicU64::new(0);
-    let mut files = folder_of(alloc, DROPPING, WELL, &taken);
+    let mut files = folder_of(alloc, streams, WELL, &taken);
     let ran = run_on(rt, alloc, words, &mut files, 0, 0);
-    let found = (ran.status, may_end(&ran, &files.kept));
-    same(rt, found, (ran.status, true));
+    let done = files.shelf.opened.as_str();
+    let may_end = may_end(&ran, done, &files.kept);
+    let found = (may_end, files.unclosed, discards_last(done));
+    let status = (words, ran.status, done);
+    same(rt, (status, found), (status, (true, 0, true)));
 }
 
-/// To be run with each allocation failing in turn. Where a stream has no memory for what it drops, it stops, and the first clause stays.
+/// A stream that drops a clause, and one that refutes the formula.
+static ENDING: [&[&str]; 2] = [DROPPING, &["5 2 0 1 2 0\n6 0 5 3 4 0\n"]];
+
+/// To be run with each allocation failing in turn, and each thread. Where a stream has no memory for what it drops, it stops, and the first
+/// clause stays.
 #[test]
 fn memory_that_runs_out(rt: HostRuntime) {
     for words in &BOTH_WAYS {
-        assert_may_end(&rt, rt.alloc(), words);
+        for streams in &ENDING {
+            assert_may_end(&rt, rt.alloc(), words, streams);
+        }
     }
 }

@@ -63,15 +63,7 @@ struct FormulaAlone<'a> {
 impl<'a> Files for FormulaAlone<'a> {
     type Input = NotedFile<'a>;
 
-    type Output = Nowhere;
-
-    type Watcher = Nowhere;
-
     ghost tells = { λ _ _. None };
-
-    ghost may_refuse = { λ _ _. true };
-
-    ghost may_refuse_new = { λ _ _. true };
 
     fn open(&mut self, path: &str) -> Result<NotedFile<'a>, OpenFault> {
         if path != "f" {
@@ -82,6 +74,12 @@ impl<'a> Files for FormulaAlone<'a> {
             reads: self.reads,
         })
     }
+}
+
+impl<'a> Machine for FormulaAlone<'a> {
+    type Output = Nowhere;
+
+    type Watcher = Nowhere;
 
     fn open_if_there(&mut self, path: &str) -> Result<Option<NotedFile<'a>>, OpenFault> {
         if path != "f" {
@@ -97,6 +95,8 @@ impl<'a> Files for FormulaAlone<'a> {
     fn keep(&mut self, _output: Nowhere) -> Result<(), WriteFault> {
         Err(WriteFault)
     }
+
+    fn discard(&mut self, _output: Nowhere) {}
 
     fn watcher(&self) -> Nowhere {
         Nowhere

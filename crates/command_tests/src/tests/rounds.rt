@@ -1,4 +1,4 @@
-//! Runs in rounds: what is opened, looked for, created and kept, and what is said.
+//! Runs in rounds: what is opened, looked for, created, kept and discarded, and what is said.
 ghost use Rattle.std.specs.Prelude.{None, true};
 
 use super::checkpoints::{ALL, DROPS, LESS};
@@ -6,6 +6,7 @@ use super::*;
 use pauses::Moment;
 
 mod pauses;
+mod refusals;
 
 /// What is at a path.
 #[derive(Clone, Copy)]
@@ -42,7 +43,7 @@ impl Sink for Sheet {
 }
 
 /// Files of a shelf, and those of later rounds. What was done is told in order: a path for an opening, `?` before it where nothing
-/// was there, `+` for a creation, `=` for a keeping, each followed by a space.
+/// was there, `+` for a creation, `=` for a keeping, `-` for a discarding, each followed by a space.
 #[derive(Drop)]
 struct Binder<'a> {
     alloc: Global,
@@ -54,6 +55,8 @@ struct Binder<'a> {
     lost: &'a str,
     /// The bytes that were kept, of one file after the other.
     kept: Vec<u8>,
+    /// How many files were created, and neither kept nor discarded.
+    unclosed: usize,
     clock: Option<&'a Moment>,
 }
 
@@ -71,15 +74,7 @@ impl<'a> Binder<'a> {
 impl<'a> Files for Binder<'a> {
     type Input = OpenFile<'a>;
 
-    type Output = Sheet;
-
-    type Watcher = Ear<'a>;
-
     ghost tells = { λ _ _. None };
-
-    ghost may_refuse = { λ _ _. true };
-
-    ghost may_refuse_new = { λ _ _. true };
 
     fn open(&mut self, path: &str) -> Result<OpenFile<'a>, OpenFault> {
         let Some(thing) = self.thing_at(path) else {
@@ -93,6 +88,12 @@ impl<'a> Files for Binder<'a> {
             Thing::Full => Err(OpenFault::Memory),
         }
     }
+}
+
+impl<'a> Machine for Binder<'a> {
+    type Output = Sheet;
+
+    type Watcher = Ear<'a>;
 
     fn open_if_there(&mut self, path: &str) -> Result<Option<OpenFile<'a>>, OpenFault> {
         if let Some(clock) = self.clock {
@@ -113,6 +114,7 @@ impl<'a> Files for Binder<'a> {
             return Err(OpenFault::Memory);
         };
         let fails_at = if path == self.broken { 1 } else { 0 };
+        self.unclosed = self.unclosed.saturating_add(1);
         Ok(Sheet {
             path: name,
             text: Paper::new(self.alloc, 7, fails_at),
@@ -121,6 +123,7 @@ impl<'a> Files for Binder<'a> {
 
     fn keep(&mut self, output: Sheet) -> Result<(), WriteFault> {
         let Sheet { path, text } = output;
+        self.unclosed = self.unclosed.saturating_sub(1);
         let told = tell(&mut self.shelf.opened, "=", path.as_str());
         if told.is_err() || path.as_str() == self.lost {
             return Err(WriteFault);
@@ -129,6 +132,11 @@ impl<'a> Files for Binder<'a> {
             return Err(WriteFault);
         }
         Ok(())
+    }
+
+    fn discard(&mut self, output: Sheet) {
+        self.unclosed = self.unclosed.saturating_sub(1);
+        let _ = tell(&mut self.shelf.opened, "-", output.path.as_str());
     }
 
     fn watcher(&self) -> Ear<'a> {
@@ -174,6 +182,7 @@ fn binder_with<'a>(
         broken: row.broken,
         lost: row.lost,
         kept: Vec::new(alloc),
+        unclosed: 0,
         clock,
     }
 }
@@ -251,11 +260,17 @@ const FIRST_UNDER: &str = "f a 1 +d/round-2.cnf =d/round-2.cnf ";
 /// And of two.
 const FIRST_OF_TWO: &str = "f 1 2 +d/round-2.cnf =d/round-2.cnf ";
 
+/// The same, where what was created is discarded.
+const FIRST_DISCARDED: &str = "f 1 +d/round-2.cnf -d/round-2.cnf ";
+
 /// In round 2 of one stream, but for the file of the next.
 const SECOND: &str = "?d/round-2.sizes d/round-2.stream-1 ";
 
 /// All that is done in round 2.
 const ALL_OF_SECOND: &str = "?d/round-2.sizes d/round-2.stream-1 +d/round-3.cnf =d/round-3.cnf ";
+
+/// The same, where what was created is discarded.
+const SECOND_DISCARDED: &str = "?d/round-2.sizes d/round-2.stream-1 +d/round-3.cnf -d/round-3.cnf ";
 
 /// A row of one stream, and of rounds in the folder `d`.
 const ROW: Row = Row {
@@ -303,13 +318,13 @@ static WHOLE: [Row; 5] = [
     Row {
         streams: &["5 2 0 1 2 0\n6 0 5 3 4 0\n"],
         ends: (0, REFUTED, ""),
-        done: &["f 1 +d/round-2.cnf "],
+        done: &[FIRST_DISCARDED],
         kept: &[],
         ..GOES_ON
     },
     Row {
         ends: (0, IN_2, ""),
-        done: &[FIRST, SECOND, "+d/round-3.cnf "],
+        done: &[FIRST, SECOND_DISCARDED],
         ..CLOSED
     },
     Row {
@@ -322,7 +337,7 @@ static WHOLE: [Row; 5] = [
         done: &[
             FIRST,
             ALL_OF_SECOND,
-            "?d/round-3.sizes d/round-3.stream-1 +d/round-4.cnf ",
+            "?d/round-3.sizes d/round-3.stream-1 +d/round-4.cnf -d/round-4.cnf ",
         ],
         kept: &[LESS, LATER],
         ..ROW
@@ -601,7 +616,7 @@ static UNSAVED: [Row; 4] = [
     Row {
         broken: "d/round-2.cnf",
         ends: UNSAVED_1,
-        done: &["f 1 +d/round-2.cnf "],
+        done: &[FIRST_DISCARDED],
         kept: &[],
         ..THREE
     },
@@ -614,7 +629,7 @@ static UNSAVED: [Row; 4] = [
     Row {
         broken: "d/round-3.cnf",
         ends: UNSAVED_2,
-        done: &[FIRST, SECOND, "+d/round-3.cnf "],
+        done: &[FIRST, SECOND_DISCARDED],
         ..THREE
     },
     Row {

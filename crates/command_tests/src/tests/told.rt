@@ -20,16 +20,10 @@ struct Told<'a> {
 impl<'a> Files for Told<'a> {
     type Input = Pieces<'a>;
 
-    type Output = Nowhere;
-
-    type Watcher = Nowhere;
-
     ghost tells = { λ files path.
         Some (cond (nat_eq (length path) 1) files.formula.now files.stream.now) };
 
-    ghost may_refuse = { λ _ _. false };
-
-    ghost may_refuse_new = { λ _ _. true };
+    ghost refuses = { λ _ _ _ _. ⊥ };
 
     fn open(&mut self, path: &str) -> Result<Pieces<'a>, OpenFault> {
         let text = if path.len() == 1 {
@@ -39,6 +33,12 @@ impl<'a> Files for Told<'a> {
         };
         Ok(Pieces::new(text, 3, 0))
     }
+}
+
+impl<'a> Machine for Told<'a> {
+    type Output = Nowhere;
+
+    type Watcher = Nowhere;
 
     fn open_if_there(&mut self, path: &str) -> Result<Option<Pieces<'a>>, OpenFault> {
         Ok(Some(self.open(path)?))
@@ -51,6 +51,8 @@ impl<'a> Files for Told<'a> {
     fn keep(&mut self, _output: Nowhere) -> Result<(), WriteFault> {
         Err(WriteFault)
     }
+
+    fn discard(&mut self, _output: Nowhere) {}
 
     fn watcher(&self) -> Nowhere {
         Nowhere

@@ -10,7 +10,7 @@ use std::sync::atomic::{AtomicU64, AtomicUsize, Ordering};
 use std::thread::Threads;
 use std::time::Clock;
 
-/// How many sinks were made, and how many lines and writes they took.
+/// How many sinks were made, how many writes they took, and how many of these were one whole line.
 #[derive(Drop)]
 pub(super) struct Told {
     sinks: AtomicU64,
@@ -33,7 +33,7 @@ impl Told {
         }
     }
 
-    /// The sinks, lines and writes.
+    /// The sinks, the writes that were one whole line, and all writes.
     pub(super) fn counts(&self) -> (u64, u64, u64) {
         let sinks = self.sinks.load(Ordering::SeqCst);
         let lines = self.lines.load(Ordering::SeqCst);
@@ -46,13 +46,22 @@ impl Told {
     }
 
     fn hear(&self, bytes: &[u8]) {
-        let lines = bytes.iter().filter(|byte| **byte == b'\n').count();
-        self.lines.fetch_add(lines as u64, Ordering::SeqCst);
+        if is_line(bytes) {
+            self.lines.fetch_add(1, Ordering::SeqCst);
+        }
         self.writes.fetch_add(1, Ordering::SeqCst);
         let awaited = self.awaited.get(self.came());
         if awaited.is_some_and(|line| line.as_bytes() == bytes) {
             self.came.fetch_add(1, Ordering::SeqCst);
         }
+    }
+}
+
+/// Whether these are one line, with its end.
+fn is_line(bytes: &[u8]) -> bool {
+    match bytes.strip_suffix(b"\n") {
+        None => false,
+        Some(line) => line.iter().all(|byte| *byte != b'\n'),
     }
 }
 
