@@ -64,7 +64,7 @@ asked.entry.formula.items f × IsUnsatisfiable f]]. So one loop, `read_all`, whi
 any run, and files that play its calls back, where `opens` and `reads` hold of these calls alone. `command` would do the same
 with them, since it knows files only by the calls of their traits, and there only what was read can be meant.
 
-**And `--rounds`?** However many there were, both clauses speak of FORMULA, and of no file in the folder."""
+**And `--rounds`?** However many there were, both clauses speak of FORMULA, and of no file in the folder: none of these need be trusted."""
 
 AUDIT_HOW = """## How to read it
 
