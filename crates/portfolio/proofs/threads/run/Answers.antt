@@ -7,7 +7,7 @@ use Rattle.portfolio.specs.Outcomes.{terms_of}
 use Rattle.portfolio.specs.ResultLemmas.{if_both}
 use Rattle.portfolio.proofs.CubeLemmas.{sound_under_run}
 use Rattle.portfolio.proofs.HeadlineLemmas.{can_begin, no_fault, sound_run, stream_within}
-use Rattle.portfolio.proofs.HeadlineLemmas.{run_before, run_dropped, run_history, run_isolated, run_reports, run_serializable}
+use Rattle.portfolio.proofs.HeadlineLemmas.{run_before, run_dropped, run_history, run_isolated, run_read_out, run_reports, run_serializable}
 use Rattle.portfolio.proofs.threads.run.Goals as goal
 
 pub check-requires-clause-begin : goal.check-requires-clause-begin
@@ -37,6 +37,12 @@ returns-clause-first g c = λ stream e.
     let view = source_view g.R.Source.left g.R.Source.has_failed g.R.Source.reads in
     let wanted = terms_of c.args.options c.args.cube.now c.args.formula.now (length c.args.readers.items) in
     run_before view {terms = wanted} c.in_ok-store.ensures.begun (stream - 1) (c.check.ensures.first stream e)
+
+pub returns-clause-read_out : goal.returns-clause-read_out
+returns-clause-read_out g c = λ stream e.
+    let view = source_view g.R.Source.left g.R.Source.has_failed g.R.Source.reads in
+    let wanted = terms_of c.args.options c.args.cube.now c.args.formula.now (length c.args.readers.items) in
+    run_read_out view {terms = wanted} c.in_ok-store.ensures.begun (stream - 1) (c.check.ensures.read_out stream e)
 
 pub returns-clause-history : goal.returns-clause-history
 returns-clause-history g c =
