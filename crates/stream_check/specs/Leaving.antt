@@ -49,7 +49,8 @@ JudgesBothEnds setting bytes blocks report =
     JudgesBlocks setting bytes stream_ends.Ended blocks report
     × JudgesBlocks setting bytes stream_ends.Failed blocks report
 
--- The bytes so far, whose lines have these blocks of events, leave the checker so. One that is over has a report that is right whatever the end is, and dropped what was deleted until a line stopped it.
+-- The bytes so far, whose lines have these blocks of events, leave the checker so. One that is over has a report that is right whatever the
+-- end is, and dropped what was deleted until a line stopped it.
 abbrev pub Leaves : Setting → List ℕ → List History → CheckerState → Type 0
 Leaves setting bytes blocks (Going now) = LeavesGoing setting bytes blocks now
 Leaves setting bytes blocks (Over report gone) =
