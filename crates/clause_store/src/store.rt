@@ -53,6 +53,13 @@ impl Store {
         Ok((Store { row, layout }, passes))
     }
 
+    /// The layout that the store was opened with.
+    pub fn layout(&self) -> &Layout
+        ensures { result.now ≡ self.now.layout }
+    {
+        &self.layout
+    }
+
     /// Whether this is an identity: 1 to the last.
     pub fn covers(&self, id: Id) -> bool
         ensures { IsTrue result ↔ IsIdentity self.now.layout id }
