@@ -20,7 +20,7 @@ use Rattle.command.specs.declared.running.LeftClauses.TheVariants as lefts
 
 -- the layout by which clauses were left
 abbrev pub left_layout : LeftClauses → LayoutValue
-left_layout (lefts.Shared left) = left.layout
+left_layout (lefts.Shared left) = left.store.layout
 left_layout (lefts.Plain left) = left.map.layout
 
 -- the identities that the streams dropped
@@ -31,15 +31,14 @@ dropped_in (lefts.Plain left) = left.dropped.items
 -- these clauses of a formula are left by this history
 abbrev pub HasHistory : Cnf → History → LeftClauses → Type 0
 HasHistory formula history (lefts.Shared left) =
-    HaveOneHistory formula left.layout history (views left.passes.items)
+    HaveOneHistory formula left.store.layout history (views left.passes.items)
 HasHistory formula history (lefts.Plain left) =
     (formula_of left.map ≡ formula) × (plain_state left.map ≡ state formula history)
 
 -- they can be saved
 abbrev pub CanBeSaved : LeftClauses → Type 0
 CanBeSaved (lefts.Shared left) =
-    AreOf left.store left.passes.items × (left.store.layout ≡ left.layout)
-    × (0 < vec_len left.passes)
+    AreOf left.store left.passes.items × (0 < vec_len left.passes)
 CanBeSaved (lefts.Plain left) = Fits left.map.layout (formula_of left.map)
 
 -- The reports of streams, and the clauses that these left, stand on one history.

@@ -14,7 +14,7 @@ use crate::fault::CommandFault;
 use crate::files::Machine;
 use checkpoint::SaveFault;
 use clause_store::{Pass, Store};
-use lrup_model::{Cube, Formula, Layout, PlainMap};
+use lrup_model::{Cube, Formula, PlainMap};
 use lrup_text::Sink;
 use portfolio::{
     Options, Outcome, Pause, SerialOutcome, TurnWatch, Verdict, Watch, carry_live, carry_plain,
@@ -39,7 +39,6 @@ pub(crate) struct Setup<'a> {
 #[derive(Drop)]
 pub(crate) struct SharedClauses {
     store: Store,
-    layout: Layout,
     passes: Vec<Pass>,
     dropped: Vec<Dropped>,
 }
@@ -175,7 +174,6 @@ fn run_in_threads<T: Threads + Wait + Sync, C: Clock + Sync, F: Machine>(
         verdict,
         passes,
         store,
-        layout,
         readers: _,
         dropped,
     } = outcome;
@@ -184,7 +182,6 @@ fn run_in_threads<T: Threads + Wait + Sync, C: Clock + Sync, F: Machine>(
         verdict,
         left: LeftClauses::Shared(SharedClauses {
             store,
-            layout,
             passes,
             dropped,
         }),
@@ -211,11 +208,10 @@ pub(crate) fn save_left<W: Sink>(
         LeftClauses::Shared(
             SharedClauses {
                 store,
-                layout,
                 passes,
                 dropped,
             },
-        ) => save_live(alloc, &store, &layout, passes, &dropped, sink),
+        ) => save_live(alloc, &store, passes, &dropped, sink),
         LeftClauses::Plain(PlainClauses { mut map, dropped }) => {
             save_plain(alloc, &mut map, &dropped, sink)
         }
@@ -242,11 +238,10 @@ pub(crate) fn carry_left<W: Sink>(
         LeftClauses::Shared(
             SharedClauses {
                 store,
-                layout,
                 passes,
                 dropped,
             },
-        ) => carry_live(alloc, &store, &layout, passes, &dropped, sink),
+        ) => carry_live(alloc, &store, passes, &dropped, sink),
         LeftClauses::Plain(PlainClauses { mut map, dropped }) => {
             carry_plain(alloc, &mut map, &dropped, sink)
         }

@@ -3,7 +3,7 @@ ghost use Rattle.std.specs.Prelude.{◌≡◌};
 ghost use Rattle.portfolio.specs.Outcomes.{verdict_of};
 
 use clause_store::{Pass, Store};
-use lrup_model::{Layout, LayoutFault, PlainMap};
+use lrup_model::{LayoutFault, PlainMap};
 use std::alloc::AllocError;
 use stream_check::{Dropped, Report};
 use thiserror::Error;
@@ -98,8 +98,6 @@ pub struct Outcome<R: Drop> {
     pub passes: Vec<Pass>,
     /// The store that the passes are of.
     pub store: Store,
-    /// The layout of the store.
-    pub layout: Layout,
     /// The readers, as far as they were read, in order.
     pub readers: Vec<R>,
     /// The identities that each stream dropped, in order.

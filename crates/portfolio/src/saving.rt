@@ -14,7 +14,7 @@ ghost use Rattle.portfolio.specs.Saving.{CarriesState, SavesState, is_wanted};
 
 use checkpoint::{SaveFault, Wanted, carry, save};
 use clause_store::{Desk, Pass, Store};
-use lrup_model::{Formula, Id, Layout, PlainMap};
+use lrup_model::{Formula, Id, PlainMap};
 use lrup_text::Sink;
 use std::alloc::Global;
 use stream_check::Dropped;
@@ -38,26 +38,26 @@ impl Wanted for NotAllDropped<'_> {
 pub fn save_live<W: Sink>(
     alloc: Global,
     store: &Store,
-    layout: &Layout,
     passes: Vec<Pass>,
     dropped: &[Dropped],
     sink: &mut W,
 ) -> Result<(), SaveFault>
     requires of { AreOf store.now passes.items }
-    requires layout { store.now.layout ≡ layout.now }
     requires some { 0 < vec_len passes }
     requires running { W.has_failed sink.old ≡ false }
     // What was written whole is a text of a formula, each clause of which follows from the run's.
     ensures checkpoint { (f : Cnf) (h : History)
-        → HaveOneHistory f layout.now h (views passes.items) → IfOk result (λ _. (bytes : List ℕ)
-        × Appends (W.written sink.old) (W.written sink.new) bytes × IsCheckpoint f bytes) }
+        → HaveOneHistory f store.now.layout h (views passes.items) → IfOk result (λ _.
+        (bytes : List ℕ) × Appends (W.written sink.old) (W.written sink.new) bytes
+        × IsCheckpoint f bytes) }
     // It is that of the clauses that the run's history leaves live, and that not all streams
     // dropped.
     ensures saves { (f : Cnf) (h : History)
-        → HaveOneHistory f layout.now h (views passes.items) → SavesState W.written result
-        (state f h) layout.now (is_wanted dropped.now) sink.old sink.new }
+        → HaveOneHistory f store.now.layout h (views passes.items) → SavesState W.written result
+        (state f h) store.now.layout (is_wanted dropped.now) sink.old sink.new }
     ensures failed { IsTrue (W.has_failed sink.new) ↔ (result ≡ Err SaveFault.Unwritten) }
 {
+    let layout = store.layout();
     let mut passes = passes;
     let Some(pass) = passes.pop() else {
         unreachable!()
@@ -105,27 +105,26 @@ pub fn save_plain<W: Sink>(
 pub fn carry_live<W: Sink>(
     alloc: Global,
     store: &Store,
-    layout: &Layout,
     passes: Vec<Pass>,
     dropped: &[Dropped],
     sink: &mut W,
 ) -> Result<Formula, SaveFault>
     requires of { AreOf store.now passes.items }
-    requires layout { store.now.layout ≡ layout.now }
     requires some { 0 < vec_len passes }
     requires running { W.has_failed sink.old ≡ false }
     // What was written whole is a text of the formula that is given, each clause of which follows from the run's.
     ensures next { (f : Cnf) (h : History)
-        → HaveOneHistory f layout.now h (views passes.items) → IfOk result (λ next. (bytes : List ℕ)
-        × Appends (W.written sink.old) (W.written sink.new) bytes
+        → HaveOneHistory f store.now.layout h (views passes.items) → IfOk result (λ next.
+        (bytes : List ℕ) × Appends (W.written sink.old) (W.written sink.new) bytes
         × IsCheckpointOf f bytes next) }
     // It is that of the clauses that the run's history leaves live, and that not all streams
     // dropped.
     ensures carries { (f : Cnf) (h : History)
-        → HaveOneHistory f layout.now h (views passes.items) → CarriesState W.written result
-        (state f h) layout.now (is_wanted dropped.now) sink.old sink.new }
+        → HaveOneHistory f store.now.layout h (views passes.items) → CarriesState W.written result
+        (state f h) store.now.layout (is_wanted dropped.now) sink.old sink.new }
     ensures failed { IsTrue (W.has_failed sink.new) ↔ (result ≡ Err SaveFault.Unwritten) }
 {
+    let layout = store.layout();
     let mut passes = passes;
     let Some(last) = passes.pop() else {
         unreachable!()

@@ -21,7 +21,7 @@ ghost use Rattle.stream_threads.specs.Jobs.{CanBegin};
 use crate::options::Options;
 use crate::outcome::{Outcome, RunFault, Verdict};
 use clause_store::{Pass, Store};
-use lrup_model::{Cube, Formula, Layout};
+use lrup_model::{Cube, Formula};
 use lrup_text::Source;
 use run_laws::groups::{alone_has_one_report, run_isolated};
 use run_laws::orders::run_serializable;
@@ -99,10 +99,9 @@ pub fn run<T: Threads + Wait + Sync, R: Source + Send + Drop, G: Gate + Send + D
     ensures verdict { IfOk result (λ outcome.
         outcome.verdict ≡ verdict_of outcome.reports.items) }
     // The clauses stay, for whoever saves them.
-    ensures store { IfOk result (λ outcome. AreOf outcome.store outcome.passes.items
-        × (outcome.store.layout ≡ outcome.layout)) }
+    ensures store { IfOk result (λ outcome. AreOf outcome.store outcome.passes.items) }
     ensures kept { IfOk result (λ outcome.
-        outcome.layout ≡ layout_of options formula.now (length readers.items)) }
+        outcome.store.layout ≡ layout_of options formula.now (length readers.items)) }
     ensures dropped { IfOk result (λ outcome. vec_len outcome.dropped ≡ length readers.items) }
     // What a user relies on.
     ensures sound { IfOk result (λ outcome.
@@ -110,15 +109,15 @@ pub fn run<T: Threads + Wait + Sync, R: Source + Send + Drop, G: Gate + Send + D
     ensures sound_under { IfOk result (λ outcome. outcome.verdict ≡ Verdict.UnsatisfiableUnder
         → IsUnsatisfiableUnder formula.now cube.now) }
 {
-    let (store, layout, jobs) = open(alloc, formula, cube, options, readers, gates)?;
+    let (store, jobs) = open(alloc, formula, cube, options, readers, gates)?;
     run_isolated();
     alone_has_one_report();
     run_serializable();
-    check(threads, alloc, store, layout, jobs)
+    check(threads, alloc, store, jobs)
 }
 
-/// What a run begins with: its store, the store's layout, and the jobs of its streams, each at its pass.
-type Opened<R, G> = (Store, Layout, Vec<StreamJobs<R, G>>);
+/// What a run begins with: its store, and the jobs of its streams, each at its pass.
+type Opened<R, G> = (Store, Vec<StreamJobs<R, G>>);
 
 /// Opens the store of a run, and makes the jobs of its streams.
 fn open<R: Source + Drop, G: Gate + Drop>(
@@ -137,15 +136,13 @@ fn open<R: Source + Drop, G: Gate + Drop>(
     ensures no_ring { (stream : ℕ) → result ≢ Err (RunFault.Ring stream) }
     ensures begun { IfOk result (λ opened. IsBegun formula.now
         (terms_of options cube.now formula.now (length readers.items)) opened.0 readers.items
-        opened.2.items) }
-    ensures kept { IfOk result (λ opened.
-        opened.1 ≡ layout_of options formula.now (length readers.items)) }
+        opened.1.items) }
 {
     let layout = options.layout(formula, readers.len())?;
     let terms = Terms::new(&layout, cube, options.tries());
     let (store, passes) = Store::open(alloc, formula, layout)?;
     let jobs = jobs_of(alloc, &terms, readers, gates, passes)?;
-    Ok((store, layout, jobs))
+    Ok((store, jobs))
 }
 
 /// Checks the streams of these jobs, and gathers what was found of each; at a fault of a ring, of the streams before its own.
@@ -153,7 +150,6 @@ fn check<T: Threads + Wait + Sync, R: Source + Send + Drop, G: Gate + Send + Dro
     threads: &T,
     alloc: Global,
     store: Store,
-    layout: Layout,
     jobs: Vec<StreamJobs<R, G>>,
 ) -> Result<Outcome<R>, RunFault>
     requires begin { AllByRecursion (CanBegin store) jobs.items }
@@ -170,8 +166,7 @@ fn check<T: Threads + Wait + Sync, R: Source + Send + Drop, G: Gate + Send + Dro
     ensures verdict { IfOk result (λ outcome.
         outcome.verdict ≡ verdict_of outcome.reports.items) }
     ensures of { IfOk result (λ outcome. AreOf store outcome.passes.items) }
-    ensures kept { IfOk result (λ outcome.
-        (outcome.store ≡ store) × (outcome.layout ≡ layout)) }
+    ensures kept { IfOk result (λ outcome. outcome.store ≡ store) }
 {
     let Lists {
         room,
@@ -181,11 +176,11 @@ fn check<T: Threads + Wait + Sync, R: Source + Send + Drop, G: Gate + Send + Dro
         dropped,
     } = lists_for(alloc, jobs.len())?;
     match check_all(threads, &store, jobs, room) {
-        Ok(found) => Ok(outcome_of(store, layout, found, reports, met, readers, dropped)),
+        Ok(found) => Ok(outcome_of(store, found, reports, met, readers, dropped)),
         Err(ThreadFault::Spawn(stream)) => Err(RunFault::Spawn(stream)),
         Err(ThreadFault::Ring(found)) => {
             let stream = found.len() as u64 + 1;
-            let _before = outcome_of(store, layout, found, reports, met, readers, dropped);
+            let _before = outcome_of(store, found, reports, met, readers, dropped);
             Err(RunFault::Ring(stream))
         }
     }
@@ -228,7 +223,6 @@ fn lists_for<R: Source + Drop, G: Gate + Drop>(
 /// The outcome of the streams, whose threads have ended. All passes meet.
 fn outcome_of<R: Source + Drop>(
     store: Store,
-    layout: Layout,
     found: Vec<StreamResult<R>>,
     mut reports: Vec<Report>,
     mut passes: Vec<Pass>,
@@ -249,7 +243,7 @@ fn outcome_of<R: Source + Drop>(
     ensures one { HaveMet (views result.passes.items) }
     ensures verdict { result.verdict ≡ verdict_of result.reports.items }
     ensures of { AreOf store result.passes.items }
-    ensures kept { (result.store ≡ store) × (result.layout ≡ layout) }
+    ensures kept { result.store ≡ store }
 {
     for one in found {
         let StreamResult {
@@ -270,7 +264,6 @@ fn outcome_of<R: Source + Drop>(
         verdict,
         passes,
         store,
-        layout,
         readers,
         dropped,
     }

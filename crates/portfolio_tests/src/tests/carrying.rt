@@ -37,7 +37,6 @@ fn carried_after<'a, T: Threads + Wait + Clock + Sync>(
             let Outcome {
                 passes,
                 store,
-                layout,
                 dropped,
                 ..
             } = outcome;
@@ -46,7 +45,7 @@ fn carried_after<'a, T: Threads + Wait + Clock + Sync>(
             if passes.is_empty() {
                 return Err("no pass".into());
             }
-            Ok(carry_live(alloc, &store, &layout, passes, &dropped, paper))
+            Ok(carry_live(alloc, &store, passes, &dropped, paper))
         }
         By::Turns => {
             let gates = vec![in alloc; Open; readers.len()]?;

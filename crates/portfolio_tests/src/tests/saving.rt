@@ -35,14 +35,13 @@ fn saved_after<'a, T: Threads + Wait + Clock + Sync>(
             let Outcome {
                 passes,
                 store,
-                layout,
                 dropped,
                 ..
             } = outcome;
             if passes.is_empty() {
                 return Err("no pass".into());
             }
-            Ok(save_live(alloc, &store, &layout, passes, &dropped, paper))
+            Ok(save_live(alloc, &store, passes, &dropped, paper))
         }
         By::Turns => {
             let gates = vec![in alloc; Open; readers.len()]?;

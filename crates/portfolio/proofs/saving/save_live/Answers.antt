@@ -3,11 +3,13 @@ use Rattle.std.specs.Prelude.{IfOk, slice_get}
 use Rattle.std.specs.Io.KnownBytes.{Appends}
 use Rattle.std.proofs.lemmas.List.{map-append}
 use Rattle.lrup_model.specs.Formula.{Cnf}
+use Rattle.lrup_model.specs.Layout.{LayoutValue}
 use Rattle.lrup_model.specs.Pass.{View, AreMet}
 use Rattle.lrup_model.specs.Place.{Caller}
 use Rattle.clause_store.specs.Passes.{PassValue, StoreValue, AreOf, store_of, views}
 use Rattle.runs.specs.Headline.{HaveOneHistory}
 use Rattle.checkpoint.specs.Checkpoints.{IsCheckpoint}
+use Rattle.portfolio.specs.Saving.{SavesFound, is_wanted}
 use Rattle.portfolio.proofs.SavingLemmas.{fetched_so, last_at, other_last}
 use Rattle.portfolio.proofs.saving.save_live.Goals as goal
 
@@ -43,6 +45,7 @@ meet_all-requires g c =
 -- what the last pass fetched is what the history left, as the meeting shows
 pub returns-clause-saves : goal.returns-clause-saves
 returns-clause-saves g c = λ f h history.
+    let p : LayoutValue = c.args.store.now.layout in
     let rest : List PassValue = c.pop.new.self.items in
     let vs : List View = views rest in
     let v : View = c.new-desk.result.pass.view in
@@ -56,10 +59,12 @@ returns-clause-saves g c = λ f h history.
     ap views (c.deref_mut.ensures.value ∙ c.push_reserved.ensures.items)
     ∙ map-append (λ (p : PassValue). p.view) rest (c.into_pass.result ∷ [])
     ∙ ap (λ (p : PassValue). vs ++ p.view ∷ []) c.into_pass.ensures in
-    let one : HaveOneHistory f c.args.layout.now h (vs ++ v ∷ []) = subst (HaveOneHistory f c.args.layout.now h) before history in
+    let one : HaveOneHistory f p h (vs ++ v ∷ []) = subst (HaveOneHistory f p h) before history in
     let met : AreMet (vs ++ w ∷ []) us = subst (λ (xs : List View). AreMet xs us) after c.meet_all.ensures.met in
     record {
       replies = saved.0;
-      answers = fetched_so f c.args.layout.now h vs v w saved.0 us c.meet_all.ensures.one.0 one saved.1.moves met c.meet_all.ensures.one.1;
-      saves = (saved.2, saved.3);
+      answers = fetched_so f p h vs v w saved.0 us c.meet_all.ensures.one.0 one saved.1.moves met c.meet_all.ensures.one.1;
+      saves = subst (λ (p : LayoutValue). SavesFound g.W.Sink.written c.save-saved.result p
+          (is_wanted c.args.dropped.now) saved.0 c.args.sink.now c.save-saved.new.sink)
+          c.layout-layout.ensures (saved.2, saved.3);
     }

@@ -84,10 +84,13 @@ returns-clause-dropped g c =
 
 pub returns-clause-store : goal.returns-clause-store
 returns-clause-store g c =
-    if_both c.check.result c.check.ensures.of c.check.ensures.kept (λ outcome of kept. (
-      subst (λ (store : StoreValue). AreOf store outcome.passes.items) (sym kept.0) of,
-      ap (λ (store : StoreValue). store.layout) kept.0 ∙ c.in_ok-store.ensures.begun.store_is ∙ sym c.in_ok-store.ensures.kept ∙ sym kept.1,
-    ))
+    if_both c.check.result c.check.ensures.of c.check.ensures.kept (λ outcome of kept.
+    subst (λ (store : StoreValue). AreOf store outcome.passes.items) (sym kept) of)
+
+pub returns-clause-kept : goal.returns-clause-kept
+returns-clause-kept g c =
+    IfOk-weaker c.check.result _ _
+    (λ outcome kept. ap (λ (store : StoreValue). store.layout) kept ∙ c.in_ok-store.ensures.begun.store_is) c.check.ensures.kept
 
 pub returns-clause-sound : goal.returns-clause-sound
 returns-clause-sound g c =
