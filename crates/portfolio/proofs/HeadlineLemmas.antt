@@ -58,10 +58,10 @@ no_fault p faults.BadStreamCount is (a, b, inr many) = omega (arith, is.streams,
 no_fault p faults.RowTooLong is bad = omega (arith, is.row, bad.4)
 
 -- the terms that a run makes are those of its formula, options and streams
-pub terms_made : (options : OptionsValue) (cube : CubeValue) (f : Cnf) (p : LayoutValue) (n streams tries : ℕ)
-    → p ≡ layout_of options f n → n ≡ streams → tries ≡ options.tries
-    → record { layout = p; cube = cube; tries = tries } ≡ terms_of options cube f streams
-terms_made options cube f p n streams tries same count often = cc
+pub terms_made : (options : OptionsValue) (cube : CubeValue) (f : Cnf) (p : LayoutValue) (n streams tries : ℕ) (made : TermsValue)
+    → made ≡ record { layout = p; cube = cube; tries = tries } → p ≡ layout_of options f n → n ≡ streams → tries ≡ options.tries
+    → made ≡ terms_of options cube f streams
+terms_made options cube f p n streams tries made is same count often = cc
 
 -- a run that was opened has no fault of its layout
 pub none_of_layout : (options : OptionsValue) (f : Cnf) (p : LayoutValue) (n streams : ℕ) → p ≡ layout_of options f n → n ≡ streams
@@ -70,12 +70,8 @@ none_of_layout options f p n streams same count is fault bad =
     no_fault p fault is (subst (λ (l : LayoutValue). IsFault l fault) (sym (same ∙ ap (layout_of options f) count)) bad)
 
 -- what is there is no fault
-pub no_error : {T E : Type 0} {value : T} {e : E} → Ok value ≡ Err e → ⊥
+no_error : {T E : Type 0} {value : T} {e : E} → Ok value ≡ Err e → ⊥
 no_error is = cc
-
--- nor has one result both
-pub ok_or_error : {T E : Type 0} {result : Result T E} {value : T} {e : E} → result ≡ Ok value → result ≡ Err e → ⊥
-ok_or_error is other = no_error (sym is ∙ other)
 
 -- out of memory is no other fault
 pub not_layout : {T : Type 0} (result : Result T RunFault) (fault : LayoutFault) → IfErr result (λ e. e ≡ Memory)
@@ -199,14 +195,12 @@ module _ {S : Type 0} (view : SourceView S) where
   )
 
   -- the same of a run's jobs, at the passes that its store has opened
-  pub run_ready : {store : StoreValue} {f : Cnf} {terms made : TermsValue} {n : ℕ} (firsts : List S) (passes : List PassValue)
-      (js : List (JobsValue S))
-      → n ≡ length passes → n ≡ terms.layout.streams
-      → ((s : ℕ) (pass : PassValue) → IsStream terms.layout s → slice_get passes (s - 1) ≡ Some pass → IsOpened store f s pass)
-      → made ≡ terms → AreJobs made 1 firsts passes js → HaveReadyJobs store f terms 1 firsts js
-  run_ready {store = store} {f = f} {terms = terms} firsts passes js are count opened same jobs =
-      are_ready store f terms 1 firsts passes js (subst (λ (t : TermsValue). AreJobs t 1 firsts passes js) same jobs)
-      (are_opened store f terms.layout passes (sym are ∙ count) opened)
+  pub run_ready : {store : StoreValue} {f : Cnf} {n : ℕ} (terms : TermsValue) (p : LayoutValue) (firsts : List S)
+      (passes : List PassValue) (js : List (JobsValue S)) → n ≡ length passes → n ≡ p.streams
+      → ((s : ℕ) (pass : PassValue) → IsStream p s → slice_get passes (s - 1) ≡ Some pass → IsOpened store f s pass)
+      → AreJobs terms 1 firsts passes js → HaveReadyJobs store f terms 1 firsts js
+  run_ready {store = store} {f = f} terms p firsts passes js are count opened jobs =
+      are_ready store f terms 1 firsts passes js jobs (are_opened store f p passes (sym are ∙ count) opened)
 
   -- the first byte may be taken where nothing was called yet
   ready_can : (f : Cnf) (terms : TermsValue) (store : StoreValue) (s : ℕ) (first : S) (j : JobsValue S)

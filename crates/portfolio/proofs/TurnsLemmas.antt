@@ -31,7 +31,6 @@ use Rattle.portfolio.proofs.RoundLemmas.{tagged, within-tagged, events_more, blo
 use Rattle.portfolio.proofs.RoundLemmas.{round_passed, round_over}
 use Rattle.portfolio.proofs.WorkingLemmas.{not_over}
 use Rattle.portfolio.specs.Dropping.{HasDropped, HaveDropped}
-use Rattle.portfolio.specs.Outcomes.{OptionsValue, layout_of}
 use Rattle.lrup_text.specs.ReadOut.{SourceView}
 use Rattle.runs.specs.Readings.{AreRead, IsStreamOf}
 use Rattle.runs.specs.Streams.{Stream, tellings, IsTold, JudgesStream, Block, blocks_of, events_in, IsBlockWithin, setting_of, AreJudged}
@@ -494,10 +493,6 @@ run_ordered {S} view f terms firsts m ws begun n reports lasts dropped so =
         ordered.3.2,
       );
     }
-
--- so many streams as the layout was asked for
-pub streams_asked : (options : OptionsValue) (f : Cnf) (n : ℕ) (p : LayoutValue) → p ≡ layout_of options f n → p.streams ≡ n
-streams_asked options f n p same = ap (λ (q : LayoutValue). q.streams) same
 
 -- what is written to all of a list
 pub written_back : {A : Type 0} (n : ℕ) (xs ys : List A) → length xs ≡ n → take n (xs ++ ys) ≡ xs

@@ -1,5 +1,5 @@
 -- One stream at work: its reader, its checker, and what was read and isn't checked yet (this project's own).
-use Rattle.std.specs.Prelude.{◌≡◌, ◌≤◌, ◌<◌, ◌++◌, ℕ, Bool, false, List, [], length, Option, None, Some, IsSome}
+use Rattle.std.specs.Prelude.{◌≡◌, ◌≤◌, ◌<◌, ◌++◌, ℕ, Bool, false, List, [], length, Option, None, Some}
 use Rattle.std.specs.Io.KnownBytes.{Consumes}
 use Rattle.lrup_model.specs.Event.{History}
 use Rattle.stream_check.specs.declared.report.Ending.{Ending}

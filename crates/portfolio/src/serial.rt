@@ -4,7 +4,7 @@ ghost use Rattle.std.specs.List.{AllByRecursion};
 ghost use Rattle.lrup_model.specs.Cube.{IsUnsatisfiableUnder};
 ghost use Rattle.lrup_model.specs.Entailment.{IsUnsatisfiable};
 ghost use Rattle.lrup_model.specs.Event.{History};
-ghost use Rattle.lrup_model.specs.Layout.{IsFault, IsStream};
+ghost use Rattle.lrup_model.specs.Layout.{Fits, IsFault, IsStream};
 ghost use Rattle.lrup_model.specs.declared.layout.LayoutFault.{LayoutFault};
 ghost use Rattle.lrup_model.specs.Plain.{PlainMoves, formula_of, free_at, plain_place, plain_state};
 ghost use Rattle.lrup_model.specs.State.{state};
@@ -88,35 +88,31 @@ pub fn run_serial<W: Wait, R: Source + Drop, G: Gate + Drop>(
     ensures sound_under { IfOk result (λ outcome. outcome.verdict ≡ Verdict.UnsatisfiableUnder
         → IsUnsatisfiableUnder formula.now cube.now) }
 {
-    let (map, workers) = open(alloc, formula, cube, options, readers, gates)?;
+    let layout = options.layout(formula, readers.len())?;
+    let terms = Terms::new(&layout, cube, options.tries());
+    let (map, workers) = open(alloc, formula, &terms, readers, gates)?;
     serial_isolated();
     alone_has_one_report();
     check(wait, alloc, map, workers)
 }
 
-/// The map of a run, and a worker for each stream.
+/// The map of a run, and a worker for each stream, by its terms.
 fn open<R: Source + Drop, G: Gate + Drop>(
     alloc: Global,
     formula: &Formula,
-    cube: &Cube,
-    options: Options,
+    terms: &Terms<'_>,
     readers: Vec<R>,
     gates: Vec<G>,
-) -> Result<(PlainMap, Vec<Worker<R, G>>), RunFault>
+) -> Result<(PlainMap, Vec<Worker<R, G>>), AllocError>
+    requires fits { Fits terms.now.layout formula.now }
+    requires streams { terms.now.layout.streams ≡ length readers.items }
     requires gates { vec_len gates ≡ vec_len readers }
     requires running { AllByRecursion (λ r. R.has_failed r ≡ false) readers.items }
-    ensures layout { (fault : LayoutFault) → (result ≡ Err (RunFault.Layout fault))
-        ↔ IsFault (layout_of options formula.now (length readers.items)) fault }
-    ensures no_spawn { (stream : ℕ) → result ≢ Err (RunFault.Spawn stream) }
-    ensures no_ring { (stream : ℕ) → result ≢ Err (RunFault.Ring stream) }
-    ensures runs { let terms = terms_of options cube.now formula.now (length readers.items) in
-        IfOk result (λ opened. Runs (source_view R.left R.has_failed R.reads) formula.now terms
-        readers.items 0 opened.0 opened.1.items) }
+    ensures { IfOk result (λ opened. Runs (source_view R.left R.has_failed R.reads) formula.now
+        terms.now readers.items 0 opened.0 opened.1.items) }
 {
-    let layout = options.layout(formula, readers.len())?;
-    let terms = Terms::new(&layout, cube, options.tries());
-    let map = PlainMap::open(alloc, formula, &layout)?;
-    let workers = workers_of(alloc, &terms, readers, gates)?;
+    let map = PlainMap::open(alloc, formula, terms.layout())?;
+    let workers = workers_of(alloc, terms, readers, gates)?;
     Ok((map, workers))
 }
 

@@ -3,7 +3,7 @@ ghost use Rattle.std.specs.Prelude.{◌≡◌, ◌≢◌, ◌↔◌, ◌≤◌, 
 ghost use Rattle.std.specs.List.{AllByRecursion};
 ghost use Rattle.lrup_model.specs.Cube.{IsUnsatisfiableUnder};
 ghost use Rattle.lrup_model.specs.Entailment.{IsUnsatisfiable};
-ghost use Rattle.lrup_model.specs.Layout.{IsFault, IsStream};
+ghost use Rattle.lrup_model.specs.Layout.{Fits, IsFault, IsLayout, IsStream};
 ghost use Rattle.lrup_model.specs.declared.layout.LayoutFault.{LayoutFault};
 ghost use Rattle.lrup_model.specs.Pass.{AreMet};
 ghost use Rattle.clause_store.specs.Passes.{AreOf, HaveMet, store_of, views};
@@ -109,7 +109,9 @@ pub fn run<T: Threads + Wait + Sync, R: Source + Send + Drop, G: Gate + Send + D
     ensures sound_under { IfOk result (λ outcome. outcome.verdict ≡ Verdict.UnsatisfiableUnder
         → IsUnsatisfiableUnder formula.now cube.now) }
 {
-    let (store, jobs) = open(alloc, formula, cube, options, readers, gates)?;
+    let layout = options.layout(formula, readers.len())?;
+    let terms = Terms::new(&layout, cube, options.tries());
+    let Opened { store, jobs } = open(alloc, formula, &terms, readers, gates)?;
     run_isolated();
     alone_has_one_report();
     run_serializable();
@@ -117,32 +119,31 @@ pub fn run<T: Threads + Wait + Sync, R: Source + Send + Drop, G: Gate + Send + D
 }
 
 /// What a run begins with: its store, and the jobs of its streams, each at its pass.
-type Opened<R, G> = (Store, Vec<StreamJobs<R, G>>);
+#[derive(Drop)]
+struct Opened<R: Source + Drop, G: Gate + Drop> {
+    store: Store,
+    jobs: Vec<StreamJobs<R, G>>,
+}
 
-/// Opens the store of a run, and makes the jobs of its streams.
+/// Opens the store of a run, and makes the jobs of its streams, by its terms.
 fn open<R: Source + Drop, G: Gate + Drop>(
     alloc: Global,
     formula: &Formula,
-    cube: &Cube,
-    options: Options,
+    terms: &Terms<'_>,
     readers: Vec<R>,
     gates: Vec<G>,
-) -> Result<Opened<R, G>, RunFault>
+) -> Result<Opened<R, G>, AllocError>
+    requires layout { IsLayout terms.now.layout }
+    requires fits { Fits terms.now.layout formula.now }
+    requires streams { terms.now.layout.streams ≡ length readers.items }
     requires gates { vec_len gates ≡ vec_len readers }
     requires running { AllByRecursion (λ r. R.has_failed r ≡ false) readers.items }
-    ensures layout { (fault : LayoutFault) → (result ≡ Err (RunFault.Layout fault))
-        ↔ IsFault (layout_of options formula.now (length readers.items)) fault }
-    ensures no_spawn { (stream : ℕ) → result ≢ Err (RunFault.Spawn stream) }
-    ensures no_ring { (stream : ℕ) → result ≢ Err (RunFault.Ring stream) }
-    ensures begun { IfOk result (λ opened. IsBegun formula.now
-        (terms_of options cube.now formula.now (length readers.items)) opened.0 readers.items
-        opened.1.items) }
+    ensures { IfOk result (λ opened. IsBegun formula.now terms.now opened.store readers.items
+        opened.jobs.items) }
 {
-    let layout = options.layout(formula, readers.len())?;
-    let terms = Terms::new(&layout, cube, options.tries());
-    let (store, passes) = Store::open(alloc, formula, layout)?;
-    let jobs = jobs_of(alloc, &terms, readers, gates, passes)?;
-    Ok((store, jobs))
+    let (store, passes) = Store::open(alloc, formula, *terms.layout())?;
+    let jobs = jobs_of(alloc, terms, readers, gates, passes)?;
+    Ok(Opened { store, jobs })
 }
 
 /// Checks the streams of these jobs, and gathers what was found of each; at a fault of a ring, of the streams before its own.

@@ -1,64 +1,110 @@
 use Rattle.std.proofs.Common.{◌-◌, ◌∙◌, length, sym, subst, ap}
 use Rattle.std.proofs.lemmas.Result.{IfOk-weaker}
 use Rattle.clause_store.specs.Passes.{AreOf, StoreValue}
+use Rattle.lrup_model.specs.Layout.{Fits, IsLayout, LayoutValue}
 use Rattle.lrup_text.specs.ReadOut.{source_view}
 use Rattle.run_laws.specs.ReportLemmas.{reports_alone}
+use Rattle.runs.specs.Streams.{TermsValue}
 use Rattle.portfolio.specs.Outcomes.{terms_of}
 use Rattle.portfolio.specs.ResultLemmas.{if_both}
+use Rattle.portfolio.specs.Threads.{IsBegun}
 use Rattle.portfolio.proofs.CubeLemmas.{sound_under_run}
 use Rattle.portfolio.proofs.HeadlineLemmas.{can_begin, no_fault, sound_run, stream_within}
+use Rattle.portfolio.proofs.HeadlineLemmas.{is_memory, none_of_layout, not_layout, terms_made}
 use Rattle.portfolio.proofs.HeadlineLemmas.{run_before, run_dropped, run_history, run_isolated, run_reports, run_serializable}
+use Rattle.portfolio.proofs.threads.run.Given as given
 use Rattle.portfolio.proofs.threads.run.Goals as goal
+use Rattle.portfolio.proofs.threads.run.Goals.{In_ok-store}
+
+-- the run was begun by the terms of its formula, options and streams
+begun : (g : given.Over) (c : In_ok-store g) → IsBegun c.args.formula.now
+    (terms_of c.args.options c.args.cube.now c.args.formula.now (length c.args.readers.items)) c.in_ok-store.field-0.store
+    c.args.readers.items c.in_ok-store.field-0.jobs.items
+begun g c =
+    let opened = c.in_ok-store.field-0 in
+    subst (λ (t : TermsValue). IsBegun c.args.formula.now t opened.store c.args.readers.items opened.jobs.items)
+    (terms_made c.args.options c.args.cube.now c.args.formula.now c.in_ok-layout.layout c.len.result (length c.args.readers.items)
+    c.tries.result _ c.new-terms.ensures c.in_ok-layout.ensures.layout.0 (c.len.ensures ∙ c.args.readers.ok.0) c.tries.ensures.tries)
+    c.in_ok-store.ensures
+
+pub open-requires-clause-layout : goal.open-requires-clause-layout
+open-requires-clause-layout g c =
+    subst IsLayout (sym (ap (λ (t : TermsValue). t.layout) c.new-terms.ensures)) c.in_ok-layout.ensures.layout.1
+
+pub open-requires-clause-fits : goal.open-requires-clause-fits
+open-requires-clause-fits g c =
+    subst (λ (p : LayoutValue). Fits p c.args.formula.now) (sym (ap (λ (t : TermsValue). t.layout) c.new-terms.ensures))
+    c.in_ok-layout.ensures.layout.2
+
+pub open-requires-clause-streams : goal.open-requires-clause-streams
+open-requires-clause-streams g c =
+    ap (λ (t : TermsValue). t.layout.streams) c.new-terms.ensures
+    ∙ ap (λ (p : LayoutValue). p.streams) c.in_ok-layout.ensures.layout.0 ∙ c.len.ensures ∙ c.args.readers.ok.0
 
 pub check-requires-clause-begin : goal.check-requires-clause-begin
 check-requires-clause-begin g c κs within =
-    can_begin (source_view g.R.Source.left g.R.Source.has_failed g.R.Source.reads) c.in_ok-store.ensures.begun
+    can_begin (source_view g.R.Source.left g.R.Source.has_failed g.R.Source.reads)
+    (begun g (goal.at.check-requires-clause-begin g c).In_ok-store)
 
 pub returns-clause-layout : goal.returns-clause-layout
 returns-clause-layout g c = λ fault. (
   (λ e. absurd (c.check.ensures.no_layout fault e)),
-  (λ bad. absurd (no_fault _ fault c.in_ok-store.ensures.begun.is bad)),
+  (λ bad. absurd (no_fault _ fault (begun g (goal.at.returns-clause-layout g c).In_ok-store).is bad)),
+)
+
+-- a run that ran out of memory before its threads has a layout
+pub returns-in_err-store-clause-layout : goal.returns-in_err-store-clause-layout
+returns-in_err-store-clause-layout g c = λ fault. (
+  (λ e. absurd (not_layout _ fault (is_memory _ c.from_residual-in_err-store.ensures.1) e)),
+  (λ bad. absurd (none_of_layout c.args.options c.args.formula.now _ c.len.result (length c.args.readers.items)
+      c.in_ok-layout.ensures.layout.0 (c.len.ensures ∙ c.args.readers.ok.0) c.in_ok-layout.ensures.layout.1 fault bad)),
 )
 
 pub returns-clause-spawn : goal.returns-clause-spawn
 returns-clause-spawn g c = λ stream e.
+    let begun = begun g (goal.at.returns-clause-spawn g c).In_ok-store in
     let view = source_view g.R.Source.left g.R.Source.has_failed g.R.Source.reads in
     let wanted = terms_of c.args.options c.args.cube.now c.args.formula.now (length c.args.readers.items) in
-    stream_within view {terms = wanted} c.in_ok-store.ensures.begun stream (c.check.ensures.spawn stream e)
+    stream_within view {terms = wanted} begun stream (c.check.ensures.spawn stream e)
 
 pub returns-clause-ring : goal.returns-clause-ring
 returns-clause-ring g c = λ stream e.
+    let begun = begun g (goal.at.returns-clause-ring g c).In_ok-store in
     let view = source_view g.R.Source.left g.R.Source.has_failed g.R.Source.reads in
     let wanted = terms_of c.args.options c.args.cube.now c.args.formula.now (length c.args.readers.items) in
-    stream_within view {terms = wanted} c.in_ok-store.ensures.begun stream (c.check.ensures.ring stream e)
+    stream_within view {terms = wanted} begun stream (c.check.ensures.ring stream e)
 
 pub returns-clause-first : goal.returns-clause-first
 returns-clause-first g c = λ stream e.
+    let begun = begun g (goal.at.returns-clause-first g c).In_ok-store in
     let view = source_view g.R.Source.left g.R.Source.has_failed g.R.Source.reads in
     let wanted = terms_of c.args.options c.args.cube.now c.args.formula.now (length c.args.readers.items) in
-    run_before view {terms = wanted} c.in_ok-store.ensures.begun (stream - 1) (c.check.ensures.first stream e)
+    run_before view {terms = wanted} begun (stream - 1) (c.check.ensures.first stream e)
 
 pub returns-clause-history : goal.returns-clause-history
 returns-clause-history g c =
+    let begun = begun g (goal.at.returns-clause-history g c).In_ok-store in
     let view = source_view g.R.Source.left g.R.Source.has_failed g.R.Source.reads in
     let wanted = terms_of c.args.options c.args.cube.now c.args.formula.now (length c.args.readers.items) in
-    IfOk-weaker c.check.result _ _ (λ outcome found. run_history view {terms = wanted} c.in_ok-store.ensures.begun _ _ _ _ found)
+    IfOk-weaker c.check.result _ _ (λ outcome found. run_history view {terms = wanted} begun _ _ _ _ found)
     c.check.ensures.found
 
 pub returns-clause-reports : goal.returns-clause-reports
 returns-clause-reports g c =
+    let begun = begun g (goal.at.returns-clause-reports g c).In_ok-store in
     let view = source_view g.R.Source.left g.R.Source.has_failed g.R.Source.reads in
     let wanted = terms_of c.args.options c.args.cube.now c.args.formula.now (length c.args.readers.items) in
     IfOk-weaker c.check.result _ _
-    (λ outcome found. run_reports view {terms = wanted} c.in_ok-store.ensures.begun _ _ _ _ found)
+    (λ outcome found. run_reports view {terms = wanted} begun _ _ _ _ found)
     c.check.ensures.found
 
 pub returns-clause-isolated : goal.returns-clause-isolated
 returns-clause-isolated g c =
+    let begun = begun g (goal.at.returns-clause-isolated g c).In_ok-store in
     let view = source_view g.R.Source.left g.R.Source.has_failed g.R.Source.reads in
     let wanted = terms_of c.args.options c.args.cube.now c.args.formula.now (length c.args.readers.items) in
     IfOk-weaker c.check.result _ _
-    (λ outcome found. run_isolated view {terms = wanted} c.in_ok-store.ensures.begun c.run_isolated.ensures _ _ _ _ found)
+    (λ outcome found. run_isolated view {terms = wanted} begun c.run_isolated.ensures _ _ _ _ found)
     c.check.ensures.found
 
 pub returns-clause-alone : goal.returns-clause-alone
@@ -68,18 +114,20 @@ returns-clause-alone g c =
 
 pub returns-clause-serializable : goal.returns-clause-serializable
 returns-clause-serializable g c =
+    let begun = begun g (goal.at.returns-clause-serializable g c).In_ok-store in
     let view = source_view g.R.Source.left g.R.Source.has_failed g.R.Source.reads in
     let wanted = terms_of c.args.options c.args.cube.now c.args.formula.now (length c.args.readers.items) in
     IfOk-weaker c.check.result _ _
-    (λ outcome found. run_serializable view {terms = wanted} c.in_ok-store.ensures.begun c.run_serializable.ensures _ _ _ _ found)
+    (λ outcome found. run_serializable view {terms = wanted} begun c.run_serializable.ensures _ _ _ _ found)
     c.check.ensures.found
 
 pub returns-clause-dropped : goal.returns-clause-dropped
 returns-clause-dropped g c =
+    let begun = begun g (goal.at.returns-clause-dropped g c).In_ok-store in
     let view = source_view g.R.Source.left g.R.Source.has_failed g.R.Source.reads in
     let wanted = terms_of c.args.options c.args.cube.now c.args.formula.now (length c.args.readers.items) in
     IfOk-weaker c.check.result _ _
-    (λ outcome found. outcome.dropped.ok.0 ∙ run_dropped view {terms = wanted} c.in_ok-store.ensures.begun _ _ _ _ found)
+    (λ outcome found. outcome.dropped.ok.0 ∙ run_dropped view {terms = wanted} begun _ _ _ _ found)
     c.check.ensures.found
 
 pub returns-clause-store : goal.returns-clause-store
@@ -89,14 +137,15 @@ returns-clause-store g c =
 
 pub returns-clause-kept : goal.returns-clause-kept
 returns-clause-kept g c =
+    let begun = begun g (goal.at.returns-clause-kept g c).In_ok-store in
     IfOk-weaker c.check.result _ _
-    (λ outcome kept. ap (λ (store : StoreValue). store.layout) kept ∙ c.in_ok-store.ensures.begun.store_is) c.check.ensures.kept
+    (λ outcome kept. ap (λ (store : StoreValue). store.layout) kept ∙ begun.store_is) c.check.ensures.kept
 
 pub returns-clause-sound : goal.returns-clause-sound
 returns-clause-sound g c =
     let view = source_view g.R.Source.left g.R.Source.has_failed g.R.Source.reads in
     let wanted = terms_of c.args.options c.args.cube.now c.args.formula.now (length c.args.readers.items) in
-    let begun = c.in_ok-store.ensures.begun in
+    let begun = begun g (goal.at.returns-clause-sound g c).In_ok-store in
     if_both c.check.result c.check.ensures.found c.check.ensures.verdict (λ outcome found verdict.
     let reports = run_reports view {terms = wanted} begun _ _ _ _ found in
     sound_run _ wanted _ reports.streams _ _ (run_history view {terms = wanted} begun _ _ _ _ found).legal reports.judged.1 verdict)
@@ -105,7 +154,7 @@ pub returns-clause-sound_under : goal.returns-clause-sound_under
 returns-clause-sound_under g c =
     let view = source_view g.R.Source.left g.R.Source.has_failed g.R.Source.reads in
     let wanted = terms_of c.args.options c.args.cube.now c.args.formula.now (length c.args.readers.items) in
-    let begun = c.in_ok-store.ensures.begun in
+    let begun = begun g (goal.at.returns-clause-sound_under g c).In_ok-store in
     if_both c.check.result c.check.ensures.found c.check.ensures.verdict (λ outcome found verdict.
     let reports = run_reports view {terms = wanted} begun _ _ _ _ found in
     sound_under_run _ wanted _ reports.streams _ _ (run_history view {terms = wanted} begun _ _ _ _ found).legal reports.judged.1 verdict)
