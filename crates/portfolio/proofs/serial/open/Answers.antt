@@ -8,14 +8,13 @@ pub returns : goal.returns
 returns g c =
     let f = c.args.formula.now in
     let terms = c.args.terms.now in
-    let map = c.in_ok-map in
     let view = source_view g.R.Source.left g.R.Source.has_failed g.R.Source.reads in
-    let opened : IsOpened f terms.layout map.map = record {
+    let opened : IsOpened f terms.layout c.in_ok-map.map = record {
       fits = c.requires.fits;
-      layout = map.ensures.layout ∙ c.layout.ensures;
-      formula = map.ensures.formula;
-      state = map.ensures.state;
-      room = map.ensures.room ∙ ap (λ (p : LayoutValue). replicate p.streams p.room) c.layout.ensures;
+      layout = c.in_ok-map.ensures.layout ∙ c.layout.ensures;
+      formula = c.in_ok-map.ensures.formula;
+      state = c.in_ok-map.ensures.state;
+      room = c.in_ok-map.ensures.room ∙ ap (λ (p : LayoutValue). replicate p.streams p.room) c.layout.ensures;
     } in
-    runs_opened view f terms map.map opened c.args.readers.items c.in_ok-workers.workers.items (sym c.requires.streams)
+    runs_opened view f terms c.in_ok-map.map opened c.args.readers.items c.in_ok-workers.workers.items (sym c.requires.streams)
     c.in_ok-workers.ensures
