@@ -2,7 +2,7 @@
 use Rattle.std.proofs.Common.{◌≡◌, inl, inr, ℕ, zero, suc, ◌+◌, ◌-◌, ◌<◌, ◌≤◌, Bool, true, false, List, [], ◌∷◌, ◌++◌, length, map, take}
 use Rattle.std.proofs.Common.{Some, refl, sym, ap, ap₂, subst, ◌∙◌, arith, append-nil}
 use Rattle.std.specs.Result.{IfErr, IsErrAnd}
-use Rattle.std.specs.Prelude.{IsSome, Result, Ok, Err, slice_get, if◌then◌else◌}
+use Rattle.std.specs.Prelude.{IsSome, IsSomeAnd, Option, None, Result, Ok, Err, slice_get, if◌then◌else◌}
 use Rattle.std.specs.List.{AllByRecursion, list_any, AllZip}
 use Rattle.std.proofs.lemmas.List.{length-map}
 use Rattle.std.proofs.lemmas.Simd.{map-map}
@@ -33,10 +33,10 @@ use Rattle.portfolio.specs.declared.outcome.Verdict.{Verdict}
 use Rattle.portfolio.specs.declared.outcome.Verdict.TheVariants.{Unsatisfiable, UnsatisfiableUnder, Unknown}
 use Rattle.portfolio.specs.Dropping.{HasDropped, HaveDropped}
 use Rattle.portfolio.specs.Outcomes.{OptionsValue, layout_of, terms_of, verdict_of}
-use Rattle.portfolio.specs.Threads.{AreGathered, HaveReadyJobs, IsBegun, HasReadyJobs, WereGathered}
+use Rattle.portfolio.specs.Threads.{AreGathered, HaveReadyJobs, IsBegun, HasReadyJobs, WasReadOut, WereGathered}
 use Rattle.runs.specs.StreamLemmas.{IsJudgedBy, told_as_many}
 use Rattle.runs.specs.Headline.{HaveOneHistory, AreJudgedIn, WereJudged, seen_by}
-use Rattle.stream_threads.specs.Jobs.{JobsValue, FoundValue, CanBegin, Finishes, AllFinish, AreJobs}
+use Rattle.stream_threads.specs.Jobs.{JobsValue, FoundValue, CanBegin, Finishes, AllFinish, AreJobs, MissesMark}
 use Rattle.lrup_text.specs.ReadOut.{SourceView}
 use Rattle.runs.specs.Readings.{AreRead, IsStreamOf}
 use Rattle.runs.specs.Streams.{Stream, tellings, IsTold, JudgesStream, StandsOnStreams, TermsValue, setting_of}
@@ -480,6 +480,27 @@ module _ {S : Type 0} (view : SourceView S) where
       → WereJudged view f terms (take n firsts)
   run_before {f} {terms} begun n (vs, reports, lasts, dropped, so) =
       were_judged f terms _ begun.store_is _ _ so.found vs (ready_take _ _ _ _ n _ _ begun.ready) so.finish so.met so.one
+
+  -- whose mark was missed was read out
+  pub read_out_of : (one : Option (JobsValue S)) → IsSomeAnd one (λ j. MissesMark view j.reader)
+      → IsSomeAnd one (λ j. WasReadOut view j.reader)
+  read_out_of None missed = absurd missed
+  read_out_of (Some j) missed = record { last = missed.last; stream = missed.stream; ended = missed.ended; read = missed.read }
+
+  reader_read_out : (f : Cnf) (terms : TermsValue) (store : StoreValue) (s : ℕ) (firsts : List S) (js : List (JobsValue S)) (n : ℕ)
+      → HaveReadyJobs store f terms s firsts js → IsSomeAnd (slice_get js n) (λ one. WasReadOut view one.reader)
+      → IsSomeAnd (slice_get firsts n) (WasReadOut view)
+  reader_read_out f terms store s [] [] n ready read = absurd read
+  reader_read_out f terms store s [] (j ∷ js) n ready read = absurd ready
+  reader_read_out f terms store s (e ∷ es) [] n ready read = absurd ready
+  reader_read_out f terms store s (e ∷ es) (j ∷ js) zero ready read = subst (WasReadOut view) ready.0.reader_is read
+  reader_read_out f terms store s (e ∷ es) (j ∷ js) (suc n) ready read = reader_read_out f terms store (s + 1) es js n ready.1 read
+
+  -- and that one's reader was read out
+  pub run_read_out : {f : Cnf} {terms : TermsValue} {store : StoreValue} {firsts : List S} {js : List (JobsValue S)}
+      → IsBegun f terms store firsts js → (n : ℕ) → IsSomeAnd (slice_get js n) (λ one. WasReadOut view one.reader)
+      → IsSomeAnd (slice_get firsts n) (WasReadOut view)
+  run_read_out begun n read = reader_read_out _ _ _ _ _ _ n begun.ready read
 
   told_count : {f : Cnf} {terms : TermsValue} {store : StoreValue} {firsts : List S} {js : List (JobsValue S)}
       → IsBegun f terms store firsts js

@@ -1,11 +1,12 @@
 -- The streams of a run with threads, before the threads start, and when all have ended (this project's own).
-use Rattle.std.specs.Prelude.{◌≡◌, ◌+◌, ℕ, List, [], ◌∷◌, length, map}
+use Rattle.std.specs.Prelude.{◌≡◌, ◌+◌, ℕ, List, [], ◌∷◌, IsSome, length, map}
 use Rattle.lrup_model.specs.Formula.{Cnf}
 use Rattle.lrup_model.specs.Layout.{Fits, IsLayout}
 use Rattle.lrup_model.specs.Pass.{AreMet, View}
 use Rattle.clause_store.specs.Passes.{HaveMet, IsOpened, StoreValue, views}
 use Rattle.lrup_text.specs.ReadOut.{SourceView}
-use Rattle.runs.specs.Streams.{TermsValue}
+use Rattle.runs.specs.Readings.{IsStreamOf}
+use Rattle.runs.specs.Streams.{Stream, TermsValue}
 use Rattle.stream_check.specs.declared.report.Report.{Report}
 use Rattle.stream_check.specs.Checker.{IsNew}
 use Rattle.stream_check.specs.DroppedValue.{DroppedValue}
@@ -53,3 +54,10 @@ abbrev pub WereGathered : {S : Type 0} → SourceView S → List (JobsValue S) �
 WereGathered {S} view all =
     (passes : List View) × (reports : List Report) × (readers : List S)
     × (dropped : List DroppedValue) × AreGathered view all passes reports readers dropped
+
+-- the reader was read to its end, or to the read that failed, and the stream is what it told and its reads gave
+pub record WasReadOut {S : Type 0} (view : SourceView S) (reader : S) : Type 0 where
+  pub last : S
+  pub stream : Stream
+  pub ended : IsSome stream.end
+  pub read : IsStreamOf view reader last stream

@@ -1,5 +1,5 @@
 //! A run with two threads for each stream.
-ghost use Rattle.std.specs.Prelude.{◌≡◌, ◌≢◌, ◌↔◌, ◌≤◌, ◌<◌, ◌-◌, true, false, ℕ, [], Err, IfOk, IsSome, length, map, take, vec_capacity, vec_len};
+ghost use Rattle.std.specs.Prelude.{◌≡◌, ◌≢◌, ◌↔◌, ◌≤◌, ◌<◌, ◌-◌, true, false, ℕ, [], Err, IfOk, IsSome, IsSomeAnd, length, map, slice_get, take, vec_capacity, vec_len};
 ghost use Rattle.std.specs.List.{AllByRecursion};
 ghost use Rattle.lrup_model.specs.Cube.{IsUnsatisfiableUnder};
 ghost use Rattle.lrup_model.specs.Entailment.{IsUnsatisfiable};
@@ -12,7 +12,7 @@ ghost use Rattle.runs.specs.Readings.{AreRead};
 ghost use Rattle.runs.specs.Headline.{AreJudgedIn, HaveOneHistory, WereJudged, seen_by};
 ghost use Rattle.portfolio.specs.Dropping.{HaveDropped};
 ghost use Rattle.portfolio.specs.Outcomes.{layout_of, terms_of, verdict_of};
-ghost use Rattle.portfolio.specs.Threads.{AreGathered, IsBegun, WereGathered};
+ghost use Rattle.portfolio.specs.Threads.{AreGathered, IsBegun, WasReadOut, WereGathered};
 ghost use Rattle.runs.specs.Streams.{StandsOnStreams, tellings};
 ghost use Rattle.run_laws.specs.Groups.{AreIsolated, HaveReportsAlone};
 ghost use Rattle.run_laws.specs.Serializable.{IsSerializable};
@@ -30,7 +30,9 @@ use std::alloc::{AllocError, Global};
 use std::sync::Wait;
 use std::thread::Threads;
 use stream_check::{Dropped, Gate, Report};
-use stream_threads::{Room, StreamJobs, StreamResult, ThreadFault, check_all, jobs_of};
+use stream_threads::{
+    Room, StartSignal, StreamJobs, StreamResult, ThreadFault, check_all, jobs_of,
+};
 
 /// Checks the streams that the readers give, each in two threads of its own, one that reads it to its end and one that checks what
 /// was read, against one store of clauses, and says whether one derived a clause that contradicts the cube. As many gates are
@@ -60,6 +62,10 @@ pub fn run<T: Threads + Wait + Sync, R: Source + Send + Drop, G: Gate + Send + D
         (stream : ℕ) → result ≡ Err (RunFault.Ring stream)
         → WereJudged (source_view R.left R.has_failed R.reads) formula.now terms
         (take (stream - 1) readers.items) }
+    // Its own reader was read out too.
+    ensures read_out { (stream : ℕ) → result ≡ Err (RunFault.Ring stream)
+        → IsSomeAnd (slice_get readers.items (stream - 1))
+        (WasReadOut (source_view R.left R.has_failed R.reads)) }
     // One legal history has each stream's calls once, in its order, with the replies that it got.
     ensures history { IfOk result (λ outcome. let passes = views outcome.passes.items in
         HaveOneHistory formula.now (layout_of options formula.now (length readers.items))
@@ -161,6 +167,9 @@ fn check<T: Threads + Wait + Sync, R: Source + Send + Drop, G: Gate + Send + Dro
         → (0 < stream) × (stream ≤ length jobs.items) }
     ensures first { (stream : ℕ) → result ≡ Err (RunFault.Ring stream)
         → WereGathered (source_view R.left R.has_failed R.reads) (take (stream - 1) jobs.items) }
+    ensures read_out { (stream : ℕ) → result ≡ Err (RunFault.Ring stream)
+        → IsSomeAnd (slice_get jobs.items (stream - 1))
+        (λ one. WasReadOut (source_view R.left R.has_failed R.reads) one.reader) }
     ensures found { IfOk result (λ outcome. AreGathered (source_view R.left R.has_failed R.reads)
         jobs.items (views outcome.passes.items) outcome.reports.items outcome.readers.items
         outcome.dropped.items) }
@@ -169,13 +178,14 @@ fn check<T: Threads + Wait + Sync, R: Source + Send + Drop, G: Gate + Send + Dro
     ensures of { IfOk result (λ outcome. AreOf store outcome.passes.items) }
     ensures kept { IfOk result (λ outcome. outcome.store ≡ store) }
 {
+    let signal = StartSignal::new();
     let Lists {
         room,
         reports,
         met,
         readers,
         dropped,
-    } = lists_for(alloc, jobs.len())?;
+    } = lists_for(alloc, &signal, jobs.len())?;
     match check_all(threads, &store, jobs, room) {
         Ok(found) => Ok(outcome_of(store, found, reports, met, readers, dropped)),
         Err(ThreadFault::Spawn(stream)) => Err(RunFault::Spawn(stream)),
@@ -189,19 +199,20 @@ fn check<T: Threads + Wait + Sync, R: Source + Send + Drop, G: Gate + Send + Dro
 
 /// Lists, still empty, for what a run gathers of its streams.
 #[derive(Drop)]
-struct Lists<R: Source + Drop, G: Gate + Drop> {
-    room: Room<R, G>,
+struct Lists<'a, R: Source + Drop, G: Gate + Drop> {
+    room: Room<'a, R, G>,
     reports: Vec<Report>,
     met: Vec<Pass>,
     readers: Vec<R>,
     dropped: Vec<Dropped>,
 }
 
-/// Lists with room for `count` streams.
-fn lists_for<R: Source + Drop, G: Gate + Drop>(
+/// Lists with room for `count` streams, whose threads wait for this signal.
+fn lists_for<'a, R: Source + Drop, G: Gate + Drop>(
     alloc: Global,
+    signal: &'a StartSignal,
     count: usize,
-) -> Result<Lists<R, G>, AllocError>
+) -> Result<Lists<'a, R, G>, AllocError>
     ensures room { IfOk result (λ lists. lists.room ≡ count) }
     ensures reports { IfOk result (λ lists.
         (lists.reports.items ≡ []) × (vec_capacity lists.reports ≡ count)) }
@@ -213,7 +224,7 @@ fn lists_for<R: Source + Drop, G: Gate + Drop>(
         (lists.dropped.items ≡ []) × (vec_capacity lists.dropped ≡ count)) }
 {
     Ok(Lists {
-        room: Room::new(alloc, count)?,
+        room: Room::new(alloc, signal, count)?,
         reports: Vec::with_capacity(alloc, count)?,
         met: Vec::with_capacity(alloc, count)?,
         readers: Vec::with_capacity(alloc, count)?,

@@ -1,6 +1,8 @@
 -- What the threads of a stream gave back, and lists of them.
-use Rattle.std.proofs.Common.{◌≡◌, ◌++◌, ◌+◌, ◌∙◌, ℕ, List, [], ◌∷◌, Option, Some, None, IfSome, Result, Ok, Err, IfOk, IfErr, ◌<◌, ◌≤◌}
-use Rattle.std.proofs.Common.{◌-◌, length, map, take, refl, sym, ap, subst, arith, append_assoc, append-nil}
+use Rattle.std.proofs.Common.{◌≡◌, ◌++◌, ◌+◌, ◌∙◌, ℕ, List, [], ◌∷◌, Option, Some, None, IfSome, Result, Ok, Err, IfOk, IfErr}
+use Rattle.std.specs.Prelude.{IsSomeAnd, MatchResult, slice_get}
+use Rattle.std.specs.List.{AllByRecursion}
+use Rattle.std.proofs.Common.{length, map, take, refl, sym, ap, subst, arith, append_assoc, append-nil}
 use Rattle.std.proofs.lemmas.List.{length-append, length-map, map-append, nil_from_length}
 use Rattle.std.specs.declared.vec.IntoIter.{IntoIter}
 use Rattle.std.specs.Vec.Iter.{into_iter_items, into_iter_len}
@@ -14,7 +16,8 @@ use Rattle.stream_check.specs.Judging.{joined}
 use Rattle.stream_jobs.specs.Judged.{JudgesAtMark}
 use Rattle.lrup_text.specs.ReadOut.{SourceView}
 use Rattle.stream_threads.specs.Faults.{IsFaultWithin, IsFirstFault, IsRingBehind}
-use Rattle.stream_threads.specs.Jobs.{AllEnd, AllFinish, AreJobs, Finishes, FoundValue, IsJob, JobsValue, JudgesAtPass}
+use Rattle.stream_threads.specs.Jobs.{AllEnd, AllFinish, AreJobs, FoundValue, IsEndOf, IsJob, JobsValue, JudgesAtPass, MissesMark}
+use Rattle.stream_threads.specs.Jobs.{StartedValue, started_with}
 use Rattle.stream_threads.specs.declared.jobs.ThreadFault.{ThreadFault}
 use Rattle.stream_threads.specs.declared.jobs.ThreadFault.TheVariants.{Spawn, Ring}
 use Rattle.runs.specs.Streams.{TermsValue}
@@ -40,7 +43,7 @@ moved_more done before rest all new x taken pushed whole =
 -- one more stream has ended
 all_end-snoc : {S : Type 0} (view : SourceView S) (jobs : List (JobsValue S)) (ends : List (Option (FoundValue S))) (one : JobsValue S)
     (end : Option (FoundValue S))
-    → AllEnd view jobs ends → IfSome end (Finishes view one) → AllEnd view (jobs ++ one ∷ []) (ends ++ end ∷ [])
+    → AllEnd view jobs ends → IsEndOf view one end → AllEnd view (jobs ++ one ∷ []) (ends ++ end ∷ [])
 all_end-snoc view [] [] one end all here = (here, tt)
 all_end-snoc view [] (e ∷ ends) one end all here = absurd all
 all_end-snoc view (j ∷ jobs) [] one end all here = absurd all
@@ -48,7 +51,7 @@ all_end-snoc view (j ∷ jobs) (e ∷ ends) one end all here = (all.0, all_end-s
 
 pub all_end-more : {S : Type 0} (view : SourceView S) (jobs : List (JobsValue S)) (old new : List (Option (FoundValue S)))
     (one : JobsValue S) (end : Option (FoundValue S))
-    → AllEnd view jobs old → IfSome end (Finishes view one) → new ≡ old ++ end ∷ [] → AllEnd view (jobs ++ one ∷ []) new
+    → AllEnd view jobs old → IsEndOf view one end → new ≡ old ++ end ∷ [] → AllEnd view (jobs ++ one ∷ []) new
 all_end-more view jobs old new one end all here pushed =
     subst (AllEnd view (jobs ++ one ∷ [])) (sym pushed) (all_end-snoc view jobs old one end all here)
 
@@ -63,7 +66,7 @@ all_finish {S} view (j ∷ jobs) (e ∷ ends) [] all is = cc
 all_finish {S} view (j ∷ jobs) (e ∷ ends) (f ∷ found) all is =
     let here : e ≡ Some f = cc in
     let more : ends ≡ map (λ f. Some f) found = cc in
-    (subst (λ (o : Option (FoundValue S)). IfSome o (Finishes view j)) here all.0, all_finish view jobs ends found all.1 more)
+    (subst (IsEndOf view j) here all.0, all_finish view jobs ends found all.1 more)
 
 pub finish_if_ok : {A : Type 0} {S : Type 0} (view : SourceView S) (found_in : A → List (FoundValue S)) (jobs : List (JobsValue S))
     (ends : List (Option (FoundValue S))) (r : Result A (ThreadFault S)) → AllEnd view jobs ends
@@ -106,15 +109,25 @@ finish_before view [] (f ∷ before) after all = absurd all
 finish_before view (j ∷ jobs) [] after all = tt
 finish_before view (j ∷ jobs) (f ∷ before) after all = (all.0, finish_before view jobs before after all.1)
 
+-- and that one's mark was missed
+missed_behind : {S : Type 0} (view : SourceView S) (jobs : List (JobsValue S)) (before : List (FoundValue S))
+    (after : List (Option (FoundValue S))) → AllEnd view jobs (map (λ f. Some f) before ++ None ∷ after)
+    → IsSomeAnd (slice_get jobs (length before)) (λ j. MissesMark view j.reader)
+missed_behind view [] [] after all = absurd all
+missed_behind view [] (f ∷ before) after all = absurd all
+missed_behind view (j ∷ jobs) [] after all = all.0
+missed_behind view (j ∷ jobs) (f ∷ before) after all = missed_behind view jobs before after all.1
+
 pub first_fault : {A : Type 0} {S : Type 0} (view : SourceView S) (jobs : List (JobsValue S)) (ends : List (Option (FoundValue S)))
     (r : Result A (ThreadFault S)) → AllEnd view jobs ends
     → IfErr r (EndsAtRing ends) → IfErr r (IsFirstFault view jobs)
 first_fault view jobs ends (Ok a) all first = tt
 first_fault view jobs ends (Err (Spawn stream)) all first = tt
 first_fault {A} {S} view jobs ends (Err (Ring found)) all first =
-    let before : AllFinish view (take (length first.0) jobs) first.0 =
-    finish_before view jobs first.0 first.1 (subst (AllEnd view jobs) first.2 all) in
-    subst (λ (fs : List (FoundValue S)). AllFinish view (take (length fs) jobs) fs) (sym first.3) before
+    let ends : AllEnd view jobs (map (λ f. Some f) first.0 ++ None ∷ first.1) = subst (AllEnd view jobs) first.2 all in
+    subst (λ (fs : List (FoundValue S)). AllFinish view (take (length fs) jobs) fs
+    × IsSomeAnd (slice_get jobs (length fs)) (λ j. MissesMark view j.reader)) (sym first.3)
+    (finish_before view jobs first.0 first.1 ends, missed_behind view jobs first.0 first.1 ends)
 
 -- ---- the jobs of all streams
 
@@ -155,3 +168,39 @@ jobs_whole {S} terms rs readers more ps passes others js all first second none n
     let here : rs ≡ readers = sym (append-nil rs) ∙ ap (λ xs. rs ++ xs) (sym none) ∙ first in
     let there : ps ≡ passes = sym (append-nil ps) ∙ ap (λ xs. ps ++ xs) (sym no_more) ∙ second in
     subst (λ (xs : List S). AreJobs terms 1 xs passes js) here (subst (λ (xs : List PassValue). AreJobs terms 1 rs xs js) there all)
+
+-- ---- threads that wait for a signal
+
+-- all of them wait for the one with which they were started
+pub one_signal : {S : Type 0} (signal : ℕ) (jobs : List (JobsValue S)) (all : List (StartedValue S))
+    → all ≡ map (started_with signal) jobs → AllByRecursion (λ one. one.signal ≡ signal) all
+one_signal {S} signal jobs all is = subst (AllByRecursion (λ (one : StartedValue S). one.signal ≡ signal)) (sym is) (at jobs)
+  where
+    at : (js : List (JobsValue S)) → AllByRecursion (λ (one : StartedValue S). one.signal ≡ signal) (map (started_with signal) js)
+    at [] = tt
+    at (j ∷ js) = (refl, at js)
+
+-- and their jobs are those with which they were
+pub jobs_started : {S : Type 0} (signal : ℕ) (jobs : List (JobsValue S)) (all : List (StartedValue S))
+    → all ≡ map (started_with signal) jobs → map (λ one. one.jobs) all ≡ jobs
+jobs_started {S} signal jobs all is = ap (map (λ (one : StartedValue S). one.jobs)) is ∙ at jobs
+  where
+    at : (js : List (JobsValue S)) → map (λ (one : StartedValue S). one.jobs) (map (started_with signal) js) ≡ js
+    at [] = refl
+    at (j ∷ js) = ap (λ (rest : List (JobsValue S)). j ∷ rest) (at js)
+
+-- and they are of as many streams
+pub started_count : {S : Type 0} (signal : ℕ) (jobs : List (JobsValue S)) (all : List (StartedValue S))
+    → all ≡ map (started_with signal) jobs → length all ≡ length jobs
+started_count signal jobs all is = ap length is ∙ length-map jobs (started_with signal)
+
+-- of no streams nothing is found
+pub none_to_find : {S : Type 0} (view : SourceView S) (jobs : List (JobsValue S)) (found : List (FoundValue S))
+    → length jobs ≡ 0 → found ≡ [] → AllFinish view jobs found
+none_to_find view [] found none is = subst (AllFinish view []) (sym is) tt
+none_to_find view (j ∷ jobs) found none is = cc
+
+-- what a thread gave back that wasn't told to leave keeps its promise
+pub if_stayed : {A E : Type 0} (end : Result A E) (P : A → Type 0) (Q : E → Type 0) → MatchResult end P Q
+    → (found : A) → end ≡ Ok found → P found
+if_stayed end P Q kept found is = subst (λ r. MatchResult r P Q) is kept

@@ -1,7 +1,7 @@
 -- What is said where threads didn't find something of each stream (this project's own).
-use Rattle.std.specs.Prelude.{◌≡◌, ◌≤◌, ◌<◌, ◌+◌, ℕ, List, length, take}
+use Rattle.std.specs.Prelude.{◌≡◌, ◌≤◌, ◌<◌, ◌+◌, ℕ, List, IsSomeAnd, length, slice_get, take}
 use Rattle.lrup_text.specs.ReadOut.{SourceView}
-use Rattle.stream_threads.specs.Jobs.{AllFinish, FoundValue, JobsValue}
+use Rattle.stream_threads.specs.Jobs.{AllFinish, FoundValue, JobsValue, MissesMark}
 use Rattle.stream_threads.specs.declared.jobs.ThreadFault.{ThreadFault}
 use Rattle.stream_threads.specs.declared.jobs.ThreadFault.TheVariants.{Spawn, Ring}
 
@@ -10,10 +10,11 @@ abbrev pub IsRingBehind : {S : Type 0} → List (FoundValue S) → ThreadFault S
 IsRingBehind found (Spawn stream) = ⊥
 IsRingBehind found (Ring before) = before.items ≡ found
 
--- where a stream's ring met no end, this was found of each stream before it
+-- where a stream's mark was missed, this was found of each stream before it
 abbrev pub IsFirstFault : {S : Type 0} → SourceView S → List (JobsValue S) → ThreadFault S → Type 0
 IsFirstFault view all (Spawn stream) = Unit {0}
 IsFirstFault view all (Ring found) = AllFinish view (take (length found.items) all) found.items
+    × IsSomeAnd (slice_get all (length found.items)) (λ jobs. MissesMark view jobs.reader)
 
 -- the stream, from 1 on, at which the threads failed
 abbrev pub fault_stream : {S : Type 0} → ThreadFault S → ℕ

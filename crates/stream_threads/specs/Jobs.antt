@@ -1,5 +1,5 @@
 -- The two jobs of a stream, and what comes of them (this project's own).
-use Rattle.std.specs.Prelude.{◌≡◌, ◌+◌, ℕ, List, [], ◌∷◌, Option, IfSome, IsSome}
+use Rattle.std.specs.Prelude.{◌≡◌, ◌+◌, ◌++◌, ℕ, List, [], ◌∷◌, Option, Some, None, IsSome}
 use Rattle.lrup_model.specs.Event.{History}
 use Rattle.lrup_model.specs.Pass.{PassMoves, pass_place}
 use Rattle.clause_store.specs.Passes.{StoreValue, PassValue, store_of}
@@ -13,12 +13,22 @@ use Rattle.lrup_text.specs.ReadOut.{SourceView}
 use Rattle.runs.specs.Readings.{IsStreamOf}
 use Rattle.runs.specs.Streams.{Stream, JudgesStream, TermsValue}
 use Rattle.stream_jobs.specs.Judged.{DropsBy, JudgesAtMark}
+use Rattle.stream_ring.specs.Items.{EndsBeforeMark, SendsAll}
 
 -- what a stream's threads start with: its reader, its checker, and its pass
 pub record JobsValue (S : Type 0) : Type 0 where
   pub reader : S
   pub checker : CheckerValue
   pub pass : PassValue
+
+-- what they were started with: the jobs, and the signal for which they wait
+pub record StartedValue (S : Type 0) : Type 0 where
+  pub jobs : JobsValue S
+  pub signal : ℕ
+
+-- threads that were started with these
+abbrev pub started_with : {S : Type 0} → ℕ → JobsValue S → StartedValue S
+started_with signal jobs = record { jobs = jobs; signal = signal }
 
 -- the jobs of a stream, from 1 on, before its first byte: its reader, a checker of that stream, and its pass
 pub record IsJob {S : Type 0} (terms : TermsValue) (s : ℕ) (reader : S) (at : PassValue)
@@ -77,9 +87,28 @@ AllFinish view [] [] = Unit {0}
 AllFinish view (jobs ∷ all) (found ∷ more) = Finishes view jobs found × AllFinish view all more
 AllFinish view _ _ = ⊥
 
--- what was found of each stream of which something was, in order
+-- The reader was read to its end or to the read that failed, all that it told was sent, and then the mark; but what was received
+-- is a beginning of that which ends at no mark.
+pub record MissesMark {S : Type 0} (view : SourceView S) (reader : S) : Type 0 where
+  pub last : S
+  pub stream : Stream
+  pub ended : IsSome stream.end
+  pub read : IsStreamOf view reader last stream
+  pub items : List ℕ
+  pub sent : SendsAll S view reader last items
+  pub came : List ℕ
+  pub left : List ℕ
+  pub items_are : items ≡ came ++ left
+  pub no_mark : EndsBeforeMark came
+
+-- what came of a stream: what was found of it, or that its mark was missed
+abbrev pub IsEndOf : {S : Type 0} → SourceView S → JobsValue S → Option (FoundValue S) → Type 0
+IsEndOf view jobs (Some found) = Finishes view jobs found
+IsEndOf view jobs None = MissesMark view jobs.reader
+
+-- what came of each stream, in order
 abbrev pub AllEnd : {S : Type 0} → SourceView S → List (JobsValue S) → List (Option (FoundValue S))
     → Type 0
 AllEnd view [] [] = Unit {0}
-AllEnd view (jobs ∷ all) (end ∷ more) = IfSome end (Finishes view jobs) × AllEnd view all more
+AllEnd view (jobs ∷ all) (end ∷ more) = IsEndOf view jobs end × AllEnd view all more
 AllEnd view _ _ = ⊥

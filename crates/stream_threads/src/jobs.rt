@@ -12,6 +12,7 @@ use lrup_text::Source;
 use runs::Terms;
 use std::alloc::{AllocError, Global};
 use std::marker::Model;
+use std::sync::OnceToken;
 use std::thread::PromisedHandle;
 use stream_check::Gate;
 use stream_jobs::{CheckingJob, ReadingJob, Sent, jobs};
@@ -99,48 +100,62 @@ pub fn jobs_of<R: Source + Drop, G: Gate + Drop>(
     Ok(all)
 }
 
+/// What a checking thread gives back to whoever joins it; or it was told to leave.
+type CheckingEnd<'a> = Result<CheckedPass, OnceToken<'a, bool>>;
+
+/// What a reading thread gives back; or it was told to leave.
+type ReadingEnd<'a, R> = Result<Sent<R>, OnceToken<'a, bool>>;
+
 /// The checking thread was started, and the reading thread is still to be.
 #[derive(Drop)]
-pub(crate) struct HalfStarted<R: Source + Drop, G: Gate + Drop> {
+pub(crate) struct HalfStarted<'a, R: Source + Drop, G: Gate + Drop> {
     pub(crate) reading: ReadingJob<R>,
-    pub(crate) checking: PromisedHandle<Option<CheckedPass>, CheckTask<G>>,
+    pub(crate) checking: PromisedHandle<CheckingEnd<'a>, CheckTask<G>>,
 }
 
-impl<R: Source + Drop, G: Gate + Drop> Model for HalfStarted<R, G> {
+impl<'a, R: Source + Drop, G: Gate + Drop> Model for HalfStarted<'a, R, G> {
     ghost use Rattle.rtrb.specs.Ring.{IsPair};
-    ghost use Rattle.stream_threads.specs.Jobs.{JobsValue};
+    ghost use Rattle.stream_threads.specs.Jobs.{StartedValue};
 
-    ghost Value = { JobsValue R };
+    ghost Value = { StartedValue R };
 
     ghost view = { λ half. record {
-      reader = half.reading.reader;
-      checker = half.checking.promise.job.value.checker;
-      pass = half.checking.promise.pass.value;
+      jobs = record {
+        reader = half.reading.reader;
+        checker = half.checking.promise.job.value.checker;
+        pass = half.checking.promise.pass.value;
+      };
+      signal = half.checking.promise.signal.value.id;
     } };
 
     ghost invariant = { λ half. IsPair half.reading.sender.producer
         half.checking.promise.job.value.receiver.consumer };
 }
 
-/// Both threads were started.
+/// Both threads were started, and wait for the same signal.
 #[derive(Drop)]
-pub(crate) struct Started<R: Source + Drop, G: Gate + Drop> {
-    pub(crate) reading: PromisedHandle<Option<Sent<R>>, ReadTask<R>>,
-    pub(crate) checking: PromisedHandle<Option<CheckedPass>, CheckTask<G>>,
+pub(crate) struct Started<'a, R: Source + Drop, G: Gate + Drop> {
+    pub(crate) reading: PromisedHandle<ReadingEnd<'a, R>, ReadTask<R>>,
+    pub(crate) checking: PromisedHandle<CheckingEnd<'a>, CheckTask<G>>,
 }
 
-impl<R: Source + Drop, G: Gate + Drop> Model for Started<R, G> {
+impl<'a, R: Source + Drop, G: Gate + Drop> Model for Started<'a, R, G> {
+    ghost use Rattle.std.specs.Prelude.{◌≡◌};
     ghost use Rattle.rtrb.specs.Ring.{IsPair};
-    ghost use Rattle.stream_threads.specs.Jobs.{JobsValue};
+    ghost use Rattle.stream_threads.specs.Jobs.{StartedValue};
 
-    ghost Value = { JobsValue R };
+    ghost Value = { StartedValue R };
 
     ghost view = { λ started. record {
-      reader = started.reading.promise.job.value.reader;
-      checker = started.checking.promise.job.value.checker;
-      pass = started.checking.promise.pass.value;
+      jobs = record {
+        reader = started.reading.promise.job.value.reader;
+        checker = started.checking.promise.job.value.checker;
+        pass = started.checking.promise.pass.value;
+      };
+      signal = started.checking.promise.signal.value.id;
     } };
 
     ghost invariant = { λ started. IsPair started.reading.promise.job.value.sender.producer
-        started.checking.promise.job.value.receiver.consumer };
+        started.checking.promise.job.value.receiver.consumer
+        × (started.reading.promise.signal.value.id ≡ started.checking.promise.signal.value.id) };
 }

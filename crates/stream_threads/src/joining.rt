@@ -1,20 +1,20 @@
 //! The threads' joins, and what was found of each stream.
-ghost use Rattle.std.specs.Prelude.{◌≡◌, ◌+◌, ◌++◌, ◌⊎◌, ◌↔◌, ◌<◌, ◌≤◌, List, Option, [], ◌∷◌, None, Some, IfErr, IfOk, IfSome, IsNone, OnOk, length, map, vec_capacity, vec_len};
+ghost use Rattle.std.specs.Prelude.{◌≡◌, ◌+◌, ◌++◌, ◌↔◌, ◌<◌, ◌≤◌, true, false, List, Option, [], ◌∷◌, None, Some, IfErr, IfNone, IfOk, IfSome, IsNone, OnOk, length, map, vec_capacity, vec_len};
 ghost use Rattle.std.specs.List.{AllByRecursion};
 ghost use Rattle.lrup_text.specs.ReadOut.{source_view};
 ghost use Rattle.rtrb.specs.Ring.{received, IsPair};
-ghost use Rattle.stream_ring.specs.Items.{SendsAll};
+ghost use Rattle.stream_ring.specs.Items.{EndsBeforeMark, SendsAll};
 ghost use Rattle.stream_threads.specs.Faults.{IsFaultWithin, IsFirstFault, IsRingBehind};
-ghost use Rattle.stream_threads.specs.Jobs.{AllEnd, AllFinish, CanBegin, Finishes, FoundValue, JobsValue, JudgesAtPass};
+ghost use Rattle.stream_threads.specs.Jobs.{AllEnd, AllFinish, CanBegin, Finishes, FoundValue, IsEndOf, JobsValue, JudgesAtPass, MissesMark};
 
 use crate::jobs::{HalfStarted, Started, StreamJobs, ThreadFault};
 use crate::starting::{start_all_checking, start_all_reading};
-use crate::tasks::CheckedPass;
+use crate::tasks::{CheckedPass, unless_told_to_leave};
 use clause_store::{Pass, Store};
 use lrup_text::Source;
 use std::alloc::{AllocError, Global};
 use std::marker::Model;
-use std::sync::{OnceLock, Wait};
+use std::sync::{OnceLock, OnceToken, Wait};
 use std::thread;
 use std::thread::{Scope, Threads};
 use stream_check::{Dropped, Gate, Report};
@@ -46,16 +46,32 @@ impl<R: Source + Drop> Model for StreamResult<R> {
     } };
 }
 
-/// Room for what is gathered of a number of streams.
+/// The signal for which the threads of a run wait before they do anything: to start, or to leave.
 #[derive(Drop)]
-pub struct Room<R: Source + Drop, G: Gate + Drop> {
-    halves: Vec<HalfStarted<R, G>>,
-    started: Vec<Started<R, G>>,
+pub struct StartSignal {
+    told: OnceLock<bool>,
+}
+
+impl StartSignal {
+    /// A signal of which nothing is told yet.
+    pub fn new() -> StartSignal {
+        StartSignal {
+            told: OnceLock::new(),
+        }
+    }
+}
+
+/// Room for what is gathered of a number of streams, and the signal for which their threads wait.
+#[derive(Drop)]
+pub struct Room<'a, R: Source + Drop, G: Gate + Drop> {
+    signal: &'a OnceLock<bool>,
+    halves: Vec<HalfStarted<'a, R, G>>,
+    started: Vec<Started<'a, R, G>>,
     ends: Vec<Option<StreamResult<R>>>,
     found: Vec<StreamResult<R>>,
 }
 
-impl<R: Source + Drop, G: Gate + Drop> Model for Room<R, G> {
+impl<'a, R: Source + Drop, G: Gate + Drop> Model for Room<'a, R, G> {
     ghost use Rattle.std.specs.Prelude.{◌≡◌, ℕ, [], vec_capacity};
 
     ghost Value = { ℕ };
@@ -69,12 +85,17 @@ impl<R: Source + Drop, G: Gate + Drop> Model for Room<R, G> {
         × (vec_capacity room.found ≡ vec_capacity room.halves) };
 }
 
-impl<R: Source + Drop, G: Gate + Drop> Room<R, G> {
-    /// Room for `count` streams.
-    pub fn new(alloc: Global, count: usize) -> Result<Room<R, G>, AllocError>
+impl<'a, R: Source + Drop, G: Gate + Drop> Room<'a, R, G> {
+    /// Room for `count` streams, whose threads wait for this signal, and no others.
+    pub fn new(
+        alloc: Global,
+        signal: &'a StartSignal,
+        count: usize,
+    ) -> Result<Room<'a, R, G>, AllocError>
         ensures { IfOk result (λ room. room ≡ count) }
     {
         Ok(Room {
+            signal: &signal.told,
             halves: Vec::with_capacity(alloc, count)?,
             started: Vec::with_capacity(alloc, count)?,
             ends: Vec::with_capacity(alloc, count)?,
@@ -83,25 +104,21 @@ impl<R: Source + Drop, G: Gate + Drop> Room<R, G> {
     }
 }
 
-/// What both threads of a stream gave back, as one. None exactly where one of them was told to leave, or no mark was met.
-fn meet_ends<R: Source + Drop>(
-    sent: Option<Sent<R>>,
-    checked: Option<CheckedPass>,
-) -> Option<StreamResult<R>>
-    requires pair { IfSome sent (λ s. IfSome checked (λ e.
-        IsPair s.producer e.checked.consumer)) }
-    ensures none { IsNone result ↔ (IsNone sent ⊎ IfSome checked (λ e. IsNone e.checked.report)) }
-    ensures judged { (jobs : JobsValue R)
-        → IfSome sent (λ s. SendsAll _ (source_view R.left R.has_failed R.reads) jobs.reader
-        s.reader (Rattle.rtrb.specs.Ring.sent s.producer))
-        → IfSome checked (λ e. IfSome e.checked.report (JudgesAtPass jobs.checker jobs.pass e.pass
-        (received e.checked.consumer) e.checked.dropped.ids))
-        → IfSome result (Finishes (source_view R.left R.has_failed R.reads) jobs) }
+/// What both threads of a stream gave back, as one. None exactly where no mark was met.
+fn meet_ends<R: Source + Drop>(mut sent: Sent<R>, checked: CheckedPass) -> Option<StreamResult<R>>
+    requires pair { IsPair sent.producer checked.checked.consumer }
+    ensures none { IsNone result ↔ IsNone checked.checked.report }
+    ensures end { (jobs : JobsValue R)
+        → SendsAll _ (source_view R.left R.has_failed R.reads) jobs.reader
+        sent.reader (Rattle.rtrb.specs.Ring.sent sent.producer)
+        → IfSome checked.checked.report (JudgesAtPass jobs.checker jobs.pass checked.pass
+        (received checked.checked.consumer) checked.checked.dropped.ids)
+        → IfNone checked.checked.report (EndsBeforeMark (received checked.checked.consumer))
+        → IsEndOf (source_view R.left R.has_failed R.reads) jobs result }
 {
-    let mut sent = sent?;
-    let CheckedPass { mut checked, pass } = checked?;
-    let report = checked.report?;
+    let CheckedPass { mut checked, pass } = checked;
     meet(&mut sent, &mut checked);
+    let report = checked.report?;
     Some(StreamResult {
         report,
         reader: sent.reader,
@@ -110,31 +127,37 @@ fn meet_ends<R: Source + Drop>(
     })
 }
 
-impl<R: Source + Drop, G: Gate + Drop> Started<R, G> {
-    /// Waits until both threads have ended. None where no mark was met.
-    fn join<T: Threads>(self, threads: &T) -> Option<StreamResult<R>>
-        ensures { IfSome result (Finishes (source_view R.left R.has_failed R.reads) self) }
+impl<'a, R: Source + Drop, G: Gate + Drop> Started<'a, R, G> {
+    /// Waits until both threads have ended, which were told to start. None where no mark was met.
+    fn join<T: Threads>(self, threads: &T, told: &OnceToken<'a, bool>) -> Option<StreamResult<R>>
+        requires signal { self.signal ≡ told.now.of }
+        requires told { told.now.value ≡ true }
+        ensures { IsEndOf (source_view R.left R.has_failed R.reads) self.entry.jobs result }
     {
         let Started { reading, checking } = self;
-        let sent = reading.join(threads);
-        let checked = checking.join(threads);
+        let sent = unless_told_to_leave(reading.join(threads), told);
+        let checked = unless_told_to_leave(checking.join(threads), told);
         meet_ends(sent, checked)
     }
 }
 
-/// Joins the threads of all streams, in order.
-fn join_all<T: Threads, R: Source + Drop, G: Gate + Drop>(
+/// Joins the threads of all streams, which were told to start, in order.
+fn join_all<'a, T: Threads, R: Source + Drop, G: Gate + Drop>(
     threads: &T,
-    all: Vec<Started<R, G>>,
+    told: &OnceToken<'a, bool>,
+    all: Vec<Started<'a, R, G>>,
     mut ends: Vec<Option<StreamResult<R>>>,
 ) -> Vec<Option<StreamResult<R>>>
+    requires told { told.now.value ≡ true }
+    requires signal { AllByRecursion (λ started. started.signal ≡ told.now.of) all.items }
     requires none { ends.items ≡ [] }
     requires room { vec_len all ≤ vec_capacity ends }
-    ensures ends { AllEnd (source_view R.left R.has_failed R.reads) all.items result.items }
-    ensures count { vec_len result ≡ vec_len all }
+    ensures ends { AllEnd (source_view R.left R.has_failed R.reads)
+        (map (λ started. started.jobs) all.entry.items) result.items }
+    ensures count { vec_len result ≡ vec_len all.entry }
 {
     for started in all {
-        ends.push_reserved(started.join(threads));
+        ends.push_reserved(started.join(threads, told));
     }
     ends
 }
@@ -164,6 +187,7 @@ fn all_found<R: Source + Drop>(
 /// Starts all threads, gives the signal, and joins them.
 fn start_and_join<
     's,
+    'a: 's,
     E,
     T: Threads + Wait + Sync,
     R: Source + Send + Drop + 's,
@@ -172,9 +196,8 @@ fn start_and_join<
     scope: &Scope<'s, E>,
     threads: &'s T,
     store: &'s Store,
-    signal: &'s OnceLock<bool>,
     all: Vec<StreamJobs<R, G>>,
-    room: Room<R, G>,
+    room: Room<'a, R, G>,
 ) -> Result<Vec<StreamResult<R>>, ThreadFault<R>>
     requires begin { AllByRecursion (CanBegin store.now) all.items }
     requires room { vec_len all ≤ room }
@@ -185,6 +208,7 @@ fn start_and_join<
         (IsFirstFault (source_view R.left R.has_failed R.reads) all.items) }
 {
     let Room {
+        signal,
         mut halves,
         mut started,
         ends,
@@ -198,9 +222,33 @@ fn start_and_join<
         let _ = signal.set(threads, false);
         return Err(ThreadFault::Spawn(stream));
     }
-    let _ = signal.set(threads, true);
-    let ends = join_all(threads, started, ends);
+    let Ok(told) = tell_to_start(threads, signal) else {
+        if started.is_empty() {
+            return Ok(found);
+        }
+        return Err(ThreadFault::Spawn(1));
+    };
+    let ends = join_all(threads, &told, started, ends);
     all_found(ends, found)
+}
+
+/// Tells all threads to start. Where they were told to leave before, that one's token is the answer.
+fn tell_to_start<'a, W: Wait>(
+    wait: &W,
+    signal: &'a OnceLock<bool>,
+) -> Result<OnceToken<'a, bool>, OnceToken<'a, bool>>
+    ensures start { IfOk result (λ told. (told.of ≡ signal.now.id) × (told.value ≡ true)) }
+    ensures leave { IfErr result (λ told. (told.of ≡ signal.now.id) × (told.value ≡ false)) }
+{
+    let told = match signal.try_insert(wait, true) {
+        Ok(told) => told,
+        Err((told, _)) => told,
+    };
+    if *signal.value(&told) {
+        Ok(told)
+    } else {
+        Err(told)
+    }
 }
 
 /// Reads and checks all streams, each in two threads of its own, until all have ended. No reader is read before all threads have
@@ -210,7 +258,7 @@ pub fn check_all<T: Threads + Wait + Sync, R: Source + Send + Drop, G: Gate + Se
     threads: &T,
     store: &Store,
     all: Vec<StreamJobs<R, G>>,
-    room: Room<R, G>,
+    room: Room<'_, R, G>,
 ) -> Result<Vec<StreamResult<R>>, ThreadFault<R>>
     requires begin { AllByRecursion (CanBegin store.now) all.items }
     requires room { vec_len all ≤ room }
@@ -220,8 +268,6 @@ pub fn check_all<T: Threads + Wait + Sync, R: Source + Send + Drop, G: Gate + Se
     ensures first { IfErr result
         (IsFirstFault (source_view R.left R.has_failed R.reads) all.items) }
 {
-    let start = OnceLock::new();
-    let signal = &start;
     thread::scope(
         thread::scope_env(),
         threads,
@@ -233,6 +279,6 @@ pub fn check_all<T: Threads + Wait + Sync, R: Source + Send + Drop, G: Gate + Se
             ensures fault { IfErr result (IsFaultWithin (vec_len all)) }
             ensures first { IfErr result
                 (IsFirstFault (source_view R.left R.has_failed R.reads) all.items) }
-        { start_and_join(scope, threads, store, signal, all, room) },
+        { start_and_join(scope, threads, store, all, room) },
     )
 }

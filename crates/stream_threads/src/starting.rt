@@ -1,27 +1,28 @@
 //! The threads' start: all that check, and then all that read.
-ghost use Rattle.std.specs.Prelude.{◌≡◌, ◌<◌, ◌≤◌, [], IfErr, IfSome, OnOk, vec_capacity, vec_len};
+ghost use Rattle.std.specs.Prelude.{◌≡◌, ◌-◌, ◌<◌, ◌≤◌, [], IfErr, IfSome, OnOk, map, take, vec_capacity, vec_len};
 ghost use Rattle.std.specs.List.{AllByRecursion};
-ghost use Rattle.stream_threads.specs.Jobs.{CanBegin};
+ghost use Rattle.stream_threads.specs.Jobs.{CanBegin, started_with};
 
 use crate::jobs::{HalfStarted, Started, StreamJobs};
-use crate::tasks::{CheckTask, ReadTask, check, read};
+use crate::tasks::{CheckTask, ReadTask, check};
 use clause_store::Store;
 use lrup_text::Source;
 use std::snapshot::Snapshot;
 use std::sync::{OnceLock, Wait};
 use std::thread::Scope;
 use stream_check::Gate;
+use stream_jobs::read_when_told;
 
 /// Starts a checking thread. None where it can't be started.
-fn start_checking<'s, E, W: Wait + Sync, R: Source + Drop, G: Gate + Send + Drop + 's>(
+fn start_checking<'s, 'a: 's, E, W: Wait + Sync, R: Source + Drop, G: Gate + Send + Drop + 's>(
     scope: &Scope<'s, E>,
     wait: &'s W,
     store: &'s Store,
-    signal: &'s OnceLock<bool>,
+    signal: &'a OnceLock<bool>,
     jobs: StreamJobs<R, G>,
-) -> Option<HalfStarted<R, G>>
+) -> Option<HalfStarted<'a, R, G>>
     requires { CanBegin store.now jobs }
-    ensures { IfSome result (λ half. half ≡ jobs) }
+    ensures { IfSome result (λ half. half ≡ started_with signal.now.id jobs) }
 {
     let StreamJobs {
         reading,
@@ -29,6 +30,7 @@ fn start_checking<'s, E, W: Wait + Sync, R: Source + Drop, G: Gate + Send + Drop
         pass,
     } = jobs;
     let task = CheckTask {
+        signal: Snapshot::of(signal),
         job: Snapshot::of(&job),
         pass: Snapshot::of(&pass),
     };
@@ -39,30 +41,34 @@ fn start_checking<'s, E, W: Wait + Sync, R: Source + Drop, G: Gate + Send + Drop
 }
 
 /// Starts a reading thread. None where it can't be started.
-fn start_reading<'s, E, W: Wait + Sync, R: Source + Send + Drop + 's, G: Gate + Drop + 's>(
+fn start_reading<'s, 'a: 's, E, W: Wait + Sync, R: Source + Send + Drop + 's, G: Gate + Drop + 's>(
     scope: &Scope<'s, E>,
     wait: &'s W,
-    signal: &'s OnceLock<bool>,
-    half: HalfStarted<R, G>,
-) -> Option<Started<R, G>>
-    ensures { IfSome result (λ started. started ≡ half) }
+    signal: &'a OnceLock<bool>,
+    half: HalfStarted<'a, R, G>,
+) -> Option<Started<'a, R, G>>
+    requires { half.signal ≡ signal.now.id }
+    ensures { IfSome result (λ started. started ≡ half.entry) }
 {
     let HalfStarted {
         reading: job,
         checking,
     } = half;
     let task = ReadTask {
+        signal: Snapshot::of(signal),
         job: Snapshot::of(&job),
     };
     let reading = scope
-        .spawn_with(task, move || read(wait, signal, job))
+        .spawn_with(task, move || read_when_told(wait, signal, job))
         .ok()?;
     Some(Started { reading, checking })
 }
 
-/// Starts the checking threads, in order. On failure, returns the stream whose thread did not start.
+/// Starts the checking threads, in order. On failure, returns the stream whose thread did not start: those of the streams before
+/// it were started.
 pub(crate) fn start_all_checking<
     's,
+    'a: 's,
     E,
     W: Wait + Sync,
     R: Source + Drop,
@@ -71,15 +77,18 @@ pub(crate) fn start_all_checking<
     scope: &Scope<'s, E>,
     wait: &'s W,
     store: &'s Store,
-    signal: &'s OnceLock<bool>,
+    signal: &'a OnceLock<bool>,
     all: Vec<StreamJobs<R, G>>,
-    halves: &mut Vec<HalfStarted<R, G>>,
+    halves: &mut Vec<HalfStarted<'a, R, G>>,
 ) -> Result<(), u64>
     requires begin { AllByRecursion (CanBegin store.now) all.items }
     requires none { halves.old.items ≡ [] }
     requires room { vec_len all ≤ vec_capacity halves.old }
-    ensures started { OnOk result (halves.new.items ≡ all.items) }
+    ensures started { OnOk result
+        (halves.new.items ≡ map (started_with signal.now.id) all.items) }
     ensures spawn { IfErr result (λ stream. (0 < stream) × (stream ≤ vec_len all)) }
+    ensures before { IfErr result (λ stream.
+        halves.new.items ≡ map (started_with signal.now.id) (take (stream - 1) all.items)) }
 {
     for jobs in all {
         let Some(half) = start_checking(scope, wait, store, signal, jobs) else {
@@ -90,9 +99,11 @@ pub(crate) fn start_all_checking<
     Ok(())
 }
 
-/// Starts the reading threads, in order. On failure, returns the stream whose thread did not start.
+/// Starts the reading threads, in order. On failure, returns the stream whose thread did not start: those of the streams before
+/// it were started.
 pub(crate) fn start_all_reading<
     's,
+    'a: 's,
     E,
     W: Wait + Sync,
     R: Source + Send + Drop + 's,
@@ -100,14 +111,17 @@ pub(crate) fn start_all_reading<
 >(
     scope: &Scope<'s, E>,
     wait: &'s W,
-    signal: &'s OnceLock<bool>,
-    halves: Vec<HalfStarted<R, G>>,
-    started: &mut Vec<Started<R, G>>,
+    signal: &'a OnceLock<bool>,
+    halves: Vec<HalfStarted<'a, R, G>>,
+    started: &mut Vec<Started<'a, R, G>>,
 ) -> Result<(), u64>
+    requires signal { AllByRecursion (λ half. half.signal ≡ signal.now.id) halves.items }
     requires none { started.old.items ≡ [] }
     requires room { vec_len halves ≤ vec_capacity started.old }
-    ensures started { OnOk result (started.new.items ≡ halves.items) }
-    ensures spawn { IfErr result (λ stream. (0 < stream) × (stream ≤ vec_len halves)) }
+    ensures started { OnOk result (started.new.items ≡ halves.entry.items) }
+    ensures spawn { IfErr result (λ stream. (0 < stream) × (stream ≤ vec_len halves.entry)) }
+    ensures before { IfErr result (λ stream.
+        started.new.items ≡ take (stream - 1) halves.entry.items) }
 {
     for half in halves {
         let Some(one) = start_reading(scope, wait, signal, half) else {

@@ -1,17 +1,17 @@
 //! What the threads of a stream do, what they give back, and what is promised of it.
-ghost use Rattle.std.specs.Prelude.{◌≡◌, IfSome};
+ghost use Rattle.std.specs.Prelude.{◌≡◌, true, false, Ok, IfErr, IfNone, IfOk, IfSome, MatchResult};
 ghost use Rattle.clause_store.specs.Passes.{store_of};
 ghost use Rattle.lrup_model.specs.Pass.{pass_place};
 ghost use Rattle.lrup_text.specs.ReadOut.{source_view};
 ghost use Rattle.rtrb.specs.Ring.{received, SameConsumer, SameProducer};
 ghost use Rattle.stream_check.specs.Checker.{IsReadyAt};
-ghost use Rattle.stream_ring.specs.Items.{SendsAll};
+ghost use Rattle.stream_ring.specs.Items.{EndsBeforeMark, SendsAll};
 ghost use Rattle.stream_threads.specs.Jobs.{JudgesAtPass};
 
 use clause_store::{Desk, Pass, Store};
 use lrup_text::Source;
 use std::snapshot::Snapshot;
-use std::sync::{OnceLock, Wait};
+use std::sync::{OnceLock, OnceToken, Wait};
 use std::thread::Promise;
 use stream_check::Gate;
 use stream_jobs::{Checked, CheckingJob, ReadingJob, Sent, check_when_told, read_when_told};
@@ -26,63 +26,74 @@ pub(crate) struct CheckedPass {
 /// What a reading thread was started with.
 #[derive(Drop)]
 pub(crate) struct ReadTask<R: Source + Drop> {
+    pub(crate) signal: Snapshot<OnceLock<bool>>,
     pub(crate) job: Snapshot<ReadingJob<R>>,
 }
 
-impl<R: Source + Drop> Promise<Option<Sent<R>>> for ReadTask<R> {
-    ghost kept_by = { λ task end. IfSome end (λ sent.
+impl<'a, R: Source + Drop> Promise<Result<Sent<R>, OnceToken<'a, bool>>> for ReadTask<R> {
+    ghost kept_by = { λ task end. MatchResult end (λ sent.
         SameProducer task.job.value.sender.producer sent.producer
         × SendsAll _ (source_view R.left R.has_failed R.reads) task.job.value.reader sent.reader
-        (Rattle.rtrb.specs.Ring.sent sent.producer)) };
+        (Rattle.rtrb.specs.Ring.sent sent.producer))
+        (λ token. (token.of ≡ task.signal.value.id) × (token.value ≡ false)) };
 }
 
 /// What a checking thread was started with.
 #[derive(Drop)]
 pub(crate) struct CheckTask<G: Gate + Drop> {
+    pub(crate) signal: Snapshot<OnceLock<bool>>,
     pub(crate) job: Snapshot<CheckingJob<G>>,
     pub(crate) pass: Snapshot<Pass>,
 }
 
-impl<G: Gate + Drop> Promise<Option<CheckedPass>> for CheckTask<G> {
-    ghost kept_by = { λ task end. IfSome end (λ found.
+impl<'a, G: Gate + Drop> Promise<Result<CheckedPass, OnceToken<'a, bool>>> for CheckTask<G> {
+    ghost kept_by = { λ task end. MatchResult end (λ found.
         SameConsumer task.job.value.receiver.consumer found.checked.consumer
         × IfSome found.checked.report (JudgesAtPass task.job.value.checker task.pass.value found.pass
-        (received found.checked.consumer) found.checked.dropped.ids)) };
+        (received found.checked.consumer) found.checked.dropped.ids)
+        × IfNone found.checked.report (EndsBeforeMark (received found.checked.consumer)))
+        (λ token. (token.of ≡ task.signal.value.id) × (token.value ≡ false)) };
 }
 
-/// Waits for the start signal, and then reads all and sends it. None where the signal says to leave.
-pub(crate) fn read<W: Wait, R: Source + Drop>(
-    wait: &W,
-    signal: &OnceLock<bool>,
-    job: ReadingJob<R>,
-) -> Option<Sent<R>>
-    ensures ring { IfSome result (λ s. SameProducer job.sender.producer s.producer) }
-    ensures sent { IfSome result (λ s. SendsAll _ (source_view R.left R.has_failed R.reads)
-        job.reader s.reader (Rattle.rtrb.specs.Ring.sent s.producer)) }
+/// What a thread gave back, where all were told to start.
+pub(crate) fn unless_told_to_leave<'a, T>(
+    end: Result<T, OnceToken<'a, bool>>,
+    told: &OnceToken<'a, bool>,
+) -> T
+    requires told { told.now.value ≡ true }
+    requires leaves { IfErr end (λ token. (token.of ≡ told.now.of) × (token.value ≡ false)) }
+    ensures { end.entry ≡ Ok result }
 {
-    read_when_told(wait, signal, job).ok()
+    match end {
+        Ok(found) => found,
+        Err(token) => {
+            token.agrees(told);
+            unreachable!()
+        }
+    }
 }
 
-/// Waits for the start signal, and then checks what is received. None where the signal says to leave.
-pub(crate) fn check<W: Wait, G: Gate + Drop>(
+/// Waits for the start signal, and then checks what is received. Where the signal says to leave, its token is the answer.
+pub(crate) fn check<'a, W: Wait, G: Gate + Drop>(
     wait: &W,
     store: &Store,
-    signal: &OnceLock<bool>,
+    signal: &'a OnceLock<bool>,
     job: CheckingJob<G>,
     pass: Pass,
-) -> Option<CheckedPass>
+) -> Result<CheckedPass, OnceToken<'a, bool>>
     requires store { store_of pass ≡ store.now }
     requires ready { IsReadyAt job.checker (pass_place pass.view) }
-    ensures ring { IfSome result (λ e. SameConsumer job.receiver.consumer e.checked.consumer) }
-    ensures judged { IfSome result (λ e. IfSome e.checked.report
+    ensures leaves { IfErr result (λ token. (token.of ≡ signal.now.id) × (token.value ≡ false)) }
+    ensures ring { IfOk result (λ e. SameConsumer job.receiver.consumer e.checked.consumer) }
+    ensures judged { IfOk result (λ e. IfSome e.checked.report
         (JudgesAtPass job.checker pass e.pass (received e.checked.consumer)
         e.checked.dropped.ids)) }
+    ensures no_mark { IfOk result (λ e.
+        IfNone e.checked.report (EndsBeforeMark (received e.checked.consumer))) }
 {
     let mut desk = Desk::new(store, pass);
-    let Ok(checked) = check_when_told(wait, signal, job, &mut desk) else {
-        return None;
-    };
-    Some(CheckedPass {
+    let checked = check_when_told(wait, signal, job, &mut desk)?;
+    Ok(CheckedPass {
         checked,
         pass: desk.into_pass(),
     })

@@ -1,8 +1,9 @@
 use Rattle.std.proofs.Common.{◌≡◌, ◌+◌, ◌-◌, ℕ, length, take, subst, ap, arith}
+use Rattle.std.specs.Prelude.{IsSomeAnd, slice_get}
 use Rattle.lrup_text.specs.ReadOut.{source_view}
 use Rattle.stream_threads.specs.Faults.{IsFaultWithin, IsFirstFault, fault_stream}
-use Rattle.portfolio.specs.Threads.{WereGathered}
-use Rattle.portfolio.proofs.HeadlineLemmas.{begin_take, finish_of, finish_count}
+use Rattle.portfolio.specs.Threads.{WasReadOut, WereGathered}
+use Rattle.portfolio.proofs.HeadlineLemmas.{begin_take, finish_of, finish_count, read_out_of}
 use Rattle.portfolio.proofs.threads.check.Goals as goal
 
 pub outcome_of-requires-clause-store : goal.outcome_of-requires-clause-store
@@ -63,7 +64,7 @@ outcome_of-before-requires-clause-store g c =
     let found = c.in-Err-Ring.found.items in
     let jobs = c.args.jobs.items in
     let before = subst (IsFirstFault view jobs) c.in-Err-Ring.field-0-is c.in-Err-Ring.ensures.first in
-    finish_of view _ (take (length found) jobs) found (begin_take view _ (length found) jobs c.requires.begin) before
+    finish_of view _ (take (length found) jobs) found (begin_take view _ (length found) jobs c.requires.begin) before.0
 
 pub outcome_of-before-requires-clause-reports : goal.outcome_of-before-requires-clause-reports
 outcome_of-before-requires-clause-reports g c =
@@ -110,7 +111,7 @@ returns-in-Err-Ring-clause-first g c = λ stream e.
       _,
       record {
         found = found;
-        finish = before;
+        finish = before.0;
         met = out.ensures.met;
         one = out.ensures.one;
         reports_are = out.ensures.reports;
@@ -118,3 +119,15 @@ returns-in-Err-Ring-clause-first g c = λ stream e.
         dropped_are = out.ensures.dropped;
       },
     )
+
+-- and the reader of the one that it names was read out
+pub returns-in-Err-Ring-clause-read_out : goal.returns-in-Err-Ring-clause-read_out
+returns-in-Err-Ring-clause-read_out g c = λ stream e.
+    let here : c.len-in-Err-Ring.result + 1 ≡ stream = cc in
+    let view = source_view g.R.Source.left g.R.Source.has_failed g.R.Source.reads in
+    let jobs = c.args.jobs.items in
+    let first = subst (IsFirstFault view jobs) c.in-Err-Ring.field-0-is c.in-Err-Ring.ensures.first in
+    let count : length c.in-Err-Ring.found.items ≡ stream - 1 =
+    omega (arith, here, c.len-in-Err-Ring.ensures, c.in-Err-Ring.found.ok.0) in
+    subst (λ (n : ℕ). IsSomeAnd (slice_get jobs n) (λ one. WasReadOut view one.reader)) count
+    (read_out_of view (slice_get jobs (length c.in-Err-Ring.found.items)) first.1)

@@ -11,7 +11,7 @@ use Rattle.portfolio.specs.Threads.{IsBegun}
 use Rattle.portfolio.proofs.CubeLemmas.{sound_under_run}
 use Rattle.portfolio.proofs.HeadlineLemmas.{can_begin, no_fault, sound_run, stream_within}
 use Rattle.portfolio.proofs.HeadlineLemmas.{is_memory, none_of_layout, not_layout, terms_made}
-use Rattle.portfolio.proofs.HeadlineLemmas.{run_before, run_dropped, run_history, run_isolated, run_reports, run_serializable}
+use Rattle.portfolio.proofs.HeadlineLemmas.{run_before, run_dropped, run_history, run_isolated, run_read_out, run_reports, run_serializable}
 use Rattle.portfolio.proofs.threads.run.Given as given
 use Rattle.portfolio.proofs.threads.run.Goals as goal
 use Rattle.portfolio.proofs.threads.run.Goals.{In_ok-store}
@@ -80,6 +80,13 @@ returns-clause-first g c = λ stream e.
     let view = source_view g.R.Source.left g.R.Source.has_failed g.R.Source.reads in
     let wanted = terms_of c.args.options c.args.cube.now c.args.formula.now (length c.args.readers.items) in
     run_before view {terms = wanted} begun (stream - 1) (c.check.ensures.first stream e)
+
+pub returns-clause-read_out : goal.returns-clause-read_out
+returns-clause-read_out g c = λ stream e.
+    let view = source_view g.R.Source.left g.R.Source.has_failed g.R.Source.reads in
+    let wanted = terms_of c.args.options c.args.cube.now c.args.formula.now (length c.args.readers.items) in
+    let begun = begun g (goal.at.returns-clause-read_out g c).In_ok-store in
+    run_read_out view {terms = wanted} begun (stream - 1) (c.check.ensures.read_out stream e)
 
 pub returns-clause-history : goal.returns-clause-history
 returns-clause-history g c =

@@ -1,4 +1,5 @@
-use Rattle.std.proofs.Common.{◌≡◌, ◌+◌, ◌++◌, vec_capacity, vec_len}
+use Rattle.std.proofs.Common.{◌≡◌, ◌+◌, ◌++◌, map, vec_capacity, vec_len}
+use Rattle.std.specs.List.{AllByRecursion}
 use Rattle.std.specs.Vec.Iter.{into_iter_items, into_iter_len}
 use Rattle.lrup_text.specs.ReadOut.{source_view}
 use Rattle.stream_threads.specs.Jobs.{AllEnd}
@@ -8,7 +9,8 @@ abbrev pub invariant-loop-started : goal.invariant-loop-started
 invariant-loop-started g l = record {
   next : (goal.iterator-loop-started g).can_next l.started-iterator × (goal.iterator-loop-started g).is_finite l.started-iterator;
   whole : l.yielded ++ into_iter_items l.started-iterator ≡ l.fn.all.items;
-  ends : AllEnd (source_view g.R.Source.left g.R.Source.has_failed g.R.Source.reads) l.yielded l.ends.items;
+  signal : AllByRecursion (λ one. one.signal ≡ l.told.of) (into_iter_items l.started-iterator);
+  ends : AllEnd (source_view g.R.Source.left g.R.Source.has_failed g.R.Source.reads) (map (λ one. one.jobs) l.yielded) l.ends.items;
   count : vec_len l.ends + into_iter_len l.started-iterator ≡ vec_len l.fn.all;
   room : vec_capacity l.ends ≡ vec_capacity l.initial.ends;
 }

@@ -1,21 +1,21 @@
-use Rattle.std.proofs.Common.{List, ℕ, sym, ap, subst}
+use Rattle.std.proofs.Common.{List, ℕ, ◌∙◌, sym, ap, subst}
 use Rattle.lrup_model.specs.Pass.{pass_place}
 use Rattle.lrup_text.specs.ReadOut.{source_view}
 use Rattle.runs.specs.Readings.{IsStreamOf}
 use Rattle.stream_check.specs.DroppedValue.{DroppedValue}
 use Rattle.stream_jobs.specs.Judged.{DropsBy}
+use Rattle.stream_threads.specs.Jobs.{IsEndOf, MissesMark}
 use Rattle.stream_threads.proofs.joining.meet_ends.Goals as goal
 
-pub returns-clause-judged : goal.returns-clause-judged
-returns-clause-judged g c jobs sent checked =
-    let s = rw c.in_ok-sent.was at sent in
-    let e = rw c.in_ok-report.was at (rw c.in_ok-checked.was at checked) in
+pub returns-clause-end : goal.returns-clause-end
+returns-clause-end g c jobs sent judged no_mark =
+    let e = rw (sym c.meet.ensures.report ∙ c.in_ok-report.was) at judged in
     record {
       store = e.store;
       blocks = e.blocks;
       moves = e.moves;
       judged = λ fresh.
-          let met = c.meet.ensures.judged jobs.reader jobs.checker _ e.blocks _ _ s e.judged fresh in
+          let met = c.meet.ensures.judged jobs.reader jobs.checker _ e.blocks _ _ sent e.judged fresh in
           let same = sym c.meet.ensures.reader in
           let dropped = ap (λ (d : DroppedValue). d.ids) (sym c.meet.ensures.dropped) in (
             met.0,
@@ -26,3 +26,23 @@ returns-clause-judged g c jobs sent checked =
                 dropped met.4,
           );
     }
+
+-- what was received is a beginning of what was sent, and ends at no mark
+pub returns-in_err-report-clause-end : goal.returns-in_err-report-clause-end
+returns-in_err-report-clause-end g c jobs sent judged no_mark =
+    let view = source_view g.R.Source.left g.R.Source.has_failed g.R.Source.reads in
+    let read = c.meet.ensures.read jobs.reader sent in
+    let begun = c.meet.ensures.beginning in
+    let missed : MissesMark view jobs.reader = record {
+      last = _;
+      stream = read.0;
+      ended = read.1;
+      read = read.2;
+      items = _;
+      sent = sent;
+      came = _;
+      left = begun.0;
+      items_are = begun.1;
+      no_mark = rw (sym c.meet.ensures.report ∙ c.in_err-report.was) at no_mark;
+    } in
+    subst (IsEndOf view jobs) (sym c.from_residual.ensures) missed

@@ -1,19 +1,18 @@
 use Rattle.std.proofs.Common.{subst}
-use Rattle.std.specs.Prelude.{IfSome}
-use Rattle.std.proofs.lemmas.Option.{IfSome_then}
 use Rattle.lrup_text.specs.ReadOut.{source_view}
-use Rattle.stream_threads.specs.Jobs.{Finishes, JobsValue}
+use Rattle.stream_threads.specs.Jobs.{IsEndOf, JobsValue, StartedValue}
+use Rattle.stream_threads.proofs.ThreadLemmas.{if_stayed}
 use Rattle.stream_threads.proofs.jobs.Started.join.Goals as goal
 
 -- what each thread was started with is what it promised of
 pub returns : goal.returns
 returns g c =
+    let view = source_view g.R.Source.left g.R.Source.has_failed g.R.Source.reads in
     let reading = c.self.inside.reading.promise in
     let checking = c.self.inside.checking.promise in
     let jobs : JobsValue g.row.R.Denot =
     record { reader = reading.job.value.reader; checker = checking.job.value.checker; pass = checking.pass.value } in
-    subst (λ (j : JobsValue g.row.R.Denot). IfSome c.meet_ends.result
-    (Finishes (source_view g.R.Source.left g.R.Source.has_failed g.R.Source.reads) j))
-    c.self.view_is
-    (c.meet_ends.ensures.judged jobs (IfSome_then c.join-sent.result c.join-sent.ensures (λ s p. p.1))
-    (IfSome_then c.join-checked.result c.join-checked.ensures (λ e p. p.1)))
+    let sent = if_stayed _ _ _ c.join.ensures c.unless_told_to_leave-sent.result c.unless_told_to_leave-sent.ensures in
+    let checked = if_stayed _ _ _ c.join-2.ensures c.unless_told_to_leave-checked.result c.unless_told_to_leave-checked.ensures in
+    subst (λ (one : StartedValue g.row.R.Denot). IsEndOf view one.jobs c.meet_ends.result) c.self.view_is
+    (c.meet_ends.ensures.end jobs sent.1 checked.1 checked.2)
