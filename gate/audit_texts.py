@@ -167,6 +167,7 @@ GLOSSES = """
 `IfOk r P` if r is `Ok x`, then P of x
 `IfSome o P` if o is `Some x`, then P of x
 `IsSome o` o is `Some x`
+`IsSomeAnd o P` o is `Some x`, and P of x
 `MatchOption o A P` P of x if o is `Some x`, and A if it is `None`
 `IsAtEnd left` if left is `Some xs`, xs is `[]`
 `IsNone o` o is `None`
