@@ -18,8 +18,8 @@ use Rattle.stream_check.specs.declared.report.Report.{Report}
 use Rattle.checkpoint.specs.declared.saving.SaveFault.{SaveFault}
 use Rattle.command_line.specs.CommandLine.{AskFor, IsCommandLineOf}
 use Rattle.command_line.specs.declared.words.CommandLine.{CommandLine}
-use Rattle.command.specs.Commands.{AreAssumed, AreChecked, AreOpened, Deeds, FilesView, HasNoFault, IsAssumeCause, IsCause, IsFormulaAt}
-use Rattle.command.specs.Commands.{IsLeftUnused, IsOpenCause, IsOutcome, IsReadCause, IsStartCause, LeavesBehind, LeavesCheckpoint}
+use Rattle.command.specs.Commands.{AreAssumed, AreChecked, AreOpened, Deeds, FilesView, HasNoFault, IsAssumeCause, IsBegunWith, IsCause}
+use Rattle.command.specs.Commands.{IsFormulaAt, IsLeftUnused, IsOpenCause, IsOutcome, IsReadCause, IsStartCause, LeavesBehind, LeavesCheckpoint}
 use Rattle.command.specs.Commands.{NameUnsatisfiable, NameUnsatisfiableUnder, SavesCheckpoint, Text, WasRead, WasReadIn, assumed_at}
 use Rattle.command.specs.Commands.{checkpoint_at, created_at, layout_at, options_of, terms_given}
 use Rattle.command.specs.Running.{IsLayoutCause, IsRunCause}
@@ -151,14 +151,14 @@ is_outcome files words given f cube options readers next later last line at assu
 
 module _ (files : FilesView) (words : List Text) (given : CommandLine) (line : IsCommandLineOf words given) where
   -- The causes are those of the words and the files.
-  pub read_cause : (fault : CommandFault) (after : files.its.State) → IsReadCause files given.formula.now fault after
+  pub read_cause : (fault : CommandFault) (after : files.its.State) → IsReadCause files given fault after
       → IsCause files words fault after
   read_cause faults.Unread after cause = (given, line, inl cause)
   read_cause (faults.Refused fault) after cause = (given, line, inl cause)
   read_cause faults.Memory after cause = inr (given, line, inl cause)
   read_cause fault after cause = absurd cause
 
-  module _ (f : Cnf) (next : files.its.State) (at : IsFormulaAt files given.formula.now f next) where
+  module _ (f : Cnf) (next : files.its.State) (at : IsBegunWith files given f next) where
     assume_cause : (path : Text) → assumed_at given ≡ Some path → (fault : CommandFault) (after : files.its.State)
         → IsAssumeCause files f.vars next (Some path) fault after → IsCause files words fault after
     assume_cause path same faults.CubeUnread after cause = (
@@ -247,7 +247,7 @@ start_moved files given f options readers options_are entries_are serial before 
 -- so of the words and the files
 pub begun_cause : (files : FilesView) (words : List Text) (given : CommandLine) (f : Cnf) (cube : CubeValue) (options : OptionsValue)
     (readers : List files.its.Reader) (next later last : files.its.State)
-    → IsCommandLineOf words given → IsFormulaAt files given.formula.now f next
+    → IsCommandLineOf words given → IsBegunWith files given f next
     → AreAssumed (WasReadIn files) f.vars next (assumed_at given) cube later
     → options ≡ options_of given → AreOpened files.its.opens later given.streams readers last
     → map files.its.reading.left readers ≡ map files.tells given.streams

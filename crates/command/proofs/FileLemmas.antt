@@ -8,7 +8,8 @@ use Rattle.lrup_text.specs.declared.cube.CubeFault.TheVariants as cubes
 use Rattle.dimacs.specs.FormulaFault.{IsFormulaFault}
 use Rattle.dimacs.specs.declared.fault.DimacsFault.{DimacsFault}
 use Rattle.dimacs.specs.declared.fault.DimacsFault.TheVariants as formulas
-use Rattle.command.specs.Commands.{FilesView, IsAssumeCause, IsFailedRead, IsFileCause, IsReadCause, Text, WasReadIn, from_first}
+use Rattle.command_line.specs.declared.words.CommandLine.{CommandLine}
+use Rattle.command.specs.Commands.{AskForOne, FilesView, IsAssumeCause, IsFailedRead, IsFileCause, IsReadCause, Text, WasReadIn, from_first}
 use Rattle.command.specs.Faults.{of_cube, of_cube_file, of_formula, of_open}
 use Rattle.command.specs.declared.fault.CommandFault.{CommandFault}
 use Rattle.command.specs.declared.fault.CommandFault.TheVariants as faults
@@ -42,10 +43,10 @@ was_read files before path reader after items (Ok bytes) opened left gave all =
 was_read files before path reader after items (Err fault) opened left gave all = tt
 
 -- so of the formula's file, and of that of the assumed literals
-pub formula_file_cause : (files : FilesView) (path : Text) (fault : CommandFault) (after : files.its.State)
-    → IsFileCause files files.first path fault after → IsReadCause files path fault after
-formula_file_cause files path (faults.Refused fault) after cause = absurd cause
-formula_file_cause files path fault after cause = cause
+pub formula_file_cause : (files : FilesView) (given : CommandLine) (fault : CommandFault) (after : files.its.State)
+    → IsFileCause files files.first given.formula.now fault after → IsReadCause files given fault after
+formula_file_cause files given (faults.Refused fault) after cause = absurd cause
+formula_file_cause files given fault after cause = cause
 
 pub cube_file_cause : (files : FilesView) (vars : ℕ) (before : files.its.State) (path : Text) (fault : CommandFault)
     (after : files.its.State)
@@ -55,17 +56,18 @@ cube_file_cause files vars before path faults.Memory after cause = cause
 cube_file_cause files vars before path fault after cause = absurd cause
 
 -- why what was read is no formula, or no text of literals
-pub text_cause : (files : FilesView) (path : Text) (bytes : List ℕ) (after : files.its.State) → WasReadIn files files.first path bytes after
-    → (fault : DimacsFault) → (fault ≢ formulas.Memory → IsFormulaFault bytes fault) → IsReadCause files path (of_formula fault) after
-text_cause files path bytes after was formulas.NoHeader is = (λ e. cc, (bytes, was, is (λ e. cc)))
-text_cause files path bytes after was formulas.BadHeader is = (λ e. cc, (bytes, was, is (λ e. cc)))
-text_cause files path bytes after was (formulas.BadNumber line) is = (λ e. cc, (bytes, was, is (λ e. cc)))
-text_cause files path bytes after was (formulas.VariableRange line) is = (λ e. cc, (bytes, was, is (λ e. cc)))
-text_cause files path bytes after was formulas.OpenClause is = (λ e. cc, (bytes, was, is (λ e. cc)))
-text_cause files path bytes after was formulas.TooFew is = (λ e. cc, (bytes, was, is (λ e. cc)))
-text_cause files path bytes after was (formulas.TooMany line) is = (λ e. cc, (bytes, was, is (λ e. cc)))
-text_cause files path bytes after was formulas.Limit is = (λ e. cc, (bytes, was, is (λ e. cc)))
-text_cause files path bytes after was formulas.Memory is = inr (inr (was.reader, was.opened))
+pub text_cause : (files : FilesView) (given : CommandLine) (bytes : List ℕ) (after : files.its.State)
+    → WasReadIn files files.first given.formula.now bytes after → AskForOne given
+    → (fault : DimacsFault) → (fault ≢ formulas.Memory → IsFormulaFault bytes fault) → IsReadCause files given (of_formula fault) after
+text_cause files given bytes after was one formulas.NoHeader is = (λ e. cc, (bytes, was, is (λ e. cc)), one)
+text_cause files given bytes after was one formulas.BadHeader is = (λ e. cc, (bytes, was, is (λ e. cc)), one)
+text_cause files given bytes after was one (formulas.BadNumber line) is = (λ e. cc, (bytes, was, is (λ e. cc)), one)
+text_cause files given bytes after was one (formulas.VariableRange line) is = (λ e. cc, (bytes, was, is (λ e. cc)), one)
+text_cause files given bytes after was one formulas.OpenClause is = (λ e. cc, (bytes, was, is (λ e. cc)), one)
+text_cause files given bytes after was one formulas.TooFew is = (λ e. cc, (bytes, was, is (λ e. cc)), one)
+text_cause files given bytes after was one (formulas.TooMany line) is = (λ e. cc, (bytes, was, is (λ e. cc)), one)
+text_cause files given bytes after was one formulas.Limit is = (λ e. cc, (bytes, was, is (λ e. cc)), one)
+text_cause files given bytes after was one formulas.Memory is = inr (inr (was.reader, was.opened))
 
 pub cube_text_cause : (files : FilesView) (vars : ℕ) (before : files.its.State) (path : Text) (bytes : List ℕ) (after : files.its.State)
     → WasReadIn files before path bytes after

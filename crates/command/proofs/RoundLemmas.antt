@@ -16,7 +16,6 @@ use Rattle.lrup_model.specs.Literal.{max_variable}
 use Rattle.lrup_model.specs.Layout.{IsFault, LayoutValue}
 use Rattle.lrup_model.specs.declared.layout.LayoutFault.{LayoutFault}
 use Rattle.lrup_model.specs.declared.layout.LayoutFault.TheVariants as layouts
-use Rattle.stream_check.specs.declared.report.Report.{Report}
 use Rattle.portfolio.specs.Outcomes.{OptionsValue, terms_of}
 use Rattle.portfolio.specs.declared.outcome.Verdict.{Verdict}
 use Rattle.portfolio.specs.declared.outcome.Verdict.TheVariants.{Unsatisfiable, UnsatisfiableUnder, Unknown}

@@ -396,12 +396,24 @@ IsFileCause files before path faults.Unread after =
 IsFileCause files before path faults.Memory after = IsOutOfMemory files.its before path after
 IsFileCause files before path fault after = ⊥
 
--- why the formula at a path wasn't read: its file, the first to be opened, was refused, or its reading failed, or it holds no formula
-abbrev pub IsReadCause : (files : FilesView) → Text → CommandFault → files.its.State → Type 0
-IsReadCause files path (faults.Refused fault) after =
+-- the words ask for no rounds, or for no checkpoint
+abbrev pub AskForOne : CommandLine → Type 0
+AskForOne given = (rounds_at given ≡ None) ⊎ (checkpoint_at given ≡ None)
+
+-- why the formula wasn't read: its file, the first to be opened, was refused, or its reading failed, or it holds no formula, which is told
+-- where the words don't ask for both
+abbrev pub IsReadCause : (files : FilesView) → CommandLine → CommandFault → files.its.State → Type 0
+IsReadCause files given (faults.Refused fault) after =
     (fault ≢ formulas.Memory)
-    × ((bytes : List ℕ) × WasReadIn files files.first path bytes after × IsFormulaFault bytes fault)
-IsReadCause files path fault after = IsFileCause files files.first path fault after
+    × ((bytes : List ℕ) × WasReadIn files files.first given.formula.now bytes after
+    × IsFormulaFault bytes fault)
+    × AskForOne given
+IsReadCause files given fault after = IsFileCause files files.first given.formula.now fault after
+
+-- the formula was read, and the words don't ask for both
+abbrev pub IsBegunWith : (files : FilesView) → CommandLine → Cnf → files.its.State → Type 0
+IsBegunWith files given formula after =
+    AskForOne given × IsFormulaAt files given.formula.now formula after
 
 -- why the assumed literals at a path, over the variables 1 to vars, weren't read: their file, the next to be opened, was refused, or
 -- its reading failed, or it holds no text of them; without a path there is no cause
@@ -479,9 +491,9 @@ IsStartCause its serial layout before path fault after = ⊥
 -- of a fault of the opening of the streams; or, of streams that were opened, of their check
 abbrev pub IsCauseAt : (files : FilesView) → CommandLine → CommandFault → files.its.State → Type 0
 IsCauseAt files given fault after =
-    IsReadCause files given.formula.now fault after
+    IsReadCause files given fault after
     ⊎ ((formula : Cnf) × (next : files.its.State)
-    × IsFormulaAt files given.formula.now formula next
+    × IsBegunWith files given formula next
     × (IsAssumeCause files formula.vars next (assumed_at given) fault after
     ⊎ ((cube : CubeValue) × (later : files.its.State)
     × AreAssumed (WasReadIn files) formula.vars next (assumed_at given) cube later

@@ -1,5 +1,5 @@
 -- What the check of streams leaves: what private functions say of it (this project's own).
-use Rattle.std.specs.Prelude.{◌≡◌, ◌<◌, ℕ, Bool, false, List, vec_len}
+use Rattle.std.specs.Prelude.{◌≡◌, ◌<◌, Bool, false, List, vec_len}
 use Rattle.lrup_model.specs.Event.{History}
 use Rattle.lrup_model.specs.Formula.{Cnf}
 use Rattle.lrup_model.specs.Layout.{Fits, IsFault, IsStream, LayoutValue}

@@ -1,5 +1,5 @@
 -- A checkpoint's file, from its creation to its end: what private functions say of it (this project's own).
-use Rattle.std.specs.Prelude.{◌≡◌, ℕ, List, [], Option, None, Some, Result, Ok}
+use Rattle.std.specs.Prelude.{◌≡◌, [], Option, None, Some, Result, Ok}
 use Rattle.std.specs.Option.{ForSome}
 use Rattle.lrup_model.specs.Formula.{Cnf}
 use Rattle.portfolio.specs.declared.outcome.Verdict.{Verdict}

@@ -10,7 +10,7 @@ ghost use Rattle.lrup_model.specs.Cube.{CubeValue, IsUnsatisfiableUnder};
 ghost use Rattle.lrup_model.specs.Entailment.{IsUnsatisfiable};
 ghost use Rattle.lrup_model.specs.Formula.{Cnf};
 ghost use Rattle.lrup_text.specs.Reads.{GaveAll};
-ghost use Rattle.command.specs.Commands.{AreAssumed, AreOpened, IsAssumeCause, IsCause, IsFailedRead, IsFileCause, IsOpenCause, HasNoFault};
+ghost use Rattle.command.specs.Commands.{AreAssumed, AreOpened, AskForOne, IsAssumeCause, IsCause, IsFailedRead, IsFileCause, IsOpenCause, HasNoFault};
 ghost use Rattle.command.specs.Commands.{IsOutcome, LeavesCheckpoint, Text, WasRead, WasReadIn, assumed_at, deeds, files_view};
 ghost use Rattle.command.specs.Commands.{from_first, path_of, readers_view, rounds_at, terms_on};
 ghost use Rattle.command.specs.Running.{IsLayoutCause};
@@ -167,6 +167,7 @@ pub(crate) fn begin<W: Wait, F: Machine>(
     bytes: Vec<u8>,
     files: &mut F,
 ) -> Result<Beginning<F::Input>, CommandFault>
+    requires one { AskForOne line.now }
     ensures formula { IfOk result (λ begun. IsFormulaText bytes.items begun.formula) }
     ensures begun { let view = files_view F.Files F.Machine.own F.Input.Source F.Output.Sink
         files.old in

@@ -216,10 +216,10 @@ module _ (one_formula : OneFormula) (serial : SerialRun) (alike : SameWordsAskAl
 
 module _ (one_formula : OneFormula) (no_fault : NoFormulaFault) (alike : SameWordsAskAlike) (files : FilesView) (folder : Option Text) where
   -- no file that was read is at fault
-  not_refused : (path : Text) (text : List ℕ) (f : Cnf) (fault : DimacsFault) (after : files.its.State) → files.tells path ≡ Some text
-      → IsFormulaText text f → ¬ IsReadCause files path (faults.Refused fault) after
-  not_refused path text f fault after told is cause =
-      let same = text_of (files.tells path) text cause.1.0 told cause.1.1.told in
+  not_refused : (given : CommandLine) (text : List ℕ) (f : Cnf) (fault : DimacsFault) (after : files.its.State)
+      → files.tells given.formula.now ≡ Some text → IsFormulaText text f → ¬ IsReadCause files given (faults.Refused fault) after
+  not_refused given text f fault after told is cause =
+      let same = text_of (files.tells given.formula.now) text cause.1.0 told cause.1.1.told in
       no_fault cause.1.0 f fault (subst (λ (b : List ℕ). IsFormulaText b f) same is) cause.1.2
 
   not_assumed : (vars : ℕ) (before : files.its.State) (path : Option Text) (fault : CubeFault) (after : files.its.State)
@@ -279,7 +279,7 @@ module _ (one_formula : OneFormula) (no_fault : NoFormulaFault) (alike : SameWor
   of_machine words ask after one (faults.Refused fault) cause =
       let same = alike words ask.given cause.0 ask.command_line cause.1 in
       elim cause.2 [
-        | inl read ↦ not_refused cause.0.formula.now ask.text ask.formula fault after (ap files.tells same.2 ∙ ask.told) ask.is_text read
+        | inl read ↦ not_refused cause.0 ask.text ask.formula fault after (ap files.tells same.2 ∙ ask.told) ask.is_text read
         | inr later ↦ elim later.3 [
           | inl assume ↦ no_usage later.1 (assumed_at cause.0) later.0.vars fault after assume
           | inr last ↦ elim last.3 [ inl opens ↦ opens | inr start ↦ start.3 ]
@@ -291,7 +291,7 @@ module _ (one_formula : OneFormula) (no_fault : NoFormulaFault) (alike : SameWor
         | inr later ↦ elim later.3 [
           | inl assume ↦
               let assumed : assumed_at cause.0 ≡ assumed_at ask.given = cause.1.said.assume ∙ sym ask.command_line.said.assume in
-              let formulas = formula_at words ask cause.0 later.0 later.1 cause.1 later.2 in
+              let formulas = formula_at words ask cause.0 later.0 later.1 cause.1 later.2.1 in
               not_assumed ask.formula.vars later.1 (assumed_at ask.given) fault after ask.assumptions
               (subst (λ (p : Option Text). IsAssumeCause files ask.formula.vars later.1 p (faults.CubeRefused fault) after) assumed
               (subst (λ (f : Cnf). IsAssumeCause files f.vars later.1 (assumed_at cause.0) (faults.CubeRefused fault) after) formulas
@@ -308,7 +308,7 @@ module _ (one_formula : OneFormula) (no_fault : NoFormulaFault) (alike : SameWor
             | inl opens ↦ opens
             | inr start ↦
                 let same = alike words ask.given cause.0 ask.command_line cause.1 in
-                let formulas = formula_at words ask cause.0 later.0 later.1 cause.1 later.2 in
+                let formulas = formula_at words ask cause.0 later.0 later.1 cause.1 later.2.1 in
                 let layouts : layout_at cause.0 later.0 ≡ layout_at ask.given ask.formula =
                 ap (λ (x : OptionsValue). layout_of x later.0 (length cause.0.streams)) same.0
                 ∙ ap (λ (x : Cnf). layout_of (options_of ask.given) x (length cause.0.streams)) formulas

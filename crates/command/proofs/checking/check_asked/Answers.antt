@@ -1,13 +1,20 @@
-use Rattle.std.proofs.Common.{◌≡◌, ◌∙◌, ℕ, Option, length, sym, subst}
+use Rattle.std.proofs.Common.{◌≡◌, ◌∙◌, ℕ, List, Option, inl, length, sym, subst}
+use Rattle.lrup_model.specs.Layout.{LayoutValue}
 use Rattle.portfolio.specs.Outcomes.{layout_of, terms_of}
-use Rattle.command.specs.Commands.{HasNoFault, IsCause, IsFormulaAt, IsLeftUnused, Text, checkpoint_at, created_at, created_path}
-use Rattle.command.specs.Commands.{files_view, from_first}
+use Rattle.command_line.specs.CommandLine.{IsCommandLineOf}
+use Rattle.command.specs.Commands.{FilesView, HasNoFault, IsCause, IsFormulaAt, IsLeftUnused, IsStartCause, Text, WasReadIn, checkpoint_at}
+use Rattle.command.specs.Commands.{created_at, created_path, files_view, from_first}
 use Rattle.command.specs.Running.{IsLayoutCause}
 use Rattle.command.specs.Saving.{IsNotCreated}
 use Rattle.command.specs.declared.fault.CommandFault.{CommandFault}
 use Rattle.command.proofs.CheckingLemmas.{begun_cause, create_start, err_given, is_outcome, layout_start, run_start, some_given}
 use Rattle.command.proofs.SavingLemmas.{leaves_behind, left_unused}
+use Rattle.command.proofs.checking.check_asked.Given as given
 use Rattle.command.proofs.checking.check_asked.Goals as goal
+use Rattle.command.proofs.checking.check_asked.Goals.{After-unwrap-options}
+
+pub begin-requires-clause-one : goal.begin-requires-clause-one
+begin-requires-clause-one g c κs within = inl c.requires.once
 
 pub returns-in_err-begun-clause-cause : goal.returns-in_err-begun-clause-cause
 returns-in_err-begun-clause-cause g c words first good at =
@@ -16,77 +23,78 @@ returns-in_err-begun-clause-cause g c words first good at =
     let cause : Cause c.in_err-begun.field-0.0 = c.in_err-begun.ensures.cause words first good at in
     err_given c.from_residual.result _ Cause (λ other is. subst Cause (sym is) cause) c.from_residual.ensures.1
 
-pub returns-in_err-find_layout-clause-cause : goal.returns-in_err-find_layout-clause-cause
-returns-in_err-find_layout-clause-cause g c words first good at =
-    let files = from_first (files_view g.F.Files g.F.Machine g.F.Input.Source g.F.Output.Sink c.args.files.now) first in
-    let line = c.args.asked.line in
+-- the files, as they were when the formula's file was read, and those of the words
+abbrev viewed : (g : given.Over) (c : After-unwrap-options g) → FilesView
+viewed g c = files_view g.F.Files g.F.Machine g.F.Input.Source g.F.Output.Sink c.args.files.now
+
+-- why the streams weren't checked, by the words and the files
+started : (g : given.Over) (c : After-unwrap-options g) (words : List Text) (first : (viewed g c).its.State)
+    → IsCommandLineOf words c.args.asked.line
+    → WasReadIn (from_first (viewed g c) first) first c.args.asked.line.formula.now c.args.asked.formula.items c.args.files.now
+    → (fault : CommandFault) (after : (viewed g c).its.State)
+    → IsStartCause (viewed g c).its c.args.asked.line.serial
+    (layout_of c.unwrap-options.result c.in_ok-begun.begun.formula (length c.in_ok-begun.begun.readers.items)) c.begin.new.files
+    (created_at c.args.asked.line) fault after
+    → IsCause (from_first (viewed g c) first) words fault after
+started g c words first good at fault after cause =
+    let files = from_first (viewed g c) first in
     let begun = c.in_ok-begun.begun in
     let of = c.in_ok-begun.ensures.begun in
-    let last = c.begin.new.files in
-    let readers = begun.readers.items in
-    let is_formula : IsFormulaAt files line.formula.now begun.formula c.args.files.now =
-    (c.args.asked.formula.items, at, c.in_ok-begun.ensures.formula) in
-    let options = some_given _ c.unwrap-options.ensures c.new.ensures.some in
-    let count : c.len.result ≡ length readers = c.len.ensures ∙ begun.readers.ok.0 in
-    let layout = layout_of c.unwrap-options.result begun.formula (length readers) in
+    begun_cause files words c.args.asked.line begun.formula begun.cube c.unwrap-options.result begun.readers.items c.args.files.now of.later
+    c.begin.new.files good (inl c.requires.once, (c.args.asked.formula.items, at, c.in_ok-begun.ensures.formula)) of.assumed
+    (some_given _ c.unwrap-options.ensures c.new.ensures.some) of.opened of.left fault after cause
+
+pub returns-in_err-find_layout-clause-cause : goal.returns-in_err-find_layout-clause-cause
+returns-in_err-find_layout-clause-cause g c words first good at =
+    let found = (goal.at.returns-in_err-find_layout-clause-cause g c).After-unwrap-options in
+    let line = c.args.asked.line in
+    let readers = c.in_ok-begun.begun.readers in
+    let layout : ℕ → LayoutValue = layout_of c.unwrap-options.result c.in_ok-begun.begun.formula in
     let fault = c.in_err-find_layout.field-0.0 in
-    let refused = subst (λ (n : ℕ). IsLayoutCause (layout_of c.unwrap-options.result begun.formula n) fault) count
-    c.in_err-find_layout.ensures.cause in
-    let Cause : CommandFault → Type 0 = λ fault. IsCause files words fault last in
-    let cause : Cause fault = begun_cause files words line begun.formula begun.cube c.unwrap-options.result readers c.args.files.now
-    of.later last good is_formula of.assumed options of.opened of.left fault last
-    (layout_start files.its line.serial layout last (created_at line) fault refused) in
+    let last = c.begin.new.files in
+    let refused = subst (λ (n : ℕ). IsLayoutCause (layout n) fault) (c.len.ensures ∙ readers.ok.0) c.in_err-find_layout.ensures.cause in
+    let Cause : CommandFault → Type 0 = λ fault. IsCause (from_first (viewed g found) first) words fault last in
+    let cause : Cause fault = started g found words first good at fault last
+    (layout_start (viewed g found).its line.serial (layout (length readers.items)) last (created_at line) fault refused) in
     err_given c.from_residual-in_err-find_layout.result _ Cause (λ other is. subst Cause (sym is) cause)
     c.from_residual-in_err-find_layout.ensures.1
 
 pub returns-in_err-output-clause-cause : goal.returns-in_err-output-clause-cause
 returns-in_err-output-clause-cause g c words first good at =
-    let files = from_first (files_view g.F.Files g.F.Machine g.F.Input.Source g.F.Output.Sink c.args.files.now) first in
+    let found = (goal.at.returns-in_err-output-clause-cause g c).After-unwrap-options in
     let line = c.args.asked.line in
-    let begun = c.in_ok-begun.begun in
-    let of = c.in_ok-begun.ensures.begun in
-    let last = c.begin.new.files in
-    let readers = begun.readers.items in
-    let is_formula : IsFormulaAt files line.formula.now begun.formula c.args.files.now =
-    (c.args.asked.formula.items, at, c.in_ok-begun.ensures.formula) in
-    let options = some_given _ c.unwrap-options.ensures c.new.ensures.some in
-    let count : c.len.result ≡ length readers = c.len.ensures ∙ begun.readers.ok.0 in
-    let layout = layout_of c.unwrap-options.result begun.formula (length readers) in
+    let readers = c.in_ok-begun.begun.readers in
+    let layout : ℕ → LayoutValue = layout_of c.unwrap-options.result c.in_ok-begun.begun.formula in
+    let its = (viewed g found).its in
     let fault = c.in_err-output.field-0.0 in
+    let last = c.begin.new.files in
     let after = c.create_checkpoint.new.files in
-    let none = subst (λ (n : ℕ). HasNoFault (layout_of c.unwrap-options.result begun.formula n)) count c.in_ok-find_layout.ensures.found in
-    let refused = subst (λ (o : Option Text). IsNotCreated files.its last (created_path o (checkpoint_at line)) fault after)
+    let none = subst (λ (n : ℕ). HasNoFault (layout n)) (c.len.ensures ∙ readers.ok.0) c.in_ok-find_layout.ensures.found in
+    let refused = subst (λ (o : Option Text). IsNotCreated its last (created_path o (checkpoint_at line)) fault after)
     (sym c.requires.once) c.in_err-output.ensures.cause in
-    let Cause : CommandFault → Type 0 = λ fault. IsCause files words fault after in
-    let cause : Cause fault = begun_cause files words line begun.formula begun.cube c.unwrap-options.result readers c.args.files.now
-    of.later last good is_formula of.assumed options of.opened of.left fault after
-    (create_start files.its line.serial layout last (created_at line) fault after none refused) in
+    let Cause : CommandFault → Type 0 = λ fault. IsCause (from_first (viewed g found) first) words fault after in
+    let cause : Cause fault = started g found words first good at fault after
+    (create_start its line.serial (layout (length readers.items)) last (created_at line) fault after none refused) in
     err_given c.from_residual-in_err-output.result _ Cause (λ other is. subst Cause (sym is) cause)
     c.from_residual-in_err-output.ensures.1
 
 pub returns-in-Err-clause-cause : goal.returns-in-Err-clause-cause
 returns-in-Err-clause-cause g c words first good at =
-    let files = from_first (files_view g.F.Files g.F.Machine g.F.Input.Source g.F.Output.Sink c.args.files.now) first in
+    let found = (goal.at.returns-in-Err-clause-cause g c).After-unwrap-options in
     let line = c.args.asked.line in
-    let begun = c.in_ok-begun.begun in
-    let of = c.in_ok-begun.ensures.begun in
-    let last = c.begin.new.files in
-    let readers = begun.readers.items in
-    let is_formula : IsFormulaAt files line.formula.now begun.formula c.args.files.now =
-    (c.args.asked.formula.items, at, c.in_ok-begun.ensures.formula) in
-    let options = some_given _ c.unwrap-options.ensures c.new.ensures.some in
-    let count : c.len.result ≡ length readers = c.len.ensures ∙ begun.readers.ok.0 in
-    let layout = layout_of c.unwrap-options.result begun.formula (length readers) in
+    let readers = c.in_ok-begun.begun.readers in
+    let layout : ℕ → LayoutValue = layout_of c.unwrap-options.result c.in_ok-begun.begun.formula in
+    let its = (viewed g found).its in
     let fault = c.in-Err.fault in
+    let last = c.begin.new.files in
     let after = c.discard_it.new.files in
-    let none = subst (λ (n : ℕ). HasNoFault (layout_of c.unwrap-options.result begun.formula n)) count c.in_ok-find_layout.ensures.found in
-    let unused = left_unused files.its last c.create_checkpoint.new.files after (checkpoint_at line) c.in_ok-output.output
+    let none = subst (λ (n : ℕ). HasNoFault (layout n)) (c.len.ensures ∙ readers.ok.0) c.in_ok-find_layout.ensures.found in
+    let unused = left_unused its last c.create_checkpoint.new.files after (checkpoint_at line) c.in_ok-output.output
     c.in_ok-output.ensures.created c.discard_it.ensures in
-    let at_path = subst (λ (o : Option Text). IsLeftUnused files.its last (created_path o (checkpoint_at line)) after)
+    let at_path = subst (λ (o : Option Text). IsLeftUnused its last (created_path o (checkpoint_at line)) after)
     (sym c.requires.once) unused in
-    begun_cause files words line begun.formula begun.cube c.unwrap-options.result readers c.args.files.now
-    of.later last good is_formula of.assumed options of.opened of.left fault after
-    (run_start files.its line.serial layout last (created_at line) fault after none c.in-Err.ensures.cause at_path)
+    started g found words first good at fault after
+    (run_start its line.serial (layout (length readers.items)) last (created_at line) fault after none c.in-Err.ensures.cause at_path)
 
 pub returns-clause-outcome : goal.returns-clause-outcome
 returns-clause-outcome g c words first good at =

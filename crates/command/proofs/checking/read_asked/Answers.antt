@@ -13,6 +13,6 @@ returns-in_err-formula-clause-cause g c =
     let fault = c.in_err-formula.field-0.0 in
     let after = c.read_file.new.files in
     let cause = read_cause files words line c.in_ok-line.ensures.ok fault after
-    (formula_file_cause files line.formula.now fault after c.in_err-formula.ensures.cause) in
+    (formula_file_cause files line fault after c.in_err-formula.ensures.cause) in
     err_given c.from_residual-in_err-formula.result _ (λ fault. IsCause files words fault after)
     (λ other is. subst (λ fault. IsCause files words fault after) (sym is) cause) c.from_residual-in_err-formula.ensures.1

@@ -1,4 +1,4 @@
-use Rattle.std.proofs.Common.{Err, None, Ok, Some, refl}
+use Rattle.std.proofs.Common.{None, Some, refl}
 use Rattle.checkpoint.specs.declared.saving.SaveFault.TheVariants as faults
 use Rattle.command.specs.Commands.{deeds}
 use Rattle.command.proofs.RoundLemmas.{for_some}

@@ -9,6 +9,9 @@ use Rattle.command.proofs.RoundLemmas.{ends_sound, ends_sound_under, first_start
 use Rattle.command.proofs.rounds.check_rounds.Given as given
 use Rattle.command.proofs.rounds.check_rounds.Goals as goal
 
+pub begin-requires-clause-one : goal.begin-requires-clause-one
+begin-requires-clause-one g c κs within = inr (no_path c.args.asked.line.checkpoint c.if-is_some.ensures)
+
 -- a fault of what the rounds begin with is one of round 1
 pub returns-in-Err-clause-cause : goal.returns-in-Err-clause-cause
 returns-in-Err-clause-cause g c words first good at =
@@ -135,8 +138,8 @@ returns-clause-cause g c words first good at =
     (λ failed fails. elim fails [
       | inl one ↦ inl (
         one.0,
-        start_cause files words line good begun.formula c.args.files.now is_formula begun.cube of.later of.assumed begun.readers.items
-            c.begin.new.files of.opened failed.fault c.go_on.new.files
+        start_cause files words line good begun.formula c.args.files.now (inr alone, is_formula) begun.cube of.later of.assumed
+            begun.readers.items c.begin.new.files of.opened failed.fault c.go_on.new.files
             (first_start its plan line begun.cube folder begun.formula c.begin.new.files c.requires.folder failed.fault c.go_on.new.files
             one.1),
       )
