@@ -38,6 +38,7 @@ from runs import ALONE, UNSATISFIABLE, Bench, Formula, Result, others_now, stop_
 HERE = os.path.dirname(os.path.abspath(__file__))
 CORES = os.cpu_count() or 1
 EASY = "easy"
+TIMES, SECONDS = 3, 0.2     # as long as CaDiCaL, and more: what easy formulas may take
 MEASURES = {"By the clock": "clock", "Longest part": "path", "All": "processor"}
 SHARES = {"Verdict after, s": "verdict", "`lrupd` by engines": "lrupd", "Filters by engines": "filters"}
 Medians = Dict[int, Optional[Result]]
@@ -66,7 +67,8 @@ def chosen(given: argparse.Namespace) -> List[Formula]:
     else:
         every = [Formula(words, title, family) for family, its in formulas.FAMILIES.items() for words, title in its]
     wanted = set(given.formulas)
-    return [one for one in every if not wanted or wanted & {one.family, one.words, one.words.split()[0]}]
+    found = [one for one in every if not wanted or wanted & {one.family, one.words, one.words.split()[0]}]
+    return found or sys.exit(f"no formula is called {' or '.join(given.formulas)}")
 
 
 @lru_cache
@@ -81,6 +83,8 @@ def make(formula: Formula, folder: str) -> str:
 def wait_for_quiet(most: float) -> float:
     """How many cores other work has."""
     others = others_now()
+    if others > most:
+        print(f"other work has {others:.1f} of {CORES} cores: waiting", file=sys.stderr)
     while others > most:
         time.sleep(5)
         others = others_now()
@@ -176,6 +180,10 @@ def together(cells: List[str], count: int) -> List[str]:
     return [", ".join(cells[place:place + count]) for place in range(0, len(cells), count)]
 
 
+def cheap(alone: Optional[Result], its: Optional[Result]) -> bool:
+    return alone is not None and its is not None and its.processor <= TIMES * alone.processor + SECONDS
+
+
 def easy_times(engines: List[int], every: List[Formula], medians: List[Medians]) -> None:
     """In seconds, since ratios say little below a tenth of one."""
     head("Formula", "CaDiCaL alone: processor time, s", *(f"{counted(count)}: all processes, s" for count in engines),
@@ -184,14 +192,17 @@ def easy_times(engines: List[int], every: List[Formula], medians: List[Medians])
         alone, ends = its[ALONE], [its[count] for count in engines]
         cells = [getattr(one, name) if one else None for name in ("processor", "clock") for one in ends]
         line(formula.title, shown(alone.processor if alone else None), *map(shown, cells), shown(most_others(its), 1))
+    for count in engines:
+        good = [cheap(its[ALONE], its[count]) for its in medians]
+        print(f"\n{counted(count)}: {sum(good)} of {len(good)} take at most {TIMES} times CaDiCaL's processor time and {SECONDS} s.")
 
 
 def note(given: argparse.Namespace, bench: Bench, every: List[Formula], medians: List[Medians]) -> str:
     """What the medians are of."""
     counts = [len(bench.of(formula, engines, given.others)) for formula in every for engines in (ALONE, *given.engines)]
-    runs = f"{min(counts)}" if min(counts) == max(counts) else f"{min(counts)} to {max(counts)}"
-    others = max((most_others(its) or 0 for its in medians), default=0)
-    return f"medians of {runs} runs on {CORES} cores, of which other work had at most {others:.1f}"
+    runs = f"{max(counts)} runs" if min(counts) == max(counts) else f"{min(counts)} to {max(counts)} runs"
+    others = max(most_others(its) or 0 for its in medians)
+    return f"{'one run' if max(counts) == 1 else 'medians of ' + runs}, on {CORES} cores, of which other work had at most {others:.1f}"
 
 
 def panels_of(engines: List[int], of: Callable[[int, str], Optional[float]]) -> List[Dict[int, float]]:
