@@ -286,6 +286,17 @@ def as_alone(words: str, seed: int, work: Path) -> None:
     want(abs(found - wanted) <= wanted / 10, True, f"conflicts: {found} in place of {wanted}")
 
 
+def holes(work: Path) -> None:
+    """As many pigeonholes as pigeons, which a lucky assignment satisfies: all in the first hole that is left. It is looked for once."""
+    names = [[pigeon * 40 + hole + 1 for pigeon in range(40)] for hole in range(40)]
+    clauses = [list(pigeon) for pigeon in zip(*names)] + [[-one, -other] for hole in names for one in hole for other in hole if one < other]
+    formula = written(dimacs(1600, clauses), work)
+    answer = solve(["-v", "-j", "2", formula])
+    want_answer(answer, 10, formula)
+    first, = [re.match(r"engine 1: ([\d.]+) s, .*; 0 conflicts;", line) for line in answer.comments if line.startswith("engine 1: ")]
+    want(first is not None and float(first[1]) < 0.3, True, f"whether engine 1 was quick\n{answer.comments}")
+
+
 # Refusals.
 
 
@@ -683,7 +694,7 @@ def others_formulas() -> List[Row]:
 
 
 def searches() -> List[Row]:
-    return [(f"as alone, {words} {seed}", as_alone, words, seed) for seed in (0, 1, 2)
+    return [("as many holes as pigeons", holes)] + [(f"as alone, {words} {seed}", as_alone, words, seed) for seed in (0, 1, 2)
             for words in ("order 20", "pigeons 7", "random 150 1", "random 150 7 3.6")]
 
 
