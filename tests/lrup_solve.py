@@ -252,6 +252,51 @@ def quiet(work: Path) -> None:
     want(solve(["-q", example("bmc.cnf")]).out, "s UNSATISFIABLE\n", "what -q leaves")
 
 
+# CaDiCaL's own search.
+
+
+def solved_alone(words: Sequence[object], **how: Any) -> int:
+    """The conflicts of CaDiCaL, in the last row of what it reports."""
+    rows = re.findall(r"^c [01] +[\d.]+ +\d+ +\d+ +\d+ +\d+ +(\d+) .*$", run(words, **how).out, re.M)
+    want(len(rows), 1, f"last rows of {words}")
+    return int(rows[0])
+
+
+def unordered(text: str, seed: int) -> str:
+    """The clauses, and the literals of each, in another order, some doubled, and some clauses that are always true."""
+    numbers, (header, *lines) = random.Random(seed), text.splitlines()
+    clauses = [[int(word) for word in line.split()[:-1]] for line in lines]
+    clauses += [[1, *numbers.choice(clauses), -1] for _ in range(5)] + numbers.sample(clauses, 5)
+    for clause in clauses:
+        clause += numbers.sample(clause, numbers.randrange(2))
+        numbers.shuffle(clause)
+    numbers.shuffle(clauses)
+    return dimacs(int(header.split()[2]), clauses)
+
+
+def as_alone(words: str, seed: int, work: Path) -> None:
+    """An engine alone searches as `cadical` does on the file, whatever the order of what stands there."""
+    if not shutil.which("cadical"):
+        raise Skipped("there is no cadical on the PATH")
+    formula = generated(words, work)
+    if seed:
+        formula = written(unordered(formula.read_text(), seed), work)
+    wanted, engine = solved_alone(["cadical", formula]), {"SET": "quiet=0 report=1"}
+    found = solved_alone(command(["-j", "1", formula], engine), env=in_environment(engine))
+    want(abs(found - wanted) <= wanted / 10, True, f"conflicts: {found} in place of {wanted}")
+
+
+def holes(work: Path) -> None:
+    """As many pigeonholes as pigeons, which a lucky assignment satisfies: all in the first hole that is left. It is looked for once."""
+    names = [[pigeon * 40 + hole + 1 for pigeon in range(40)] for hole in range(40)]
+    clauses = [list(pigeon) for pigeon in zip(*names)] + [[-one, -other] for hole in names for one in hole for other in hole if one < other]
+    formula = written(dimacs(1600, clauses), work)
+    answer = solve(["-v", "-j", "2", formula])
+    want_answer(answer, 10, formula)
+    first, = [re.match(r"engine 1: ([\d.]+) s, .*; 0 conflicts;", line) for line in answer.comments if line.startswith("engine 1: ")]
+    want(first is not None and float(first[1]) < 0.3, True, f"whether engine 1 was quick\n{answer.comments}")
+
+
 # Refusals.
 
 
@@ -648,6 +693,11 @@ def others_formulas() -> List[Row]:
             ("options told", options_told)]
 
 
+def searches() -> List[Row]:
+    return [("as many holes as pigeons", holes)] + [(f"as alone, {words} {seed}", as_alone, words, seed) for seed in (0, 1, 2)
+            for words in ("order 20", "pigeons 7", "random 150 1", "random 150 7 3.6")]
+
+
 def sharing() -> List[Row]:
     lost = r"is lost: .*no conflict by unit propagation"
     return [("witnesses", rests_on, "guard", 30, lost, (140, 200), ELIMINATING),
@@ -657,7 +707,7 @@ def sharing() -> List[Row]:
 
 
 def main() -> int:
-    runs = known() + words_and_files() + refusals() + what_happens() + others_formulas() + sharing()
+    runs = known() + words_and_files() + searches() + refusals() + what_happens() + others_formulas() + sharing()
     return run_built(runs + [(f"random {seed}", randomly, seed) for seed in range(300)])
 
 
