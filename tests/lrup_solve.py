@@ -32,7 +32,8 @@ from harness import (EXAMPLES, FOUR, LIMIT, ROOT, Failure, Ran, Row, Skipped, di
 from lrat import lrat_fault
 from proof_forms import read_formula
 from solving import (EARLY, ELIMINATING, OUT, PROGRAM, SOLVE, Answer, before_lrupd, check_again, children_of, command, end_group,
-                     goes_on, in_environment, in_place_of_lrupd, is_alive, kill_children, random_formula, run_built, solve, want_answer)
+                     goes_on, in_environment, in_place_of_lrupd, is_alive, kill_children, of_process, random_formula, run_built, solve,
+                     want_answer)
 
 words_given(__doc__, most=2)
 MITERS = EXAMPLES / "miter"
@@ -375,6 +376,18 @@ def left_alone(work: Path) -> None:
         want(running.end().status, -signal.SIGKILL, "the end")
 
 
+def gives_way(work: Path) -> None:
+    """Where memory is short the system ends engines and filters first, by this number: 1000 is the most, and nobody lowers it."""
+    own = of_process(os.getpid(), "oom_score_adj")
+    with Running(generated("pigeons 11", work), work) as running:
+        until("engines and filters give way", lambda: {of_process(pid, "oom_score_adj") for name, pid in running.children.items()
+                                                       if name[:6] in ("engine", "filter")} == {"1000\n"})
+        found = [of_process(pid, "oom_score_adj") for pid in (running.process.pid, running.children["lrupd"])]
+        running.process.terminate()
+        running.end()
+    want(found, [own, own], "the numbers of the first process and lrupd")
+
+
 def time_is_up(work: Path) -> None:
     formula, begin = generated("pigeons 11", work), time.monotonic()
     answer = solve(["--time", "0.7", formula])
@@ -623,7 +636,7 @@ def what_happens() -> List[Row]:
             ("filter 1 killed", killed, ["filter 1"], kill, 20, "engine 1 is lost"),
             ("filter 2 killed", killed, ["filter 2"], term, 20, "engine 2 is lost"),
             ("an engine and a filter killed", killed, ["engine 1", "filter 2"], kill, 0, "no engine is left"),
-            ("the first process killed", left_alone), ("time", time_is_up), ("a full row", row_is_full),
+            ("the first process killed", left_alone), ("who gives way", gives_way), ("time", time_is_up), ("a full row", row_is_full),
             ("a full disk for streams", full, ["-j", "1", "--proofs", "{work}"], os.devnull, 4096, "round-1.stream-1: File too large"),
             ("a full disk for the answer", full, [], "/dev/full", 0, "cannot write the answer"),
             ("a closed output", closed, "bmc.cnf"), ("a closed output, satisfiable", closed, "assumed.cnf"),

@@ -287,6 +287,7 @@ def stopped(work: Path) -> None:
             return {"cadical", "engine 1"} <= set(found)
 
         until("the solver is there", all_there)
+        want(of_process(found["cadical"], "oom_score_adj"), "1000\n", "by which it gives way where memory is short")
         state = lambda: of_process(found["cadical"], "stat").rsplit(")", 1)[-1].split()[0]
         os.kill(found["engine 1"], signal.SIGTSTP)
         until("the solver stands", lambda: state() == "T")

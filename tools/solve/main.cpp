@@ -157,6 +157,7 @@ void Run::start_team(size_t k) {
     int number = int(k) + 1;
     std::string title = std::to_string(number);
     if (begin(team.filter, "filter " + title, { team.proof.read, team.stream })) {
+        give_way();
         Filtering filtering = { shared, outboxes.data(), number, team.proof.read, team.stream,
                                 is_solver(k) ? UNKNOWN_FORM : SHARING_DRAT, options.shares() && !is_solver(k),
                                 assumed.data(), assumed.size() };
@@ -180,6 +181,7 @@ void Run::start_engine(size_t k) {
     }
     team.engine.hands_on = is_solver(k);
     if (!begin(team.engine, "engine " + std::to_string(number), files)) return;
+    give_way();
     if (!options.verbose) dup2(open("/dev/null", O_WRONLY), STDERR_FILENO);     // its last words
     if (is_solver(k)) solver_process(engine, command, files);
     engine_process(engine);

@@ -217,6 +217,15 @@ bool begin(Child &child, const std::string &name, const std::vector<int> &kept) 
     return true;
 }
 
+// A lost engine is but a lost engine, and without lrupd or the first process the run is lost. Anyone may raise this number, and
+// where that fails the system chooses as ever.
+void give_way() {
+    int file = open("/proc/self/oom_score_adj", O_WRONLY | O_CLOEXEC);
+    if (file < 0) return;
+    write_all(file, "1000", 4);
+    close(file);
+}
+
 static void take_end(Child &child, int status, const rusage &used) {
     child.running = false;
     child.status = status;

@@ -76,6 +76,7 @@ bool begin(Child &child, const std::string &name, const std::vector<int> &kept);
 bool reap(const std::vector<Child *> &children);         // one that has ended, if there is one
 void wait_for(Child &child);
 void end_children();                                     // and removes the folder
+void give_way();                                        // this process ends before others where memory is short
 
 // record.cpp: paths, and the folder of --proofs. An input is a path, or `-`.
 std::string quoted(const std::string &word);
