@@ -161,6 +161,21 @@ def earlier_run(work: Path) -> None:
     want(sorted(os.listdir(kept)), sorted([*others, *one]), "what is there after 's UNKNOWN'")
 
 
+def locked(name: str, ends: int, work: Path) -> None:
+    """Another run has the folder, until it ends, however it does. The second one is refused at once, and touches nothing."""
+    kept, words = work / "kept", ["--proofs", work / name, "-j", "1", example("bmc.cnf")]
+    os.symlink("kept", work / "link")
+    with started(command(["-j", "1", "--proofs", kept, generated("pigeons 11", work)]), stdout=subprocess.DEVNULL) as running:
+        until("an engine is there", lambda: "engine 1" in children_of(running.pid) or running.poll() is not None)
+        before = sorted(os.listdir(kept))
+        refused(words, f"{work / name}: another run that goes on has its files there: another --proofs", work)
+        want((sorted(os.listdir(kept)), running.poll()), (before, None), "what is there, and the run")
+        running.send_signal(ends)
+        running.wait(LIMIT)
+        want_answer(solve(words), 20)
+    check_again(kept)
+
+
 def own_files(name: str, work: Path) -> None:
     """What has a name of the record's, and isn't of one, is left alone. Every run that has read its formula leaves a record."""
     own = work / "own"
@@ -575,6 +590,7 @@ def words_and_files() -> List[Row]:
              ("keeps four", keeps, ["-j", "4"]), ("keeps LRAT", keeps_lrat, "pigeons 7"),
              ("keeps LRAT, random", keeps_lrat, "random 150 1"), ("keeps standard input", keeps_standard_input),
              ("keeps by short names", keeps_by_short_names), ("an earlier run", earlier_run),
+             ("another run's record", locked, "kept", signal.SIGTERM), ("of one that is killed", locked, "link", signal.SIGKILL),
              ("links in a record", links_in_a_record), ("a report that can't be kept", unkept),
              ("a name with an end of line", name_with_an_end_of_line), ("the link to lrupd", relative_link),
              ("assumptions that contradict", assuming, cube, "-2 0\n", 20, under),

@@ -43,11 +43,11 @@ int new_file(const std::string &path) {
     return open(path.c_str(), O_RDWR | O_CREAT | O_EXCL | O_NOFOLLOW | O_CLOEXEC, 0666);
 }
 
+}
+
 int kept_open(int file) {
     opened.push_back(file);
     return file;
-}
-
 }
 
 bool another_refuses = false;

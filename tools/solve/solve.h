@@ -41,6 +41,7 @@ double now();                                           // seconds
 
 struct Pipe { int read = -1, write = -1; };
 
+int kept_open(int file);                                // by this process: a child has it where it is given it
 Pipe make_pipe(int bytes);                              // so many, if the system gives them
 void close_file(int &file);
 int create_file(const std::string &path);               // a new one, whatever had the name
