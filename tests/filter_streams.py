@@ -22,7 +22,7 @@ from pathlib import Path
 from typing import IO, Any, Callable, Dict, Iterable, List, Sequence, Tuple, Union
 
 sys.dont_write_bytecode = True
-from harness import (FILTER, FOUR, LIMIT, ROOT, TESTS, Failure, Ran, Row, Skipped, example, generated, piped, report,
+from harness import (COMPRESSED, FILTER, FOUR, LIMIT, ROOT, TESTS, Failure, Ran, Row, Skipped, example, generated, piped, report,
                      run, run_all, started, want, with_memory, words_given, written)
 from lrat import lrat_fault
 from proof_forms import FORMS, Step, code, codes, read_formula, read_steps, varint
@@ -211,6 +211,13 @@ def told_twice(work: Path) -> None:
     want((text, said, status), (f"1 d {deletion} 0\n6 2 0 {addition} 2 0\n", "", 0), "what came out")
 
 
+def compressed(name: str, words: List[str], work: Path) -> None:
+    """A formula or a proof that is compressed: what unpacks it is told."""
+    formula, packed = written(FOUR, work), written(COMPRESSED[name] + b"\0" * 100, work, "packed")
+    want(exact([*words, packed, "/dev/null"])[:], ("", f"exact: {packed}: compressed: {name} it\n", 1), "what is said of the formula")
+    want(exact([*words, formula, packed])[:], ("", f"exact: byte 1: compressed: {name} it\n", 1), "what is said of the proof")
+
+
 def bad_other(line: str, work: Path) -> None:
     """Where it is read it isn't LRAT text with rising identities of the formula's literals."""
     other = written(f"{line}\n8 2 0 1 2 0\n", work, "other")
@@ -382,6 +389,7 @@ def what_comes_out(program: str) -> List[Row]:
         ("a last line of LRAT without LF", comes_out, FOUR, "5 2 0 1 2 0\n6 0 5 3 4 0", FIRST + "6 0 5 3 4 0\n", []),
         ("a summary", summary),
         ("another's stream", another, program),
+    ] + [(f"compressed, {name} {words}", compressed, name, words) for name in COMPRESSED for words in ([], ["--format", "drat"])
     ] + [(f"another's stream, {line}", bad_other, line) for line in ("6 3 0 1 0", "6 x 0 1 0", "6 2 1")]
 
 

@@ -27,8 +27,8 @@ from pathlib import Path
 from typing import Any, Dict, List, Optional, Sequence, Tuple
 
 sys.dont_write_bytecode = True
-from harness import (EXAMPLES, FOUR, LIMIT, ROOT, Failure, Ran, Row, Skipped, dimacs, example, generated, piped, random_clauses, run,
-                     started, until, want, words_given, written)
+from harness import (COMPRESSED, EXAMPLES, FOUR, LIMIT, ROOT, Failure, Ran, Row, Skipped, dimacs, example, generated, piped,
+                     random_clauses, run, started, until, want, words_given, written)
 from lrat import lrat_fault
 from proof_forms import read_formula
 from solving import (EARLY, ELIMINATING, OUT, PROGRAM, SOLVE, Answer, before_lrupd, check_again, children_of, command, end_group,
@@ -274,7 +274,8 @@ def quiet(work: Path) -> None:
 def refused(words: Sequence[object], cause: str, work: Path) -> None:
     """One line on standard error, and status 1."""
     formula = written(FOUR, work)
-    written(b"\x1f\x8b\x08\0", work, "compressed")
+    for name, begins in COMPRESSED.items():
+        written(begins, work, name)
     answer = solve([str(word).format(work=work, formula=formula) for word in words])
     want((answer.out, answer.status, answer.said.count("\n"), answer.said.startswith("lrup-solve: ")), ("", 1, 1, True),
          f"what is said of {words}: {answer.said}")
@@ -661,7 +662,7 @@ def refusals() -> List[Row]:
                          (["{work}/a\nb"], "a\\nb': No such file or directory"),
                          (["--assume", "{work}/none", "{formula}"], "{work}/none: No such file or directory"),
                          (["--proofs", "{work}/new", "{work}/none"], "none: No such file or directory"),
-                         (["{work}/compressed"], "compressed: compressed: zcat it")):
+                         *((["{work}/" + name], f"{name}: compressed: {name} it") for name in COMPRESSED)):
         runs.append((" ".join(["lrup-solve", *words]), refused, words, cause))
     header = "no header 'p cnf VARIABLES CLAUSES', with which a formula in DIMACS CNF begins"
     for text, line, known in (

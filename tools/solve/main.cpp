@@ -72,7 +72,7 @@ void Run::read_inputs() {
     if (options.assume) assume_path = again(inputs[1], "assumptions");
     if (options.proofs) clear_record(options.proofs, { formula_path, assume_path });
     open_teams();
-    if (is_compressed(formula_path)) refuse(title(inputs[0]) + ": compressed: zcat it");
+    check_plain(formula_path, title(inputs[0]));
 }
 
 // By a name that is short: what is said of it isn't cut.

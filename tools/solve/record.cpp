@@ -109,12 +109,12 @@ int open_input(const std::string &path) {
     return file;
 }
 
-bool is_compressed(const std::string &path) {
+void check_plain(const std::string &path, const std::string &name) {
     unsigned char bytes[2] = { 0, 0 };
     int file = open(path.c_str(), O_RDONLY | O_CLOEXEC);
-    bool found = file >= 0 && pread(file, bytes, 2, 0) == 2 && bytes[0] == 0x1f && bytes[1] == 0x8b;
+    const char *program = file >= 0 && pread(file, bytes, 2, 0) == 2 ? unpacked_by(bytes[0], bytes[1]) : nullptr;
     if (file >= 0) close(file);
-    return found;
+    if (program) refuse(name + ": compressed: " + program + " it");
 }
 
 // The folder.

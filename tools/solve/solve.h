@@ -87,7 +87,7 @@ std::string unfinished(const std::string &path);        // its name while it is 
 void check_input(const std::string &path);              // refuses where it can't be read
 bool is_read_again(const std::string &path);            // lrupd can open it, too, and as often as it likes
 int open_input(const std::string &path);
-bool is_compressed(const std::string &path);
+void check_plain(const std::string &path, const std::string &name);     // refuses where it is compressed
 void open_record(const std::string &folder, const std::vector<std::string> &inputs);    // refuses to write over these
 void clear_record(const std::string &folder, const std::vector<std::string> &kept);     // of an earlier run
 
