@@ -252,6 +252,7 @@ def refusals() -> List[Row]:
         ("a RAT step without hints", "p cnf 2 1\n1 2 0\n", "1 2 0\n1 0\n",
          "line 2: no conflict by unit propagation: a RAT step", "2 1 2 0 1 0\n", []),
         ("both kinds", FOUR, FIRST + "0\n", "line 2: a step of DRUP or DRAT text", FIRST, []),
+        ("a line of PicoSAT's that isn't the first", FOUR, "2 0\n%RUPD32 2 4\n", "line 2: ", FIRST, []),
         ("not text", FOUR, FIRST + "a\x02\x04\x00", "line 2: ", FIRST, []),
         ("a variable that isn't there", FOUR, "3 0\n", "line 1: a variable", "", []),
         ("an identity of the formula's", FOUR, "4 2 0 1 2 0\n", "line 1: the identity 4", "", []),
@@ -357,6 +358,8 @@ def in_another_order() -> List[Row]:
         ("a deletion of nothing", FOUR, "d 1 0\nd 1 2 -1 0\n2 0\n", FIRST, []),
         ("a deletion in another order", FOUR, "2 0\nd 2 1 0\n0\n", FIRST + "5 d 1 0\n6 0 3 4 5 0\n", []),
         ("a literal twice", FOUR, "2 2 0\n", FIRST, []),
+        ("a first line of PicoSAT's", FOUR, "%RUPD32 2 4" + 245 * " " + "\n2 0\n0\n", FIRST + "6 0 3 4 5 0\n", []),
+        ("a first line of PicoSAT's alone", FOUR, "%RUPD32 2 4\n", "", []),
         ("CR LF", FOUR, "2 0\r\nd 1 2 0\r\n", FIRST + "5 d 1 0\n", []),
         ("no LF at the end", FOUR, "2 0\n0", FIRST + "6 0 3 4 5 0\n", []),
         ("no step at all", FOUR, "", "", []),
@@ -624,6 +627,10 @@ lrupd {SIZES}formula.cnf \\
     <(tools/exact/out/exact --stream 1 --streams 2 formula.cnf proof1) \\
     <(tools/exact/out/exact --stream 2 --streams 2 formula.cnf proof2)
 """
+PICOSAT = f"""\
+picosat formula.cnf -R proof > answer &
+lrupd {SIZES}formula.cnf <(tools/exact/out/exact formula.cnf proof)
+"""
 BOTH = f"""\
 cadical -q formula.cnf proof1 > answer1 &
 cryptominisat5 --verb 0 formula.cnf proof2 > answer2 &
@@ -637,11 +644,11 @@ tools/exact/out/exact --rounds live --format binary-drat formula.cnf proof |
     { read ready && lrupd --rounds live formula.cnf live/round-1.stream-1; }
 """
 COMMANDS = [("CaDiCaL", CADICAL), ("two of CaDiCaL", CADICAL_TWICE), ("CryptoMiniSat", CRYPTOMINISAT),
-            ("two of CryptoMiniSat", CRYPTOMINISAT_TWICE), ("CaDiCaL and CryptoMiniSat", BOTH)]
+            ("two of CryptoMiniSat", CRYPTOMINISAT_TWICE), ("PicoSAT", PICOSAT), ("CaDiCaL and CryptoMiniSat", BOTH)]
 
 
 def wanted_on_path(commands: str) -> None:
-    for solver in ("cadical", "cryptominisat5"):
+    for solver in ("cadical", "cryptominisat5", "picosat"):
         if solver in commands and not shutil.which(solver):
             raise Skipped(f"there is no {solver} on the PATH")
 
