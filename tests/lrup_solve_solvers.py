@@ -3,8 +3,8 @@
 
     lrup_solve_solvers.py PROGRAM [FLAGS]
 
-CaDiCaL and CryptoMiniSat, where they are on the PATH, and the example solver, alone, together and beside engines: known formulas,
-random ones, in one round and in many. A solver that dies, lies, writes nonsense or stands still is lost, and alone gives no
+CaDiCaL, CryptoMiniSat and PicoSAT, where they are on the PATH, and the example solver, alone, together and beside engines: known
+formulas, random ones, in one round and in many. A solver that dies, lies, writes nonsense or stands still is lost, and alone gives no
 verdict; beside a good one the answer is the good one's. No process of a command outlives the run. It builds as lrup_solve.py does.
 It shows what is off; the last line is 'N passed, M failed', and ', K skipped' where something isn't there. The status is 1 where
 a run failed.
@@ -28,8 +28,9 @@ from solving import PROGRAM, SOLVE, check_again, is_alive, of_process, random_fo
 words_given(__doc__, most=2)
 CADICAL, AS_TEXT = "cadical -q %formula %proof", "cadical -q --no-binary %formula %proof"
 CRYPTOMINISAT = "cryptominisat5 --verb 0 %formula %proof"
+PICOSAT = "picosat %formula -R %proof"
 EARLY = ["--elimint=10", "--probeint=10", "--subsumeint=10", "--reduceint=20"]
-COMMANDS = [[CADICAL], [AS_TEXT], [CRYPTOMINISAT], [CADICAL, CRYPTOMINISAT],
+COMMANDS = [[CADICAL], [AS_TEXT], [CRYPTOMINISAT], [PICOSAT], [CADICAL, CRYPTOMINISAT, PICOSAT],
             [CADICAL, CADICAL + " --seed=2", AS_TEXT + " --seed=3"]]
 FORMULAS = [("four clauses", FOUR, 20), ("no clauses", "p cnf 3 0\n", 10), ("nothing", "p cnf 0 0\n", 10),
             ("an empty clause", "p cnf 2 2\n1 2 0\n0\n", 20), ("the empty clause alone", "p cnf 0 1\n0\n", 20),
@@ -41,7 +42,7 @@ MANY_ROUNDS = {"FIRST_WORDS": 4000, "SAME_WORDS": 1}
 
 
 def by(commands: Sequence[str]) -> List[str]:
-    for name in ("cadical", "cryptominisat5"):
+    for name in ("cadical", "cryptominisat5", "picosat"):
         if any(name in command.split() for command in commands) and not shutil.which(name):
             raise Skipped(f"there is no {name} on the PATH")
     return [word for command in commands for word in ("--solver", command)]
@@ -88,7 +89,7 @@ def in_rounds(name: str, commands: List[str], words: List[str], work: Path) -> N
 
 def late(form: str, work: Path) -> None:
     """The proof begins when rounds have passed, and the engine is still at work. LRAT names the formula's clauses, in order."""
-    formula, commands = given("random 220 5", work), {"DRAT": CADICAL, "DRUP": AS_TEXT, "FRAT": CRYPTOMINISAT}
+    formula, commands = given("random 220 5", work), {"DRAT": CADICAL, "DRUP": AS_TEXT, "FRAT": CRYPTOMINISAT, "PicoSAT": PICOSAT}
     if form == "LRAT":
         commands[form] = with_gaps(formula, work)
     begins = f"until [ -e {work}/kept/round-4.sizes ]; do sleep 0.01; done; {commands[form]}"
@@ -145,7 +146,7 @@ def early(seed: int) -> str:
 def randomly(seed: int, work: Path) -> None:
     numbers = random.Random(f"{seed} solvers")
     formula, kept = written(random_formula(seed), work), work / "kept"
-    commands = [early(seed), AS_TEXT, CRYPTOMINISAT, CRYPTOMINISAT + f" --random {seed}"]
+    commands = [early(seed), AS_TEXT, CRYPTOMINISAT, CRYPTOMINISAT + f" --random {seed}", PICOSAT + f" -s {seed}"]
     chosen = numbers.sample(commands, numbers.randint(1, 3))
     words = ["-j", "2"] * numbers.randint(0, 1) + ["--proofs", kept] * (seed % 5 == 0)
     tested = {"SLICE": 50, "FIRST_WORDS": numbers.choice((2000, 1 << 20))}
@@ -287,6 +288,7 @@ def stopped(work: Path) -> None:
             return {"cadical", "engine 1"} <= set(found)
 
         until("the solver is there", all_there)
+        want(of_process(found["cadical"], "oom_score_adj"), "1000\n", "by which it gives way where memory is short")
         state = lambda: of_process(found["cadical"], "stat").rsplit(")", 1)[-1].split()[0]
         os.kill(found["engine 1"], signal.SIGTSTP)
         until("the solver stands", lambda: state() == "T")
@@ -329,7 +331,7 @@ def rows() -> List[Row]:
     found += [("rounds beside engines", in_rounds, "random 170 4", [CADICAL, CRYPTOMINISAT], ["-j", "2"]),
               ("rounds of the example solver", in_rounds, "random 150 1", [], []), ("names", names), ("told", told)]
     found += [("gaps", gaps), ("outboxes beside a solver", goes_on_sharing)]
-    found += [(f"late {form}", late, form) for form in ("DRAT", "DRUP", "FRAT", "LRAT")]
+    found += [(f"late {form}", late, form) for form in ("DRAT", "DRUP", "FRAT", "LRAT", "PicoSAT")]
     found += [(f"the example solver, {name}", by_example, name, status) for name, status in LARGER]
     found += [(f"random {seed}", randomly, seed) for seed in range(60)]
     found += [(f"wrong: {command}", wrong, command, cause) for command, cause in WRONG]

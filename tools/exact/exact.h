@@ -249,7 +249,9 @@ void chain_open(const char *folder);
 void chain_begin(Filter *filter, uint64_t memory);
 void chain_end(void);
 
-Form form_of(Input *input, const Formula *formula);         // detect.c
+// detect.c
+void check_plain(Input *input);                             // stops where it is compressed
+Form form_of(Input *input, const Formula *formula);
 
 void text_run(Filter *filter, Input *input, Form form);     // text.c: LRAT, DRUP and DRAT
 void frat_run(Filter *filter, Input *input);                // frat.c

@@ -156,6 +156,7 @@ Options read_words(int count, char **list) {
         else if (word[0] == '-' && word[1] != 0) refuse(std::string("no such option: ") + word + " (--help lists them)");
         else take_formula(options, word);
     }
+    if (!options.formula) options.formula = "-";
     if (options.solvers.size() + size_t(options.engines) > MOST_ENGINES) refuse("more than 64 engines, with those of --solver");
     if (!options.solvers.empty() && options.assume) refuse("--assume and --solver: a solver isn't told of assumptions");
     return options;

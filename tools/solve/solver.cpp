@@ -57,13 +57,15 @@ private:
     void take_word() {
         if (first.empty()) first = word;
         else if (first == "s") verdict = word;
-        else if (first == "v") take_value(std::strtol(word.c_str(), nullptr, 10));
+        else if (first == "v") take_value();
         word.clear();
     }
 
-    void take_value(long literal) {
+    void take_value() {
+        int literal;
+        if (!number_read(word.c_str(), &literal)) return;
         has_values = true;
-        if (literal != 0 && std::labs(literal) <= variables) model[std::labs(literal) - 1] = literal > 0 ? 1 : -1;
+        if (literal != 0 && std::abs(literal) <= variables) model[std::abs(literal) - 1] = literal > 0 ? 1 : -1;
     }
 };
 
