@@ -13,6 +13,7 @@ line is 'N passed, M failed', and ', K skipped' where solvers aren't there. The 
 import os
 import random
 import re
+import resource
 import select
 import shutil
 import signal
@@ -473,6 +474,23 @@ def largest_identity(digits: int, fits: bool, work: Path) -> None:
         want(said.count("\n"), 0 if fits else 1, "lines on standard error")
 
 
+MEMORY = 1 << 30        # bytes, of which no hopeless proof needs more
+
+
+def hopeless(words: str, source: str, cause: str, work: Path) -> None:
+    """A proof, or a formula, without an end: the filter's memory has one, and its time."""
+    formula = written(FOUR, work)
+    limit = lambda: resource.setrlimit(resource.RLIMIT_AS, (MEMORY, MEMORY))
+    done = run(["sh", "-c", f"{source} | exec \"$@\"", "sh", FILTER, *words.format(formula=formula).split()], limit=60, preexec_fn=limit)
+    want(done[:], (FIRST if "line 2" in cause else "", f"exact: {cause}\n", 1), "what comes out, and what is said")
+
+
+def long_line(work: Path) -> None:
+    """64 MB, of hints that are given again and again."""
+    text, said, status = exact([written(FOUR, work)], "5 2 0 " + "1 2 " * (1 << 24) + "0\n")
+    want((text, said, status), (FIRST, "", 0), "what came out")
+
+
 # Proofs that are cut, pipes that stay open, outputs that fail, wrong words.
 
 
@@ -580,7 +598,17 @@ def limits(program: str) -> List[Row]:
         ("an identity of 18 digits", largest_identity, 18, True),
         ("an identity of 19 digits", largest_identity, 19, False),
         ("an identity of 30 digits", largest_identity, 30, False),
-    ]
+        ("a line of 64 MB", long_line),
+    ] + [(f"without an end: {source} {words}", hopeless, words, source, cause) for words, source, cause in (
+        ("{formula} /dev/zero", ":", "line 1: a line of more than 268435456 bytes"),
+        ("{formula}", "yes | tr -d '\\n'", "line 1: a line of more than 268435456 bytes"),
+        ("{formula}", "(echo 2 0; yes 1 | tr '\\n' ' ')", "line 2: a line of more than 268435456 bytes"),
+        ("{formula}", "(echo 'a 5 2 0'; yes 1 | tr '\\n' ' ')", "line 2: a line of more than 268435456 bytes"),
+        ("{formula}", "yes c", "byte 1: the first 268435456 bytes don't tell the form of the proof"),
+        ("{formula}", "yes ''", "byte 1: the first 268435456 bytes don't tell the form of the proof"),
+        ("--format binary-drat {formula}", "(printf a; yes | tr -d '\\n')", "byte 1: a step of more than 33554432 numbers"),
+        ("--format binary-lrat {formula}", "(printf a; yes | tr -d '\\n')", "byte 1: a step of more than 33554432 numbers"),
+        ("/dev/zero", ":", "/dev/zero, line 1: no header 'p cnf VARIABLES CLAUSES', with which a formula in DIMACS CNF begins"))]
 
 
 def pipes_and_files() -> List[Row]:

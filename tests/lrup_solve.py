@@ -265,7 +265,16 @@ def contradicting(work: Path) -> None:
 
 
 def quiet(work: Path) -> None:
-    want(solve(["-q", example("bmc.cnf")]).out, "s UNSATISFIABLE\n", "what -q leaves")
+    """-q leaves the answer alone, also beside -v."""
+    for words in (["-q"], ["--quiet"], ["-qv"], ["-vq"], ["-v", "-q"], ["--quiet", "--verbose"]):
+        want(solve([*words, example("bmc.cnf")]).out, "s UNSATISFIABLE\n", f"what {words} leaves")
+
+
+def verbose(work: Path) -> None:
+    for word in ("-v", "-vv", "--verbose"):
+        answer = solve([word, example("bmc.cnf")])
+        want_answer(answer, 20)
+        want(any(line.startswith("engine 1: ") for line in answer.comments), True, f"whether {word} tells of an engine\n{answer.out}")
 
 
 # CaDiCaL's own search.
@@ -659,7 +668,7 @@ def words_and_files() -> List[Row]:
     cube = "p cnf 3 3\n1 2 0\n-1 2 0\n3 -3 0\n"
     under = "s UNSATISFIABLE UNDER ASSUMPTIONS"
     runs: List[Row] = [("standard input" + word, standard_input, [word] * bool(word)) for word in ("", "-")]
-    runs += [("a FIFO", from_fifo), ("where lrupd is", beside), ("-q", quiet), ("keeps", keeps, []),
+    runs += [("a FIFO", from_fifo), ("where lrupd is", beside), ("-q", quiet), ("verbose", verbose), ("keeps", keeps, []),
              ("keeps four", keeps, ["-j", "4"]), ("keeps LRAT", keeps_lrat, "pigeons 7"),
              ("keeps LRAT, random", keeps_lrat, "random 150 1"), ("keeps standard input", keeps_standard_input),
              ("keeps by short names", keeps_by_short_names), ("an earlier run", earlier_run),
@@ -686,7 +695,8 @@ def words_and_files() -> List[Row]:
 
 def refusals() -> List[Row]:
     runs: List[Row] = []
-    for words, cause in ((["--nothing", "{formula}"], "--nothing"), (["{formula}", "{formula}"], "one word too many"),
+    for words, cause in ((["--nothing", "{formula}"], "--nothing"), (["-vx", "{formula}"], "-vx"),
+                         (["{formula}", "{formula}"], "one word too many"),
                          (["-j"], "no value after -j"), (["-j", "0", "{formula}"], "-j takes 1 to 64, not 0"),
                          (["-j", "65", "{formula}"], "-j takes 1 to 64, not 65"), (["-j", "x", "{formula}"], "not x"),
                          (["--time", "-1", "{formula}"], "--time takes seconds above 0, not -1"),

@@ -158,17 +158,31 @@ def randomly(seed: int, work: Path) -> None:
 
 
 def names(work: Path) -> None:
-    """The formula's name is one word for the shell; standard input is a file for the solver."""
-    formula = shutil.copy(example("bmc.cnf"), work / "it's $a \"formula\"\nof `two` lines")
-    want_answer(solve([*by([CADICAL]), formula]), 20)
+    """The formula's name is one word for the shell, however it stands between quotes; standard input is a file for the solver."""
+    for name in ("it's $a \"formula\"\nof `two` lines", "x$(touch $MADE).cnf", "x`touch $MADE`", "x; touch $MADE; \\", "%proof %formula",
+                 "a%proof.cnf", "größe.cnf"):
+        formula, made = shutil.copy(example("bmc.cnf"), work / name), work / "made"
+        for command in (CADICAL, 'cadical -q "%formula" "%proof"', "cadical -q '%formula' %proof", "sh -c 'cadical -q %formula %proof'",
+                        "eval 'cadical -q \"%formula\" %proof'"):
+            want_answer(solve([*by([command]), formula], env_more={"MADE": str(made)}), 20)
+        want(made.exists(), False, f"whether {name} was run as a command")
     for word in ("-", "/dev/stdin"):
         want_answer(solve([*by([CADICAL, AS_TEXT]), word], given=example("bmc.cnf").read_text()), 20)
     want_answer(solve([*by([CADICAL]), "--proofs", work / "kept"], given=example("bmc.cnf").read_text()), 20)
     check_again(work / "kept")
 
 
+def sealed(work: Path) -> None:
+    """A solver can't write to the copy of a formula that came by a pipe; of this one it would be refuted."""
+    text = generated("random 120 7 3.6", work).read_text()
+    writing = "(printf 'p cnf 1 2\\n1 0\\n-1 0\\n' > %formula; printf '1 0' 1<> %formula) 2> /dev/null; " + CADICAL
+    answer = solve([*by([writing]), "-"], given=text)
+    want_answer(answer, 10, work / "formula.cnf")
+
+
 # Solvers that misbehave.
 
+UNFOUNDED = "it says 'satisfiable', and gives no assignment in lines v"
 MODEL = "echo s SATISFIABLE; echo v {}; exit 10"
 # A command; the cause, where it is alone.
 WRONG = [("exit 1 # %formula %proof", "the engine ended with status 1"),
@@ -181,15 +195,17 @@ WRONG = [("exit 1 # %formula %proof", "the engine ended with status 1"),
          ("echo s UNSATISFIABLE # %formula %proof", "its filter stopped: the proof ends without the empty clause"),
          ("echo s SATISFIABLE; exit 20 # %formula %proof", "the engine ended with status 20"),
          ("echo s UNSATISFIABLE; exit 10 # %formula %proof", "the engine ended with status 10"),
-         ("exit 10 # %formula %proof", "the engine ended with status 10"),
-         ("echo s SATISFIABLE; exit 10 # %formula %proof", "the engine ended with status 10"),
+         ("exit 10 # %formula %proof", UNFOUNDED), ("echo s SATISFIABLE; exit 10 # %formula %proof", UNFOUNDED),
+         ("echo s SATISFIABLE # %formula %proof", UNFOUNDED), (MODEL.format("x -") + " # %formula %proof", UNFOUNDED),
          (MODEL.format("1 -2 3 0") + " # %formula %proof", "its assignment doesn't satisfy the formula"),
          (MODEL.format("0") + " # %formula %proof", "its assignment doesn't satisfy the formula"),
          (MODEL.format("99999999999999999999 x -0 1e5 0") + " # %formula %proof", "its assignment doesn't satisfy the formula"),
+         (MODEL.format(f"-{1 << 63} {1 << 63} -{(1 << 64) + 1} 0") + " # %formula %proof", "its assignment doesn't satisfy the formula"),
          ("head -c 300000 /dev/urandom > %proof # %formula", "its filter stopped: "),
          ("cat %formula > %proof", "its filter stopped: "),
          ("yes '1 0' > %proof # %formula", "its filter stopped: line 1: no conflict by unit propagation"),
          ("yes > %proof # %formula", "its filter stopped: line 1: "),
+         ("cat /dev/zero > %proof # %formula", "its filter stopped: line 1: a line of more than 268435456 bytes"),
          ("echo 0 > %proof # %formula", "its filter stopped: line 1: no conflict by unit propagation"),
          ("printf a > %proof # %formula", "its filter stopped: "),
          ("echo '1 i 1 2 0' > %proof # %formula", "its filter stopped: line 1: an import"),
@@ -329,7 +345,7 @@ def rows() -> List[Row]:
             found += [(f"{title}, {name}", answers_of, name, status, commands, words) for name, status in LARGER]
         found.append((f"{title} in rounds", in_rounds, "random 150 1", commands, []))
     found += [("rounds beside engines", in_rounds, "random 170 4", [CADICAL, CRYPTOMINISAT], ["-j", "2"]),
-              ("rounds of the example solver", in_rounds, "random 150 1", [], []), ("names", names), ("told", told)]
+              ("rounds of the example solver", in_rounds, "random 150 1", [], []), ("names", names), ("told", told), ("sealed", sealed)]
     found += [("gaps", gaps), ("outboxes beside a solver", goes_on_sharing)]
     found += [(f"late {form}", late, form) for form in ("DRAT", "DRUP", "FRAT", "LRAT", "PicoSAT")]
     found += [(f"the example solver, {name}", by_example, name, status) for name, status in LARGER]
@@ -339,7 +355,7 @@ def rows() -> List[Row]:
     found += [("models", after_a_model), ("in the background", background), ("stopped", stopped)]
     found += [(f"{whom} ended by {number}", killed, number, whom) for whom in ("first", "engine 1", "cadical")
               for number in (signal.SIGTERM, signal.SIGKILL)]
-    need = "--solver takes a command with %formula and %proof, not "
+    need = "--solver takes a command with both %formula and %proof, not "
     found += [(f"refused {words}", refused, words, cause) for words, cause in (
         (["--solver", "cadical"], need + "cadical"), (["--solver", ""], need + "''"),
         (["--solver=cadical %formula"], need + "'cadical %formula'"),

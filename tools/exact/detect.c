@@ -74,6 +74,7 @@ void check_plain(Input *input) {
 
 // Of LRAT, DRUP and DRAT text the steps decide which it is.
 Form form_of(Input *input, const Formula *formula) {
+    position_set("byte", 1);
     int first = input_ahead(input, 0);
     check_plain(input);
     if ((first == 'a' || first == 'd') && !(is_blank(input_ahead(input, 1)) && numbers_follow(input, 1)))

@@ -6,6 +6,7 @@
 #include "proof.h"
 
 enum { LITERALS_OF_A_LINE = 65535, IDENTITIES_OF_A_LINE = 65536, DIGITS = 18 };     // lrupd takes no more
+enum { LONGEST_STEP = 1 << 28, MOST_NUMBERS = 1 << 25 };   // bytes of a step of text, and numbers of a binary one: no proof has more
 #define LAST_IDENTITY UINT64_C(999999999999999999)
 
 typedef struct { int64_t *items; size_t length, capacity; } Numbers;

@@ -45,8 +45,7 @@ static void step(Filter *filter, const Words *words, const Line *line, Form *for
 void text_run(Filter *filter, Input *input, Form form) {
     Words words = {0};
     Line line;
-    for (uint64_t number = 1; !filter_ends(filter) && input_line(input, &line); number++) {
-        position_set("line", number);
+    for (uint64_t number = 1; position_set("line", number), !filter_ends(filter) && input_line(input, &line); number++) {
         if (number == 1 && *line.start == '%') continue;        // PicoSAT's
         words_read(&words, line);
         if (words.numbers.length == 0) continue;

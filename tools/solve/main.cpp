@@ -58,6 +58,7 @@ std::string Run::again(const std::string &path, const char *kept_as) {
         if (rename(begun.c_str(), copied.c_str()) != 0) refuse("cannot write " + copied + ": " + error_text());
         return copied;
     }
+    seal(copy);
     copies.push_back(copy);
     return "/dev/fd/" + std::to_string(copy);
 }
@@ -193,13 +194,17 @@ void Run::start_engine(size_t k) {
     Engine engine = { &options, &formula, &assumed, shared, outboxes.data(), team.model, number, team.proof.write };
     std::vector<int> files = { team.proof.write };
     std::string command;
+    int renamed = -1;       // by a name that no shell takes for anything else
     if (is_solver(k)) {
         files.insert(files.end(), copies.begin(), copies.end());
-        command = solver_command(options.solvers[k + options.solvers.size() - teams.size()], formula_path, team.proof.write);
+        if (!is_plain(formula_path)) files.push_back(renamed = kept_open(open_input(formula_path)));
+        command = solver_command(options.solvers[k + options.solvers.size() - teams.size()],
+                                 renamed < 0 ? formula_path : OPEN_FILES + std::to_string(renamed),
+                                 OPEN_FILES + std::to_string(team.proof.write));
         if (options.verbose) tell(format("engine %d: ", number) + command);
     }
     team.engine.hands_on = is_solver(k);
-    if (!begin(team.engine, "engine " + std::to_string(number), files)) return;
+    if (!begin(team.engine, "engine " + std::to_string(number), files)) return close_file(renamed);
     give_way();
     if (!options.verbose) dup2(open("/dev/null", O_WRONLY), STDERR_FILENO);     // its last words
     if (is_solver(k)) solver_process(engine, command, files);
@@ -300,7 +305,8 @@ void Run::look_at_team(size_t k) {
     if (phase >= ENDING_STREAMS || team.told || said == SATISFIABLE) return;
     bool both_ended = team.engine.ended() && team.filter.ended_with(0);
     if (said == 0 && !facts.cause[0] && (both_ended || (team.engine.ended() && !team.engine.ended_with(0)))) {
-        tell_lost(k, "the engine " + team.engine.end());
+        bool unfounded = LOAD(facts.unfounded);
+        tell_lost(k, unfounded ? "it says 'satisfiable', and gives no assignment in lines v" : "the engine " + team.engine.end());
         if (LOAD(facts.group)) kill(-LOAD(facts.group), SIGKILL);       // where not even its process could do that
     } else if (team.filter.ended() && (both_ended || !team.filter.ended_with(0))) {
         tell_lost(k, "its filter " + (facts.cause[0] ? std::string("stopped: ") + facts.cause : team.filter.end()));

@@ -118,9 +118,15 @@ void *shared_bytes(size_t bytes) {
 }
 
 int file_in_memory() {
-    int file = memfd_create("lrup-solve", MFD_CLOEXEC);
+    int file = memfd_create("lrup-solve", MFD_CLOEXEC | MFD_ALLOW_SEALING);
     if (file < 0) refuse("cannot make a file in memory: " + error_text());
     return kept_open(file);
+}
+
+// Nobody writes to it from now on, not even by its name below /proc.
+void seal(int file) {
+    if (fcntl(file, F_ADD_SEALS, F_SEAL_WRITE | F_SEAL_GROW | F_SEAL_SHRINK | F_SEAL_SEAL) != 0)
+        refuse("cannot seal a file in memory: " + error_text());
 }
 
 void copy_file(int file, const std::string &name, int copy) {

@@ -62,10 +62,15 @@ std::vector<std::string> files_of(const std::string &folder) {
 
 }
 
+// To a shell it is one word as it stands.
+bool is_plain(const std::string &word) {
+    auto is_usual = [](unsigned char letter) { return isalnum(letter) || strchr("-_./+=,:@%", letter); };
+    return !word.empty() && std::all_of(word.begin(), word.end(), is_usual);
+}
+
 // For a shell.
 std::string quoted(const std::string &word) {
-    auto is_plain = [](unsigned char letter) { return isalnum(letter) || strchr("-_./+=,:@%", letter); };
-    if (!word.empty() && std::all_of(word.begin(), word.end(), is_plain)) return word;
+    if (is_plain(word)) return word;
     std::string text = "'";
     for (char letter : word) text += letter == '\'' ? std::string("'\\''") : std::string(1, letter);
     return text + "'";

@@ -49,6 +49,7 @@ void create_pipe(const std::string &path);
 int open_pipe(const std::string &path, int bytes);      // to write to it, without a name from then on; -1 where nobody reads yet
 std::string write_file(const std::string &path, const std::string &text);   // the cause, where it can't be written
 int file_in_memory();
+void seal(int file);                                    // in memory
 void *shared_bytes(size_t bytes);                       // with the children that come later
 
 template <typename Item> Item *shared_memory(size_t count) {
@@ -80,6 +81,7 @@ void end_children();                                     // and removes the fold
 void give_way();                                        // this process ends before others where memory is short
 
 // record.cpp: paths, and the folder of --proofs. An input is a path, or `-`.
+bool is_plain(const std::string &word);
 std::string quoted(const std::string &word);
 std::string one_line(const std::string &text);
 std::string absolute(const std::string &path);
@@ -106,7 +108,7 @@ struct Engine {
 const char *engine_version();
 
 // solver.cpp: the same of a solver that the user has, which opens these files.
-std::string solver_command(const std::string &command, const std::string &formula, int proof);
+std::string solver_command(const std::string &command, const std::string &formula, const std::string &proof);
 [[noreturn]] void solver_process(const Engine &engine, const std::string &command, const std::vector<int> &files);
 
 // checker.cpp: lrupd, and its words.
