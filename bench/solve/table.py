@@ -169,7 +169,7 @@ def times(engines: List[int], every: List[Formula], medians: List[Medians]) -> N
 
 def shares(engines: List[int], every: List[Formula], medians: List[Medians]) -> None:
     """How late the verdict comes, and the processor time of filters and lrupd beside the engines'; for each number of engines."""
-    head(f"Formula; {', '.join(map(str, engines))} engines", *SHARES)
+    head(f"Formula; engines: {', '.join(map(str, engines))}", *SHARES)
     rows: List[Cells] = []
     for formula, its in zip(every, medians):
         ends = [(its[count], name) for name in SHARES.values() for count in engines]
