@@ -63,7 +63,7 @@ def arguments() -> argparse.Namespace:
 def chosen(given: argparse.Namespace) -> List[Formula]:
     if given.easy:
         import easy
-        every = [Formula(words, title, EASY) for words, title in easy.FORMULAS]
+        every = [Formula(words, words, EASY) for words in easy.FORMULAS]
     else:
         every = [Formula(words, title, family) for family, its in formulas.FAMILIES.items() for words, title in its]
     wanted = set(given.formulas)
@@ -73,11 +73,12 @@ def chosen(given: argparse.Namespace) -> List[Formula]:
 
 @lru_cache
 def make(formula: Formula, folder: str) -> str:
+    """The path; none where it can't be made, as without yosys."""
     path = os.path.join(folder, formula.words.replace(" ", "-") + ".cnf")
     script = "easy.py" if formula.family == EASY else "formulas.py"
     with open(path, "w") as out:
-        subprocess.run([sys.executable, os.path.join(HERE, script), *formula.words.split()], stdout=out, check=True)
-    return path
+        made = subprocess.run([sys.executable, os.path.join(HERE, script), *formula.words.split()], stdout=out)
+    return path if made.returncode == 0 else ""
 
 
 def wait_for_quiet(most: float) -> float:
@@ -98,6 +99,9 @@ def measure(given: argparse.Namespace, bench: Bench, every: List[Formula], folde
             if not missing:
                 continue
             path = make(formula, folder)
+            if not path:
+                print(f"{formula.words} can't be made, and is left out", file=sys.stderr)
+                continue
             print(f"round {turn}, {formula.words}: other work has {wait_for_quiet(given.others):.1f} of {CORES} cores", file=sys.stderr)
             for engines in missing:
                 result = bench.measure(formula, path, engines)
@@ -165,7 +169,7 @@ def times(engines: List[int], every: List[Formula], medians: List[Medians]) -> N
 
 def shares(engines: List[int], every: List[Formula], medians: List[Medians]) -> None:
     """How late the verdict comes, and the processor time of filters and lrupd beside the engines'; for each number of engines."""
-    head(f"Formula; {', '.join(map(str, engines))} engines", *SHARES)
+    head(f"Formula; engines: {', '.join(map(str, engines))}", *SHARES)
     rows: List[Cells] = []
     for formula, its in zip(every, medians):
         ends = [(its[count], name) for name in SHARES.values() for count in engines]
@@ -193,7 +197,7 @@ def easy_times(engines: List[int], every: List[Formula], medians: List[Medians])
         cells = [getattr(one, name) if one else None for name in ("processor", "clock") for one in ends]
         line(formula.title, shown(alone.processor if alone else None), *map(shown, cells), shown(most_others(its), 1))
     for count in engines:
-        good = [cheap(its[ALONE], its[count]) for its in medians]
+        good = [cheap(its[ALONE], its[count]) for its in medians if its[ALONE]]
         print(f"\n{counted(count)}: {sum(good)} of {len(good)} take at most {TIMES} times CaDiCaL's processor time and {SECONDS} s.")
 
 
