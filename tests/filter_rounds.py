@@ -279,6 +279,19 @@ def beside_others(work: Path) -> None:
     want((checked[2:], left(work)), (("", 0, "", 0), ["formula of round-1", "round-2.cnf"]), "the end, and what is left")
 
 
+def locked(work: Path) -> None:
+    """Another run has the folder, until it ends, however it does; between rounds, too, and by another name."""
+    os.symlink("d", work / "link")
+    with in_a_round(work) as sides:
+        for name in ("d", "link"):
+            done = run([FILTER, "--rounds", name, example("bmc.cnf"), "/dev/null"], cwd=work)
+            want(done[:], ("", f"exact: another run that goes on has its files in {name}\n", 1), "what is said while it goes on")
+        sides.running.kill()
+        sides.running.wait(LIMIT)
+        said = run([FILTER, "--rounds", "d", example("bmc.cnf"), "/dev/null"], cwd=work).err
+        want(said[:54], "exact: --rounds takes a folder without files of rounds", "what is said once it was killed")
+
+
 def no_folder(work: Path) -> None:
     formula = written(FOUR, work, "d")
     want(check(formula, "0\n", [], work)[4:], ("exact: cannot read the folder d\n", 1), "where a file has the name")
@@ -488,7 +501,7 @@ def rows() -> List[Row]:
     found += [(f"a wrong step, {form}", wrong, form, 2500) for form in ("LRAT text", "DRAT text", "binary DRAT")]
     found += [("rows grow", rows_grow), ("behind the empty clause", behind), ("no room", no_room),
               ("no room for one clause", no_room_for_one), ("an import", imported), ("other files", beside_others),
-              ("no folder", no_folder)]
+              ("no folder", no_folder), ("a folder of another run", locked)]
     found += [(f"{name} is there", in_the_way, name)
               for name in ("round-1.stream-1", "round-1.stream-2", "round-1.sizes", "round-2.cnf", "round-7.sizes")]
     found += [(f"exact {words}", usage, words, cause) for words, cause in USAGE]

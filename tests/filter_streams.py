@@ -13,6 +13,7 @@ line is 'N passed, M failed', and ', K skipped' where solvers aren't there. The 
 import os
 import random
 import re
+import resource
 import select
 import shutil
 import signal
@@ -22,7 +23,7 @@ from pathlib import Path
 from typing import IO, Any, Callable, Dict, Iterable, List, Sequence, Tuple, Union
 
 sys.dont_write_bytecode = True
-from harness import (FILTER, FOUR, LIMIT, ROOT, TESTS, Failure, Ran, Row, Skipped, example, generated, piped, report,
+from harness import (COMPRESSED, FILTER, FOUR, LIMIT, ROOT, TESTS, Failure, Ran, Row, Skipped, example, generated, piped, report,
                      run, run_all, started, want, with_memory, words_given, written)
 from lrat import lrat_fault
 from proof_forms import FORMS, Step, code, codes, read_formula, read_steps, varint
@@ -211,6 +212,13 @@ def told_twice(work: Path) -> None:
     want((text, said, status), (f"1 d {deletion} 0\n6 2 0 {addition} 2 0\n", "", 0), "what came out")
 
 
+def compressed(name: str, words: List[str], work: Path) -> None:
+    """A formula or a proof that is compressed: what unpacks it is told."""
+    formula, packed = written(FOUR, work), written(COMPRESSED[name] + b"\0" * 100, work, "packed")
+    want(exact([*words, packed, "/dev/null"])[:], ("", f"exact: {packed}: compressed: {name} it\n", 1), "what is said of the formula")
+    want(exact([*words, formula, packed])[:], ("", f"exact: byte 1: compressed: {name} it\n", 1), "what is said of the proof")
+
+
 def bad_other(line: str, work: Path) -> None:
     """Where it is read it isn't LRAT text with rising identities of the formula's literals."""
     other = written(f"{line}\n8 2 0 1 2 0\n", work, "other")
@@ -245,6 +253,7 @@ def refusals() -> List[Row]:
         ("a RAT step without hints", "p cnf 2 1\n1 2 0\n", "1 2 0\n1 0\n",
          "line 2: no conflict by unit propagation: a RAT step", "2 1 2 0 1 0\n", []),
         ("both kinds", FOUR, FIRST + "0\n", "line 2: a step of DRUP or DRAT text", FIRST, []),
+        ("a line of PicoSAT's that isn't the first", FOUR, "2 0\n%RUPD32 2 4\n", "line 2: ", FIRST, []),
         ("not text", FOUR, FIRST + "a\x02\x04\x00", "line 2: ", FIRST, []),
         ("a variable that isn't there", FOUR, "3 0\n", "line 1: a variable", "", []),
         ("an identity of the formula's", FOUR, "4 2 0 1 2 0\n", "line 1: the identity 4", "", []),
@@ -271,9 +280,9 @@ def refusals() -> List[Row]:
         ("a word that is no number", FOUR, FIRST + "6 x 0 5 3 4 0\n", "line 2: ", FIRST, []),
         ("a hint that is no number", FOUR, FIRST + "6 0 5 3 +4 0\n", "line 2: ", FIRST, []),
         ("a zero with a sign", FOUR, "5 2 -0 0 1 2 0\n", "line 1: ", "", []),
-        ("no header", "1 2 0\n", "", "no header", "", []),
-        ("a formula that is too short", "p cnf 2 5\n1 2 0\n", FIRST, "exact: ", "", []),
-        ("a formula with a variable too many", "p cnf 1 1\n1 2 0\n", FIRST, "exact: ", "", []),
+        ("no header", "1 2 0\n", "", "formula.cnf, line 1: no header", "", []),
+        ("a formula that is too short", "p cnf 2 5\n1 2 0\n", FIRST, "formula.cnf, line 3: the end, after 1 of the 5 clauses", "", []),
+        ("a formula with a variable too many", "p cnf 1 1\n1 2 0\n", FIRST, "formula.cnf, line 2: variable 2, above the 1 of", "", []),
         ("a stream above their number", FOUR, FIRST, "the streams are 1 to N", "", ["--stream", "3", "--streams", "2"]),
         ("an option without a stream's number", FOUR, FIRST, "no T=STREAM", "", ["--other", "x=/dev/null"]),
         ("an option without a file", FOUR, FIRST, "no T=STREAM", "", ["--other", "2="]),
@@ -350,6 +359,8 @@ def in_another_order() -> List[Row]:
         ("a deletion of nothing", FOUR, "d 1 0\nd 1 2 -1 0\n2 0\n", FIRST, []),
         ("a deletion in another order", FOUR, "2 0\nd 2 1 0\n0\n", FIRST + "5 d 1 0\n6 0 3 4 5 0\n", []),
         ("a literal twice", FOUR, "2 2 0\n", FIRST, []),
+        ("a first line of PicoSAT's", FOUR, "%RUPD32 2 4" + 245 * " " + "\n2 0\n0\n", FIRST + "6 0 3 4 5 0\n", []),
+        ("a first line of PicoSAT's alone", FOUR, "%RUPD32 2 4\n", "", []),
         ("CR LF", FOUR, "2 0\r\nd 1 2 0\r\n", FIRST + "5 d 1 0\n", []),
         ("no LF at the end", FOUR, "2 0\n0", FIRST + "6 0 3 4 5 0\n", []),
         ("no step at all", FOUR, "", "", []),
@@ -382,6 +393,7 @@ def what_comes_out(program: str) -> List[Row]:
         ("a last line of LRAT without LF", comes_out, FOUR, "5 2 0 1 2 0\n6 0 5 3 4 0", FIRST + "6 0 5 3 4 0\n", []),
         ("a summary", summary),
         ("another's stream", another, program),
+    ] + [(f"compressed, {name} {words}", compressed, name, words) for name in COMPRESSED for words in ([], ["--format", "drat"])
     ] + [(f"another's stream, {line}", bad_other, line) for line in ("6 3 0 1 0", "6 x 0 1 0", "6 2 1")]
 
 
@@ -460,6 +472,23 @@ def largest_identity(digits: int, fits: bool, work: Path) -> None:
         wanted = (f"{name} 2 0 1 2 0\n", "", 0) if fits else ("", said, 1)
         want((text, said, status), wanted, "what came out")
         want(said.count("\n"), 0 if fits else 1, "lines on standard error")
+
+
+MEMORY = 1 << 30        # bytes, of which no hopeless proof needs more
+
+
+def hopeless(words: str, source: str, cause: str, work: Path) -> None:
+    """A proof, or a formula, without an end: the filter's memory has one, and its time."""
+    formula = written(FOUR, work)
+    limit = lambda: resource.setrlimit(resource.RLIMIT_AS, (MEMORY, MEMORY))
+    done = run(["sh", "-c", f"{source} | exec \"$@\"", "sh", FILTER, *words.format(formula=formula).split()], limit=60, preexec_fn=limit)
+    want(done[:], (FIRST if "line 2" in cause else "", f"exact: {cause}\n", 1), "what comes out, and what is said")
+
+
+def long_line(work: Path) -> None:
+    """64 MB, of hints that are given again and again."""
+    text, said, status = exact([written(FOUR, work)], "5 2 0 " + "1 2 " * (1 << 24) + "0\n")
+    want((text, said, status), (FIRST, "", 0), "what came out")
 
 
 # Proofs that are cut, pipes that stay open, outputs that fail, wrong words.
@@ -569,7 +598,17 @@ def limits(program: str) -> List[Row]:
         ("an identity of 18 digits", largest_identity, 18, True),
         ("an identity of 19 digits", largest_identity, 19, False),
         ("an identity of 30 digits", largest_identity, 30, False),
-    ]
+        ("a line of 64 MB", long_line),
+    ] + [(f"without an end: {source} {words}", hopeless, words, source, cause) for words, source, cause in (
+        ("{formula} /dev/zero", ":", "line 1: a line of more than 268435456 bytes"),
+        ("{formula}", "yes | tr -d '\\n'", "line 1: a line of more than 268435456 bytes"),
+        ("{formula}", "(echo 2 0; yes 1 | tr '\\n' ' ')", "line 2: a line of more than 268435456 bytes"),
+        ("{formula}", "(echo 'a 5 2 0'; yes 1 | tr '\\n' ' ')", "line 2: a line of more than 268435456 bytes"),
+        ("{formula}", "yes c", "byte 1: the first 268435456 bytes don't tell the form of the proof"),
+        ("{formula}", "yes ''", "byte 1: the first 268435456 bytes don't tell the form of the proof"),
+        ("--format binary-drat {formula}", "(printf a; yes | tr -d '\\n')", "byte 1: a step of more than 33554432 numbers"),
+        ("--format binary-lrat {formula}", "(printf a; yes | tr -d '\\n')", "byte 1: a step of more than 33554432 numbers"),
+        ("/dev/zero", ":", "/dev/zero, line 1: no header 'p cnf VARIABLES CLAUSES', with which a formula in DIMACS CNF begins"))]
 
 
 def pipes_and_files() -> List[Row]:
@@ -616,6 +655,10 @@ lrupd {SIZES}formula.cnf \\
     <(tools/exact/out/exact --stream 1 --streams 2 formula.cnf proof1) \\
     <(tools/exact/out/exact --stream 2 --streams 2 formula.cnf proof2)
 """
+PICOSAT = f"""\
+picosat formula.cnf -R proof > answer &
+lrupd {SIZES}formula.cnf <(tools/exact/out/exact formula.cnf proof)
+"""
 BOTH = f"""\
 cadical -q formula.cnf proof1 > answer1 &
 cryptominisat5 --verb 0 formula.cnf proof2 > answer2 &
@@ -629,11 +672,11 @@ tools/exact/out/exact --rounds live --format binary-drat formula.cnf proof |
     { read ready && lrupd --rounds live formula.cnf live/round-1.stream-1; }
 """
 COMMANDS = [("CaDiCaL", CADICAL), ("two of CaDiCaL", CADICAL_TWICE), ("CryptoMiniSat", CRYPTOMINISAT),
-            ("two of CryptoMiniSat", CRYPTOMINISAT_TWICE), ("CaDiCaL and CryptoMiniSat", BOTH)]
+            ("two of CryptoMiniSat", CRYPTOMINISAT_TWICE), ("PicoSAT", PICOSAT), ("CaDiCaL and CryptoMiniSat", BOTH)]
 
 
 def wanted_on_path(commands: str) -> None:
-    for solver in ("cadical", "cryptominisat5"):
+    for solver in ("cadical", "cryptominisat5", "picosat"):
         if solver in commands and not shutil.which(solver):
             raise Skipped(f"there is no {solver} on the PATH")
 

@@ -30,6 +30,8 @@ EXACT = ROOT / "tools" / "exact"
 FILTER, SANITIZED = EXACT / "out" / "exact", EXACT / "out" / "exact-sanitized"
 LIMIT = 300  # seconds, after which a run hangs, also on a slow machine that does other work
 FOUR = "p cnf 2 4\n1 2 0\n-1 2 0\n1 -2 0\n-1 -2 0\n"
+# How files begin that these unpack.
+COMPRESSED = {"zcat": b"\x1f\x8b\x08\0", "xzcat": b"\xfd7zXZ\0", "bzcat": b"BZh9", "zstdcat": b"\x28\xb5\x2f\xfd"}
 VERDICTS = {0: "s UNSATISFIABLE", 3: "s UNKNOWN", 8: "s UNSATISFIABLE UNDER ASSUMPTIONS"}
 
 # A shell starts what is in the background with the one ignored, and nohup with the other, and then programs under test would

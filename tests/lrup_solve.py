@@ -27,12 +27,13 @@ from pathlib import Path
 from typing import Any, Dict, List, Optional, Sequence, Tuple
 
 sys.dont_write_bytecode = True
-from harness import (EXAMPLES, FOUR, LIMIT, ROOT, Failure, Ran, Row, Skipped, dimacs, example, generated, piped, random_clauses, run,
-                     started, until, want, words_given, written)
+from harness import (COMPRESSED, EXAMPLES, FOUR, LIMIT, ROOT, Failure, Ran, Row, Skipped, dimacs, example, generated, piped,
+                     random_clauses, run, started, until, want, words_given, written)
 from lrat import lrat_fault
 from proof_forms import read_formula
 from solving import (EARLY, ELIMINATING, OUT, PROGRAM, SOLVE, Answer, before_lrupd, check_again, children_of, command, end_group,
-                     goes_on, in_environment, in_place_of_lrupd, is_alive, kill_children, random_formula, run_built, solve, want_answer)
+                     goes_on, in_environment, in_place_of_lrupd, is_alive, kill_children, of_process, random_formula, run_built, solve,
+                     want_answer)
 
 words_given(__doc__, most=2)
 MITERS = EXAMPLES / "miter"
@@ -160,6 +161,21 @@ def earlier_run(work: Path) -> None:
     want(sorted(os.listdir(kept)), sorted([*others, *one]), "what is there after 's UNKNOWN'")
 
 
+def locked(name: str, ends: int, work: Path) -> None:
+    """Another run has the folder, until it ends, however it does. The second one is refused at once, and touches nothing."""
+    kept, words = work / "kept", ["--proofs", work / name, "-j", "1", example("bmc.cnf")]
+    os.symlink("kept", work / "link")
+    with started(command(["-j", "1", "--proofs", kept, generated("pigeons 11", work)]), stdout=subprocess.DEVNULL) as running:
+        until("an engine is there", lambda: "engine 1" in children_of(running.pid) or running.poll() is not None)
+        before = sorted(os.listdir(kept))
+        refused(words, f"{work / name}: another run that goes on has its files there: another --proofs", work)
+        want((sorted(os.listdir(kept)), running.poll()), (before, None), "what is there, and the run")
+        running.send_signal(ends)
+        running.wait(LIMIT)
+        want_answer(solve(words), 20)
+    check_again(kept)
+
+
 def own_files(name: str, work: Path) -> None:
     """What has a name of the record's, and isn't of one, is left alone. Every run that has read its formula leaves a record."""
     own = work / "own"
@@ -249,7 +265,61 @@ def contradicting(work: Path) -> None:
 
 
 def quiet(work: Path) -> None:
-    want(solve(["-q", example("bmc.cnf")]).out, "s UNSATISFIABLE\n", "what -q leaves")
+    """-q leaves the answer alone, also beside -v."""
+    for words in (["-q"], ["--quiet"], ["-qv"], ["-vq"], ["-v", "-q"], ["--quiet", "--verbose"]):
+        want(solve([*words, example("bmc.cnf")]).out, "s UNSATISFIABLE\n", f"what {words} leaves")
+
+
+def verbose(work: Path) -> None:
+    for word in ("-v", "-vv", "--verbose"):
+        answer = solve([word, example("bmc.cnf")])
+        want_answer(answer, 20)
+        want(any(line.startswith("engine 1: ") for line in answer.comments), True, f"whether {word} tells of an engine\n{answer.out}")
+
+
+# CaDiCaL's own search.
+
+
+def solved_alone(words: Sequence[object], **how: Any) -> int:
+    """The conflicts of CaDiCaL, in the last row of what it reports."""
+    rows = re.findall(r"^c [01] +[\d.]+ +\d+ +\d+ +\d+ +\d+ +(\d+) .*$", run(words, **how).out, re.M)
+    want(len(rows), 1, f"last rows of {words}")
+    return int(rows[0])
+
+
+def unordered(text: str, seed: int) -> str:
+    """The clauses, and the literals of each, in another order, some doubled, and some clauses that are always true."""
+    numbers, (header, *lines) = random.Random(seed), text.splitlines()
+    clauses = [[int(word) for word in line.split()[:-1]] for line in lines]
+    clauses += [[1, *numbers.choice(clauses), -1] for _ in range(5)] + numbers.sample(clauses, 5)
+    for clause in clauses:
+        clause += numbers.sample(clause, numbers.randrange(2))
+        numbers.shuffle(clause)
+    numbers.shuffle(clauses)
+    return dimacs(int(header.split()[2]), clauses)
+
+
+def as_alone(words: str, seed: int, work: Path) -> None:
+    """An engine alone searches as `cadical` does on the file, whatever the order of what stands there."""
+    if not shutil.which("cadical"):
+        raise Skipped("there is no cadical on the PATH")
+    formula = generated(words, work)
+    if seed:
+        formula = written(unordered(formula.read_text(), seed), work)
+    wanted, engine = solved_alone(["cadical", formula]), {"SET": "quiet=0 report=1"}
+    found = solved_alone(command(["-j", "1", formula], engine), env=in_environment(engine))
+    want(abs(found - wanted) <= wanted / 10, True, f"conflicts: {found} in place of {wanted}")
+
+
+def holes(work: Path) -> None:
+    """As many pigeonholes as pigeons, which a lucky assignment satisfies: all in the first hole that is left. It is looked for once."""
+    names = [[pigeon * 40 + hole + 1 for pigeon in range(40)] for hole in range(40)]
+    clauses = [list(pigeon) for pigeon in zip(*names)] + [[-one, -other] for hole in names for one in hole for other in hole if one < other]
+    formula = written(dimacs(1600, clauses), work)
+    answer = solve(["-v", "-j", "2", formula])
+    want_answer(answer, 10, formula)
+    first, = [re.match(r"engine 1: ([\d.]+) s, .*; 0 conflicts;", line) for line in answer.comments if line.startswith("engine 1: ")]
+    want(first is not None and float(first[1]) < 0.3, True, f"whether engine 1 was quick\n{answer.comments}")
 
 
 # Refusals.
@@ -258,7 +328,8 @@ def quiet(work: Path) -> None:
 def refused(words: Sequence[object], cause: str, work: Path) -> None:
     """One line on standard error, and status 1."""
     formula = written(FOUR, work)
-    written(b"\x1f\x8b\x08\0", work, "compressed")
+    for name, begins in COMPRESSED.items():
+        written(begins, work, name)
     answer = solve([str(word).format(work=work, formula=formula) for word in words])
     want((answer.out, answer.status, answer.said.count("\n"), answer.said.startswith("lrup-solve: ")), ("", 1, 1, True),
          f"what is said of {words}: {answer.said}")
@@ -267,16 +338,43 @@ def refused(words: Sequence[object], cause: str, work: Path) -> None:
         raise Failure(f"wanted a word on '{cause}', and not\n{answer.said}")
 
 
-def refused_by_lrupd(text: str, words: List[str], work: Path) -> None:
-    """In lrupd's words."""
-    formula = written(text, work)
+def refused_by_lrupd(text: str, words: List[str], known: str, work: Path) -> None:
+    """In lrupd's words, and with what is known of the file, by its name; also where it came by a pipe."""
+    formula = written(text, work, "a formula")
     words = [word.format(work=work) for word in words]
-    written("-2 x 0\n", work, "bad")
-    written("-7 0\n", work, "beyond")
-    said = run([PROGRAM, *words, formula, "/dev/null"]).err
-    want((said[:7], said.count("\n")), ("lrupd: ", 1), "lrupd's refusal")
-    answer = solve([*words, formula])
-    want((answer.out, answer.said, answer.status), ("", said, 1), "what is said")
+    for name, literals in (("bad", "-2 x 0\n"), ("beyond", "-7 0\n"), ("spaces", "1  2 0\n"), ("open", "1 2\n"),
+                           ("least", f"-{1 << 63} 0\n"), ("less", f"-{(1 << 64) + 1} 0\n"), ("long", "1" * 100 + " 0\n")):
+        written(literals, work, name)
+    said = run([PROGRAM, *words, formula, "/dev/null"]).err.rstrip("\n")
+    want((said[:7], said.count("\n")), ("lrupd: ", 0), "lrupd's refusal")
+    for given, name in ((None, f"'{formula}'"), (text, "standard input")):
+        answer = solve([*words, "-" if given else formula], given=given)
+        told = f"{said} ({known.format(name=name, work=work)})\n"
+        if given is None or given:
+            want((answer.out, answer.said, answer.status), ("", told, 1), "what is said")
+
+
+def refused_folder(work: Path) -> None:
+    (work / "folder").mkdir()
+    answer = solve([work / "folder"])
+    want((answer.out, answer.said, answer.status),
+         ("", f"lrupd: cannot read formula ({work}/folder: Is a directory)\n", 1), "what is said")
+
+
+def refused_late(words: List[str], text: str, work: Path) -> None:
+    """lrupd takes long to refuse it, and the solving has ended before, or its time is up; a signal ends the waiting."""
+    path = in_place_of_lrupd("case \"$*\" in *' /dev/null') touch read; sleep 2; echo 'lrupd: formula refused: limit' >&2; exit 4;; esac\n"
+                             "exit 4", work)
+    words, formula = ["--lrupd", str(path), "-j", "1", *words], written(text, work)
+    answer = solve([*words, formula], cwd=work)
+    want((answer.out, answer.said, answer.status), ("", f"lrupd: formula refused: limit ({formula})\n", 1), "what is said")
+    (work / "read").unlink()
+    with started([SOLVE, *words, formula], cwd=work, stdout=subprocess.PIPE, text=True) as running:
+        until("the formula is read", lambda: (work / "read").exists())
+        time.sleep(0.5)
+        running.terminate()
+        out = running.communicate(timeout=LIMIT)[0]
+    want((out.splitlines()[-1:], running.returncode), (["s UNKNOWN"], -signal.SIGTERM), "the end by a signal")
 
 
 def impostor(body: str, cause: str, work: Path) -> None:
@@ -373,6 +471,18 @@ def left_alone(work: Path) -> None:
     with Running(generated("pigeons 11", work), work) as running:
         running.process.kill()
         want(running.end().status, -signal.SIGKILL, "the end")
+
+
+def gives_way(work: Path) -> None:
+    """Where memory is short the system ends engines and filters first, by this number: 1000 is the most, and nobody lowers it."""
+    own = of_process(os.getpid(), "oom_score_adj")
+    with Running(generated("pigeons 11", work), work) as running:
+        until("engines and filters give way", lambda: {of_process(pid, "oom_score_adj") for name, pid in running.children.items()
+                                                       if name[:6] in ("engine", "filter")} == {"1000\n"})
+        found = [of_process(pid, "oom_score_adj") for pid in (running.process.pid, running.children["lrupd"])]
+        running.process.terminate()
+        running.end()
+    want(found, [own, own], "the numbers of the first process and lrupd")
 
 
 def time_is_up(work: Path) -> None:
@@ -558,10 +668,11 @@ def words_and_files() -> List[Row]:
     cube = "p cnf 3 3\n1 2 0\n-1 2 0\n3 -3 0\n"
     under = "s UNSATISFIABLE UNDER ASSUMPTIONS"
     runs: List[Row] = [("standard input" + word, standard_input, [word] * bool(word)) for word in ("", "-")]
-    runs += [("a FIFO", from_fifo), ("where lrupd is", beside), ("-q", quiet), ("keeps", keeps, []),
+    runs += [("a FIFO", from_fifo), ("where lrupd is", beside), ("-q", quiet), ("verbose", verbose), ("keeps", keeps, []),
              ("keeps four", keeps, ["-j", "4"]), ("keeps LRAT", keeps_lrat, "pigeons 7"),
              ("keeps LRAT, random", keeps_lrat, "random 150 1"), ("keeps standard input", keeps_standard_input),
              ("keeps by short names", keeps_by_short_names), ("an earlier run", earlier_run),
+             ("another run's record", locked, "kept", signal.SIGTERM), ("of one that is killed", locked, "link", signal.SIGKILL),
              ("links in a record", links_in_a_record), ("a report that can't be kept", unkept),
              ("a name with an end of line", name_with_an_end_of_line), ("the link to lrupd", relative_link),
              ("assumptions that contradict", assuming, cube, "-2 0\n", 20, under),
@@ -584,7 +695,8 @@ def words_and_files() -> List[Row]:
 
 def refusals() -> List[Row]:
     runs: List[Row] = []
-    for words, cause in ((["--nothing", "{formula}"], "--nothing"), (["{formula}", "{formula}"], "one word too many"),
+    for words, cause in ((["--nothing", "{formula}"], "--nothing"), (["-vx", "{formula}"], "-vx"),
+                         (["{formula}", "{formula}"], "one word too many"),
                          (["-j"], "no value after -j"), (["-j", "0", "{formula}"], "-j takes 1 to 64, not 0"),
                          (["-j", "65", "{formula}"], "-j takes 1 to 64, not 65"), (["-j", "x", "{formula}"], "not x"),
                          (["--time", "-1", "{formula}"], "--time takes seconds above 0, not -1"),
@@ -605,14 +717,33 @@ def refusals() -> List[Row]:
                          (["{work}/a\nb"], "a\\nb': No such file or directory"),
                          (["--assume", "{work}/none", "{formula}"], "{work}/none: No such file or directory"),
                          (["--proofs", "{work}/new", "{work}/none"], "none: No such file or directory"),
-                         (["{work}/compressed"], "compressed: compressed: zcat it")):
+                         *((["{work}/" + name], f"{name}: compressed: {name} it") for name in COMPRESSED)):
         runs.append((" ".join(["lrup-solve", *words]), refused, words, cause))
-    for text in ("", "p cnf 2\n", "p cnf 2 1\n1 x 0\n", "p cnf 2 2\n1 0\n", "p cnf 2 1\n1 0\n2 0\n", "p cnf 2 1\n1 3 0\n",
-                 "p cnf 2 1\n1 2\n", "1 2 0\n", "p cnf 99999999 1\n1 0\n"):
-        runs.append((f"refused {text[:20]!r}", refused_by_lrupd, text, []))
-    for path in ("{work}/bad", "{work}/beyond", "{work}"):
-        runs.append((f"refused {FOUR[:20]!r} --assume {path}", refused_by_lrupd, FOUR, ["--assume", path]))
-    return runs
+    header = "no header 'p cnf VARIABLES CLAUSES', with which a formula in DIMACS CNF begins"
+    for text, line, known in (
+            ("", 1, header), ("c x\np cnf 2\n", 2, header), ("1 2 0\n", 1, header), ("p cnf 02 1\n1 0\n", 1, header),
+            ("p cnf 2 1 1 2 0\n", 1, "more in the line than the header 'p cnf VARIABLES CLAUSES'"),
+            ("p cnf 2 1\n1 x 0\n", 2, "a word that is no number: x"), ("p cnf 2 1\n1\v2 0\n", 2, "a word that is no number: 1?2"),
+            ("p cnf 2 1\nc 0\n1 -0\n", 3, "a word that is no number: -0"),
+            ("p cnf 2 2\n1 0\n", 3, "the end, after 1 of the 2 clauses of the header: is the file cut? Else write their number there"),
+            ("p cnf 2 1\n1 0\n2 0\n", 3, "more clauses than the 1 of the header: write their number there"),
+            ("p cnf 2 1\n1 -3 0\n", 2, "variable 3, above the 2 of the header: write the largest there"),
+            ("p cnf 2 1\n1 99999999999999999999 0\n", 2,
+             "variable 99999999999999999999, above the 2 of the header: write the largest there"),
+            ("p cnf 2 1\n1 2", 2, "the last clause has no 0 at its end"),
+            ("p cnf 99999999 1\n1 0\n", 1, "99999999 variables, and lrupd takes at most 16777215"),
+            ("p cnf 1 16777216\n1 0\n", 1, "16777216 clauses, and lrupd takes at most 16777215"),
+            ("p cnf 1 1\n" + "1 " * 1048576 + "0\n", 2, "more than 1048575 literals in a clause, which lrupd doesn't take")):
+        runs.append((f"refused {text[:20]!r}", refused_by_lrupd, text, [], f"{{name}}, line {line}: {known}"))
+    beyond = "the literal {}, and the formula has the variables 1 to 2"
+    for name, known in (("bad", ": a word that is no number: x"), ("beyond", ": " + beyond.format(-7)), ("spaces", ""),
+                        ("open", ": no line of literals that ends with 0"), ("least", ": " + beyond.format(-(1 << 63))),
+                        ("less", ": " + beyond.format(str(-(1 << 64) - 1)[:20])), ("long", ": " + beyond.format("1" * 20)),
+                        ("", ": no line of literals that ends with 0")):
+        runs.append((f"refused --assume {name}", refused_by_lrupd, FOUR, ["--assume", "{work}/" + name], "{work}/" + name + known))
+    return runs + [("refused, a folder", refused_folder), ("refused late", refused_late, [], FOUR),
+                   ("refused late, satisfiable", refused_late, [], "p cnf 1 0\n"),
+                   ("refused when time is up", refused_late, ["--time", "0.1"], dimacs(1, [[1]]))]
 
 
 def what_happens() -> List[Row]:
@@ -623,7 +754,7 @@ def what_happens() -> List[Row]:
             ("filter 1 killed", killed, ["filter 1"], kill, 20, "engine 1 is lost"),
             ("filter 2 killed", killed, ["filter 2"], term, 20, "engine 2 is lost"),
             ("an engine and a filter killed", killed, ["engine 1", "filter 2"], kill, 0, "no engine is left"),
-            ("the first process killed", left_alone), ("time", time_is_up), ("a full row", row_is_full),
+            ("the first process killed", left_alone), ("who gives way", gives_way), ("time", time_is_up), ("a full row", row_is_full),
             ("a full disk for streams", full, ["-j", "1", "--proofs", "{work}"], os.devnull, 4096, "round-1.stream-1: File too large"),
             ("a full disk for the answer", full, [], "/dev/full", 0, "cannot write the answer"),
             ("a closed output", closed, "bmc.cnf"), ("a closed output, satisfiable", closed, "assumed.cnf"),
@@ -648,6 +779,11 @@ def others_formulas() -> List[Row]:
             ("options told", options_told)]
 
 
+def searches() -> List[Row]:
+    return [("as many holes as pigeons", holes)] + [(f"as alone, {words} {seed}", as_alone, words, seed) for seed in (0, 1, 2)
+            for words in ("order 20", "pigeons 7", "random 150 1", "random 150 7 3.6")]
+
+
 def sharing() -> List[Row]:
     lost = r"is lost: .*no conflict by unit propagation"
     return [("witnesses", rests_on, "guard", 30, lost, (140, 200), ELIMINATING),
@@ -657,7 +793,7 @@ def sharing() -> List[Row]:
 
 
 def main() -> int:
-    runs = known() + words_and_files() + refusals() + what_happens() + others_formulas() + sharing()
+    runs = known() + words_and_files() + searches() + refusals() + what_happens() + others_formulas() + sharing()
     return run_built(runs + [(f"random {seed}", randomly, seed) for seed in range(300)])
 
 

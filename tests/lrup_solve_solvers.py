@@ -3,8 +3,8 @@
 
     lrup_solve_solvers.py PROGRAM [FLAGS]
 
-CaDiCaL and CryptoMiniSat, where they are on the PATH, and the example solver, alone, together and beside engines: known formulas,
-random ones, in one round and in many. A solver that dies, lies, writes nonsense or stands still is lost, and alone gives no
+CaDiCaL, CryptoMiniSat and PicoSAT, where they are on the PATH, and the example solver, alone, together and beside engines: known
+formulas, random ones, in one round and in many. A solver that dies, lies, writes nonsense or stands still is lost, and alone gives no
 verdict; beside a good one the answer is the good one's. No process of a command outlives the run. It builds as lrup_solve.py does.
 It shows what is off; the last line is 'N passed, M failed', and ', K skipped' where something isn't there. The status is 1 where
 a run failed.
@@ -28,8 +28,9 @@ from solving import PROGRAM, SOLVE, check_again, is_alive, of_process, random_fo
 words_given(__doc__, most=2)
 CADICAL, AS_TEXT = "cadical -q %formula %proof", "cadical -q --no-binary %formula %proof"
 CRYPTOMINISAT = "cryptominisat5 --verb 0 %formula %proof"
+PICOSAT = "picosat %formula -R %proof"
 EARLY = ["--elimint=10", "--probeint=10", "--subsumeint=10", "--reduceint=20"]
-COMMANDS = [[CADICAL], [AS_TEXT], [CRYPTOMINISAT], [CADICAL, CRYPTOMINISAT],
+COMMANDS = [[CADICAL], [AS_TEXT], [CRYPTOMINISAT], [PICOSAT], [CADICAL, CRYPTOMINISAT, PICOSAT],
             [CADICAL, CADICAL + " --seed=2", AS_TEXT + " --seed=3"]]
 FORMULAS = [("four clauses", FOUR, 20), ("no clauses", "p cnf 3 0\n", 10), ("nothing", "p cnf 0 0\n", 10),
             ("an empty clause", "p cnf 2 2\n1 2 0\n0\n", 20), ("the empty clause alone", "p cnf 0 1\n0\n", 20),
@@ -41,7 +42,7 @@ MANY_ROUNDS = {"FIRST_WORDS": 4000, "SAME_WORDS": 1}
 
 
 def by(commands: Sequence[str]) -> List[str]:
-    for name in ("cadical", "cryptominisat5"):
+    for name in ("cadical", "cryptominisat5", "picosat"):
         if any(name in command.split() for command in commands) and not shutil.which(name):
             raise Skipped(f"there is no {name} on the PATH")
     return [word for command in commands for word in ("--solver", command)]
@@ -88,7 +89,7 @@ def in_rounds(name: str, commands: List[str], words: List[str], work: Path) -> N
 
 def late(form: str, work: Path) -> None:
     """The proof begins when rounds have passed, and the engine is still at work. LRAT names the formula's clauses, in order."""
-    formula, commands = given("random 220 5", work), {"DRAT": CADICAL, "DRUP": AS_TEXT, "FRAT": CRYPTOMINISAT}
+    formula, commands = given("random 220 5", work), {"DRAT": CADICAL, "DRUP": AS_TEXT, "FRAT": CRYPTOMINISAT, "PicoSAT": PICOSAT}
     if form == "LRAT":
         commands[form] = with_gaps(formula, work)
     begins = f"until [ -e {work}/kept/round-4.sizes ]; do sleep 0.01; done; {commands[form]}"
@@ -145,7 +146,7 @@ def early(seed: int) -> str:
 def randomly(seed: int, work: Path) -> None:
     numbers = random.Random(f"{seed} solvers")
     formula, kept = written(random_formula(seed), work), work / "kept"
-    commands = [early(seed), AS_TEXT, CRYPTOMINISAT, CRYPTOMINISAT + f" --random {seed}"]
+    commands = [early(seed), AS_TEXT, CRYPTOMINISAT, CRYPTOMINISAT + f" --random {seed}", PICOSAT + f" -s {seed}"]
     chosen = numbers.sample(commands, numbers.randint(1, 3))
     words = ["-j", "2"] * numbers.randint(0, 1) + ["--proofs", kept] * (seed % 5 == 0)
     tested = {"SLICE": 50, "FIRST_WORDS": numbers.choice((2000, 1 << 20))}
@@ -157,17 +158,31 @@ def randomly(seed: int, work: Path) -> None:
 
 
 def names(work: Path) -> None:
-    """The formula's name is one word for the shell; standard input is a file for the solver."""
-    formula = shutil.copy(example("bmc.cnf"), work / "it's $a \"formula\"\nof `two` lines")
-    want_answer(solve([*by([CADICAL]), formula]), 20)
+    """The formula's name is one word for the shell, however it stands between quotes; standard input is a file for the solver."""
+    for name in ("it's $a \"formula\"\nof `two` lines", "x$(touch $MADE).cnf", "x`touch $MADE`", "x; touch $MADE; \\", "%proof %formula",
+                 "a%proof.cnf", "größe.cnf"):
+        formula, made = shutil.copy(example("bmc.cnf"), work / name), work / "made"
+        for command in (CADICAL, 'cadical -q "%formula" "%proof"', "cadical -q '%formula' %proof", "sh -c 'cadical -q %formula %proof'",
+                        "eval 'cadical -q \"%formula\" %proof'"):
+            want_answer(solve([*by([command]), formula], env_more={"MADE": str(made)}), 20)
+        want(made.exists(), False, f"whether {name} was run as a command")
     for word in ("-", "/dev/stdin"):
         want_answer(solve([*by([CADICAL, AS_TEXT]), word], given=example("bmc.cnf").read_text()), 20)
     want_answer(solve([*by([CADICAL]), "--proofs", work / "kept"], given=example("bmc.cnf").read_text()), 20)
     check_again(work / "kept")
 
 
+def sealed(work: Path) -> None:
+    """A solver can't write to the copy of a formula that came by a pipe; of this one it would be refuted."""
+    text = generated("random 120 7 3.6", work).read_text()
+    writing = "(printf 'p cnf 1 2\\n1 0\\n-1 0\\n' > %formula; printf '1 0' 1<> %formula) 2> /dev/null; " + CADICAL
+    answer = solve([*by([writing]), "-"], given=text)
+    want_answer(answer, 10, work / "formula.cnf")
+
+
 # Solvers that misbehave.
 
+UNFOUNDED = "it says 'satisfiable', and gives no assignment in lines v"
 MODEL = "echo s SATISFIABLE; echo v {}; exit 10"
 # A command; the cause, where it is alone.
 WRONG = [("exit 1 # %formula %proof", "the engine ended with status 1"),
@@ -180,15 +195,17 @@ WRONG = [("exit 1 # %formula %proof", "the engine ended with status 1"),
          ("echo s UNSATISFIABLE # %formula %proof", "its filter stopped: the proof ends without the empty clause"),
          ("echo s SATISFIABLE; exit 20 # %formula %proof", "the engine ended with status 20"),
          ("echo s UNSATISFIABLE; exit 10 # %formula %proof", "the engine ended with status 10"),
-         ("exit 10 # %formula %proof", "the engine ended with status 10"),
-         ("echo s SATISFIABLE; exit 10 # %formula %proof", "the engine ended with status 10"),
+         ("exit 10 # %formula %proof", UNFOUNDED), ("echo s SATISFIABLE; exit 10 # %formula %proof", UNFOUNDED),
+         ("echo s SATISFIABLE # %formula %proof", UNFOUNDED), (MODEL.format("x -") + " # %formula %proof", UNFOUNDED),
          (MODEL.format("1 -2 3 0") + " # %formula %proof", "its assignment doesn't satisfy the formula"),
          (MODEL.format("0") + " # %formula %proof", "its assignment doesn't satisfy the formula"),
          (MODEL.format("99999999999999999999 x -0 1e5 0") + " # %formula %proof", "its assignment doesn't satisfy the formula"),
+         (MODEL.format(f"-{1 << 63} {1 << 63} -{(1 << 64) + 1} 0") + " # %formula %proof", "its assignment doesn't satisfy the formula"),
          ("head -c 300000 /dev/urandom > %proof # %formula", "its filter stopped: "),
          ("cat %formula > %proof", "its filter stopped: "),
          ("yes '1 0' > %proof # %formula", "its filter stopped: line 1: no conflict by unit propagation"),
          ("yes > %proof # %formula", "its filter stopped: line 1: "),
+         ("cat /dev/zero > %proof # %formula", "its filter stopped: line 1: a line of more than 268435456 bytes"),
          ("echo 0 > %proof # %formula", "its filter stopped: line 1: no conflict by unit propagation"),
          ("printf a > %proof # %formula", "its filter stopped: "),
          ("echo '1 i 1 2 0' > %proof # %formula", "its filter stopped: line 1: an import"),
@@ -287,6 +304,7 @@ def stopped(work: Path) -> None:
             return {"cadical", "engine 1"} <= set(found)
 
         until("the solver is there", all_there)
+        want(of_process(found["cadical"], "oom_score_adj"), "1000\n", "by which it gives way where memory is short")
         state = lambda: of_process(found["cadical"], "stat").rsplit(")", 1)[-1].split()[0]
         os.kill(found["engine 1"], signal.SIGTSTP)
         until("the solver stands", lambda: state() == "T")
@@ -327,9 +345,9 @@ def rows() -> List[Row]:
             found += [(f"{title}, {name}", answers_of, name, status, commands, words) for name, status in LARGER]
         found.append((f"{title} in rounds", in_rounds, "random 150 1", commands, []))
     found += [("rounds beside engines", in_rounds, "random 170 4", [CADICAL, CRYPTOMINISAT], ["-j", "2"]),
-              ("rounds of the example solver", in_rounds, "random 150 1", [], []), ("names", names), ("told", told)]
+              ("rounds of the example solver", in_rounds, "random 150 1", [], []), ("names", names), ("told", told), ("sealed", sealed)]
     found += [("gaps", gaps), ("outboxes beside a solver", goes_on_sharing)]
-    found += [(f"late {form}", late, form) for form in ("DRAT", "DRUP", "FRAT", "LRAT")]
+    found += [(f"late {form}", late, form) for form in ("DRAT", "DRUP", "FRAT", "LRAT", "PicoSAT")]
     found += [(f"the example solver, {name}", by_example, name, status) for name, status in LARGER]
     found += [(f"random {seed}", randomly, seed) for seed in range(60)]
     found += [(f"wrong: {command}", wrong, command, cause) for command, cause in WRONG]
@@ -337,7 +355,7 @@ def rows() -> List[Row]:
     found += [("models", after_a_model), ("in the background", background), ("stopped", stopped)]
     found += [(f"{whom} ended by {number}", killed, number, whom) for whom in ("first", "engine 1", "cadical")
               for number in (signal.SIGTERM, signal.SIGKILL)]
-    need = "--solver takes a command with %formula and %proof, not "
+    need = "--solver takes a command with both %formula and %proof, not "
     found += [(f"refused {words}", refused, words, cause) for words, cause in (
         (["--solver", "cadical"], need + "cadical"), (["--solver", ""], need + "''"),
         (["--solver=cadical %formula"], need + "'cadical %formula'"),

@@ -93,7 +93,8 @@ def main() -> None:
         reading.join(5)
     status, rounds = run.wait(), rounds_of("".join(said))
     for one in rounds:
-        print(f"round {one.number}: row {one.words:,} words, {one.clauses:,} clauses, {one.carried:,} carried over, pause {one.pause:.2f} s")
+        print(f"round {one.number}: row {one.words:,} words, {one.clauses:,} clauses, {one.carried:,} carried over, "
+              f"pause {one.pause:.2f} s")
     for letter in "cs":
         print([line for line in said if line.startswith(letter)][-1], end="")
     for name, points in samples.items():

@@ -1,131 +1,255 @@
 #!/usr/bin/env python3
-"""Times lrup-solve beside CaDiCaL alone, and prints their ratios.
+"""Times lrup-solve beside CaDiCaL alone, and prints their ratios as tables in Markdown.
 
-    ./table.py [--rounds N] [--work FOLDER] [--svg FILE] SOLVE LRUPD
+    table.py [OPTIONS] SOLVE LRUPD
 
-The formulas are formulas.py's. `cadical -q` solves each without a proof, and lrup-solve with two and with four engines; all run
-by turns, N times, 5 if not said, and the median of each counts. --svg draws the time by the clock, which says little where other
-work has the cores. So there is a lower bound beside it, reckoned from processor time: no run on four cores takes less than its
-longest part, an engine or a filter, nor less than a quarter of all. Wants Python 3, and `cadical` on the PATH.
+    --rounds N              how often each runs, 3 if not said; the medians count. 0 measures nothing, and prints what FILE has
+    --results FILE          keep each run's result there, and go on with those that it has. A call may be stopped at any time
+    --formulas NAME,..      only these: names of families, or the words of a formula, or their first
+    --engines N,..          only so many engines; 1,2,4 if not said
+    --others CORES          runs beside which other work had more cores than that don't count, and are measured again; and wait
+                            for a quiet moment before each turn
+    --limit SECONDS         for each run, 600 if not said
+    --svg FILE              draw what the first table has
+    --easy                  easy.py's formulas, which CaDiCaL refutes at once
+    --work FOLDER           keep the formulas there
+
+`cadical -q` solves each formula without a proof, and lrup-solve with so many engines; all run by turns. Time by the clock says little
+where other work has the cores, so the last column says how many it had, at most. 'Longest part' is the processor time of the engine or
+filter that took most: no run takes less, on however many cores. 'All' is that of all processes together. Each is beside CaDiCaL's.
+Wants Python 3 on Linux, and `cadical` on the PATH.
 """
 import argparse
+import math
 import os
-import re
-import resource
 import statistics
 import subprocess
 import sys
 import tempfile
 import time
+from functools import lru_cache, partial
+from typing import Callable, Dict, List, Optional
 
 sys.dont_write_bytecode = True
+import chart
+import formulas
+from runs import ALONE, UNSATISFIABLE, Bench, Formula, Result, others_now, stop_gently
+
 HERE = os.path.dirname(os.path.abspath(__file__))
-FORMULAS = [("commute 8", "two multipliers, 8 bits"), ("divide 12", "a divider, 12 bits"), ("sort 7 4", "two sorters, 7 numbers"),
-            ("pipeline 4 8", "a pipeline, 4 steps"), ("pipeline 6 8", "a pipeline, 6 steps"), ("factor 4294967291", "factoring, 32 bits"),
-            ("pigeons 9", "pigeonholes, 9"), ("random 250 8", "random 3-SAT, 250 variables")]
-ENGINES = (2, 4)
-CORES = 4
-REFUTED = 20
+CORES = os.cpu_count() or 1
+EASY = "easy"
+TIMES, SECONDS = 3, 0.2     # as long as CaDiCaL, and more: what easy formulas may take
+MEASURES = {"By the clock": "clock", "Longest part": "path", "All": "processor"}
+SHARES = {"Verdict after, s": "verdict", "`lrupd` by engines": "lrupd", "Filters by engines": "filters"}
+Medians = Dict[int, Optional[Result]]
+Cells = List[Optional[float]]
 
 
-def make_formula(words, work):
-    path = os.path.join(work, words.replace(" ", "-") + ".cnf")
+def arguments() -> argparse.Namespace:
+    parser = argparse.ArgumentParser(description=__doc__, formatter_class=argparse.RawDescriptionHelpFormatter)
+    for name, usual in (("--rounds", 3), ("--limit", 600), ("--others", math.inf)):
+        parser.add_argument(name, type=type(usual), default=usual)
+    for name, usual in (("--results", ""), ("--formulas", ""), ("--engines", "1,2,4"), ("--svg", ""), ("--work", "")):
+        parser.add_argument(name, default=usual)
+    parser.add_argument("--easy", action="store_true")
+    parser.add_argument("solve")
+    parser.add_argument("lrupd")
+    given = parser.parse_args()
+    given.engines = [int(count) for count in given.engines.split(",")]
+    given.formulas = [name for name in given.formulas.split(",") if name]
+    return given
+
+
+def chosen(given: argparse.Namespace) -> List[Formula]:
+    if given.easy:
+        import easy
+        every = [Formula(words, words, EASY) for words in easy.FORMULAS]
+    else:
+        every = [Formula(words, title, family) for family, its in formulas.FAMILIES.items() for words, title in its]
+    wanted = set(given.formulas)
+    found = [one for one in every if not wanted or wanted & {one.family, one.words, one.words.split()[0]}]
+    return found or sys.exit(f"no formula is called {' or '.join(given.formulas)}")
+
+
+@lru_cache
+def make(formula: Formula, folder: str) -> str:
+    """The path; none where it can't be made, as without yosys."""
+    path = os.path.join(folder, formula.words.replace(" ", "-") + ".cnf")
+    script = "easy.py" if formula.family == EASY else "formulas.py"
     with open(path, "w") as out:
-        subprocess.run([sys.executable, os.path.join(HERE, "formulas.py"), *words.split()], stdout=out, check=True)
-    return path
+        made = subprocess.run([sys.executable, os.path.join(HERE, script), *formula.words.split()], stdout=out)
+    return path if made.returncode == 0 else ""
 
 
-def alone(formula):
-    """Of CaDiCaL the seconds by the clock, and those of processor time."""
-    began, before = time.monotonic(), resource.getrusage(resource.RUSAGE_CHILDREN)
-    done = subprocess.run(["cadical", "-q", formula], stdout=subprocess.DEVNULL)
-    took, after = time.monotonic() - began, resource.getrusage(resource.RUSAGE_CHILDREN)
-    if done.returncode != REFUTED:
-        sys.exit(f"cadical ended with status {done.returncode}: {formula}")
-    return took, after.ru_utime + after.ru_stime - before.ru_utime - before.ru_stime
+def wait_for_quiet(most: float) -> float:
+    """How many cores other work has."""
+    others = others_now()
+    if others > most:
+        print(f"other work has {others:.1f} of {CORES} cores: waiting", file=sys.stderr)
+    while others > most:
+        time.sleep(5)
+        others = others_now()
+    return others
 
 
-def numbers(pattern, text):
-    found = re.search(pattern, text)
-    if not found:
-        sys.exit(f"no '{pattern}' in\n{text}")
-    return [float(number.replace(",", "")) for number in found.groups()]
+def measure(given: argparse.Namespace, bench: Bench, every: List[Formula], folder: str) -> None:
+    for turn in range(1, given.rounds + 1):
+        for formula in every:
+            missing = [engines for engines in [ALONE, *given.engines] if len(bench.of(formula, engines, given.others)) < turn]
+            if not missing:
+                continue
+            path = make(formula, folder)
+            if not path:
+                print(f"{formula.words} can't be made, and is left out", file=sys.stderr)
+                continue
+            print(f"round {turn}, {formula.words}: other work has {wait_for_quiet(given.others):.1f} of {CORES} cores", file=sys.stderr)
+            for engines in missing:
+                result = bench.measure(formula, path, engines)
+                print(f"    {engines or 'CaDiCaL alone'}: {result.clock:.2f} s by the clock, {result.processor:.2f} of processor time; "
+                      f"other work had {result.others:.1f} cores", file=sys.stderr)
 
 
-def solved(given, formula, engines):
-    """The seconds by the clock; of processor time the longest part, and what four cores take at least; the verdict after the answer;
-    and lrupd's and the filters' processor time beside the engines'."""
-    began = time.monotonic()
-    done = subprocess.run([given.solve, "--lrupd", given.lrupd, "-v", "-j", str(engines), formula], capture_output=True, text=True)
-    took = time.monotonic() - began
-    if done.returncode != REFUTED:
-        sys.exit(f"lrup-solve ended with status {done.returncode}: {formula}\n{done.stdout}{done.stderr}")
-    pairs = re.findall(r"^c engine \d+: ([\d.]+) s, its filter ([\d.]+) s", done.stdout, re.M)
-    parts = [float(number) for pair in pairs for number in pair]
-    pattern = r"([\d.]+) s of processor time: engines ([\d.]+), filters ([\d.]+), lrupd ([\d.]+)"
-    all_of, its_engines, filters, lrupd = numbers(pattern, done.stdout)
-    verdict, = numbers(r"the verdict came ([\d.]+) s after", done.stdout)
-    return took, max(parts), max(max(parts), all_of / CORES), verdict, lrupd / its_engines, filters / its_engines
+def median(results: List[Result]) -> Optional[Result]:
+    """None where a run didn't answer, or there is none."""
+    if not results or any(result.status != UNSATISFIABLE for result in results):
+        return None
+    middle = {name: statistics.median(getattr(result, name) for result in results) for name in Result._fields[2:]}
+    return Result(results[0].words, results[0].engines, **{**middle, "others": max(result.others for result in results)})
 
 
-def chart(rows, runs, path):
-    """A bar for each formula and number of engines, beside CaDiCaL alone; `runs` says how often each ran."""
-    left, scale, high, gap, top = 215, 300, 12, 18, 46
-    colours = {2: "#2a6f97", 4: "#89c2d9"}
-    height = top + len(rows) * (len(ENGINES) * high + gap) + 14
-    lines = [f'<svg xmlns="http://www.w3.org/2000/svg" width="{left + scale * 2 + 30}" height="{height}" '
-             'font-family="sans-serif" font-size="12">',
-             '<rect width="100%" height="100%" fill="white"/>',
-             f'<text x="{left}" y="16">time by the clock to a proved verdict, beside CaDiCaL alone; four cores, {runs}</text>']
-    for place, engines in enumerate(ENGINES):
-        lines.append(f'<rect x="{left + 120 * place}" y="24" width="{high}" height="{high}" fill="{colours[engines]}"/>'
-                     f'<text x="{left + 120 * place + 18}" y="34">{engines} engines</text>')
-    at = top
-    for title, ratios in rows:
-        lines.append(f'<text x="{left - 8}" y="{at + high + 4}" text-anchor="end">{title}</text>')
-        for engines in ENGINES:
-            width = round(min(ratios[engines], 2) * scale)
-            lines.append(f'<rect x="{left}" y="{at}" width="{width}" height="{high - 1}" fill="{colours[engines]}"/>'
-                         f'<text x="{left + width + 4}" y="{at + high - 2}" font-size="10">{ratios[engines]:.2f}</text>')
-            at += high
-        at += gap
-    lines += [f'<line x1="{left + scale}" y1="{top - 6}" x2="{left + scale}" y2="{at - gap + 6}" stroke="#d00000" '
-              'stroke-dasharray="4 3"/>',
-              f'<text x="{left + scale}" y="{at}" text-anchor="middle" font-size="10">CaDiCaL alone, without a proof</text>', "</svg>"]
-    with open(path, "w") as file:
-        file.write("\n".join(lines) + "\n")
+def shown(value: Optional[float], digits: int = 2) -> str:
+    return "-" if value is None else f"{value:.{digits}f}"
 
 
-def main():
-    arguments = argparse.ArgumentParser(description=__doc__.splitlines()[0])
-    arguments.add_argument("--rounds", type=int, default=5)
-    arguments.add_argument("--work")
-    arguments.add_argument("--svg")
-    arguments.add_argument("solve")
-    arguments.add_argument("lrupd")
-    given = arguments.parse_args()
-    rows = []
-    print("| Formula | CaDiCaL alone, s, by the clock | Processor time | 2 engines: by the clock | Longest part | At least | "
-          "4 engines: by the clock | Longest part | At least | Verdict after, s | `lrupd` by engines | Filters by engines |")
-    print("|---|---|---|---|---|---|---|---|---|---|---|---|", flush=True)
+def line(*cells: str) -> None:
+    print("| " + " | ".join(cells) + " |")
+
+
+def head(*cells: str) -> None:
+    line(*cells)
+    print("|" + "---|" * len(cells))
+
+
+def counted(engines: int) -> str:
+    return f"{engines} engine" + "s" * (engines > 1)
+
+
+def ratio(medians: Medians, engines: int, name: str) -> Optional[float]:
+    alone, its = medians[ALONE], medians[engines]
+    return max(getattr(its, name), 0.01) / max(getattr(alone, name), 0.01) if alone and its else None
+
+
+def mean(medians: List[Medians], engines: int, name: str) -> Optional[float]:
+    ratios = [value for its in medians if (value := ratio(its, engines, name)) is not None]
+    return statistics.geometric_mean(ratios) if ratios else None
+
+
+def over_all(rows: List[Cells], of: Callable[[List[float]], float]) -> List[str]:
+    """Of each column."""
+    columns = [[value for value in column if value is not None] for column in zip(*rows)]
+    return [shown(of(column) if column else None) for column in columns]
+
+
+def most_others(medians: Medians) -> Optional[float]:
+    return max((one.others for one in medians.values() if one), default=None)
+
+
+def times(engines: List[int], every: List[Formula], medians: List[Medians]) -> None:
+    columns = [(count, title) for count in engines for title in MEASURES]
+    titles = [f"{counted(count)}: {title.lower()}" if title == "By the clock" else title for count, title in columns]
+    head("Formula", "CaDiCaL alone: by the clock, s", "Processor time, s", *titles, "Other work, cores")
+    rows = [[ratio(its, count, MEASURES[title]) for count, title in columns] for its in medians]
+    for formula, its, cells in zip(every, medians, rows):
+        alone = its[ALONE]
+        seconds = [alone.clock, alone.processor] if alone else [None, None]
+        line(f"{formula.family}: {formula.title}", *(shown(value, 1) for value in seconds), *map(shown, cells), shown(most_others(its), 1))
+    line("**geometric mean**", "", "", *(shown(mean(medians, count, MEASURES[title])) for count, title in columns), "")
+    line("**worst**", "", "", *over_all(rows, max), "")
+
+
+def shares(engines: List[int], every: List[Formula], medians: List[Medians]) -> None:
+    """How late the verdict comes, and the processor time of filters and lrupd beside the engines'; for each number of engines."""
+    head(f"Formula; engines: {', '.join(map(str, engines))}", *SHARES)
+    rows: List[Cells] = []
+    for formula, its in zip(every, medians):
+        ends = [(its[count], name) for name in SHARES.values() for count in engines]
+        rows.append([getattr(one, name) if one else None for one, name in ends])
+        line(f"{formula.family}: {formula.title}", *together(list(map(shown, rows[-1])), len(engines)))
+    line("**median**", *together(over_all(rows, statistics.median), len(engines)))
+    line("**most**", *together(over_all(rows, max), len(engines)))
+
+
+def together(cells: List[str], count: int) -> List[str]:
+    """So many to a cell."""
+    return [", ".join(cells[place:place + count]) for place in range(0, len(cells), count)]
+
+
+def cheap(alone: Optional[Result], its: Optional[Result]) -> bool:
+    return alone is not None and its is not None and its.processor <= TIMES * alone.processor + SECONDS
+
+
+def easy_times(engines: List[int], every: List[Formula], medians: List[Medians]) -> None:
+    """In seconds, since ratios say little below a tenth of one."""
+    head("Formula", "CaDiCaL alone: processor time, s", *(f"{counted(count)}: all processes, s" for count in engines),
+         *(f"{counted(count)}: by the clock, s" for count in engines), "Other work, cores")
+    for formula, its in zip(every, medians):
+        alone, ends = its[ALONE], [its[count] for count in engines]
+        cells = [getattr(one, name) if one else None for name in ("processor", "clock") for one in ends]
+        line(formula.title, shown(alone.processor if alone else None), *map(shown, cells), shown(most_others(its), 1))
+    for count in engines:
+        good = [cheap(its[ALONE], its[count]) for its in medians if its[ALONE]]
+        print(f"\n{counted(count)}: {sum(good)} of {len(good)} take at most {TIMES} times CaDiCaL's processor time and {SECONDS} s.")
+
+
+def note(given: argparse.Namespace, bench: Bench, every: List[Formula], medians: List[Medians]) -> str:
+    """What the medians are of."""
+    counts = [len(bench.of(formula, engines, given.others)) for formula in every for engines in (ALONE, *given.engines)]
+    runs = f"{max(counts)} runs" if min(counts) == max(counts) else f"{min(counts)} to {max(counts)} runs"
+    others = max(most_others(its) or 0 for its in medians)
+    return f"{'one run' if max(counts) == 1 else 'medians of ' + runs}, on {CORES} cores, of which other work had at most {others:.1f}"
+
+
+def panels_of(engines: List[int], of: Callable[[int, str], Optional[float]]) -> List[Dict[int, float]]:
+    """A dot for each number of engines that has a value, for each measure."""
+    panels = [{count: of(count, name) for count in engines} for name in MEASURES.values()]
+    return [{count: value for count, value in panel.items() if value is not None} for panel in panels]
+
+
+def draw(path: str, engines: List[int], every: List[Formula], medians: List[Medians], said: str) -> None:
+    rows: List[chart.Row] = []
+    family = ""
+    for formula, its in zip(every, medians):
+        if formula.family != family:
+            family = formula.family
+            rows.append(chart.Row(family, []))
+        rows.append(chart.Row(formula.title, panels_of(engines, partial(ratio, its))))
+    rows += [chart.Row("all", []), chart.Row("geometric mean", panels_of(engines, partial(mean, medians)))]
+    titles = ["by the clock", "processor time: longest part", "processor time: all"]
+    with open(path, "w") as out:
+        out.write(chart.chart(rows, titles, engines, said))
+
+
+def main() -> None:
+    given = arguments()
+    stop_gently()
+    every = chosen(given)
+    bench = Bench(given.solve, given.lrupd, given.limit, given.results)
     with tempfile.TemporaryDirectory() as temporary:
-        work = given.work or temporary
-        os.makedirs(work, exist_ok=True)
-        for words, title in FORMULAS:
-            formula, lone, runs = make_formula(words, work), [], {engines: [] for engines in ENGINES}
-            for _ in range(given.rounds):
-                lone.append(alone(formula))
-                for engines in ENGINES:
-                    runs[engines].append(solved(given, formula, engines))
-            clock, processor = (statistics.median(column) for column in zip(*lone))
-            medians = {engines: [statistics.median(column) for column in zip(*runs[engines])] for engines in ENGINES}
-            cells = [f"{medians[engines][column] / base:.2f}" for engines in ENGINES
-                     for column, base in enumerate((clock, processor, processor))]
-            rest = [", ".join(f"{medians[engines][column]:.2f}" for engines in ENGINES) for column in (3, 4, 5)]
-            print(f"| {title} | {clock:.1f} | {processor:.1f} | " + " | ".join(cells + rest) + " |", flush=True)
-            rows.append((title, {engines: medians[engines][0] / clock for engines in ENGINES}))
+        folder = given.work or temporary
+        os.makedirs(folder, exist_ok=True)
+        measure(given, bench, every, folder)
+    medians = [{engines: median(bench.of(formula, engines, given.others)) for engines in (ALONE, *given.engines)} for formula in every]
+    said = note(given, bench, every, medians)
+    if given.easy:
+        easy_times(given.engines, every, medians)
+    else:
+        times(given.engines, every, medians)
+        print()
+        shares(given.engines, every, medians)
+    print(f"\n{said[0].upper()}{said[1:]}.")
     if given.svg:
-        chart(rows, "one run each" if given.rounds == 1 else f"medians of {given.rounds} runs", given.svg)
+        draw(given.svg, given.engines, every, medians, said)
 
 
-main()
+if __name__ == "__main__":
+    main()

@@ -164,14 +164,15 @@ static Clause *install(Solver *solver, Clause *clause) {
 // The formula's clauses. One with a literal and its complement is never unit, and never a hint: it is left out.
 static Clause *install_formula(Solver *solver) {
     const Formula *formula = &solver->portfolio->formula;
-    for (size_t k = 0; k < formula->clauses; k++) {
-        const Literal *literals = formula->literals.items + formula->starts.items[k];
-        size_t length = formula->starts.items[k + 1] - formula->starts.items[k];
-        if (literals_clash(literals, length)) continue;
-        Clause *conflict = install(solver, new_clause(k + 1, 0, literals, length));
-        if (conflict != NULL) return conflict;
+    Literals literals = {0};
+    Clause *conflict = NULL;
+    for (size_t k = 0; k < formula->clauses && conflict == NULL; k++) {
+        formula_clause(formula, k, &literals);
+        if (literals_clash(literals.items, literals.length)) continue;
+        conflict = install(solver, new_clause(k + 1, 0, literals.items, literals.length));
     }
-    return NULL;
+    grow(literals.items, 0);
+    return conflict;
 }
 
 // Exchange, at level 0.

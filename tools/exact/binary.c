@@ -34,7 +34,10 @@ static int64_t as_literal(uint64_t number) {
 
 // Up to 0.
 static void numbers(Input *input, Numbers *list) {
-    for (uint64_t found; (found = number(input)) != 0;) PUSH(list, (int64_t)found);
+    for (uint64_t found; (found = number(input)) != 0;) {
+        if (list->length == MOST_NUMBERS) stop("a step of more than %d numbers", MOST_NUMBERS);
+        PUSH(list, (int64_t)found);
+    }
 }
 
 static void decode(Numbers *list, size_t start, size_t end, Coding coding) {

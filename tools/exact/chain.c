@@ -10,6 +10,7 @@
 #include <signal.h>
 #include <stdio.h>
 #include <string.h>
+#include <sys/file.h>
 #include <sys/stat.h>
 #include <unistd.h>
 
@@ -29,11 +30,19 @@ static volatile sig_atomic_t is_awaited;    // lrupd, at the FIFO
 static int file;
 static bool refuted, over;
 
+// No other run has the folder until this process ends, however it does. Where the system has no locks nobody is told.
+static void lock_folder(void) {
+    int held = open(folder, O_RDONLY | O_DIRECTORY | O_CLOEXEC);
+    if (held < 0) fail("cannot read the folder", folder);
+    if (flock(held, LOCK_EX | LOCK_NB) != 0 && errno == EWOULDBLOCK) fail("another run that goes on has its files in", folder);
+}
+
 // The folder. Any file of a round is in the way: lrupd would take it, or not write over it.
 void chain_open(const char *path) {
     folder = path;
     if (strlen(folder) > LONGEST_PATH - LONGEST_NAME) fail("too long a name:", folder);
     if (mkdir(folder, 0777) != 0 && errno != EEXIST) fail("cannot make the folder", folder);
+    lock_folder();
     DIR *list = opendir(folder);
     if (list == NULL) fail("cannot read the folder", folder);
     for (const struct dirent *entry; (entry = readdir(list)) != NULL;) {

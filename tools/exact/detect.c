@@ -62,9 +62,21 @@ static Form binary_form(Input *input, const Formula *formula) {
     }
 }
 
+// No proof begins as a compressed file does.
+void check_plain(Input *input) {
+    int first = input_ahead(input, 0);
+    if (is_space(first) || (first >= '0' && first <= '9') || (first >= 'a' && first <= 'z')) return;
+    const char *program = unpacked_by(first, input_ahead(input, 1));
+    if (program == NULL) return;
+    position_set("byte", 1);
+    stop("compressed: %s it", program);
+}
+
 // Of LRAT, DRUP and DRAT text the steps decide which it is.
 Form form_of(Input *input, const Formula *formula) {
+    position_set("byte", 1);
     int first = input_ahead(input, 0);
+    check_plain(input);
     if ((first == 'a' || first == 'd') && !(is_blank(input_ahead(input, 1)) && numbers_follow(input, 1)))
         return binary_form(input, formula);
     for (size_t at = 0;;) {

@@ -6,6 +6,7 @@
 #include "proof.h"
 
 enum { LITERALS_OF_A_LINE = 65535, IDENTITIES_OF_A_LINE = 65536, DIGITS = 18 };     // lrupd takes no more
+enum { LONGEST_STEP = 1 << 28, MOST_NUMBERS = 1 << 25 };   // bytes of a step of text, and numbers of a binary one: no proof has more
 #define LAST_IDENTITY UINT64_C(999999999999999999)
 
 typedef struct { int64_t *items; size_t length, capacity; } Numbers;
@@ -249,7 +250,9 @@ void chain_open(const char *folder);
 void chain_begin(Filter *filter, uint64_t memory);
 void chain_end(void);
 
-Form form_of(Input *input, const Formula *formula);         // detect.c
+// detect.c
+void check_plain(Input *input);                             // stops where it is compressed
+Form form_of(Input *input, const Formula *formula);
 
 void text_run(Filter *filter, Input *input, Form form);     // text.c: LRAT, DRUP and DRAT
 void frat_run(Filter *filter, Input *input);                // frat.c

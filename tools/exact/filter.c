@@ -14,17 +14,19 @@ static void make_known(Filter *filter, Place place) {
 // rounds gaps between identities would count towards the row's lines.
 void filter_open(Filter *filter, bool frat) {
     Formula *formula = &filter->formula;
+    Literals *literals = &filter->literals;
     filter->frat = frat;
     filter->keeps_identities = !filter->hooks && (filter->streams == 1 || filter->others.length > 0);
     propagation_open(&filter->propagation, &filter->clauses, formula->variables);
     hints_open(&filter->hints, &filter->clauses, formula->variables);
     for (size_t k = 0; k < formula->clauses; k++) {
-        size_t start = formula->starts.items[k], length = formula->starts.items[k + 1] - start;
-        const Literal *literals = length > 0 ? formula->literals.items + start : NULL;
-        Place place = clauses_add(&filter->clauses, k + 1, literals, length, literals_clash(literals, length));
+        formula_clause(formula, k, literals);
+        bool tautology = literals_clash(literals->items, literals->length);
+        Place place = clauses_add(&filter->clauses, k + 1, literals->items, literals->length, tautology);
         if (!frat) clauses_name(&filter->clauses, k + 1, place);
         make_known(filter, place);
     }
+    literals->length = 0;
     if (frat) clauses_keep_sets(&filter->clauses);
     formula->starts.items = grow(formula->starts.items, 0);
     formula->literals.items = grow(formula->literals.items, 0);

@@ -49,8 +49,7 @@ static void step(Filter *filter, const Words *words) {
 void frat_run(Filter *filter, Input *input) {
     Words words = {0};
     Line line;
-    for (uint64_t number = 1; !filter_ends(filter) && input_line(input, &line); number++) {
-        position_set("line", number);
+    for (uint64_t number = 1; position_set("line", number), !filter_ends(filter) && input_line(input, &line); number++) {
         words_read(&words, line);
         if (words.numbers.length == 0 || words.numbers.items[0] == LETTER('c')) continue;
         words_check_whole(&words, line);

@@ -145,6 +145,7 @@ static void check(const CommandLine *given) {
 
 static void run(Filter *filter, Input *input, Form form) {
     if (form == UNKNOWN_FORM) form = form_of(input, &filter->formula);
+    else check_plain(input);
     if (form == UNKNOWN_FORM) {
         position_set("byte", 1);
         stop("the first bytes don't tell the form: say it, --format lrat|drat|frat|binary-lrat|binary-drat");

@@ -1,5 +1,5 @@
 // Unverified, as all of this filter. LRAT text, whose hints may be in any order, too many or too few, and DRUP or DRAT text, which
-// has none. A step is a line; both may have comments, empty lines and loose spaces.
+// has none. A step is a line; both may have comments, empty lines and loose spaces, and a first line that begins with %.
 #include "exact.h"
 
 static const char *name_of(Form form) { return form == LRAT ? "LRAT" : "DRUP or DRAT"; }
@@ -45,8 +45,8 @@ static void step(Filter *filter, const Words *words, const Line *line, Form *for
 void text_run(Filter *filter, Input *input, Form form) {
     Words words = {0};
     Line line;
-    for (uint64_t number = 1; !filter_ends(filter) && input_line(input, &line); number++) {
-        position_set("line", number);
+    for (uint64_t number = 1; position_set("line", number), !filter_ends(filter) && input_line(input, &line); number++) {
+        if (number == 1 && *line.start == '%') continue;        // PicoSAT's
         words_read(&words, line);
         if (words.numbers.length == 0) continue;
         if (words.numbers.items[0] == LETTER('c') || words.numbers.items[0] == LETTER('o')) continue;

@@ -86,7 +86,7 @@ private:
     void configure() {
         solver.set("quiet", 1);
         solver.set("seed", engine.options->seed + engine.number - 1);
-        if (shares()) solver.set("lucky", 0);       // each call of `solve` would look for luck anew
+        if (engine.number > 1) solver.set("lucky", 0);
         switch ((engine.number - 1) % 8) {
             case 1: solver.configure("unsat"); break;
             case 2: solver.set("reverse", 1), solver.set("shuffle", 1), solver.set("shufflerandom", 1); break;
@@ -125,11 +125,17 @@ private:
         for (Literal literal : *engine.assumed) solver.freeze(as_written(literal));
     }
 
+    // Each call of `solve` would look for lucky assignments anew, unless something is assumed: a variable that no clause has.
+    void assume() {
+        for (Literal literal : *engine.assumed) solver.assume(as_written(literal));
+        if (engine.number == 1 && part.slices > 0) solver.assume(engine.formula->variables + 1);
+    }
+
     int solve() {
         const char *slice = test_word("LRUP_SOLVE_SLICE");
         double conflicts = slice ? atof(slice) : FIRST_CONFLICTS;
         for (;;) {
-            for (Literal literal : *engine.assumed) solver.assume(as_written(literal));
+            assume();
             if (shares()) solver.limit("conflicts", int(conflicts));
             double begin = now();
             int status = solver.solve();

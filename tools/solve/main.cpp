@@ -15,6 +15,8 @@
 #include <cstdio>
 #include <cstdlib>
 #include <cstring>
+#include <fstream>
+#include <iomanip>
 
 #include <fcntl.h>
 #include <poll.h>
@@ -30,6 +32,8 @@ namespace {
 const int PROOF_PIPE = 1 << 20, ALL_PROOF_PIPES = 1 << 24;     // the system gives a user no more than 1 << 26 for all pipes
 const double ENDING = 10;       // seconds that a filter has for the line that it is at
 const int UNKNOWN_STATUS = 3;   // of lrupd
+const int LONGEST_NUMBER = 20;
+const char OPEN_FILES[] = "/dev/fd/";
 
 Run *the_run;
 
@@ -54,13 +58,14 @@ std::string Run::again(const std::string &path, const char *kept_as) {
         if (rename(begun.c_str(), copied.c_str()) != 0) refuse("cannot write " + copied + ": " + error_text());
         return copied;
     }
+    seal(copy);
     copies.push_back(copy);
     return "/dev/fd/" + std::to_string(copy);
 }
 
 // Of an earlier run in the folder nothing is removed until they are read: they may come from there, by a pipe.
 void Run::read_inputs() {
-    std::vector<std::string> inputs = { options.formula ? options.formula : "-" };
+    std::vector<std::string> inputs = { options.formula };
     if (options.assume) inputs.push_back(options.assume);
     for (const std::string &path : inputs) check_input(path);
     if (options.proofs) open_record(options.proofs, inputs);
@@ -68,21 +73,29 @@ void Run::read_inputs() {
     if (options.assume) assume_path = again(inputs[1], "assumptions");
     if (options.proofs) clear_record(options.proofs, { formula_path, assume_path });
     open_teams();
-    if (is_compressed(formula_path)) refuse(title(inputs[0]) + ": compressed: zcat it");
+    check_plain(formula_path, title(inputs[0]));
 }
 
-// Their spelling is lrupd's to judge.
+// By a name that is short: what is said of it isn't cut.
+void Run::read_formula() {
+    int file = open_input(formula_path);
+    formula_read(&formula, (OPEN_FILES + std::to_string(file)).c_str());
+    close(file);
+}
+
+// How they are separated is lrupd's to judge.
 void Run::read_assumptions() {
-    FILE *file = fopen(assume_path.c_str(), "r");
-    if (!file) formula_refused("cannot read " + assume_path);
-    long literal = 0;
-    int found;
-    while ((found = fscanf(file, "%ld", &literal)) == 1 && literal != 0) {
-        if (std::labs(literal) > formula.variables) formula_refused("a variable that the formula doesn't have: " + assume_path);
-        assumed.push_back(literal > 0 ? 2 * (int(literal) - 1) : 2 * (int(-literal) - 1) + 1);
+    std::ifstream file(assume_path);
+    std::string word;
+    int literal = 0;
+    while (file >> std::setw(LONGEST_NUMBER) >> word && word != "0") {
+        if (!number_read(word.c_str(), &literal)) formula_refused(title(options.assume) + ": a word that is no number: " + word);
+        if (std::abs(literal) > formula.variables)
+            formula_refused(title(options.assume) + ": the literal " + word + ", and the formula has the variables 1 to " +
+                            std::to_string(formula.variables));
+        assumed.push_back(literal > 0 ? 2 * (literal - 1) : 2 * (-literal - 1) + 1);
     }
-    fclose(file);
-    if (found != 1 || literal != 0) formula_refused("no assumptions: " + assume_path);
+    if (word != "0") formula_refused(title(options.assume) + ": no line of literals that ends with 0");
     if (assumed.empty()) return;
     assumed.resize(literals_sort(assumed.data(), assumed.size()));
 }
@@ -96,7 +109,14 @@ std::string Run::contradiction() const {
     return "";
 }
 
-// lrupd reads the formula, too: where it refuses it, its words are told.
+// Of the file that it was about.
+std::string Run::named(const std::string &why) const {
+    size_t begin = strlen(OPEN_FILES);
+    if (why.rfind(OPEN_FILES, 0) != 0) return why;
+    return title(options.formula) + why.substr(why.find_first_not_of("0123456789", begin));
+}
+
+// lrupd reads the formula, too: where it refuses it, its words are told, and what is known here.
 void Run::formula_refused(const std::string &why) {
     double limit = now() + 600;
     while (probe.child.running && now() < limit) {
@@ -107,10 +127,10 @@ void Run::formula_refused(const std::string &why) {
     probe.read_on();
     if (probe.child.ended() && !probe.child.ended_with(UNKNOWN_STATUS) && !probe.last_line().empty()) {
         end_children();
-        fprintf(stderr, "%s\n", probe.last_line().c_str());
+        fprintf(stderr, "%s (%s)\n", probe.last_line().c_str(), one_line(named(why)).c_str());
         _exit(1);
     }
-    refuse(why);
+    refuse(named(why));
 }
 
 // Those that are ignored stay so, as under nohup.
@@ -157,6 +177,7 @@ void Run::start_team(size_t k) {
     int number = int(k) + 1;
     std::string title = std::to_string(number);
     if (begin(team.filter, "filter " + title, { team.proof.read, team.stream })) {
+        give_way();
         Filtering filtering = { shared, outboxes.data(), number, team.proof.read, team.stream,
                                 is_solver(k) ? UNKNOWN_FORM : SHARING_DRAT, options.shares() && !is_solver(k),
                                 assumed.data(), assumed.size() };
@@ -173,13 +194,18 @@ void Run::start_engine(size_t k) {
     Engine engine = { &options, &formula, &assumed, shared, outboxes.data(), team.model, number, team.proof.write };
     std::vector<int> files = { team.proof.write };
     std::string command;
+    int renamed = -1;       // by a name that no shell takes for anything else
     if (is_solver(k)) {
         files.insert(files.end(), copies.begin(), copies.end());
-        command = solver_command(options.solvers[k + options.solvers.size() - teams.size()], formula_path, team.proof.write);
+        if (!is_plain(formula_path)) files.push_back(renamed = kept_open(open_input(formula_path)));
+        command = solver_command(options.solvers[k + options.solvers.size() - teams.size()],
+                                 renamed < 0 ? formula_path : OPEN_FILES + std::to_string(renamed),
+                                 OPEN_FILES + std::to_string(team.proof.write));
         if (options.verbose) tell(format("engine %d: ", number) + command);
     }
     team.engine.hands_on = is_solver(k);
-    if (!begin(team.engine, "engine " + std::to_string(number), files)) return;
+    if (!begin(team.engine, "engine " + std::to_string(number), files)) return close_file(renamed);
+    give_way();
     if (!options.verbose) dup2(open("/dev/null", O_WRONLY), STDERR_FILENO);     // its last words
     if (is_solver(k)) solver_process(engine, command, files);
     engine_process(engine);
@@ -193,7 +219,7 @@ void Run::wait() {
         for (const pollfd &file : one->files()) list.push_back(file);
     for (const pollfd &file : more_files()) list.push_back(file);
     double tick = phase == SOLVING ? 0.02 : 0.002;
-    if (options.time > 0) tick = std::min(tick, std::max(0.0, started + options.time - now()));
+    if (options.time > 0 && phase != DONE) tick = std::min(tick, std::max(0.0, started + options.time - now()));
     poll(list.data(), list.size(), int(std::ceil(1000 * tick)));
     take_signal();
     while (reap(children())) {}
@@ -214,14 +240,28 @@ void Run::finish(Answer found, const std::string &why) {
     phase = DONE;
 }
 
+void Run::look_at_reading() {
+    if (!probe.child.ended() || probe.child.ended_with(UNKNOWN_STATUS)) return;
+    bool is_of_assumptions = options.assume && probe.last_line().find("assumptions") != std::string::npos;
+    if (probe.last_line().empty()) formula_refused("lrupd, which reads the formula, " + probe.child.end());
+    formula_refused(title(is_of_assumptions ? options.assume : options.formula));
+}
+
+// However early the solving has ended, a formula that lrupd refuses is told as that. A signal ends the waiting.
+void Run::await_reading() {
+    for (Child *child : children())
+        if (child != &probe.child) child->signal(SIGKILL);
+    while (answer == UNKNOWN_ANSWER && probe.child.running && !ended_by) wait();
+    if (answer == UNKNOWN_ANSWER && !ended_by) look_at_reading();
+}
+
 // What the end of one of the others means.
 void Run::look() {
     look_elsewhere();
     if (phase == DONE) return;
     if (ended_by) return finish(UNKNOWN_ANSWER, std::string("ended by a signal: ") + strsignal(ended_by));
     if (options.time > 0 && now() - started >= options.time) return finish(UNKNOWN_ANSWER, "time is up");
-    if (probe.child.ended() && !probe.child.ended_with(UNKNOWN_STATUS))
-        formula_refused("lrupd, which reads the formula, " + probe.child.end());
+    look_at_reading();
     if (phase < ENDING_STREAMS) look_at_teams();
     if (phase == SOLVING) pause_others();
     if (phase != SAVING && phase < ENDING_STREAMS) look_at_checker();
@@ -265,7 +305,8 @@ void Run::look_at_team(size_t k) {
     if (phase >= ENDING_STREAMS || team.told || said == SATISFIABLE) return;
     bool both_ended = team.engine.ended() && team.filter.ended_with(0);
     if (said == 0 && !facts.cause[0] && (both_ended || (team.engine.ended() && !team.engine.ended_with(0)))) {
-        tell_lost(k, "the engine " + team.engine.end());
+        bool unfounded = LOAD(facts.unfounded);
+        tell_lost(k, unfounded ? "it says 'satisfiable', and gives no assignment in lines v" : "the engine " + team.engine.end());
         if (LOAD(facts.group)) kill(-LOAD(facts.group), SIGKILL);       // where not even its process could do that
     } else if (team.filter.ended() && (both_ended || !team.filter.ended_with(0))) {
         tell_lost(k, "its filter " + (facts.cause[0] ? std::string("stopped: ") + facts.cause : team.filter.end()));
@@ -346,7 +387,7 @@ void Run::prepare() {
     std::vector<std::string> words = checker_words({ 0, 0 });
     words.insert(words.end(), { formula_path, "/dev/null" });
     probe.start(checker_program, words, copies, {});
-    formula_read(&formula, formula_path.c_str());
+    read_formula();
     if (options.assume) read_assumptions();
     for (Team &team : teams) team.model = shared_memory<signed char>(size_t(formula.variables));
     first_round();
@@ -364,6 +405,7 @@ int Run::run() {
         show_progress();
     }
     end_elsewhere();
+    await_reading();
     for (Child *child : children()) child->signal(SIGKILL);
     for (Child *child : children()) wait_for(*child);
     checker.read_on();

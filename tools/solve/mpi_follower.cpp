@@ -52,7 +52,7 @@ private:
         options.proofs = options.assume = nullptr;
         options.time = 0;
         receive_inputs();
-        formula_read(&formula, formula_path.c_str());
+        read_formula();
         open_teams();
         told.resize(teams.size());
         for (int k = first; k < first + here; k++) teams[size_t(k)].model = shared_memory<signed char>(size_t(formula.variables));

@@ -29,8 +29,8 @@ const char summary[] =
     "                     sh DIR/command. Those of an earlier run are removed\n"
     "  --assume FILE      literals that are assumed, in one line that ends with 0, as for lrupd\n"
     "  --lrupd PATH       the checker; if not said it is looked for beside this program, and then on the PATH\n"
-    "  -v                 say what goes on, in lines that begin with c\n"
-    "  -q                 no lines but the answer, and no progress\n"
+    "  -v, --verbose      say what goes on, in lines that begin with c\n"
+    "  -q, --quiet        no lines but the answer, and no progress, also with -v\n"
     "  -h, --help         show this\n"
     "  --version          show the version\n"
     "\n"
@@ -110,7 +110,7 @@ const char *name_of_file(const char *name, const char *what, const char *value) 
 }
 
 const char *solver_of(const char *value) {
-    if (!strstr(value, "%formula") || !strstr(value, "%proof")) bad_value("--solver", "a command with %formula and %proof", value);
+    if (!strstr(value, "%formula") || !strstr(value, "%proof")) bad_value("--solver", "a command with both %formula and %proof", value);
     return value;
 }
 
@@ -128,6 +128,9 @@ bool read_valued(Options &options, Words &words, const char *word) {
     else return false;
     return true;
 }
+
+// -v, -q, -qv
+bool is_of_letters(const char *word) { return word[0] == '-' && word[1] != 0 && word[1 + strspn(word + 1, "qv")] == 0; }
 
 void take_formula(Options &options, const char *word) {
     if (options.formula) refuse("one word too many: " + quoted(word));
@@ -150,12 +153,17 @@ Options read_words(int count, char **list) {
         if (strcmp(word, "--version") == 0) show(version().c_str());
         if (strcmp(word, "--") == 0) only_words = true;
         else if (strcmp(word, "--no-share") == 0) options.share = false;
-        else if (strcmp(word, "-v") == 0) options.verbose = true;
-        else if (strcmp(word, "-q") == 0) options.quiet = true;
+        else if (strcmp(word, "--verbose") == 0) options.verbose = true;
+        else if (strcmp(word, "--quiet") == 0) options.quiet = true;
+        else if (is_of_letters(word)) {
+            options.verbose |= strchr(word, 'v') != nullptr;
+            options.quiet |= strchr(word, 'q') != nullptr;
+        }
         else if (read_valued(options, words, word)) continue;
         else if (word[0] == '-' && word[1] != 0) refuse(std::string("no such option: ") + word + " (--help lists them)");
         else take_formula(options, word);
     }
+    if (!options.formula) options.formula = "-";
     if (options.solvers.size() + size_t(options.engines) > MOST_ENGINES) refuse("more than 64 engines, with those of --solver");
     if (!options.solvers.empty() && options.assume) refuse("--assume and --solver: a solver isn't told of assumptions");
     return options;

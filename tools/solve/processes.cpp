@@ -43,11 +43,11 @@ int new_file(const std::string &path) {
     return open(path.c_str(), O_RDWR | O_CREAT | O_EXCL | O_NOFOLLOW | O_CLOEXEC, 0666);
 }
 
+}
+
 int kept_open(int file) {
     opened.push_back(file);
     return file;
-}
-
 }
 
 bool another_refuses = false;
@@ -118,9 +118,15 @@ void *shared_bytes(size_t bytes) {
 }
 
 int file_in_memory() {
-    int file = memfd_create("lrup-solve", MFD_CLOEXEC);
+    int file = memfd_create("lrup-solve", MFD_CLOEXEC | MFD_ALLOW_SEALING);
     if (file < 0) refuse("cannot make a file in memory: " + error_text());
     return kept_open(file);
+}
+
+// Nobody writes to it from now on, not even by its name below /proc.
+void seal(int file) {
+    if (fcntl(file, F_ADD_SEALS, F_SEAL_WRITE | F_SEAL_GROW | F_SEAL_SHRINK | F_SEAL_SEAL) != 0)
+        refuse("cannot seal a file in memory: " + error_text());
 }
 
 void copy_file(int file, const std::string &name, int copy) {
@@ -215,6 +221,15 @@ bool begin(Child &child, const std::string &name, const std::vector<int> &kept) 
     for (int file : opened)
         if (std::find(kept.begin(), kept.end(), file) == kept.end()) close(file);
     return true;
+}
+
+// A lost engine is but a lost engine, and without lrupd or the first process the run is lost. Anyone may raise this number, and
+// where that fails the system chooses as ever.
+void give_way() {
+    int file = open("/proc/self/oom_score_adj", O_WRONLY | O_CLOEXEC);
+    if (file < 0) return;
+    write_all(file, "1000", 4);
+    close(file);
 }
 
 static void take_end(Child &child, int status, const rusage &used) {

@@ -6,6 +6,7 @@
 
 #include <dirent.h>
 #include <fcntl.h>
+#include <sys/file.h>
 #include <sys/stat.h>
 #include <unistd.h>
 
@@ -61,10 +62,15 @@ std::vector<std::string> files_of(const std::string &folder) {
 
 }
 
+// To a shell it is one word as it stands.
+bool is_plain(const std::string &word) {
+    auto is_usual = [](unsigned char letter) { return isalnum(letter) || strchr("-_./+=,:@%", letter); };
+    return !word.empty() && std::all_of(word.begin(), word.end(), is_usual);
+}
+
 // For a shell.
 std::string quoted(const std::string &word) {
-    auto is_plain = [](unsigned char letter) { return isalnum(letter) || strchr("-_./+=,:@%", letter); };
-    if (!word.empty() && std::all_of(word.begin(), word.end(), is_plain)) return word;
+    if (is_plain(word)) return word;
     std::string text = "'";
     for (char letter : word) text += letter == '\'' ? std::string("'\\''") : std::string(1, letter);
     return text + "'";
@@ -108,21 +114,29 @@ int open_input(const std::string &path) {
     return file;
 }
 
-bool is_compressed(const std::string &path) {
+void check_plain(const std::string &path, const std::string &name) {
     unsigned char bytes[2] = { 0, 0 };
     int file = open(path.c_str(), O_RDONLY | O_CLOEXEC);
-    bool found = file >= 0 && pread(file, bytes, 2, 0) == 2 && bytes[0] == 0x1f && bytes[1] == 0x8b;
+    const char *program = file >= 0 && pread(file, bytes, 2, 0) == 2 ? unpacked_by(bytes[0], bytes[1]) : nullptr;
     if (file >= 0) close(file);
-    return found;
+    if (program) refuse(name + ": compressed: " + program + " it");
 }
 
 // The folder.
+
+// No other run has it until this process ends, however it does. Where the system has no locks nobody is told.
+static void lock_folder(const std::string &folder) {
+    int file = open(folder.c_str(), O_RDONLY | O_DIRECTORY | O_CLOEXEC);
+    if (file < 0) refuse(folder + ": " + error_text());
+    if (flock(kept_open(file), LOCK_EX | LOCK_NB) != 0 && errno == EWOULDBLOCK)
+        refuse(folder + ": another run that goes on has its files there: another --proofs");
+}
 
 // A run that has read its inputs leaves a first stream. Where there is none, a file with one of the names is somebody's own.
 void open_record(const std::string &folder, const std::vector<std::string> &inputs) {
     struct stat input, found;
     if (mkdir(folder.c_str(), 0777) != 0 && errno != EEXIST) refuse("cannot make " + folder + ": " + error_text());
-    if (stat(folder.c_str(), &found) != 0 || !S_ISDIR(found.st_mode)) refuse(folder + ": " + strerror(ENOTDIR));
+    lock_folder(folder);
     for (const std::string &path : files_of(folder))
         for (const std::string &name : inputs)
             if (find(path, found) && find(name, input) && is_same(found, input))

@@ -69,7 +69,9 @@ protected:
     void read_inputs();
     std::string contradiction() const;
     std::string again(const std::string &path, const char *kept_as);
+    void read_formula();
     void read_assumptions();
+    std::string named(const std::string &why) const;
     void take_signals();
     void open_teams();
     virtual void start_team(size_t k);
@@ -78,6 +80,8 @@ protected:
     // Events.
     void wait();
     void take_signal();
+    void look_at_reading();
+    void await_reading();
     void look();
     void look_at_teams();
     void look_at_team(size_t k);

@@ -20,6 +20,7 @@ typedef struct {
     int answer;                 // 10 or 20, once its proof and the model are written
     uint64_t conflicts, slices, taken, refused, satisfied;
     int group;                  // the processes of a solver that the user has
+    int unfounded;              // it says 10, and gives no assignment
     // The filter writes:
     uint64_t lines, literals, hints, given;                     // of all rounds
     uint64_t citing_others, citing_elsewhere;                   // lines with a hint of another stream; of one of another host

@@ -41,6 +41,7 @@ double now();                                           // seconds
 
 struct Pipe { int read = -1, write = -1; };
 
+int kept_open(int file);                                // by this process: a child has it where it is given it
 Pipe make_pipe(int bytes);                              // so many, if the system gives them
 void close_file(int &file);
 int create_file(const std::string &path);               // a new one, whatever had the name
@@ -48,6 +49,7 @@ void create_pipe(const std::string &path);
 int open_pipe(const std::string &path, int bytes);      // to write to it, without a name from then on; -1 where nobody reads yet
 std::string write_file(const std::string &path, const std::string &text);   // the cause, where it can't be written
 int file_in_memory();
+void seal(int file);                                    // in memory
 void *shared_bytes(size_t bytes);                       // with the children that come later
 
 template <typename Item> Item *shared_memory(size_t count) {
@@ -76,8 +78,10 @@ bool begin(Child &child, const std::string &name, const std::vector<int> &kept);
 bool reap(const std::vector<Child *> &children);         // one that has ended, if there is one
 void wait_for(Child &child);
 void end_children();                                     // and removes the folder
+void give_way();                                        // this process ends before others where memory is short
 
 // record.cpp: paths, and the folder of --proofs. An input is a path, or `-`.
+bool is_plain(const std::string &word);
 std::string quoted(const std::string &word);
 std::string one_line(const std::string &text);
 std::string absolute(const std::string &path);
@@ -85,7 +89,7 @@ std::string unfinished(const std::string &path);        // its name while it is 
 void check_input(const std::string &path);              // refuses where it can't be read
 bool is_read_again(const std::string &path);            // lrupd can open it, too, and as often as it likes
 int open_input(const std::string &path);
-bool is_compressed(const std::string &path);
+void check_plain(const std::string &path, const std::string &name);     // refuses where it is compressed
 void open_record(const std::string &folder, const std::vector<std::string> &inputs);    // refuses to write over these
 void clear_record(const std::string &folder, const std::vector<std::string> &kept);     // of an earlier run
 
@@ -104,7 +108,7 @@ struct Engine {
 const char *engine_version();
 
 // solver.cpp: the same of a solver that the user has, which opens these files.
-std::string solver_command(const std::string &command, const std::string &formula, int proof);
+std::string solver_command(const std::string &command, const std::string &formula, const std::string &proof);
 [[noreturn]] void solver_process(const Engine &engine, const std::string &command, const std::vector<int> &files);
 
 // checker.cpp: lrupd, and its words.

@@ -18,6 +18,7 @@
 namespace {
 
 const size_t LONGEST_WORD = 64;     // that is looked at
+const char SATISFIABLE_LINE[] = "SATISFIABLE", UNSATISFIABLE_LINE[] = "UNSATISFIABLE";
 
 // The lines `s` and `v` of its output. One may be longer than memory should hold, so they are read word by word.
 class Printed {
@@ -36,16 +37,22 @@ public:
 
     // 10, 20, or 0 for none. The status counts first; one that the line contradicts, and a 10 without an assignment, are none.
     int answer(int status) const {
-        bool satisfiable = verdict == "SATISFIABLE", unsatisfiable = verdict == "UNSATISFIABLE";
-        if (status == 10 || (satisfiable && status != 20)) return has_values && !unsatisfiable ? 10 : 0;
-        return (status == 20 && !satisfiable) || unsatisfiable ? 20 : 0;
+        bool satisfiable = verdict == SATISFIABLE_LINE, unsatisfiable = verdict == UNSATISFIABLE_LINE;
+        if (says_satisfiable(status)) return has_values ? 10 : 0;
+        return (status == 20 && !satisfiable) || (unsatisfiable && status != 10) ? 20 : 0;
     }
+
+    bool is_unfounded(int status) const { return says_satisfiable(status) && !has_values; }
 
 private:
     int variables;
     signed char *model;
     std::string word, first, verdict;       // of the line
     bool has_values = false;
+
+    bool says_satisfiable(int status) const {
+        return (status == 10 && verdict != UNSATISFIABLE_LINE) || (status != 20 && verdict == SATISFIABLE_LINE);
+    }
 
     void take(char letter) {
         bool ends = isspace(static_cast<unsigned char>(letter));
@@ -57,20 +64,17 @@ private:
     void take_word() {
         if (first.empty()) first = word;
         else if (first == "s") verdict = word;
-        else if (first == "v") take_value(std::strtol(word.c_str(), nullptr, 10));
+        else if (first == "v") take_value();
         word.clear();
     }
 
-    void take_value(long literal) {
+    void take_value() {
+        int literal;
+        if (!number_read(word.c_str(), &literal)) return;
         has_values = true;
-        if (literal != 0 && std::labs(literal) <= variables) model[std::labs(literal) - 1] = literal > 0 ? 1 : -1;
+        if (literal != 0 && std::abs(literal) <= variables) model[std::abs(literal) - 1] = literal > 0 ? 1 : -1;
     }
 };
-
-std::string replaced(std::string text, const std::string &name, const std::string &value) {
-    for (size_t at = 0; (at = text.find(name, at)) != std::string::npos; at += value.size()) text.replace(at, name.size(), value);
-    return text;
-}
 
 [[noreturn]] void run_shell(const std::string &command, const std::vector<int> &files, int out) {
     setpgid(0, 0);
@@ -136,8 +140,18 @@ int wait_for_solver(pid_t group, int signals, int out, Printed &printed) {
 
 }
 
-std::string solver_command(const std::string &command, const std::string &formula, int proof) {
-    return replaced(replaced(command, "%formula", quoted(formula)), "%proof", "/dev/fd/" + std::to_string(proof));
+// Both paths are plain, however they stand between quotes; what is put in place isn't read again.
+std::string solver_command(const std::string &command, const std::string &formula, const std::string &proof) {
+    static const std::string names[] = { "%formula", "%proof" };
+    const std::string *values[] = { &formula, &proof };
+    std::string found;
+    for (size_t at = 0; at < command.size();) {
+        size_t k = 0;
+        while (k < 2 && command.compare(at, names[k].size(), names[k]) != 0) k++;
+        found += k < 2 ? *values[k] : command.substr(at, 1);
+        at += k < 2 ? names[k].size() : 1;
+    }
+    return found;
 }
 
 // The proof is held open until the answer is there.
@@ -153,7 +167,8 @@ void solver_process(const Engine &engine, const std::string &command, const std:
     STORE(engine.shared->parts[engine.number - 1].group, pid);
     close_file(out.write);
     int status = wait_for_solver(pid, signals, out.read, printed);
-    int answer = printed.answer(WIFEXITED(status) ? WEXITSTATUS(status) : 0);
+    int exited = WIFEXITED(status) ? WEXITSTATUS(status) : 0, answer = printed.answer(exited);
+    if (printed.is_unfounded(exited)) STORE(engine.shared->parts[engine.number - 1].unfounded, 1);
     if (answer != 0) STORE(engine.shared->parts[engine.number - 1].answer, answer);
     if (WIFEXITED(status)) _exit(WEXITSTATUS(status));
     signal(WTERMSIG(status), SIG_DFL);

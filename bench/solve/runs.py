@@ -1,0 +1,145 @@
+"""Runs CaDiCaL and lrup-solve on formulas by turns, and keeps what each run took as a line of a file, for a later call to go on with."""
+import hashlib
+import json
+import os
+import re
+import resource
+import shutil
+import signal
+import subprocess
+import sys
+import time
+from pathlib import Path
+from typing import Any, Dict, List, NamedTuple, Tuple
+
+ALONE = 0               # in the place of a number of engines
+UNSATISFIABLE = 20
+MOMENT = 0.5            # seconds for which nothing of ours runs, to see what else does
+TICKS = os.sysconf("SC_CLK_TCK")
+
+
+class Formula(NamedTuple):
+    words: str
+    title: str
+    family: str
+
+
+class Result(NamedTuple):
+    """Of one run. Seconds, but `others`: how many cores other processes had, on average. A status that isn't 20 is no answer in time."""
+    words: str
+    engines: int
+    status: int
+    others: float
+    clock: float
+    processor: float        # of all processes
+    path: float             # of the engine or filter that took most
+    filters: float          # by that of the engines, as lrupd
+    lrupd: float
+    verdict: float          # by the clock, after the answer of an engine
+
+
+def busy_seconds() -> float:
+    """Of all cores together, since the machine started."""
+    words = Path("/proc/stat").read_text().split("\n", 1)[0].split()[1:]
+    idle = int(words[3]) + int(words[4])
+    return (sum(map(int, words[:8])) - idle) / TICKS
+
+
+def own_seconds() -> float:
+    used = resource.getrusage(resource.RUSAGE_CHILDREN)
+    return used.ru_utime + used.ru_stime
+
+
+def others_now() -> float:
+    """How many cores are busy while nothing of ours runs."""
+    before = busy_seconds()
+    time.sleep(MOMENT)
+    return (busy_seconds() - before) / MOMENT
+
+
+def run(command: List[str]) -> Tuple[int, str]:
+    """Leaves nothing behind where it is interrupted."""
+    process = subprocess.Popen(command, stdout=subprocess.PIPE, stderr=subprocess.STDOUT, text=True)
+    try:
+        said, _ = process.communicate()
+    except BaseException:
+        process.terminate()
+        process.wait()
+        raise
+    return process.returncode, said
+
+
+def numbers(pattern: str, text: str) -> List[float]:
+    found = re.search(pattern, text)
+    if not found:
+        sys.exit(f"no '{pattern}' in\n{text}")
+    return [float(number) for number in found.groups()]
+
+
+def parts_of(said: str) -> Dict[str, float]:
+    """What `lrup-solve -v` says of its processes."""
+    pairs = re.findall(r"^c engine \d+: ([\d.]+) s, its filter ([\d.]+) s", said, re.M)
+    engines, filters, lrupd = numbers(r"s of processor time: engines ([\d.]+), filters ([\d.]+), lrupd ([\d.]+)", said)
+    verdict, = numbers(r"the verdict came ([\d.]+) s after", said)
+    most = max(engines, 0.01)       # as much as is told of it
+    path = max(float(part) for pair in pairs for part in pair)
+    return {"path": path, "filters": filters / most, "lrupd": lrupd / most, "verdict": verdict}
+
+
+class Bench:
+    """The programs, and the results of all runs of them so far."""
+
+    def __init__(self, solve: str, lrupd: str, limit: int, results: str) -> None:
+        self.solve, self.lrupd, self.limit, self.path = solve, lrupd, limit, results
+        self.results: List[Result] = []
+        digest = hashlib.sha256(b"".join(Path(program).read_bytes() for program in (shutil.which("cadical") or "cadical", solve, lrupd)))
+        self.programs = {"programs": digest.hexdigest()[:16]}
+        if results and os.path.exists(results):
+            self.read()
+        elif results:
+            self.write(self.programs)
+
+    def read(self) -> None:
+        text = Path(self.path).read_text()
+        first, *lines = text.split("\n")
+        if json.loads(first) != self.programs:
+            sys.exit(f"{self.path} has the results of other programs: name another file")
+        # The last may have no end.
+        self.results = [Result(**json.loads(line)) for line in lines if line.endswith("}")]
+        if not text.endswith("\n"):
+            with open(self.path, "a") as out:
+                out.write("\n")
+
+    def write(self, line: Dict[str, Any]) -> None:
+        if self.path:
+            with open(self.path, "a") as out:
+                out.write(json.dumps(line) + "\n")
+
+    def of(self, formula: Formula, engines: int, most_others: float) -> List[Result]:
+        return [one for one in self.results if (one.words, one.engines) == (formula.words, engines) and one.others <= most_others]
+
+    def command(self, path: str, engines: int) -> List[str]:
+        if engines == ALONE:
+            return ["cadical", "-q", "-n", "-t", str(self.limit), path]
+        return [self.solve, "--lrupd", self.lrupd, "-v", "-j", str(engines), "--time", str(self.limit), path]
+
+    def measure(self, formula: Formula, path: str, engines: int) -> Result:
+        began, busy, own = time.monotonic(), busy_seconds(), own_seconds()
+        status, said = run(self.command(path, engines))
+        clock, processor = time.monotonic() - began, own_seconds() - own
+        others = max(0.0, (busy_seconds() - busy - processor) / max(clock, MOMENT))      # both are counted in hundredths of a second
+        parts = {"path": processor, "filters": 0.0, "lrupd": 0.0, "verdict": 0.0}
+        if engines != ALONE and status == UNSATISFIABLE:
+            parts = parts_of(said)
+        if status != UNSATISFIABLE:
+            print(f"{formula.words}, {engines} engines: status {status}\n{said[-2000:]}", file=sys.stderr)
+        result = Result(formula.words, engines, status, others, clock, processor, **parts)
+        self.results.append(result)
+        self.write({name: round(value, 4) if isinstance(value, float) else value for name, value in result._asdict().items()})
+        return result
+
+
+def stop_gently() -> None:
+    """What runs is ended, too."""
+    for number in (signal.SIGTERM, signal.SIGINT):
+        signal.signal(number, lambda *_: sys.exit("stopped"))
