@@ -145,7 +145,7 @@ typedef struct {
     Places waiting;             // clauses that nobody has looked for yet
     bool used;
     Place conflict;             // one without an assumption
-    Literals marked;            // whose variables were seen
+    Literals marked;            // variables that were seen
     Places needed;              // positions, of all that a clause rests on
     Places missing;             // positions of literals that a chain needs, and that have no unit clause
 } Propagation;
@@ -238,7 +238,7 @@ struct Filter {
     Literals literals;              // of the step, each once
     Places given;
     Identities chain;
-    Literals spare;                 // of a lemma
+    Literals spare, left;           // of a lemma; of a clause, what it isn't rid of
     Places lemmas;                  // that only the line that comes next needs
     Weight *weights;                // by variable; all 0 but while a chain is split. NULL: none was
 };

@@ -42,7 +42,7 @@ static void give_lemma(Filter *filter, int variable) {
 static Place shorten(Filter *filter, Place place, int own) {
     Propagation *propagation = &filter->propagation;
     const Clause *clause = clause_at(&filter->clauses, place);
-    Literals *left = &propagation->marked;
+    Literals *left = &filter->left;
     size_t found = 0;
     for (unsigned k = 0; k < clause->length; k++) {
         int variable = variable_of(clause->literals[k]);
