@@ -28,7 +28,6 @@ static uint64_t round_number;               // from 1
 static char sizes[LONGEST_PATH], stream[LONGEST_PATH];      // paths
 static volatile sig_atomic_t is_awaited;    // lrupd, at the FIFO
 static int file;
-static bool refuted, over;
 
 // No other run has the folder until this process ends, however it does. Where the system has no locks nobody is told.
 static void lock_folder(void) {
@@ -116,7 +115,7 @@ static void close_stream(void) {
 }
 
 static void to_stream(const char *bytes, size_t length) {
-    if (!over && !write_whole(file, bytes, length)) fail("cannot write the stream:", strerror(errno));
+    if (!write_whole(file, bytes, length)) fail("cannot write the stream:", strerror(errno));
 }
 
 static void take_checkpoint(void) {
@@ -149,21 +148,13 @@ static void next_round(uint64_t wanted) {
     take_checkpoint();
 }
 
-// What comes behind the empty clause needs no round more.
-static bool has_room(uint64_t literals) {
-    if (over || row_holds(rows.row, used, literals)) return true;
-    if (!refuted) return false;
-    close_stream();
-    over = true;
-    return true;
-}
+static bool has_room(uint64_t literals) { return row_holds(rows.row, used, literals); }
 
 static void derives(const Filter *one) { round_make_room(one, has_room, next_round); }
 
 static void derived(const Filter *one) {
     used.lines++;
     used.room += one->literals.length;
-    refuted |= one->literals.length == 0;
 }
 
 static bool never_ends(void) { return false; }
@@ -185,6 +176,4 @@ void chain_begin(Filter *one, uint64_t memory) {
     open_stream();
 }
 
-void chain_end(void) {
-    if (!over) close_stream();
-}
+void chain_end(void) { close_stream(); }
