@@ -155,6 +155,7 @@ void Run::look_at_round() {
 
 // One has no room for a line more: all streams end. Those that stand still go on to their ends.
 void Run::end_round() {
+    start_others();         // they begin with round 1
     STORE(shared->ending_round, round);
     pause_begun = now();
     phase = ENDING_ROUND;
