@@ -161,6 +161,24 @@ def earlier_run(work: Path) -> None:
     want(sorted(os.listdir(kept)), sorted([*others, *one]), "what is there after 's UNKNOWN'")
 
 
+def others_write(mode: int, taken: bool, work: Path) -> None:
+    """Where others may remove files they may put their own in the place of a stream; where the folder is sticky they can't."""
+    kept = work / "kept"
+    kept.mkdir()
+    kept.chmod(mode)
+    words = ["-j", "1", "--proofs", kept, example("bmc.cnf")]
+    if not taken:
+        return refused(words, f"{kept}: others may write there: another --proofs", work)
+    want_answer(solve(words), 20)
+    check_again(kept)
+
+
+def made_where_all_may_write(work: Path) -> None:
+    in_shell('umask 0; exec "$@"', "sh", SOLVE, "--lrupd", PROGRAM, "-j", "1", "--proofs", work / "kept", example("bmc.cnf"))
+    want((work / "kept").stat().st_mode & 0o7777, 0o775, "the mode of the folder that is made")
+    check_again(work / "kept")
+
+
 def locked(name: str, ends: int, work: Path) -> None:
     """Another run has the folder, until it ends, however it does. The second one is refused at once, and touches nothing."""
     kept, words = work / "kept", ["--proofs", work / name, "-j", "1", example("bmc.cnf")]
@@ -640,6 +658,9 @@ def words_and_files() -> List[Row]:
     runs += [(" ".join(["standard input as", *words]), another_name, words) for words in
              (["/dev/stdin"], ["/proc/self/fd/0"], ["{work}/link"], ["/dev/fd/5"], ["--", "-"],
               ["--proofs", "{work}/kept", "/dev/stdin"])]
+    runs += [("a folder that is made", made_where_all_may_write)]
+    runs += [(f"a folder of mode {mode:o}", others_write, mode, taken)
+             for mode, taken in ((0o777, False), (0o757, False), (0o1777, True), (0o775, True), (0o700, True))]
     runs += [(f"an own {name}", own_files, name) for name in ("formula.cnf", "assumptions", "report", "command")]
     runs += [(" ".join(["over", *words]), writes_over, words) for words in
              (["formula.cnf"], ["formula.cnf", "{path}"], ["round-1.stream-1", "{path}"], ["round-12.stream-64", "{path}"],
