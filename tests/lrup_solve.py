@@ -38,6 +38,7 @@ from solving import (EARLY, ELIMINATING, OUT, PROGRAM, SOLVE, Answer, before_lru
 words_given(__doc__, most=2)
 MITERS = EXAMPLES / "miter"
 TRIES = 10      # of runs that may be over before something happens to them
+CUBE = os.fsdecode(b"cube\xe9")
 SOON = 9        # seconds, fewer than a filter has for its last line
 PROGRESS = re.compile(rb"\r([^\r\n\x1b]* conflicts[^\r\n\x1b]*)\x1b\[K")
 
@@ -99,6 +100,17 @@ def keeps_standard_input(work: Path) -> None:
     """The record has a copy of what came by a pipe."""
     want_answer(solve(["--proofs", work / "kept"], given=example("bmc.cnf").read_text()), 20)
     check_again(work / "kept")
+
+
+def keeps_not_utf8(words: List[str], tested: Dict[str, object], work: Path) -> None:
+    """Names that aren't UTF-8, of which lrupd takes none: the formula's, the assumptions' and the record's, from one such folder."""
+    folder = work / os.fsdecode(b"\xff \xed\xa0\x80")
+    formula = written(example("bmc.cnf").read_text(), folder, os.fsdecode(b"formula\xc0\x80"))
+    written("0\n", folder, CUBE)
+    want_answer(solve(["-v", "-j", "2", *words, formula.name], cwd=folder, tested=tested, env_more={"TMPDIR": str(folder)}), 20)
+    if "--proofs" in words:
+        check_again(folder / words[-1])
+    want(list(folder.glob("lrup-solve-*")), [], "folders of rounds that are left")
 
 
 def keeps_by_short_names(work: Path) -> None:
@@ -658,6 +670,10 @@ def words_and_files() -> List[Row]:
     runs += [(" ".join(["standard input as", *words]), another_name, words) for words in
              (["/dev/stdin"], ["/proc/self/fd/0"], ["{work}/link"], ["/dev/fd/5"], ["--", "-"],
               ["--proofs", "{work}/kept", "/dev/stdin"])]
+    many = {"FIRST_WORDS": 4000, "SAME_WORDS": 1}
+    runs += [(f"names that aren't UTF-8 {number}", keeps_not_utf8, words, tested) for tested in ({"SLICE": 50}, {**many, "SLICE": 50})
+             for number, words in enumerate(([], ["--assume", CUBE], ["--proofs", "kept"], ["--proofs", os.fsdecode(b"kept\xff")],
+                                             ["--assume", CUBE, "--proofs", "kept"]))]
     runs += [("a folder that is made", made_where_all_may_write)]
     runs += [(f"a folder of mode {mode:o}", others_write, mode, taken)
              for mode, taken in ((0o777, False), (0o757, False), (0o1777, True), (0o775, True), (0o700, True))]

@@ -76,6 +76,23 @@ std::string quoted(const std::string &word) {
     return text + "'";
 }
 
+// As lrupd's words have to be.
+bool is_utf8(const std::string &text) {
+    static const uint32_t least[] = { 0, 0x80, 0x800, 0x10000 };
+    for (size_t at = 0; at < text.size();) {
+        auto first = static_cast<unsigned char>(text[at++]);
+        int more = first < 0x80 ? 0 : first < 0xc0 ? -1 : first < 0xe0 ? 1 : first < 0xf0 ? 2 : first < 0xf8 ? 3 : -1;
+        if (more < 0) return false;
+        uint32_t letter = more > 0 ? first & (0x3fu >> more) : first;
+        for (int k = 0; k < more; k++, at++) {
+            if (at == text.size() || (text[at] & 0xc0) != 0x80) return false;
+            letter = letter << 6 | (text[at] & 0x3f);
+        }
+        if (letter < least[more] || letter > 0x10ffff || (letter >= 0xd800 && letter < 0xe000)) return false;
+    }
+    return true;
+}
+
 // A name may have an LF in it.
 std::string one_line(const std::string &text) {
     std::string line;
