@@ -33,7 +33,6 @@ const int PROOF_PIPE = 1 << 20, ALL_PROOF_PIPES = 1 << 24;     // the system giv
 const double ENDING = 10;       // seconds that a filter has for the line that it is at
 const int UNKNOWN_STATUS = 3;   // of lrupd
 const int LONGEST_NUMBER = 20;
-const char OPEN_FILES[] = "/dev/fd/";
 const double MOMENT = 0.1;      // seconds in which the first engine is alone, beside READINGS of the formula
 const int READINGS = 2;
 
@@ -65,6 +64,13 @@ std::string Run::again(const std::string &path, const char *kept_as) {
     return "/dev/fd/" + std::to_string(copy);
 }
 
+// lrupd takes no word that isn't UTF-8: then it has an open file.
+std::string Run::word_of(const std::string &path) {
+    if (is_utf8(path)) return path;
+    copies.push_back(kept_open(open_input(path)));
+    return OPEN_FILES + std::to_string(copies.back());
+}
+
 // Of an earlier run in the folder nothing is removed until they are read: they may come from there, by a pipe.
 void Run::read_inputs() {
     std::vector<std::string> inputs = { options.formula };
@@ -74,6 +80,8 @@ void Run::read_inputs() {
     formula_path = again(inputs[0], "formula.cnf");
     if (options.assume) assume_path = again(inputs[1], "assumptions");
     if (options.proofs) clear_record(options.proofs, { formula_path, assume_path });
+    formula_word = word_of(formula_path);
+    if (options.assume) assume_word = word_of(absolute(assume_path));
     open_teams();
     check_plain(formula_path, title(inputs[0]));
 }
@@ -406,8 +414,8 @@ void Run::prepare() {
     if (options.engines == 0 && options.solvers.empty()) options.engines = half_of_the_cores();
     options.engines += int(options.solvers.size());
     read_inputs();
-    std::vector<std::string> words = checker_words({ 0, 0 });
-    words.insert(words.end(), { formula_path, "/dev/null" });
+    std::vector<std::string> words = checker_words({ 0, 0 }, assume_word);
+    words.insert(words.end(), { formula_word, "/dev/null" });
     probe.start(checker_program, words, copies, {});
     double begun = now();
     read_formula();

@@ -33,6 +33,7 @@ protected:
     Formula formula = {};
     std::vector<Literal> assumed;
     std::string formula_path, assume_path, checker_program, unkept;
+    std::string formula_word, assume_word;      // lrupd's
     std::vector<int> copies;
     Shared *shared = nullptr;
     std::vector<Team> teams;
@@ -72,6 +73,7 @@ protected:
     void read_inputs();
     std::string contradiction() const;
     std::string again(const std::string &path, const char *kept_as);
+    std::string word_of(const std::string &path);
     void read_formula();
     void read_assumptions();
     std::string named(const std::string &why) const;
@@ -117,8 +119,8 @@ protected:
     std::string folder_of_rounds();
     std::string stream_path(size_t k) const;
     Row needed_row() const;
-    std::vector<std::string> checker_words(Row sizes) const;
-    std::string command_of(const std::vector<std::string> &words) const;
+    std::vector<std::string> checker_words(Row sizes, const std::string &assume) const;
+    std::string command_of(Row sizes) const;
     std::string command_again() const;
     void keep_sizes() const;
     std::vector<int> stream_files() const;
