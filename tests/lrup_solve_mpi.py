@@ -181,7 +181,8 @@ def shows(word: str, beginning: str, work: Path) -> None:
 def bad_formula(work: Path) -> None:
     """lrupd's words."""
     formula = written("p cnf 2 1\n1 3 0\n", work)
-    said = run([PROGRAM, formula, "/dev/null"]).err
+    known = f"({formula}, line 2: variable 3, above the 2 of the header, which has to be 'p cnf 3 1')"
+    said = f"{run([PROGRAM, formula, '/dev/null']).err.rstrip()} {known}\n"
     answer = solve(2, ["-j", "1", formula])
     want((answer.out, answer.said, answer.status), ("", said, 1), "what is said")
 

@@ -59,29 +59,42 @@ std::string Run::stream_path(size_t k) const {
 // In the record, or where temporary files go.
 std::string Run::folder_of_rounds() {
     const char *place = getenv("TMPDIR");
-    if (options.proofs) return private_folder(absolute(options.proofs) + "/.rounds-");
-    return private_folder(std::string(place && place[0] ? place : "/tmp") + "/lrup-solve-");
+    std::string begin = std::string(place && place[0] ? place : "/tmp") + "/lrup-solve-";
+    if (options.proofs) begin = absolute(options.proofs) + "/.rounds-";
+    return private_folder(is_utf8(begin) ? begin : "/tmp/lrup-solve-");
 }
 
-std::vector<std::string> Run::checker_words(Row sizes) const {
+std::vector<std::string> Run::checker_words(Row sizes, const std::string &assume) const {
     std::vector<std::string> words = { "--tries", tries(), "--lines", std::to_string(sizes.lines), "--room", std::to_string(sizes.room) };
-    if (options.assume) words.insert(words.end(), { "--assume", absolute(assume_path) });
+    if (options.assume) words.insert(words.end(), { "--assume", assume });
     return words;
 }
 
+// A word for lrupd, in a command: where the name isn't UTF-8 the shell opens the file.
+static std::string word_in_command(const std::string &path, int number, std::string &opened) {
+    if (is_utf8(path)) return quoted(path);
+    opened += " " + std::to_string(number) + "< " + quoted(path);
+    return OPEN_FILES + std::to_string(number);
+}
+
 // Of round 1, with names that a record's streams have, from whatever folder it is run.
-std::string Run::command_of(const std::vector<std::string> &words) const {
-    std::string line = quoted(checker_program);
-    for (const std::string &word : words) line += " " + quoted(word);
-    line += " " + quoted(absolute(formula_path));
-    for (size_t k = 0; k < teams.size(); k++) line += " " + quoted(stream_path(k));
-    return line;
+std::string Run::command_of(Row sizes) const {
+    std::string opened, line, record = shared->record;
+    if (!is_utf8(record)) line = "cd " + quoted(record) + " && ";
+    size_t left_out = is_utf8(record) ? 0 : record.size();
+    line += quoted(checker_program);
+    std::string formula = word_in_command(absolute(formula_path), 3, opened);
+    std::string assume = options.assume ? word_in_command(absolute(assume_path), 4, opened) : "";
+    for (const std::string &word : checker_words(sizes, "")) line += " " + (word.empty() ? assume : quoted(word));
+    line += " " + formula;
+    for (size_t k = 0; k < teams.size(); k++) line += " " + quoted(stream_path(k).substr(left_out));
+    return line + opened;
 }
 
 // Of all rounds. lrupd leaves what it saves.
 std::string Run::command_again() const {
-    std::string folder = quoted(absolute(options.proofs));
-    return round == 1 ? command : command + " --rounds " + folder + "; status=$?; rm -f " + folder + "/round-[0-9]*.cnf; exit $status";
+    std::string folder = absolute(options.proofs), here = is_utf8(folder) ? quoted(folder) : ".";
+    return round == 1 ? command : command + " --rounds " + here + "; status=$?; rm -f " + here + "/round-[0-9]*.cnf; exit $status";
 }
 
 // In the record.
@@ -101,11 +114,11 @@ std::vector<int> Run::stream_files() const {
 
 void Run::start_checker(Row wanted, bool goes_on) {
     rows.row = wanted;
-    std::vector<std::string> words = checker_words(wanted);
-    command = command_of(words);
+    std::vector<std::string> words = checker_words(wanted, assume_word);
+    command = command_of(wanted);
     if (goes_on) words.insert(words.end(), { "--rounds", folder_of_rounds() });
     if (options.verbose) words.push_back("--watch");
-    words.push_back(formula_path);
+    words.push_back(formula_word);
     keep_sizes();
     checker.start(checker_program, words, copies, stream_files());
     if (options.verbose) tell(command);
@@ -155,6 +168,7 @@ void Run::look_at_round() {
 
 // One has no room for a line more: all streams end. Those that stand still go on to their ends.
 void Run::end_round() {
+    start_others();         // they begin with round 1
     STORE(shared->ending_round, round);
     pause_begun = now();
     phase = ENDING_ROUND;
