@@ -23,7 +23,7 @@ from pathlib import Path
 from typing import IO, Any, Callable, Dict, Iterable, List, Sequence, Tuple, Union
 
 sys.dont_write_bytecode = True
-from harness import (COMPRESSED, FILTER, FOUR, LIMIT, ROOT, TESTS, Failure, Ran, Row, Skipped, example, generated, piped, report,
+from harness import (COMPRESSED, FILTER, FOUR, LIMIT, ROOT, TESTS, Failure, Ran, Row, Skipped, example, generated, needs, piped, report,
                      run, run_all, started, want, with_memory, words_given, written)
 from lrat import lrat_fault
 from proof_forms import FORMS, Step, code, codes, read_formula, read_steps, varint
@@ -691,8 +691,8 @@ COMMANDS = [("CaDiCaL", CADICAL), ("two of CaDiCaL", CADICAL_TWICE), ("CryptoMin
 
 def wanted_on_path(commands: str) -> None:
     for solver in ("cadical", "cryptominisat5", "picosat"):
-        if solver in commands and not shutil.which(solver):
-            raise Skipped(f"there is no {solver} on the PATH")
+        if solver in commands:
+            needs(solver)
 
 
 def make_formula(words: str, work: Path) -> Path:

@@ -27,7 +27,7 @@ from pathlib import Path
 from typing import Any, Dict, List, Optional, Sequence, Tuple
 
 sys.dont_write_bytecode = True
-from harness import (COMPRESSED, EXAMPLES, FOUR, LIMIT, ROOT, Failure, Ran, Row, Skipped, dimacs, example, generated, piped,
+from harness import (COMPRESSED, EXAMPLES, FOUR, LIMIT, ROOT, Failure, Ran, Row, Skipped, dimacs, example, generated, needs, piped,
                      random_clauses, run, started, until, want, words_given, written)
 from lrat import lrat_fault
 from proof_forms import read_formula
@@ -331,8 +331,7 @@ def unordered(text: str, seed: int) -> str:
 
 def as_alone(words: str, seed: int, work: Path) -> None:
     """An engine alone searches as `cadical` does on the file, whatever the order of what stands there."""
-    if not shutil.which("cadical"):
-        raise Skipped("there is no cadical on the PATH")
+    needs("cadical")
     formula = generated(words, work)
     if seed:
         formula = written(unordered(formula.read_text(), seed), work)
@@ -606,8 +605,7 @@ def progress(words: List[str], wanted: bool, columns: int, work: Path) -> None:
 
 def miter(name: str, change: Optional[Tuple[str, str]], status: int, work: Path) -> None:
     """Two circuits, and two of which one is wrong."""
-    if not shutil.which("yosys"):
-        raise Skipped("there is no yosys on the PATH")
+    needs("yosys")
     text = (MITERS / f"{name}.v").read_text()
     if change:
         want(text.count(change[0]), 1, f"places of {change[0]}")

@@ -20,7 +20,7 @@ from pathlib import Path
 from typing import Dict, List, Mapping, Optional, Sequence, Tuple
 
 sys.dont_write_bytecode = True
-from harness import (FOUR, LIMIT, ROOT, TESTS, Failure, Ran, Row, closing, compiled, dimacs, example, generated, random_clauses, run,
+from harness import (FOUR, LIMIT, ROOT, TESTS, Failure, Ran, Row, compiled, dimacs, example, generated, left_out, random_clauses, run,
                      until, want, words_given, written)
 from solving import PROGRAM, SOLVE, TESTED, Answer, check_again, children_of, is_alive, of_process, run_built, want_answer
 
@@ -352,8 +352,7 @@ def small_rows() -> List[Row]:
 def main() -> int:
     rows, more = small_rows(), {"answers": known(), "rounds": rounds(), "deaths": deaths()}
     if not shutil.which("mpirun") or "Open MPI" not in run(["mpirun", "--version"]).out:
-        print("lrup-solve-mpi: skipped, no mpirun of Open MPI is on the PATH: in Debian the package openmpi-bin")
-        return closing(0, 0, len(rows) + sum(map(len, more.values())))
+        return left_out("all of lrup-solve-mpi: no mpirun of Open MPI is on the PATH: in Debian the package openmpi-bin")
     if ONLY_SMALL:
         left_out = ", ".join(f"{len(found)} rows of {kind}" for kind, found in more.items())
         print(f"lrup-solve-mpi: left out are {left_out}", flush=True)
