@@ -78,7 +78,8 @@ def by_hand(kind: str, steps: int, form: str, work: Path) -> None:
         proof = "0\n" if form == "drat" else f"{clauses + 1} 0 " + " ".join(map(str, range(1, clauses + 1))) + " 0\n"
     else:
         chain = " ".join(map(str, range(1, steps + 2)))
-        proof = "-1 0\n0\n" if form == "drat" else f"{clauses + 1} -1 0 {chain} 0\n{clauses + 2} 0 {clauses + 1} {clauses - 1} {clauses} 0\n"
+        last = f"{clauses + 2} 0 {clauses + 1} {clauses - 1} {clauses} 0\n"
+        proof = "-1 0\n0\n" if form == "drat" else f"{clauses + 1} -1 0 {chain} 0\n{last}"
     text = filtered(["--format", form, formula], proof)
     want_linear(text, formula, proof.count("\n"), steps)
     check(formula, text, work)
@@ -228,7 +229,8 @@ def rows_of_chains() -> List[Row]:
     for kind, numbers in (("units", (200000,)), ("failed", (70000,)), ("corridor", (60, 55)), ("lfsr", (32, 20000))):
         for backwards in (False, True):
             name = kind + ", reversed" * backwards
-            found += [(f"{name}, CaDiCaL", by_cadical, kind, numbers, backwards), (f"{name}, lrup-solve", by_solve, kind, numbers, backwards)]
+            found += [(f"{name}, {how}", function, kind, numbers, backwards)
+                      for how, function in (("CaDiCaL", by_cadical), ("lrup-solve", by_solve))]
     return [*found, ("a simulation by yosys", simulated)]
 
 
