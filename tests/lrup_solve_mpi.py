@@ -88,6 +88,14 @@ def answers(processes: int, words: str, options: List[str], status: int, work: P
     want(len([line for line in answer.comments if re.match(r"engine \d+: ", line)]), engines, "engines that are listed")
 
 
+def cubes(status: int, words: str, work: Path) -> None:
+    """Each process shares the formula out among its engines; of process 0 that is told."""
+    formula = generated(words, work)
+    answer = solve(2, ["-v", "-j", "3", formula], {"SLICE": 20})
+    want_answer(answer, status, formula)
+    want((answer.lost(), "engines take cubes" in answer.comments), ([], True), f"whether cubes were dealt out\n{answer.out}")
+
+
 def exchanges(work: Path) -> None:
     """What goes out comes in or is late; some of it is used. Without sharing nothing goes out."""
     for options, share in ([], True), (["--no-share"], False):
@@ -291,7 +299,7 @@ def known() -> List[Row]:
     rows += [row for processes, engines in ((1, 1), (2, 1), (2, 2), (4, 1), (8, 1))
              for row in answering(processes, engines, [("pigeons 9", 20)])]
     return rows + [("nothing shared", answers, 2, "pigeons 8", ["-j", "1", "--no-share"], 20), ("exchanges", exchanges),
-                   ("a full row", full_row), ("time is up", time_is_up)]
+                   ("a full row", full_row), ("time is up", time_is_up), ("cubes", cubes, 20, "pigeons 9")]
 
 
 def rounds() -> List[Row]:

@@ -49,7 +49,9 @@ def command(words: Sequence[object], tested: Optional[Mapping[str, object]] = No
 
 
 def in_environment(tested: Optional[Mapping[str, object]] = None, more: Optional[Mapping[str, str]] = None) -> Dict[str, str]:
-    return {**os.environ, **(more or {}), **{f"LRUP_SOLVE_{name}": str(word) for name, word in (tested or {}).items()}}
+    """Of a build for tests all engines start at once, if it isn't said."""
+    words = {} if tested is None else {"MOMENT": 0, **tested}
+    return {**os.environ, **(more or {}), **{f"LRUP_SOLVE_{name}": str(word) for name, word in words.items()}}
 
 
 def solve(words: Sequence[object], tested: Optional[Mapping[str, object]] = None, env_more: Optional[Mapping[str, str]] = None,
