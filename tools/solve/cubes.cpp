@@ -52,7 +52,7 @@ void Cubes::tell_variables(const std::vector<unsigned char> &gone) {
     for (int variable = 1; variable <= engine.formula->variables; variable++)
         if (scores[size_t(variable)] > 0 && !gone[size_t(variable)] && solver.fixed(variable) == 0) order.push_back(variable);
     std::sort(order.begin(), order.end(), [&](int one, int other) { return scores[size_t(one)] > scores[size_t(other)]; });
-    size_t count = std::min(order.size(), size_t(MOST_VARIABLES));
+    size_t count = std::min(order.size(), size_t(VARIABLES_OF_CUBES));
     std::copy_n(order.begin(), count, engine.shared->variables);
     STORE(engine.shared->variable_count, count);
 }

@@ -12,7 +12,7 @@
 #include "../exact/proof.h"
 
 enum { MOST_ENGINES = 64, LONGEST_CAUSE = 160, LONGEST_PATH = 4096 };
-enum { MOST_VARIABLES = 64, MOST_OF_A_CUBE = 20 };      // variables by which cubes are made; literals of one
+enum { VARIABLES_OF_CUBES = 64, MOST_OF_A_CUBE = 20 };      // variables by which cubes are made; literals of one
 
 // Of an engine and its filter. Each field has one writer, and is read by others at any time: only by LOAD and STORE. A round is
 // one run of lrupd.
@@ -60,7 +60,7 @@ typedef struct {
     uint64_t streams;
     uint64_t most_lines, most_literals; // of a stream
     uint64_t variable_count;            // by which cubes are made; 0: it isn't known yet
-    int variables[MOST_VARIABLES];
+    int variables[VARIABLES_OF_CUBES];
     char checkpoint[LONGEST_PATH];
     char record[LONGEST_PATH];          // the folder of the streams, with a slash, where they are kept
     Part parts[MOST_ENGINES];
