@@ -21,7 +21,7 @@ OPTIONS ?= --tries 1000000
 
 .PHONY: run build install examples live checkpoints rounds demo solver exact solve solver-test filter-test solve-test neighbours sweep
 .PHONY: leaks instructions audit tables pages test toolchain c-and-python libcadical solve-objects mpicxx
-.PHONY: help try deb dist quick edits
+.PHONY: help try deb dist quick edits packages
 
 help:
 	@awk -f gate/help.awk $(firstword $(MAKEFILE_LIST))
@@ -172,6 +172,10 @@ quick: toolchain c-and-python ## check: after a change of CRATE=name: layout, pr
 # Each costs a check of its crate; the gate has those on which most stands.
 edits: toolchain ## check: the edits that the gate leaves out, of CRATE=name or of all crates; each has to be refused
 	@sh gate/edits.sh $(RT) $(CRATE)
+
+# Tests of what isn't there are left out, and say so; where CI is set they fail.
+packages: ## check: install, as root, Debian's packages that the tests want
+	@sh gate/packages.sh
 
 # The whole gate: the pages; every proof from nothing, each edit that must be refused, each test, and the program as two compilers
 # build it; then, with the program that was built there, the examples, the live run, checkpoints, runs in rounds and chains, the

@@ -3,7 +3,7 @@
 
     instructions.py PROGRAM
 
-It needs valgrind, and says 'skipped' where there is none. PROGRAM is crates/lrupd/out/lrupd, as LLVM built it. With --serial,
+It needs valgrind, and says 'skipped' where there is none, or in CI 'failed'. PROGRAM is crates/lrupd/out/lrupd, as LLVM built it. With --serial,
 runs over the same files take as many instructions each time; what is counted is the lines' part, so a run over empty streams is
 taken off. Each has to be within 5 % of its figure below: the toolchain is fixed, and the rest is for other C libraries and
 processors. Where a change of the code is meant to move one, put the count that is printed in its place. How the work
@@ -86,8 +86,9 @@ def main():
     if len(sys.argv) != 2:
         sys.exit(__doc__)
     if not shutil.which("valgrind"):
-        print("skipped: the instructions are not counted, since no command 'valgrind' is on the PATH")
-        return
+        missing = "failed" if os.environ.get("CI") else "skipped"
+        print(f"{missing}: the instructions are not counted, since no command 'valgrind' is on the PATH")
+        sys.exit(missing == "failed")
     began, wrong = time.monotonic(), 0
     with tempfile.TemporaryDirectory() as name:
         counter = Counter(os.path.abspath(sys.argv[1]), Path(name))

@@ -14,15 +14,14 @@ there. The status is 1 where a run failed.
 import os
 import random
 import re
-import shutil
 import subprocess
 import sys
 from pathlib import Path
 from typing import List, Sequence, Union
 
 sys.dont_write_bytecode = True
-from harness import (EXACT, FILTER, ROOT, SANITIZE, SANITIZING, TESTS, Failure, Row, Skipped, compiled, dimacs, example, is_sanitizing,
-                     random_clauses, run, run_all, started, unwatched, want, watched_ends, written)
+from harness import (EXACT, FILTER, ROOT, SANITIZE, SANITIZING, TESTS, Failure, Missing, Row, compiled, dimacs, example, is_sanitizing,
+                     needs, random_clauses, run, run_all, started, unwatched, want, watched_ends, written)
 from lrat import lrat_fault
 from proof_forms import FORMS, read_formula, read_steps
 from solving import PROGRAM, SOLVE, build, want_answer, solve
@@ -79,15 +78,15 @@ def by_hand(kind: str, steps: int, form: str, work: Path) -> None:
         proof = "0\n" if form == "drat" else f"{clauses + 1} 0 " + " ".join(map(str, range(1, clauses + 1))) + " 0\n"
     else:
         chain = " ".join(map(str, range(1, steps + 2)))
-        proof = "-1 0\n0\n" if form == "drat" else f"{clauses + 1} -1 0 {chain} 0\n{clauses + 2} 0 {clauses + 1} {clauses - 1} {clauses} 0\n"
+        last = f"{clauses + 2} 0 {clauses + 1} {clauses - 1} {clauses} 0\n"
+        proof = "-1 0\n0\n" if form == "drat" else f"{clauses + 1} -1 0 {chain} 0\n{last}"
     text = filtered(["--format", form, formula], proof)
     want_linear(text, formula, proof.count("\n"), steps)
     check(formula, text, work)
 
 
 def by_cadical(kind: str, numbers: Sequence[int], backwards: bool, work: Path) -> None:
-    if not shutil.which("cadical"):
-        raise Skipped("there is no cadical on the PATH")
+    needs("cadical")
     formula, proof = make(work, kind, *numbers, backwards=backwards), work / "proof"
     want(run(["cadical", "-q", "--no-binary", formula, proof]).status, 20, "the solver's status")
     text = filtered([formula, proof], b"")
@@ -99,7 +98,7 @@ def by_solve(kind: str, numbers: Sequence[int], backwards: bool, work: Path) -> 
     """No engine is lost, and all streams together are linear."""
     cause = build("solve", False)
     if cause:
-        raise Skipped(cause)
+        raise Missing(cause)
     formula = make(work, kind, *numbers, backwards=backwards)
     answer = solve(["-v", "-j", "2", "--proofs", work / "kept", formula])
     want_answer(answer, 20, formula)
@@ -109,8 +108,7 @@ def by_solve(kind: str, numbers: Sequence[int], backwards: bool, work: Path) -> 
 
 
 def simulated(work: Path) -> None:
-    if not shutil.which("yosys"):
-        raise Skipped("there is no yosys on the PATH")
+    needs("yosys")
     formula = written(easy.simulation(100), work)
     check(formula, filtered(["--format", "drat", formula], "0\n"), work)
 
@@ -199,8 +197,7 @@ def random_formula(seed: int) -> str:
 
 def random_proofs(first: int, count: int, work: Path) -> None:
     """CaDiCaL's, as DRUP, FRAT, and as LRAT of long lines, with a third of the hints left out."""
-    if not shutil.which("cadical"):
-        raise Skipped("there is no cadical on the PATH")
+    needs("cadical")
     checked = 0
     for seed in range(first, first + count):
         formula, numbers = written(random_formula(seed), work), random.Random(seed)
@@ -232,7 +229,8 @@ def rows_of_chains() -> List[Row]:
     for kind, numbers in (("units", (200000,)), ("failed", (70000,)), ("corridor", (60, 55)), ("lfsr", (32, 20000))):
         for backwards in (False, True):
             name = kind + ", reversed" * backwards
-            found += [(f"{name}, CaDiCaL", by_cadical, kind, numbers, backwards), (f"{name}, lrup-solve", by_solve, kind, numbers, backwards)]
+            found += [(f"{name}, {how}", function, kind, numbers, backwards)
+                      for how, function in (("CaDiCaL", by_cadical), ("lrup-solve", by_solve))]
     return [*found, ("a simulation by yosys", simulated)]
 
 

@@ -24,9 +24,9 @@ from pathlib import Path
 from typing import IO, Dict, Iterator, List, NamedTuple, Optional, Sequence, Set, Tuple, Union
 
 sys.dont_write_bytecode = True
-from harness import (FILTER, FOUR, LIMIT, LRUP_CHAIN, SANITIZE, SANITIZED, SANITIZING, Failure, Row, Skipped, added, dimacs,
-                     example, generated, is_sanitizing, piped, report, run, run_all, sanitized_filter, started, until, unwatched,
-                     waiting, want, watched_ends, words_given, written)
+from harness import (FILTER, FOUR, LIMIT, LRUP_CHAIN, SANITIZE, SANITIZED, SANITIZING, Failure, Row, Skipped, added, dimacs, example,
+                     generated, is_sanitizing, needs, piped, report, run, run_all, sanitized_filter, started, until, unwatched, waiting,
+                     want, watched_ends, words_given, written)
 from proof_forms import FORMS, Step, read_formula, read_steps
 from rounds import last
 from solving import in_place_of_lrupd, of_process
@@ -163,8 +163,7 @@ SOLVED = [("cadical -q", "binary-drat", "random 180 3", "500K", 3, 8), ("cadical
 def solved(command: str, form: str, words: str, memory: Optional[str], least: int, most: int, live: bool, work: Path) -> None:
     """The proof comes through a pipe while the solver writes it, or from a file."""
     solver = shlex.split(command)
-    if not shutil.which(solver[0]):
-        raise Skipped(f"there is no {solver[0]} on the PATH")
+    needs(solver[0])
     formula = generated(words, work)
     proof = piped(work / "proof") if live else work / "proof"
     given = [*(["--memory", memory] if memory else []), *(["--format", form] if form else []), formula, proof]

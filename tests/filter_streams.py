@@ -23,7 +23,7 @@ from pathlib import Path
 from typing import IO, Any, Callable, Dict, Iterable, List, Sequence, Tuple, Union
 
 sys.dont_write_bytecode = True
-from harness import (COMPRESSED, FILTER, FOUR, LIMIT, ROOT, TESTS, Failure, Ran, Row, Skipped, example, generated, piped, report,
+from harness import (COMPRESSED, FILTER, FOUR, LIMIT, ROOT, TESTS, Failure, Ran, Row, Skipped, example, generated, needs, piped, report,
                      run, run_all, started, want, with_memory, words_given, written)
 from lrat import lrat_fault
 from proof_forms import FORMS, Step, code, codes, read_formula, read_steps, varint
@@ -366,7 +366,8 @@ def in_another_order() -> List[Row]:
          "8 1 4 0 1 0\n9 2 0 1 2 0\n10 3 0 9 3 0\n11 4 0 10 4 5 0\n", []),
         ("a reason that is deleted, after that", LATER, "4 0\nd 2 -1 0\n0\n",
          "8 2 0 1 2 0\n9 3 0 8 3 0\n10 4 0 9 4 5 0\n10 d 2 0\n11 0 9 10 6 7 0\n", []),
-        ("units that hold before the proof has them", LATER, "4 0\n3 0\n", "8 2 0 1 2 0\n9 3 0 8 3 0\n10 4 0 9 4 5 0\n11 0 9 10 6 7 0\n", []),
+        ("units that hold before the proof has them", LATER, "4 0\n3 0\n",
+         "8 2 0 1 2 0\n9 3 0 8 3 0\n10 4 0 9 4 5 0\n11 0 9 10 6 7 0\n", []),
         ("lines that LRAT doesn't have, and its numbers after them", LATER, "8 4 0 0\n9 5 1 0 1 0\n20 -4 5 0 8 6 0\n",
          "8 2 0 1 2 0\n9 3 0 8 3 0\n10 4 0 9 4 5 0\n11 5 1 0 1 0\n12 0 9 10 6 7 0\n", []),
         ("LRAT of two streams, which has no numbers to spare", LATER, "8 4 0 0\n10 0 0\n",
@@ -691,8 +692,8 @@ COMMANDS = [("CaDiCaL", CADICAL), ("two of CaDiCaL", CADICAL_TWICE), ("CryptoMin
 
 def wanted_on_path(commands: str) -> None:
     for solver in ("cadical", "cryptominisat5", "picosat"):
-        if solver in commands and not shutil.which(solver):
-            raise Skipped(f"there is no {solver} on the PATH")
+        if solver in commands:
+            needs(solver)
 
 
 def make_formula(words: str, work: Path) -> Path:

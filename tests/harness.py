@@ -53,6 +53,10 @@ class Skipped(Exception):
     pass
 
 
+class Missing(Skipped):
+    """What a package gives isn't here. In CI, which installs them all, that is a failure."""
+
+
 class Ran(NamedTuple):
     """A program's standard output, standard error and status."""
     out: str
@@ -311,6 +315,26 @@ def with_memory(function: Callable[..., None], *arguments: Any) -> None:
 # The count.
 
 
+def has_packages() -> bool:
+    return bool(os.environ.get("CI"))
+
+
+def needs(command: str) -> None:
+    """A program of a package."""
+    if not shutil.which(command):
+        raise Missing(f"there is no {command} on the PATH")
+
+
+def is_skipped(found: Optional[Exception]) -> bool:
+    return isinstance(found, Skipped) and not (has_packages() and isinstance(found, Missing))
+
+
+def left_out(cause: str) -> int:
+    """Of a whole script, for want of a package: the status."""
+    print(f"{'failed' if has_packages() else 'skipped'}: {cause}")
+    return int(has_packages())
+
+
 def outcome(row: Row) -> Optional[Exception]:
     """The failure, or why the row is skipped; nothing where it passed."""
     _, function, *arguments = row
@@ -334,11 +358,11 @@ def run_all(rows: Sequence[Row], title: str = "", tries: int = 1) -> int:
     for row in rows:
         found = outcome(row)
         for _ in range(tries - 1):
-            if not found or isinstance(found, Skipped):
+            if not found or is_skipped(found):
                 break
             print(f"{row[0]}, tried again: {found}", flush=True)
             found = outcome(row)
-        if isinstance(found, Skipped):
+        if is_skipped(found):
             skipped += 1
             print(f"{row[0]}: skipped, {found}", flush=True)
         elif found:

@@ -27,13 +27,13 @@ from pathlib import Path
 from typing import Any, Dict, List, Optional, Sequence, Tuple
 
 sys.dont_write_bytecode = True
-from harness import (COMPRESSED, EXAMPLES, FOUR, LIMIT, ROOT, Failure, Ran, Row, Skipped, dimacs, example, generated, piped,
+from harness import (COMPRESSED, EXAMPLES, FOUR, LIMIT, ROOT, Failure, Ran, Row, Skipped, dimacs, example, generated, needs, piped,
                      random_clauses, run, started, until, want, words_given, written)
 from lrat import lrat_fault
 from proof_forms import read_formula
-from solving import (EARLY, ELIMINATING, OUT, PROGRAM, SOLVE, Answer, before_lrupd, check_again, children_of, command, end_group,
-                     goes_on, in_environment, in_place_of_lrupd, is_alive, kill_children, of_process, random_formula, run_built, solve,
-                     want_answer)
+from solving import (ANSWERS, EARLY, ELIMINATING, OUT, PROGRAM, SOLVE, Answer, before_lrupd, check_again, children_of, command,
+                     end_group, goes_on, in_environment, in_place_of_lrupd, is_alive, kill_children, of_process, random_formula,
+                     run_built, solve, want_answer)
 
 words_given(__doc__, most=2)
 MITERS = EXAMPLES / "miter"
@@ -331,8 +331,7 @@ def unordered(text: str, seed: int) -> str:
 
 def as_alone(words: str, seed: int, work: Path) -> None:
     """An engine alone searches as `cadical` does on the file, whatever the order of what stands there."""
-    if not shutil.which("cadical"):
-        raise Skipped("there is no cadical on the PATH")
+    needs("cadical")
     formula = generated(words, work)
     if seed:
         formula = written(unordered(formula.read_text(), seed), work)
@@ -475,6 +474,59 @@ def killed(names: List[str], number: int, status: int, cause: str, work: Path) -
     raise Failure(f"wanted a word on '{cause}', and not\n{said}")
 
 
+def dealt(answer: Answer) -> List[int]:
+    """Of cubes: how many were dealt out, refuted, and handed on."""
+    found = [re.findall(r"\d[\d,]*", line) for line in answer.comments if line.startswith("cubes: ")]
+    return [int(number.replace(",", "")) for number in found[0]] if found else [0, 0, 0]
+
+
+def cubes(words: str, status: int, engines: int, work: Path) -> None:
+    """Engines share the formula out, and one that satisfies its part satisfies the whole. Where they have answered before any had a
+    cube that is tried again."""
+    formula = generated(words, work)
+    for _ in range(TRIES):
+        answer = solve(["-v", "-j", engines, formula], tested={"SLICE": 20})
+        want(answer.lost(), [], "engines that are lost")
+        want_answer(answer, status, formula)
+        if dealt(answer)[0] >= engines and (status == 10 or dealt(answer)[1] > 0):
+            return
+    raise Failure(f"no cubes were dealt out, or none refuted\n{answer.out[-2000:]}")
+
+
+def randomly_cubed(seed: int, work: Path) -> None:
+    """Any answer but 'unknown', as of `randomly`, in rounds and with assumptions."""
+    numbers = random.Random(f"{seed} cubes")
+    size = numbers.randrange(60, 150)
+    formula = written(dimacs(size, random_clauses(numbers, size, round(numbers.uniform(4, 4.6) * size))), work)
+    literals = [variable * numbers.choice((-1, 1)) for variable in numbers.sample(range(1, size), numbers.choice((0, 0, 1, 3)))]
+    cube = written(" ".join(map(str, [*literals, 0])) + "\n", work, "cube")
+    early = {"SET": EARLY, "SLICE": numbers.choice((5, 10, 30)), "FIRST_WORDS": numbers.choice((1000, 1 << 20))}
+    answer = solve(["-v", "--memory", "64M", "--seed", seed, "-j", numbers.choice((3, 4)), "--assume", cube, formula], tested=early)
+    want(answer.lost(), [], "engines that are lost")
+    want(answer.status in (10, 20) and (answer.status == 20 or set(literals) <= set(answer.values)), True, f"the answer\n{answer.out}")
+    under = answer.answers if answer.answers in ([ANSWERS[20]], ["s UNSATISFIABLE UNDER ASSUMPTIONS"]) else [ANSWERS[answer.status]]
+    want_answer(answer, answer.status, formula, under[0])
+
+
+def killed_with_a_cube(name: str, work: Path) -> None:
+    """Another engine takes the cube of one that is killed, and the answer comes."""
+    formula, hooks = generated("pigeons 9", work), {"SLICE": 200}
+    with subprocess.Popen(command(["-v", "-j", "4", formula], hooks), env=in_environment(hooks), text=True, start_new_session=True,
+                          stdout=subprocess.PIPE, stderr=subprocess.PIPE) as process:
+        try:
+            assert process.stdout
+            before = ""
+            while "engines take cubes" not in before:
+                before = process.stdout.readline() or "engines take cubes: never"
+            kill_children(children_of(process.pid), [name])
+            out, said = process.communicate(timeout=LIMIT)
+        finally:
+            end_group(process)
+    answer = Answer(Ran(out, said, process.returncode))
+    want_answer(answer, 20, formula)
+    want((len(answer.lost()), dealt(answer)[2] >= 1), (1, True), f"what is lost, and whether its cube is handed on\n{out}")
+
+
 def ended_by(number: int, work: Path) -> None:
     with Running(generated("pigeons 11", work), work) as running:
         begin = time.monotonic()
@@ -606,8 +658,7 @@ def progress(words: List[str], wanted: bool, columns: int, work: Path) -> None:
 
 def miter(name: str, change: Optional[Tuple[str, str]], status: int, work: Path) -> None:
     """Two circuits, and two of which one is wrong."""
-    if not shutil.which("yosys"):
-        raise Skipped("there is no yosys on the PATH")
+    needs("yosys")
     text = (MITERS / f"{name}.v").read_text()
     if change:
         want(text.count(change[0]), 1, f"places of {change[0]}")
@@ -804,6 +855,9 @@ def what_happens() -> List[Row]:
     runs += [(f"progress {words} {columns}", progress, words, True, columns) for words in ([], ["-v"]) for columns in (0, 30, 120)]
     runs += [(f"signal {number}, ignored", ignored, number) for number in (signal.SIGHUP, signal.SIGINT)]
     runs += [(f"signal {number}", ended_by, number) for number in (signal.SIGINT, signal.SIGTERM, signal.SIGHUP)]
+    runs += [(f"{name} killed with a cube", killed_with_a_cube, name) for name in ("engine 2", "engine 3", "filter 4")]
+    runs += [(f"cubes, {engines} engines, {words}", cubes, words, status, engines) for engines in (3, 4, 6)
+             for words, status in (("random 200 2", 20), ("pigeons 8", 20), ("order 20", 20), ("random 260 3 4.1", 10))]
     untaken = "lrupd (hasn't taken the proof|ended with status 3)"
     for body, cause in (("exit 3", untaken), ("exit 6", "ended with status 6"), ("exit 10", "ended with status 10"),
                         ("echo s UNSATISFIABLE; exit 3", untaken), ("kill -9 $$", "ended by a signal"),
@@ -836,6 +890,7 @@ def sharing() -> List[Row]:
 
 def main() -> int:
     runs = known() + words_and_files() + searches() + refusals() + what_happens() + others_formulas() + sharing()
+    runs += [(f"random with cubes {seed}", randomly_cubed, seed) for seed in range(100)]
     return run_built(runs + [(f"random {seed}", randomly, seed) for seed in range(300)])
 
 

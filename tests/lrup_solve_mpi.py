@@ -20,7 +20,7 @@ from pathlib import Path
 from typing import Dict, List, Mapping, Optional, Sequence, Tuple
 
 sys.dont_write_bytecode = True
-from harness import (FOUR, LIMIT, ROOT, TESTS, Failure, Ran, Row, closing, compiled, dimacs, example, generated, random_clauses, run,
+from harness import (FOUR, LIMIT, ROOT, TESTS, Failure, Ran, Row, compiled, dimacs, example, generated, left_out, random_clauses, run,
                      until, want, words_given, written)
 from solving import PROGRAM, SOLVE, TESTED, Answer, check_again, children_of, is_alive, of_process, run_built, want_answer
 
@@ -86,6 +86,14 @@ def answers(processes: int, words: str, options: List[str], status: int, work: P
     want(answer.lost(), [], "engines that are lost")
     engines = processes * int(options[options.index("-j") + 1])
     want(len([line for line in answer.comments if re.match(r"engine \d+: ", line)]), engines, "engines that are listed")
+
+
+def cubes(status: int, words: str, work: Path) -> None:
+    """Each process shares the formula out among its engines; of process 0 that is told."""
+    formula = generated(words, work)
+    answer = solve(2, ["-v", "-j", "3", formula], {"SLICE": 20})
+    want_answer(answer, status, formula)
+    want((answer.lost(), "engines take cubes" in answer.comments), ([], True), f"whether cubes were dealt out\n{answer.out}")
 
 
 def exchanges(work: Path) -> None:
@@ -291,7 +299,7 @@ def known() -> List[Row]:
     rows += [row for processes, engines in ((1, 1), (2, 1), (2, 2), (4, 1), (8, 1))
              for row in answering(processes, engines, [("pigeons 9", 20)])]
     return rows + [("nothing shared", answers, 2, "pigeons 8", ["-j", "1", "--no-share"], 20), ("exchanges", exchanges),
-                   ("a full row", full_row), ("time is up", time_is_up)]
+                   ("a full row", full_row), ("time is up", time_is_up), ("cubes", cubes, 20, "pigeons 9")]
 
 
 def rounds() -> List[Row]:
@@ -352,8 +360,7 @@ def small_rows() -> List[Row]:
 def main() -> int:
     rows, more = small_rows(), {"answers": known(), "rounds": rounds(), "deaths": deaths()}
     if not shutil.which("mpirun") or "Open MPI" not in run(["mpirun", "--version"]).out:
-        print("lrup-solve-mpi: skipped, no mpirun of Open MPI is on the PATH: in Debian the package openmpi-bin")
-        return closing(0, 0, len(rows) + sum(map(len, more.values())))
+        return left_out("all of lrup-solve-mpi: no mpirun of Open MPI is on the PATH: in Debian the package openmpi-bin")
     if ONLY_SMALL:
         left_out = ", ".join(f"{len(found)} rows of {kind}" for kind, found in more.items())
         print(f"lrup-solve-mpi: left out are {left_out}", flush=True)

@@ -21,8 +21,8 @@ from pathlib import Path
 from typing import Dict, List, Mapping, Sequence
 
 sys.dont_write_bytecode = True
-from harness import (EXAMPLES, FOUR, LIMIT, ROOT, Row, Skipped, compiled, dimacs, example, generated, run, started, until, want,
-                     words_given, written)
+from harness import (EXAMPLES, FOUR, LIMIT, ROOT, Row, compiled, dimacs, example, generated, needs, run, started, until, want, words_given,
+                     written)
 from solving import PROGRAM, SOLVE, check_again, is_alive, of_process, random_formula, run_built, solve, want_answer
 
 words_given(__doc__, most=2)
@@ -43,8 +43,8 @@ MANY_ROUNDS = {"FIRST_WORDS": 4000, "SAME_WORDS": 1}
 
 def by(commands: Sequence[str]) -> List[str]:
     for name in ("cadical", "cryptominisat5", "picosat"):
-        if any(name in command.split() for command in commands) and not shutil.which(name):
-            raise Skipped(f"there is no {name} on the PATH")
+        if any(name in command.split() for command in commands):
+            needs(name)
     return [word for command in commands for word in ("--solver", command)]
 
 

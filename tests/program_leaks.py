@@ -12,7 +12,7 @@ from pathlib import Path
 from typing import Iterator, List, Tuple
 
 sys.dont_write_bytecode = True
-from harness import Row, example, run, run_all, want, words_given, written
+from harness import Row, example, left_out, run, run_all, want, words_given, written
 from rounds import ONE, TWO, Texts, first_words, round_files
 
 VALGRIND = ["valgrind", "--quiet", "--error-exitcode=99", "--leak-check=full", "--show-leak-kinds=all",
@@ -65,8 +65,7 @@ def rows(program: str) -> Iterator[Row]:
 def main() -> int:
     program, = words_given(__doc__)
     if not shutil.which("valgrind"):
-        print("skipped: no leak is looked for, since no command 'valgrind' is on the PATH")
-        return 0
+        return left_out("no leak is looked for, since no command 'valgrind' is on the PATH")
     return run_all([*rows(program)], "leaks: ")
 
 

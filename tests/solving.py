@@ -16,7 +16,7 @@ import sys
 from pathlib import Path
 from typing import Any, Dict, List, Mapping, Optional, Sequence, Tuple
 
-from harness import ROOT, VERDICTS, Failure, Ran, Row, closing, dimacs, random_clauses, run, run_all, until, want, written
+from harness import ROOT, VERDICTS, Failure, Ran, Row, dimacs, left_out, random_clauses, run, run_all, until, want, written
 from proof_forms import read_formula
 
 PROGRAM = os.path.abspath(sys.argv[1]) if len(sys.argv) > 1 else ""
@@ -49,7 +49,9 @@ def command(words: Sequence[object], tested: Optional[Mapping[str, object]] = No
 
 
 def in_environment(tested: Optional[Mapping[str, object]] = None, more: Optional[Mapping[str, str]] = None) -> Dict[str, str]:
-    return {**os.environ, **(more or {}), **{f"LRUP_SOLVE_{name}": str(word) for name, word in (tested or {}).items()}}
+    """Of a build for tests all engines start at once, if it isn't said."""
+    words = {} if tested is None else {"MOMENT": 0, **tested}
+    return {**os.environ, **(more or {}), **{f"LRUP_SOLVE_{name}": str(word) for name, word in words.items()}}
 
 
 def solve(words: Sequence[object], tested: Optional[Mapping[str, object]] = None, env_more: Optional[Mapping[str, str]] = None,
@@ -182,6 +184,5 @@ def build(target: str, for_tests: bool) -> Optional[str]:
 def run_built(rows: Sequence[Row], title: str = "", target: str = "solve", for_tests: bool = True) -> int:
     cause = build(target, for_tests)
     if cause:
-        print(f"lrup-{target}: skipped, {cause}")
-        return closing(0, 0, len(rows), title)
+        return left_out(f"all of lrup-{target}: {cause}")
     return run_all(rows, title, tries=3)      # solvers race with each other and with what kills them

@@ -21,7 +21,7 @@ module register(input clk, output reg [31:0] state, output wrong);
   assign wrong = state == 0;
 endmodule
 """
-SCRIPT = "read_verilog {folder}/register.v; prep -top register; sat -seq 1 -set-init-def -set-at {steps} wrong 1 -dump_cnf {folder}/cnf"
+SCRIPT = "read_verilog {folder}/register.v; prep -top register; sat -timeout 1 -seq {steps} -set-at {steps} wrong 1 -dump_cnf {folder}/cnf"
 
 
 def units(variables):

@@ -82,14 +82,15 @@ bool line_is_text(Line line);
 // clauses.c: clauses in one row, by places in it, the names that the proof has for them, and deletion by literals.
 typedef uint32_t Place;                 // 0: none
 
-enum { DEAD = 1, TAUTOLOGY = 2, AGE = 4, RECENT = 3 * AGE };     // a clause is recent while one of these bits is set
+enum { MANY = 1024 };                   // literals, beyond which a clause is a long one
+enum { DEAD = 1, TAUTOLOGY = 2, AGE = 4, RECENT = 3 * AGE, LONG = 16 };     // a clause is recent while one of these bits is set
 
 typedef struct {
     uint64_t identity;                  // in the stream
-    uint32_t length : 28, flags : 4;
+    uint32_t length : 27, flags : 5;
     Place next;                         // of those whose sets have the same place in `sets`
-    Literal literals[];                 // each once; where it is watched, these are the first two
-} Clause;
+    Literal literals[];                 // each once; where it is watched, these are the first two. Behind those of a long one stands
+} Clause;                               // the place from which on another one to watch is looked for
 
 typedef struct { uint64_t name; Place clause; } Named;
 

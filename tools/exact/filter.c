@@ -159,6 +159,7 @@ static void look_for_chain(Filter *filter, bool has_lemmas) {
     Place conflict = propagation_conflict(propagation, &filter->literals);
     if (conflict == 0)
         stop("no conflict by unit propagation: a RAT step, which lrupd doesn't check, or a clause that doesn't follow");
+    if (filter->literals.length > LITERALS_OF_A_LINE) stop("longer than a line may be");
     if (!has_lemmas) {
         propagation_trace_all(propagation, &filter->literals, conflict, &filter->chain);
     } else if (!propagation_trace(propagation, &filter->literals, conflict, &filter->chain) ||
@@ -177,7 +178,6 @@ static Found find_chain(Filter *filter, const Addition *addition) {
     bool has_lemmas = has_identities(filter, addition);
     Found found = addition->hinted > 0 ? try_hints(filter, addition) : NO_CHAIN;
     size_t hints = found == SAME_CHAIN ? addition->hinted : filter->chain.length;
-    if (filter->literals.length > LITERALS_OF_A_LINE) stop("longer than a line may be");
     if (found == NO_CHAIN || (hints > IDENTITIES_OF_A_LINE && has_lemmas)) {
         propagation_settle(&filter->propagation);
         if (has_lemmas && filter->propagation.conflict != 0) return lemmas_refute(filter), NO_CHAIN;
@@ -185,7 +185,7 @@ static Found find_chain(Filter *filter, const Addition *addition) {
         found = SOME_CHAIN;
         hints = filter->chain.length;
     }
-    if (hints > IDENTITIES_OF_A_LINE) stop("longer than a line may be");
+    if (hints > IDENTITIES_OF_A_LINE || filter->literals.length > LITERALS_OF_A_LINE) stop("longer than a line may be");
     return found;
 }
 

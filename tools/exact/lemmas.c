@@ -182,4 +182,5 @@ void lemmas_refute(Filter *filter) {
     filter->busy = true;
     write_lemma(filter, split(filter, filter->propagation.conflict, 0, WORTH_A_LEMMA));
     filter->refuted = true;
+    filter->busy = false;
 }

@@ -20,7 +20,7 @@
 
 #include <unistd.h>
 
-#include "solve.h"
+#include "cubes.h"
 
 namespace {
 
@@ -34,7 +34,7 @@ enum { OUT_OF_MEMORY = 3, NO_PROOF = 4 };       // statuses of the process
 
 class Worker : CaDiCaL::Learner, CaDiCaL::WitnessIterator {
 public:
-    explicit Worker(const Engine &engine) : engine(engine), part(engine.shared->parts[engine.number - 1]) {}
+    explicit Worker(const Engine &engine) : engine(engine), part(engine.shared->parts[engine.number - 1]), cubes(engine, solver) {}
 
     int run() {
         open();
@@ -50,6 +50,8 @@ private:
     const Engine &engine;
     Part &part;
     CaDiCaL::Solver solver;
+    Cubes cubes;
+    int learned = 0;                        // literals of what is learned that don't contradict the cube
     FILE *proof = nullptr;
     std::vector<uint64_t> read;             // by engine: how far in its outbox
     std::vector<unsigned char> gone;        // by variable, from 1: eliminated or substituted here
@@ -59,14 +61,22 @@ private:
 
     bool shares() const { return engine.options->shares(); }
 
-    // CaDiCaL asks right before it traces a clause that conflict analysis learned. No literals are wanted: a mark in the proof
+    // CaDiCaL asks right before it traces a clause that conflict analysis learned. Its literals aren't kept: a mark in the proof
     // says that the next line may be given away, and the filter, which names that line, does so.
     bool learning(int size) override {
         STORE(part.conflicts, part.conflicts + 1);
-        if (shares() && size >= 2 && size <= engine.options->share_size) putc_unlocked('x', proof);
-        return false;
+        learned = size;
+        if (cubes.looks()) cubes.count_conflict();
+        return shares() && size >= 2 && (cubes.looks() || size <= engine.options->share_size + int(cubes.cube().size()));
     }
-    void learn(int) override {}
+
+    // Literals of the cube don't count for the length.
+    void learn(int literal) override {
+        const std::vector<int> &cube = cubes.cube();
+        if (literal == 0 && learned <= engine.options->share_size) putc_unlocked('x', proof);
+        if (literal != 0 && cubes.looks()) cubes.count_literal(literal);
+        learned -= literal != 0 && std::find(cube.begin(), cube.end(), -literal) != cube.end();
+    }
 
     // Those of one literal are units of the root, and not gone.
     bool witness(const std::vector<int> &satisfied, const std::vector<int> &cube) override {
@@ -133,23 +143,43 @@ private:
     // Each call of `solve` would look for lucky assignments anew, unless something is assumed: a variable that no clause has.
     void assume() {
         for (Literal literal : *engine.assumed) solver.assume(as_written(literal));
+        for (int literal : cubes.cube()) solver.assume(literal);
         if (engine.number == 1 && part.slices > 0) solver.assume(engine.formula->variables + 1);
+    }
+
+    // The clause is given away, however long it is.
+    bool refutes_cube() {
+        if (!cubes.is_refuted()) return false;
+        collect_failed();
+        for (int literal : cubes.cube())
+            if (solver.failed(literal)) clause.push_back(-literal);
+        putc_unlocked('x', proof);
+        putc_unlocked('a', proof);
+        put_clause();
+        add_clause();
+        cubes.tell_refuted();
+        return true;
+    }
+
+    static double within_limits(double conflicts) {
+        return std::min<double>(MOST_CONFLICTS, std::max<double>(LEAST_CONFLICTS, conflicts));
     }
 
     int solve() {
         const char *slice = test_word("LRUP_SOLVE_SLICE");
-        double conflicts = slice ? atof(slice) : FIRST_CONFLICTS;
+        double conflicts = FIRST_CONFLICTS;
         for (;;) {
             assume();
-            if (shares()) solver.limit("conflicts", int(conflicts));
+            bool is_whole = !cubes.is_idle() && !slice;
+            if (shares()) solver.limit("conflicts", is_whole ? int(conflicts) : slice ? atoi(slice) : LEAST_CONFLICTS);
             double begin = now();
             int status = solver.solve();
-            if (status != 0 || !shares()) return status;
+            if ((status != 0 && !(status == 20 && refutes_cube())) || !shares()) return status;
             double factor = SLICE / std::max(now() - begin, 1e-6);
-            if (!slice) conflicts = conflicts * std::min(2.0, std::max(0.5, factor));
-            if (!slice) conflicts = std::min<double>(MOST_CONFLICTS, std::max<double>(LEAST_CONFLICTS, conflicts));
+            if (is_whole && status == 0) conflicts = within_limits(conflicts * std::min(2.0, std::max(0.5, factor)));
             STORE(part.slices, part.slices + 1);
             take_over();
+            cubes.look(gone);
             if (fflush(proof) != 0) return 0;
         }
     }
@@ -243,11 +273,16 @@ private:
             engine.model[variable - 1] = solver.val(variable) > 0 ? 1 : -1;
     }
 
-    // The clause that the filter waits for. CaDiCaL may have traced it; not where the formula has it, or with assumptions.
-    void write_end() {
+    // Of the user's assumptions.
+    void collect_failed() {
         clause.clear();
         for (Literal literal : *engine.assumed)
             if (solver.failed(as_written(literal))) clause.push_back(-as_written(literal));
+    }
+
+    // The clause that the filter waits for. CaDiCaL may have traced it; not where the formula has it, or with assumptions.
+    void write_end() {
+        collect_failed();
         putc_unlocked('a', proof);
         put_clause();
     }

@@ -203,7 +203,9 @@ void Run::start_teams() {
     bool first_alone = starts_late() && !is_solver(0) && !teams.empty();
     for (size_t k = 0; k < teams.size(); k++)
         if (k == 0 || !first_alone || is_solver(k)) start_team(k);
-    others_start = first_alone ? now() + MOMENT + READINGS * reading : 0;
+    const char *moment = test_word("LRUP_SOLVE_MOMENT");
+    others_start = first_alone ? now() + (moment ? atof(moment) : MOMENT + READINGS * reading) : 0;
+    look_at_start();
 }
 
 void Run::start_others() {
@@ -215,6 +217,12 @@ void Run::start_others() {
 void Run::look_at_start() {
     bool has_answered = !teams[0].told && LOAD(shared->parts[0].answer) != 0;
     if (others_start > 0 && !has_answered && (teams[0].told || now() >= others_start)) start_others();
+}
+
+void Run::look_at_cubes() {
+    bool is_first = dealer.dealt == 0;
+    dealer.deal(*shared, options);
+    if (is_first && dealer.dealt > 0 && options.verbose) tell("engines take cubes");
 }
 
 void Run::start_engine(size_t k) {
@@ -293,6 +301,7 @@ void Run::look() {
     look_at_reading();
     if (phase < ENDING_STREAMS) look_at_teams();
     if (phase == SOLVING) look_at_start();
+    if (phase == SOLVING) look_at_cubes();
     if (phase == SOLVING) pause_others();
     if (phase != SAVING && phase < ENDING_STREAMS) look_at_checker();
     if (phase < ENDING_STREAMS) look_at_round();

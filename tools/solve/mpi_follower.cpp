@@ -169,6 +169,7 @@ private:
             if (is_over || (is_told && LOAD(shared->parts[k].answer) == 0)) team.engine.signal(SIGKILL);
             if (is_over) team.filter.signal(now() > ending ? SIGKILL : SIGCONT);
         }
+        if (phase == SOLVING) dealer.deal(*shared, options);
         if (phase == SOLVING) pause_others();
     }
 

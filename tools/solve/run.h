@@ -2,7 +2,7 @@
 #ifndef RUN_H
 #define RUN_H
 
-#include "solve.h"
+#include "cubes.h"
 
 enum Answer { UNKNOWN_ANSWER = 0, SATISFIABLE = 10, UNSATISFIABLE = 20 };
 
@@ -49,6 +49,7 @@ protected:
     double started = now(), answered = 0, ending = 0, shown = 0;
     double reading = 0;                 // seconds, of the formula
     double others_start = 0;            // 0: they have
+    Dealer dealer;                      // of cubes
 
     // Of the round.
     uint64_t round = 1;
@@ -83,6 +84,7 @@ protected:
     void start_teams();
     void start_others();
     void look_at_start();
+    void look_at_cubes();
     void start_engine(size_t k);
 
     // Events.

@@ -12,6 +12,7 @@
 #include "../exact/proof.h"
 
 enum { MOST_ENGINES = 64, LONGEST_CAUSE = 160, LONGEST_PATH = 4096 };
+enum { VARIABLES_OF_CUBES = 64, MOST_OF_A_CUBE = 20 };      // variables by which cubes are made; literals of one
 
 // Of an engine and its filter. Each field has one writer, and is read by others at any time: only by LOAD and STORE. A round is
 // one run of lrupd.
@@ -21,6 +22,10 @@ typedef struct {
     uint64_t conflicts, slices, taken, refused, satisfied;
     int group;                  // the processes of a solver that the user has
     int unfounded;              // it says 10, and gives no assignment
+    int ready;                  // it keeps the variables by which cubes are made
+    uint64_t usable;            // which of these it hadn't eliminated by then, and are open: bits
+    uint64_t refuted_cube;      // the number of the last one that it has refuted
+    uint64_t refuted_cubes;
     // The filter writes:
     uint64_t lines, literals, hints, given;                     // of all rounds
     uint64_t citing_others, citing_elsewhere;                   // lines with a hint of another stream; of one of another host
@@ -39,9 +44,11 @@ typedef struct {
     uint64_t stream;            // its number in the round that comes next, or is on; 0: it has none
     uint64_t fed;               // bytes of its stream that lrupd has got
     int gone;                   // the filter has ended
+    uint64_t cube_number;       // that it has, or has had; 0: none, or another one is being written
+    int cube_length, cube[MOST_OF_A_CUBE];
 } Part;
 
-// The first process writes all of it but the parts.
+// The first process writes all of it but the parts; and the first engine of the host the variables of cubes.
 typedef struct {
     int engines;
     int first_here, engines_here;       // from 0; others are on other hosts
@@ -52,6 +59,8 @@ typedef struct {
     uint64_t saved_round;               // lrupd has saved this one's checkpoint: the two names below and the streams are the next one's
     uint64_t streams;
     uint64_t most_lines, most_literals; // of a stream
+    uint64_t variable_count;            // by which cubes are made; 0: it isn't known yet
+    int variables[VARIABLES_OF_CUBES];
     char checkpoint[LONGEST_PATH];
     char record[LONGEST_PATH];          // the folder of the streams, with a slash, where they are kept
     Part parts[MOST_ENGINES];

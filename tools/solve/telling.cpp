@@ -118,6 +118,9 @@ void Run::details() const {
                     grouped(LOAD(part.taken)).c_str(), grouped(LOAD(part.refused)).c_str(), grouped(LOAD(part.given)).c_str(),
                     counted(lines, "line").c_str(), lines ? 100.0 * double(LOAD(part.citing_others)) / double(lines) : 0));
     }
+    if (dealer.dealt > 0)
+        tell(format("cubes: %s dealt out, %s refuted, %s of lost engines handed on", grouped(dealer.dealt).c_str(),
+                    grouped(all(&Part::refuted_cubes)).c_str(), grouped(dealer.handed_on).c_str()));
     if (answered > 0) tell(format("the verdict came %.2f s after an engine's answer", now() - answered));
 }
 
