@@ -49,7 +49,7 @@ build: toolchain ## build: prove the program, 7 to 30 minutes the first time, an
 
 # The filter's name is lrup-exact; lrup-solve is installed where CaDiCaL's library is there. The manual pages have the version at their
 # feet.
-install: build exact trim ## use: install lrupd, lrup-chain, lrup-exact, lrup-trim and lrup-solve, with manual pages, below PREFIX=/usr/local
+install: build exact trim ## use: install lrupd, lrup-chain, lrup-exact, lrup-trim, lrup-solve, with manual pages, below PREFIX=/usr/local
 	install -d "$(DESTDIR)$(PREFIX)/bin" "$(DESTDIR)$(PREFIX)/share/man/man1"
 	install -m 755 $(PROGRAM) "$(DESTDIR)$(PREFIX)/bin/lrupd"
 	install -m 755 tools/lrup-chain "$(DESTDIR)$(PREFIX)/bin"
@@ -186,9 +186,9 @@ edits: toolchain ## check: the edits that the gate leaves out, of CRATE=name or 
 
 # The whole gate: the pages; every proof from nothing, each edit that must be refused, each test, and the program as two compilers
 # build it; then, with the program that was built there, the examples, the live run, checkpoints, runs in rounds and chains, the
-# solver's streams and the filter's, mutated proofs, lrup-trim, lrup-solve, a proof beside hostile streams, each call of the system refused in
-# turn, of the program and of tests, memory given back, and the instructions that lines take. The last line is rt's own, 'N passed,
-# M failed'.
+# solver's streams and the filter's, mutated proofs, trimmed ones, lrup-solve, a proof beside hostile streams, each call of the system
+# refused in turn, of the program and of tests, memory given back, and the instructions that lines take. The last line is rt's own,
+# 'N passed, M failed'.
 # Side by side, those that take longest first, and two more than there are cores, since most of them wait now and then; what each
 # one prints comes when it has ended.
 TESTS := lrup_solve_rounds sweep filter_mutants lrup_solve lrup_solve_solvers filter_rounds trim-test lrup_solve_mpi leaks filter_streams \

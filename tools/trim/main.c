@@ -90,7 +90,8 @@ typedef struct {
 
 static const char **place_for(CommandLine *given, const char *word, size_t length) {
     struct { const char *name; const char **place; } options[] = {
-        { "--core", &given->core.path }, { "--stream", &given->stream.path }, { "--lrat", &given->lrat.path }, { "--assume", &given->assume } };
+        { "--core", &given->core.path }, { "--stream", &given->stream.path }, { "--lrat", &given->lrat.path },
+        { "--assume", &given->assume } };
     for (size_t k = 0; k < sizeof options / sizeof *options; k++)
         if (strlen(options[k].name) == length && strncmp(options[k].name, word, length) == 0) return options[k].place;
     refuse("no such option:", word);
@@ -150,16 +151,16 @@ static void assume(Proof *proof, const char *path) {
 }
 
 // What comes out, and how lrupd checks it: in one run, or in rounds where a row doesn't do.
-static void tell(const Proof *proof, const CommandLine *given, const Output *output, uint64_t clauses, const char *formula) {
-    unsigned long long kept = proof->kept, room = proof->room;
+static void tell(const Proof *proof, const CommandLine *given, const Output *output, const char *formula) {
     if (!output->path) return;
+    const char *option = given->assume ? "--assume " : "", *file = given->assume ? given->assume : "", *space = given->assume ? " " : "";
     printf("c %s: %llu bytes of %llu: ", output->path, (unsigned long long)output->bytes, (unsigned long long)proof->bytes);
-    const char *option = given->assume ? "--assume " : "", *assumptions = given->assume ? given->assume : "", *space = given->assume ? " " : "";
-    if (1 + clauses + proof->formula.literals.length + kept + room <= MOST_WORDS)
-        printf("lrupd %s%s%s--lines %llu --room %llu %s %s\n", option, assumptions, space, kept, room, formula, output->path);
+    if (1 + output->below + proof->formula.literals.length + proof->kept + proof->room <= MOST_WORDS)
+        printf("lrupd %s%s%s--lines %llu --room %llu %s %s\n", option, file, space, (unsigned long long)proof->kept,
+               (unsigned long long)proof->room, formula, output->path);
     else
         printf("lrup-exact --rounds live %s %s | { read ready && lrupd %s%s%s--rounds live %s live/round-1.stream-1; }\n", formula,
-               output->path, option, assumptions, space, formula);
+               output->path, option, file, space, formula);
 }
 
 int main(int count, char **words) {
@@ -174,14 +175,14 @@ int main(int count, char **words) {
     else round_add(&proof, given.streams, given.streams_length);
     order(&proof);
     mark(&proof);
-    if (given.stream.path) lines_write(&proof, &given.stream, false);
-    if (given.lrat.path) lines_write(&proof, &given.lrat, true);
+    if (given.stream.path || given.lrat.path) lines_write(&proof, &given.stream, &given.lrat);
     if (given.core.path) core_write(&proof, &given.core, given.formula);
     printf("c %llu of %zu clauses, %llu lines of %llu\n", (unsigned long long)proof.core, proof.formula.clauses,
            (unsigned long long)proof.kept, (unsigned long long)proof.lines);
-    tell(&proof, &given, &given.stream, proof.core, given.core.path);
-    tell(&proof, &given, &given.lrat, proof.formula.clauses, given.formula);
+    tell(&proof, &given, &given.stream, given.core.path);
+    tell(&proof, &given, &given.lrat, given.formula);
     if (fflush(stdout) != 0) stop("cannot write to standard output");
     outputs_keep();
+    free(given.streams);
     return 0;
 }

@@ -14,12 +14,11 @@ const Stream *stream_with(const Proof *proof, Number number) {
 
 static void mark_line(Proof *proof, const Stream *stream, Number number) {
     const Round *round = &proof->rounds.items[stream->round];
-    Reading reading;
-    line_read(line_at(stream, stream->lines[number - stream->first]), &reading);
+    size_t count;
+    const int64_t *hints = hints_read(stream, number, &count);
     proof->kept++;
-    proof->room += reading.length;
-    for (size_t k = 0; k < reading.count; k++) {
-        Number cited = number_of(proof, round, (uint64_t)reading.cited[k]);
+    for (size_t k = 0; k < count; k++) {
+        Number cited = number_of(proof, round, (uint64_t)hints[k]);
         if (proof->last_use[cited] == 0) proof->last_use[cited] = number;
     }
 }

@@ -17,13 +17,18 @@ static Outcome stopped(Stream *stream, const char *fault, uint64_t object) {
     return STOPPED;
 }
 
+static bool is_over(Stream *stream) {
+    if (stream->at == stream->end && stream->cut && !stream->stopped) stopped(stream, "truncated", 0);
+    return stream->stopped || stream->at == stream->end;
+}
+
 // Lines.
 
 static void take(Proof *proof, Stream *stream, const Reading *reading, uint64_t slot) {
     Number number = stream->first + (Number)slot;
     Run *last = proof->runs.length > 0 ? &proof->runs.items[proof->runs.length - 1] : NULL;
     stream->seen = slot + 1;
-    stream->lines[slot] = stream->at;
+    hints_keep(stream, slot, (unsigned char *)strstr((char *)stream->at, " 0 ") + 3);
     if (last && last->from >= stream->first && last->to <= number) last->to = number + 1;
     else PUSH(&proof->runs, ((Run){ number, number + 1 }));
     for (size_t k = 0; k < reading->length; k++) {
@@ -39,14 +44,15 @@ static Outcome add(Proof *proof, const Round *round, Stream *stream, const Readi
     if (reading->identity <= round->formula || &streams[owner_of(round, reading->identity)] != stream)
         return stopped(stream, "identity", 0);
     uint64_t slot = slot_of(round, reading->identity);
-    if (slot < stream->seen || slot >= stream->slots) return stopped(stream, "identity", 0);
+    if (slot < stream->seen || slot >= MOST_WORDS) return stopped(stream, "identity", 0);
+    if (slot >= stream->slots) return stopped(stream, "an identity above that of the last addition", 0);
     for (size_t k = 0; k < reading->count; k++) {
         uint64_t hint = (uint64_t)reading->cited[k];
         if (hint <= round->formula) continue;
         Stream *owner = &streams[owner_of(round, hint)];
         uint64_t cited = slot_of(round, hint);
-        if (cited < owner->seen && owner->lines[cited]) continue;
-        if (cited < owner->seen || owner == stream || owner->stopped || owner->at == owner->end) return stopped(stream, "missing", hint);
+        if (cited < owner->seen && owner->hints[cited]) continue;
+        if (cited < owner->seen || owner == stream || is_over(owner)) return stopped(stream, "missing", hint);
         *awaited = hint;
         return WAITS;
     }
@@ -94,7 +100,7 @@ static void merge(Proof *proof, const Round *round, unsigned char *dropped) {
             uint32_t number = stack[depth - 1].stream;
             Stream *stream = &streams[number];
             uint64_t awaited = 0;
-            waits[number] = stream->seen < stack[depth - 1].slots && !stream->stopped && stream->at < stream->end;
+            waits[number] = stream->seen < stack[depth - 1].slots && !is_over(stream);
             if (!waits[number]) depth--;
             else if (step(proof, round, stream, dropped, &awaited) == WAITS) {
                 uint32_t owner = (uint32_t)owner_of(round, awaited);
@@ -159,7 +165,7 @@ static void carry(const Proof *proof, const Round *round, const unsigned char *d
         if (dropped[k - 1] < round->count) next->carried[next->formula++] = number_of(proof, round, k);
     for (uint64_t slot = 0; slot < slots; slot++)
         for (uint32_t k = 0; k < round->count; k++)
-            if (slot < streams[k].seen && streams[k].lines[slot] && !streams[k].deleted[slot])
+            if (slot < streams[k].seen && streams[k].hints[slot] && !streams[k].deleted[slot])
                 next->carried[next->formula++] = streams[k].first + (Number)slot;
     next->carried = grow(next->carried, (next->formula + 1) * sizeof *next->carried);
 }
@@ -174,11 +180,10 @@ static void round_end(Proof *proof, const Round *round) {
 
 // Whether a round comes after the last one.
 static bool goes_on(Proof *proof, const unsigned char *dropped) {
-    if (proof->target || !proof->folder) return false;
-    uint32_t count = streams_of(proof), index = (uint32_t)proof->rounds.length - 1;
+    uint32_t index = (uint32_t)proof->rounds.length - 1, count = proof->target || !proof->folder ? 0 : streams_of(proof);
     if (count == 0) return false;
     for (uint32_t k = 0; k < proof->rounds.items[index].count; k++)
-        if (proof->streams.items[proof->rounds.items[index].first + k].stopped) stop("no round comes after round %u, which has such a line", index + 1);
+        if (proof->streams.items[proof->rounds.items[index].first + k].stopped) stop("the run ends in round %u, with that line", index + 1);
     round_add(proof, NULL, count);
     carry(proof, &proof->rounds.items[index], dropped, &proof->rounds.items[index + 1]);
     return true;
@@ -202,5 +207,6 @@ void order(Proof *proof) {
         round_end(proof, &proof->rounds.items[index]);
         if (dropped) grow(dropped, 0);
     }
+    words_free();
     if (!proof->target) stop("no line derives %s", proof->assumed ? "a clause that contradicts the assumptions" : "the empty clause");
 }

@@ -1,6 +1,6 @@
 // Unverified, as all of this tool. What is written: the core, and the lines that are needed. No file is written over, and none is left
 // that isn't whole.
-#define _POSIX_C_SOURCE 200809L
+#define _GNU_SOURCE
 #include <errno.h>
 #include <fcntl.h>
 #include <string.h>
@@ -13,7 +13,6 @@ enum { OUTPUTS = 3 };
 static const char *volatile made[OUTPUTS];
 static volatile int made_length;
 static Output *output;          // the one that is written
-static int file;
 
 void outputs_remove(void) {
     for (int k = 0; k < made_length; k++) unlink(made[k]);
@@ -22,25 +21,29 @@ void outputs_remove(void) {
 void outputs_keep(void) { made_length = 0; }
 
 static void to_output(const char *bytes, size_t length) {
-    if (!write_whole(file, bytes, length)) stop("cannot write %s: %s", output->path, strerror(errno));
+    if (!write_whole(output->file, bytes, length)) stop("cannot write %s: %s", output->path, strerror(errno));
     output->bytes += length;
 }
 
 static void output_open(Output *place) {
     output = place;
     made[made_length] = output->path;
-    file = open(output->path, O_WRONLY | O_CREAT | O_EXCL | O_CLOEXEC, 0666);
-    if (file < 0) stop("cannot make %s: %s", output->path, strerror(errno));
+    output->file = open(output->path, O_WRONLY | O_CREAT | O_EXCL | O_CLOEXEC, 0666);
+    if (output->file < 0) stop("cannot make %s: %s", output->path, strerror(errno));
     made_length++;
     write_to(to_output);
 }
 
 static void output_close(void) {
-    write_flush();
-    if (close(file) != 0) stop("cannot write %s: %s", output->path, strerror(errno));
+    if (close(output->file) != 0) stop("cannot write %s: %s", output->path, strerror(errno));
 }
 
 // The core, in the order of FORMULA and with its variables. Before a clause stands its number there, as in what lrupd saves.
+
+static void formula_free(Formula *formula) {
+    formula->starts.items = grow(formula->starts.items, 0);
+    formula->literals.items = grow(formula->literals.items, 0);
+}
 
 static void core_check(const Proof *proof, const char *core, const char *formula) {
     Formula whole = {0}, found = {0};
@@ -56,11 +59,8 @@ static void core_check(const Proof *proof, const char *core, const char *formula
     }
     if (place != proof->core || found.clauses != proof->core || found.variables != whole.variables)
         stop("%s hasn't the clauses of %s that it should have: was one of them changed?", core, formula);
-}
-
-static void formula_free(Formula *formula) {
-    formula->starts.items = grow(formula->starts.items, 0);
-    formula->literals.items = grow(formula->literals.items, 0);
+    formula_free(&whole);
+    formula_free(&found);
 }
 
 // The last that is done with the clauses of FORMULA, which are read once more.
@@ -77,14 +77,26 @@ void core_write(Proof *proof, Output *core, const char *path) {
         write_literals(formula->literals.items + formula->starts.items[k], formula->starts.items[k + 1] - formula->starts.items[k]);
         write_bytes("\n", 1);
     }
+    write_flush();
     output_close();
     formula_free(formula);
     core_check(proof, core->path, path);
 }
 
-// Lines.
+// Lines. Some are read, and then written to one output after the other.
 
+enum { PIECE = 1 << 14 };       // hints
+
+typedef struct { Number number; const char *literals; size_t bytes, first, count; } Kept;   // what it cites
+
+static struct { Kept *items; size_t length, capacity; } lines;
+static struct { Number *items; size_t length, capacity; } cited;
 static Identities list;
+
+static uint64_t identity_of(const Proof *proof, Number number) {
+    if (number > proof->formula.clauses) return output->below + proof->place[number];
+    return output->whole ? number : proof->place[number];
+}
 
 static void write_deletion(uint64_t lead) {
     for (size_t k = 0; k < list.length; k += IDENTITIES_OF_A_LINE) {
@@ -95,52 +107,74 @@ static void write_deletion(uint64_t lead) {
     }
 }
 
-// The identities of FORMULA's clauses; over FORMULA all but the core is deleted first.
-static void begin(Proof *proof, bool whole) {
-    Number next = 0;
+static void write_line(const Proof *proof, const Kept *line) {
+    const Number *hints = cited.items + line->first;
+    uint64_t identity = identity_of(proof, line->number);
     list.length = 0;
-    for (Number k = 1; k <= proof->formula.clauses; k++) {
-        if (proof->last_use[k] != 0) proof->place[k] = whole ? k : ++next;
-        else if (whole) PUSH(&list, k);
-    }
-    write_deletion(proof->formula.clauses);
-}
-
-static void write_line(const Proof *proof, const Stream *stream, Number number) {
-    const Round *round = &proof->rounds.items[stream->round];
-    unsigned char *start = stream->lines[number - stream->first], *end;
-    Reading reading;
-    line_read(line_at(stream, start), &reading);
-    start = (unsigned char *)strchr((char *)start, ' ');
-    end = (unsigned char *)strstr((char *)start, " 0 ") + 3;
-    list.length = 0;
-    for (size_t k = 0; k < reading.count; k++)
-        PUSH(&list, proof->place[number_of(proof, round, (uint64_t)reading.cited[k])]);
-    write_number(proof->place[number], ' ');
-    write_bytes((char *)start + 1, (size_t)(end - start - 1));
+    for (size_t k = 0; k < line->count; k++) PUSH(&list, identity_of(proof, hints[k]));
+    write_number(identity, ' ');
+    write_bytes(line->literals, line->bytes);
     write_numbers(list.items, list.length);
-    if (number == proof->target) return;
+    if (line->number == proof->target) return;
     list.length = 0;
-    for (size_t k = 0; k < reading.count; k++) {
-        Number cited = number_of(proof, round, (uint64_t)reading.cited[k]);
-        if (proof->last_use[cited] == number) PUSH(&list, proof->place[cited]);
-    }
-    write_deletion(proof->place[number]);
+    for (size_t k = 0; k < line->count; k++)
+        if (proof->last_use[hints[k]] == line->number) PUSH(&list, identity_of(proof, hints[k]));
+    write_deletion(identity);
 }
 
-void lines_write(Proof *proof, Output *place, bool whole) {
-    Number next = (Number)(whole ? proof->formula.clauses : proof->core);
+static void piece_write(const Proof *proof, Output *const outputs[2]) {
+    for (int k = 0; k < 2; k++) {
+        if (!outputs[k]->path) continue;
+        output = outputs[k];
+        for (size_t line = 0; line < lines.length; line++) write_line(proof, &lines.items[line]);
+        write_flush();
+    }
+    lines.length = cited.length = 0;
+}
+
+static void line_take(Proof *proof, const Stream *stream, Number number) {
+    const Round *round = &proof->rounds.items[stream->round];
+    unsigned char *end = hints_of(stream, number), *start = memrchr(stream->start, '\n', (size_t)(end - stream->start));
+    Kept line = { .number = number, .first = cited.length };
+    const int64_t *hints = hints_read(stream, number, &line.count);
+    line.literals = strchr(start ? (char *)start : (char *)stream->start, ' ') + 1;
+    line.bytes = (size_t)((char *)end - line.literals);
+    for (size_t k = 0; k < line.bytes; k++) proof->room += line.literals[k] == ' ';
+    proof->room--;
+    for (size_t k = 0; k < line.count; k++) PUSH(&cited, number_of(proof, round, (uint64_t)hints[k]));
+    PUSH(&lines, line);
+}
+
+// Over FORMULA all but the core is deleted first.
+static void lines_begin(Proof *proof, Output *place, bool whole) {
+    if (!place->path) return;
     output_open(place);
-    if (!proof->place) proof->place = zeroed(proof->numbers, sizeof *proof->place);
-    begin(proof, whole);
+    place->whole = whole;
+    place->below = whole ? proof->formula.clauses : proof->core;
+    list.length = 0;
+    for (Number k = 1; k <= proof->formula.clauses && whole; k++)
+        if (proof->last_use[k] == 0) PUSH(&list, k);
+    write_deletion(proof->formula.clauses);
+    write_flush();
+}
+
+void lines_write(Proof *proof, Output *stream, Output *lrat) {
+    Output *const outputs[2] = { stream, lrat };
+    Number place = 0, derived = 0;
+    proof->place = zeroed(proof->numbers, sizeof *proof->place);
+    for (Number k = 1; k <= proof->formula.clauses; k++) proof->place[k] = proof->last_use[k] != 0 ? ++place : 0;
+    lines_begin(proof, stream, false);
+    lines_begin(proof, lrat, true);
     for (size_t k = 0; k < proof->runs.length; k++) {
         Run run = proof->runs.items[k];
-        const Stream *stream = stream_with(proof, run.from);
         for (Number number = run.from; number < run.to; number++) {
             if (proof->last_use[number] == 0) continue;
-            proof->place[number] = ++next;
-            write_line(proof, stream, number);
+            proof->place[number] = ++derived;
+            line_take(proof, stream_with(proof, run.from), number);
+            if (cited.length >= PIECE) piece_write(proof, outputs);
         }
     }
-    output_close();
+    piece_write(proof, outputs);
+    for (int k = 0; k < 2; k++)
+        if (outputs[k]->path) output = outputs[k], output_close();
 }

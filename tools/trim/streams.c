@@ -10,6 +10,7 @@
 #include "trim.h"
 
 enum { BEYOND = 8 };        // bytes that words.c looks at behind a line
+enum { SLOTS = 256 };       // that have one place
 
 static Words words;
 
@@ -89,6 +90,28 @@ const char *line_read(Line line, Reading *reading) {
     return reading->length > LITERALS_OF_A_LINE || reading->count > IDENTITIES_OF_A_LINE ? "too long" : NULL;
 }
 
+void words_free(void) { words.numbers = (Numbers){ .items = grow(words.numbers.items, 0) }; }
+
+// Of a line the place of its hints is kept, in 4 bytes.
+
+void hints_keep(Stream *stream, uint64_t slot, unsigned char *place) {
+    unsigned char **first = &stream->places[slot / SLOTS];
+    if (*first == NULL) *first = place;
+    if (place - *first >= UINT32_MAX) stop("%s, line %llu: too far behind others", stream->path, (unsigned long long)stream->line + 1);
+    stream->hints[slot] = (uint32_t)(place - *first) + 1;
+}
+
+unsigned char *hints_of(const Stream *stream, Number number) {
+    uint64_t slot = number - stream->first;
+    return stream->places[slot / SLOTS] + stream->hints[slot] - 1;
+}
+
+const int64_t *hints_read(const Stream *stream, Number number, size_t *count) {
+    words_read(&words, line_at(stream, hints_of(stream, number)));
+    *count = words.numbers.length - 1;
+    return words.numbers.items;
+}
+
 // How many identities it has, by its last addition.
 static uint64_t slots_of(const Stream *stream, const Round *round, uint64_t number) {
     Reading reading;
@@ -109,10 +132,12 @@ void stream_open(Proof *proof, Stream *stream, const Round *round, uint64_t numb
     proof->bytes += length;
     unsigned char *last = memrchr(stream->start, '\n', length);
     stream->end = last ? last + 1 : stream->start;
+    stream->cut = stream->end < stream->start + length;
     stream->slots = slots_of(stream, round, number);
     if (proof->numbers + stream->slots > UINT32_MAX) stop("%s: more than %u clauses of all streams", stream->path, UINT32_MAX);
     stream->first = (Number)proof->numbers;
     proof->numbers += stream->slots;
-    stream->lines = zeroed(stream->slots, sizeof *stream->lines);       // a gap's pages aren't touched
+    stream->hints = zeroed(stream->slots, sizeof *stream->hints);       // a gap's pages aren't touched
+    stream->places = zeroed(stream->slots / SLOTS + 1, sizeof *stream->places);
     if (proof->folder) stream->deleted = zeroed(stream->slots, 1);
 }

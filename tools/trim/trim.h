@@ -3,7 +3,7 @@
 //
 // Forwards all lines are put in an order in which each comes after those that it cites (order.c). Backwards the lines that are needed
 // are found, and which of them cites a clause last (mark.c). Forwards these are written (output.c). Streams are mapped, and of a line
-// only its place is kept; so it is read once for each of the three.
+// only its place is kept; so its hints are read once for each of the three.
 #ifndef TRIM_H
 #define TRIM_H
 
@@ -27,9 +27,10 @@ typedef struct {
     uint32_t round;
     Number first;                       // of its first identity
     uint64_t slots, seen;               // its identities, up to the last one; up to the last one that was taken
-    unsigned char **lines;              // by slot; NULL: none
+    uint32_t *hints;                    // by slot, where those of its line begin, from the place on of some slots; 0: there is no line
+    unsigned char **places;
     unsigned char *deleted;             // by slot; NULL: there is no round more
-    bool stopped;                       // at a line that can't be right
+    bool cut, stopped;                  // the last line isn't whole; at a line that can't be right
 } Stream;
 
 typedef struct {
@@ -49,16 +50,20 @@ typedef struct {
     unsigned char *assumed;             // by literal; NULL: nothing is assumed
     uint64_t numbers;                   // the next one
     Number target;                      // what the proof ends with, or 0
-    Number *last_use, *place;           // by number: who cites it last, 0 if it isn't needed; its identity in what is written
+    Number *last_use, *place;           // by number: who cites it last, 0 if it isn't needed; the place among what is, from 1
     uint64_t lines, bytes;              // that were read
     uint64_t core, kept, room;          // what is needed: clauses of FORMULA, lines, literals of these
 } Proof;
 
 unsigned char *file_map(const char *path, size_t *length);      // zeros follow
 void file_check(const char *path);                              // that it can be read more than once
-Line line_at(const Stream *stream, unsigned char *start);
 const int64_t *numbers_read(const char *path, size_t *count);
+Line line_at(const Stream *stream, unsigned char *start);
 const char *line_read(Line line, Reading *reading);             // NULL, or the fault; what was read before is gone
+unsigned char *hints_of(const Stream *stream, Number number);  // their place
+const int64_t *hints_read(const Stream *stream, Number number, size_t *count);
+void hints_keep(Stream *stream, uint64_t slot, unsigned char *place);
+void words_free(void);                  // which are as many as a line had that was read
 void stream_open(Proof *proof, Stream *stream, const Round *round, uint64_t number);
 
 static inline uint64_t owner_of(const Round *round, uint64_t identity) { return (identity - round->formula - 1) % round->count; }
@@ -80,11 +85,17 @@ void mark(Proof *proof);
 const Stream *stream_with(const Proof *proof, Number number);
 
 // output.c
-typedef struct { const char *path; uint64_t bytes; } Output;    // NULL: it isn't wanted
+typedef struct {
+    const char *path;                   // NULL: it isn't wanted
+    int file;
+    uint64_t bytes;
+    uint64_t below;                     // the identities of FORMULA, or of the core, over which it is
+    bool whole;                         // of FORMULA
+} Output;
 
 void outputs_remove(void);              // what was made so far; nothing once all are whole
 void outputs_keep(void);
 void core_write(Proof *proof, Output *core, const char *formula);
-void lines_write(Proof *proof, Output *output, bool whole);     // over FORMULA, or over the core
+void lines_write(Proof *proof, Output *stream, Output *lrat);
 
 #endif
