@@ -10,7 +10,7 @@ EXACT := tools/exact/out/exact
 TRIM := tools/trim/out/lrup-trim
 SOLVE := tools/solve/out/lrup-solve
 SOLVE_FLAGS ?= -O2
-# What of the filter is part of lrup-solve.
+# What of the filter is part of lrup-solve, and of lrup-trim.
 FILTER := $(filter-out tools/exact/main.c tools/exact/chain.c,$(wildcard tools/exact/*.c))
 # Of one process.
 ALONE := $(filter-out $(wildcard tools/solve/mpi*.cpp),$(wildcard tools/solve/*.cpp))
@@ -95,8 +95,7 @@ exact: c-and-python ## build: the filter that makes streams of other solvers' pr
 # Not verified, and not trusted.
 trim: c-and-python ## build: lrup-trim, cores and smaller proofs of recorded streams, at tools/trim/out
 	@mkdir -p $(dir $(TRIM))
-	@$(CC) -std=c11 -O2 -Wall -Wextra -o $(TRIM).new tools/trim/*.c $(addprefix tools/exact/,formula.c words.c write.c) && \
-	mv $(TRIM).new $(TRIM)
+	@$(CC) -std=c11 -O2 -Wall -Wextra -o $(TRIM).new tools/trim/*.c $(FILTER) && mv $(TRIM).new $(TRIM)
 
 # Not verified. Engines and filters aren't trusted; the process that starts lrupd and prints its answer is believed.
 solve: solve-objects ## build: lrup-solve, from a formula to a proved verdict, at tools/solve/out; wants CaDiCaL's library
@@ -124,7 +123,7 @@ filter-test: $(FILTER_TESTS) ## check: the filter, in rounds too, with the solve
 $(FILTER_TESTS): $(BUILT) exact
 	@python3 tests/$@.py $(PROGRAM)
 
-trim-test: $(BUILT) solver trim ## check: lrup-trim, on 300 random runs in rounds, and on garbled streams
+trim-test: $(BUILT) solver exact trim ## check: lrup-trim, on 300 random runs in rounds, and on garbled streams
 	@python3 tests/trim.py $(PROGRAM)
 
 # Without CaDiCaL's library nothing is run, and without MPI nothing of lrup-solve-mpi. With MPI= only what takes seconds there, as in

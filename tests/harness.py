@@ -244,7 +244,7 @@ def sanitized_filter() -> None:
 
 def sanitized_trim() -> None:
     """lrup-trim, likewise."""
-    sources = [*sorted((ROOT / "tools" / "trim").glob("*.c")), *(EXACT / name for name in ("formula.c", "words.c", "write.c"))]
+    sources = [*(ROOT / "tools" / "trim").glob("*.c"), *(path for path in EXACT.glob("*.c") if path.name not in ("main.c", "chain.c"))]
     SANITIZED_TRIM.parent.mkdir(exist_ok=True)
     compiled(SANITIZED_TRIM, sources, *SANITIZE)
 

@@ -3,12 +3,12 @@
 
     trim.py PROGRAM [COUNT]
 
-COUNT is 300: random runs of one to five solvers, with and without imports, in one to seven rounds, some under an assumption; and as many
-garbled records. The core has to be clauses of the formula, lines have to be numbered densely, each has to be cited, and deleted right
-after that. lrupd has to take the lines over the core and over the formula, by the words that are told; where streams are garbled, either
-both or none, as the checker of LRAT does; and none where the formula is satisfiable. Records of lrup-solve are trimmed where CaDiCaL's
-library is there. lrup-trim is built with -fsanitize=address,undefined, where the compiler can. It shows what is off; the last line is
-'N passed, M failed', and ', K skipped' where something isn't there. The status is 1 where a run failed.
+COUNT is 300: random runs of one to five solvers, with and without imports, in one to seven rounds, some under an assumption, some with
+other hints; and as many garbled records. The core has to be clauses of the formula, lines have to be numbered densely, each has to be
+cited, and deleted right after that. lrupd has to take the lines over the core and over the formula, by the words that are told; where
+streams are garbled, either both or none, as the checker of LRAT does; and none where the formula is satisfiable. Records of lrup-solve
+are trimmed where CaDiCaL's library is there. lrup-trim is built with -fsanitize=address,undefined, where the compiler can. It shows
+what is off; the last line is 'N passed, M failed', and ', K skipped' where something isn't there. The status is 1 where a run failed.
 """
 import os
 import random
@@ -24,9 +24,9 @@ PROGRAM = os.path.abspath(sys.argv[1]) if len(sys.argv) > 1 else ""
 COUNT = int(sys.argv.pop(2)) if len(sys.argv) > 2 else 300      # the next word would be flags for lrup-solve
 
 sys.dont_write_bytecode = True
-from harness import (COMPRESSED, EXAMPLES, FOUR, GENERATOR, LIMIT, ROOT, SANITIZED_TRIM, SANITIZING, TRIM, VERDICTS, Failure, Ran, Row,
-                     Skipped, dimacs, example, is_sanitizing, piped, random_clauses, run, run_all, sanitized_trim, started, want, within,
-                     words_given, written)
+from harness import (COMPRESSED, EXAMPLES, FILTER, FOUR, GENERATOR, LIMIT, ROOT, SANITIZED_TRIM, SANITIZING, TRIM, VERDICTS, Failure,
+                     Ran, Row, Skipped, dimacs, example, is_sanitizing, piped, random_clauses, run, run_all, sanitized_trim, started,
+                     want, within, words_given, written)
 from lrat import lrat_fault
 from proof_forms import Clause, Step, read_formula, read_steps
 from rounds import ONE, TWO, Proof, round_files
@@ -108,11 +108,11 @@ def are_right(formula: Path, said: str, work: Path, status: int = 0) -> None:
         want((done.out.splitlines()[-1:], done.err, done.status), ([VERDICTS[status]], "", status), "what lrupd says")
 
 
-def trimmed(formula: Path, proof: Sequence[Path], work: Path, assumptions: Optional[Path] = None) -> str:
+def trimmed(formula: Path, proof: Sequence[Path], work: Path, assumptions: Optional[Path] = None, rehints: bool = False) -> str:
     """What is told."""
-    words = ["--assume", assumptions] if assumptions else []
+    words = [*(["--assume", assumptions] if assumptions else []), *["--re-hint"] * rehints]
     done = trim([*outputs_of(work), *words, formula, *proof], work)
-    want((done.err, done.status), ("", 0), "what is said")
+    want((done.err, done.status, (work / "lrat.re-hint").exists()), ("", 0, False), "what is said, and whether a file is left")
     are_right(formula, done.out, work, 8 if assumptions else 0)
     return done.out
 
@@ -177,7 +177,17 @@ def at_random(seed: int, work: Path) -> None:
     for path in [formula, *streams] if literal else []:
         selected(path, literal)
     proof = proof_in_rounds(formula, streams, seed % 8, work)
-    trimmed(formula, proof, work, written(f"-{literal} 0\n", work, "cube") if literal else None)
+    trimmed(formula, proof, work, written(f"-{literal} 0\n", work, "cube") if literal else None, numbers.randrange(4) == 0)
+
+
+def longer_than_a_row(output: str, formula: str, work: Path) -> None:
+    """What is told of such an output, but that the filter's rows are small here."""
+    trimmed(example("bmc.cnf"), [example("bmc.lrup")], work)
+    os.symlink(example("bmc.cnf"), work / "bmc.cnf")
+    told = f'"$1" --rounds live --memory 48K {formula} {output} | {{ read ready && "$2" --rounds live {formula} live/round-1.stream-1; }}'
+    done = run(["sh", "-c", told, "sh", FILTER, PROGRAM], cwd=work)
+    found = re.fullmatch(r"c round (\d+)\n.*\ns UNSATISFIABLE\n", done.out)
+    want((found is not None and int(found[1]) > 5, done.err, done.status), (True, "", 0), f"what lrupd says, {done.out}")
 
 
 def two_halves(count: int, rounds: int, work: Path) -> None:
@@ -194,6 +204,17 @@ def two_halves(count: int, rounds: int, work: Path) -> None:
     trimmed(formula, proof_in_rounds(formula, streams or [], rounds, work), work)
     literals = {abs(literal) for clause in core_of(work / "core")[2] for literal in clause}
     want(max(literals) <= below, True, "whether the core's variables are those of the first half")
+
+
+def other_hints(work: Path) -> None:
+    """Fewer lines are needed."""
+    streams = [example(name) for name in ("bmc-four.1", "bmc-four.2", "bmc-four.3", "bmc-four.4")]
+    lines = []
+    for rehints in (False, True):
+        lines.append(int(trimmed(example("bmc.cnf"), streams, work, rehints=rehints).split()[5]))
+        for name in OUTPUTS:
+            (work / name).unlink()
+    want(lines[1] < lines[0], True, f"{lines} lines")
 
 
 # By hand.
@@ -301,17 +322,18 @@ def base(number: int, work: Path) -> Garbled:
 FAULTY_LINE = (r"spelling|too long|truncated|rat hint|identity|an identity above that of the last addition|missing \d+|"
                r"a circle of lines that cite each other: \d+")
 FAULT = (rf"lrup-trim: (\S+, line \d+: ({FAULTY_LINE})|no line derives the empty clause|the run ends in round \d+, with that line|"
+         r"of the lines that are needed, number \d+: (no conflict by unit propagation: .*|a variable that the formula doesn't have)|"
          r"\S+: not STREAMS LINES ROOM|\S+: compressed: \w+ it|\S+ isn't there)")
 
 
-def garbled_trim(found: Garbled, formula: Path, work: Path) -> Optional[Tuple[bool, List[Ran]]]:
+def garbled_trim(found: Garbled, formula: Path, rehints: bool, work: Path) -> Optional[Tuple[bool, List[Ran]]]:
     """What the LRAT checker says, and lrupd of both; None where nothing is written, and why is told."""
     for name, text in found.files.items():
         (work / "rounds" / name).write_bytes(text.encode("latin-1"))
     is_record = any("sizes" in name for name in found.files)
     proof = [work / "rounds"] if is_record else [work / "rounds" / name for name in found.files]
-    done = trim([*outputs_of(work), formula, *proof], work)
-    left = [name for name in OUTPUTS if (work / name).exists()]
+    done = trim([*outputs_of(work), *["--re-hint"] * rehints, formula, *proof], work)
+    left = [name for name in [*OUTPUTS, "lrat.re-hint"] if (work / name).exists()]
     for line in done.err.splitlines():
         if not re.fullmatch(FAULT, line):
             raise Failure(f"what is said: {line}")
@@ -329,13 +351,14 @@ def garbled(number: int, work: Path) -> None:
     for name in numbers.sample(sorted(found.files), numbers.randint(1, min(2, len(found.files)))):
         for _ in range(numbers.choice((1, 1, 1, 2, 5))):
             found.files[name] = garbled_text(found.files[name], numbers)
-    answers = garbled_trim(found, found.formula, work)
+    answers = garbled_trim(found, found.formula, number % 4 == 0, work)
     if answers:
         want([done.status for done in answers[1]], [0, 0] if answers[0] else [3, 3], "lrupd's statuses")
 
 
 def satisfiable(number: int, work: Path) -> None:
-    """Streams of another formula, garbled or not: of a clause that it needs there is another one twice. Nothing is taken."""
+    """Streams of another formula, garbled or not: of a clause that it needs there is another one twice. Nothing is taken; the filter finds
+    no hints."""
     numbers = random.Random(f"{number} satisfiable")
     found = base(number % 6, work)      # all clauses are needed
     clauses = read_formula(found.formula)
@@ -344,11 +367,12 @@ def satisfiable(number: int, work: Path) -> None:
     variables = max(abs(literal) for clause in clauses for literal in clause)
     formula = written(dimacs(variables, clauses), work)
     want(solved(formula, 1, [], work), None, "the streams of the formula")
-    is_garbled = numbers.randrange(3) == 0
+    is_garbled, rehints = numbers.randrange(3) == 0, numbers.randrange(4) == 0
     for name in found.files if is_garbled else []:
         found.files[name] = garbled_text(found.files[name], numbers)
-    answers = garbled_trim(found, formula, work)
-    want(answers is None and not is_garbled, False, "whether nothing is written of good lines")
+    answers = garbled_trim(found, formula, rehints, work)
+    if rehints or not is_garbled:
+        want(answers is None, rehints, "whether nothing is written")
     if answers:
         want((answers[0], [done.status for done in answers[1]]), (False, [3, 3]), "what is said of a formula that is satisfiable")
 
@@ -414,14 +438,16 @@ BAD_ROUNDS += [(f"sizes '{text[:9]}'", {**ROUND, "round-2.sizes": text}, "d/roun
 
 
 def refuses(words: str, status: int, said: str, work: Path) -> None:
-    """In a folder with a formula f, a stream s, a pipe p, a folder d without rounds, a file there, and one that is compressed, z."""
-    for name, text in (("f", FOUR.encode()), ("s", FIRST.encode()), ("there", b"mine"), ("z", COMPRESSED["zcat"])):
+    """In a folder with a formula f, a stream s, a pipe p, a folder d without rounds, files there and r.re-hint, and one that is
+    compressed, z."""
+    files = {"f": FOUR.encode(), "s": FIRST.encode(), "there": b"mine", "r.re-hint": b"", "z": COMPRESSED["zcat"]}
+    for name, text in files.items():
         written(text, work, name)
     piped(work / "p")
     (work / "d").mkdir()
     done = trim(words.split(), work)
     want((done.out, done.err.splitlines()[-1:], done.status), ("", [f"lrup-trim: {said}"], status), "what is said")
-    want((sorted(os.listdir(work)), (work / "there").read_text()), (["d", "f", "p", "s", "there", "z"], "mine"), "what is there")
+    want((sorted(os.listdir(work)), (work / "there").read_text()), (sorted([*files, "d", "p"]), "mine"), "what is there")
 
 
 REFUSED = [("", 2, "error: no FORMULA"), ("f", 2, "error: no DIR or STREAM"), ("--cores x f s", 2, "error: no such option: --cores"),
@@ -438,7 +464,10 @@ REFUSED = [("", 2, "error: no FORMULA"), ("f", 2, "error: no DIR or STREAM"), ("
            ("s s", 1, "s, line 1: no header 'p cnf VARIABLES CLAUSES', with which a formula in DIMACS CNF begins"),
            ("--assume none f s", 1, "cannot open none: No such file or directory"),
            ("--assume there f s", 1, "there: no line of literals of FORMULA's variables, and 0, with single spaces"),
-           ("--lrat d/none/x f s", 1, "no line derives the empty clause")]
+           ("--lrat d/none/x f s", 1, "no line derives the empty clause"),
+           ("--re-hint f s", 2, "error: --re-hint without --core or --lrat"),
+           ("--re-hint=1 f s", 2, "error: no such option: --re-hint=1"),
+           ("--re-hint --core r f s", 1, "r.re-hint is there, and isn't written over")]
 
 
 def cut_while_read(work: Path) -> None:
@@ -460,11 +489,11 @@ def no_place(work: Path) -> None:
         want((done.out, done.err, done.status, os.listdir(work)), ("", f"lrup-trim: cannot make {name}: {cause}\n", 1, []), name)
 
 
-def full(limit: int, work: Path) -> None:
+def full(limit: int, options: Sequence[object], work: Path) -> None:
     """A file can't have more bytes: no beginning of one is left."""
-    words = [*outputs_of(work), example("bmc.cnf"), example("bmc.lrup")]
+    words = [*outputs_of(work), *options, example("bmc.cnf"), example("bmc.lrup")]
     done = trim(words, work, preexec_fn=lambda: within(limit))
-    found = re.fullmatch(r"lrup-trim: cannot write \S+/(core|stream|lrat): File too large\n", done.err)
+    found = re.fullmatch(r"lrup-trim: cannot write \S+/(core|stream|lrat)(\.re-hint)?: File too large\n", done.err)
     want((done.out, found is not None, done.status, os.listdir(work)), ("", True, 1, []), done.err)
 
 
@@ -532,14 +561,16 @@ def rows() -> List[Row]:
         found += [(f"{streams[0]} in {count} rounds", recorded, formula, streams, count) for count in (0, 1, 2, 9)]
     found += [(f"few lines: {name}", few, *rest) for name, *rest in FEW]
     found += [("three rounds", few_in_rounds, ONE, OF_ONE), ("three rounds of two", few_in_rounds, TWO, OF_TWO),
-              ("fewer streams", fewer_streams), ("assumptions", assuming)]
+              ("fewer streams", fewer_streams), ("assumptions", assuming), ("other hints", other_hints)]
     found += [(f"two halves, {count} solvers, {rounds} rounds", two_halves, count, rounds) for count, rounds in ((1, 0), (3, 0), (2, 4))]
+    found += [(f"{output} in rows", longer_than_a_row, output, name) for output, name in (("stream", "core"), ("lrat", "bmc.cnf"))]
     found += [(f"fault: {name}", fault, streams, said) for name, streams, said in FAULTS]
     found += [("beside a fault", goes_on_beside_a_fault), ("no place", no_place), ("a file that is cut", cut_while_read)]
     found += [("help", help_of), ("USING", in_using)]
     found += [(f"bad rounds: {name}", bad_round, files, said) for name, files, said in BAD_ROUNDS]
     found += [(f"lrup-trim {words}", refuses, words, status, said) for words, status, said in REFUSED]
-    found += [(f"files of {limit} bytes", full, limit) for limit in (0, 20000, 200000)]
+    for limit in (0, 20000, 200000):
+        found += [(f"files of {limit} bytes {options}", full, limit, options) for options in ([], ["--re-hint"])]
     found += [*rows_of_records(), *((f"random {seed}", at_random, seed) for seed in range(COUNT))]
     found += [(f"satisfiable {number}", satisfiable, number) for number in range(COUNT // 3)]
     return [*found, *((f"garbled {number}", garbled, number) for number in range(COUNT))]

@@ -1,9 +1,10 @@
 // Unverified, and nothing here is trusted: lrupd, or any checker of LRAT, checks what comes out. Of the streams of a run, or of a record
 // of rounds, keeps what the empty clause needs.
 //
-//     lrup-trim [--core FILE] [--stream FILE] [--lrat FILE] [--assume FILE] FORMULA DIR|STREAM...
+//     lrup-trim [--core FILE] [--stream FILE] [--lrat FILE] [--assume FILE] [--re-hint] FORMULA DIR|STREAM...
 //
-// --core has the clauses of FORMULA that are needed, --stream the lines over these, --lrat the same over FORMULA.
+// --core has the clauses of FORMULA that are needed, --stream the lines over these, --lrat the same over FORMULA. With --re-hint the
+// filter finds other hints first.
 #define _POSIX_C_SOURCE 200809L
 #include <signal.h>
 #include <stdarg.h>
@@ -22,10 +23,20 @@ static _Noreturn void end(void) {
     exit(1);
 }
 
+static const char *position_unit;
+static uint64_t position_number;
+
+// Of what the filter says.
+void position_set(const char *unit, uint64_t number) {
+    position_unit = unit;
+    position_number = number;
+}
+
 _Noreturn void stop(const char *cause, ...) {
     va_list rest;
     va_start(rest, cause);
     fputs("lrup-trim: ", stderr);
+    if (position_unit) fprintf(stderr, "%s %llu: ", position_unit, (unsigned long long)position_number);
     vfprintf(stderr, cause, rest);
     va_end(rest);
     fputc('\n', stderr);
@@ -69,12 +80,13 @@ static void take_signals(void) {
 // The command line.
 
 static const char usage[] =
-    "usage: lrup-trim [--core FILE] [--stream FILE] [--lrat FILE] [--assume FILE] FORMULA DIR|STREAM...\n"
+    "usage: lrup-trim [--core FILE] [--stream FILE] [--lrat FILE] [--assume FILE] [--re-hint] FORMULA DIR|STREAM...\n"
     "Of the streams of a run of lrupd, or of a record that lrup-solve --proofs DIR keeps, writes what the empty clause needs:\n"
     "  --core FILE    the clauses of FORMULA that are needed\n"
     "  --stream FILE  one stream over the core\n"
     "  --lrat FILE    one stream over FORMULA, which is LRAT text\n"
-    "  --assume FILE  take a clause that contradicts these assumptions, as lrupd does\n";
+    "  --assume FILE  take a clause that contradicts these assumptions, as lrupd does\n"
+    "  --re-hint      find other hints, which need fewer lines: it takes longer, and more memory\n";
 
 static _Noreturn void refuse(const char *cause, const char *word) {
     fprintf(stderr, "%slrup-trim: error: %s %s\n", usage, cause, word);
@@ -83,6 +95,8 @@ static _Noreturn void refuse(const char *cause, const char *word) {
 
 typedef struct {
     Output core, stream, lrat;
+    bool rehints;
+    Output rehinted;            // a file for a while
     const char *assume, *formula;
     char **streams;
     uint32_t streams_length;
@@ -103,6 +117,10 @@ static void read_option(CommandLine *given, char ***words) {
         fputs(usage, stdout);
         exit(fflush(stdout) == 0 ? 0 : 1);
     }
+    if (strcmp(word, "--re-hint") == 0) {
+        given->rehints = true;
+        return;
+    }
     const char **place = place_for(given, word, value ? (size_t)(value - word) : strlen(word));
     if (*place) refuse("given twice:", word);
     if (!value && (*words)[1] == NULL) refuse("no value after", word);
@@ -121,6 +139,15 @@ static void read_words(CommandLine *given, char **words) {
     if (given->streams_length == 0) refuse("no", "DIR or STREAM");
     if (given->streams_length > STREAMS) refuse("more than 64 streams, from", given->streams[STREAMS]);
     if (given->stream.path && !given->core.path) refuse("--stream without", "--core");
+    if (given->rehints && !given->core.path && !given->lrat.path) refuse("--re-hint without", "--core or --lrat");
+}
+
+// Beside an output, since it has as many bytes.
+static void name_rehinted(CommandLine *given) {
+    const char *output = given->lrat.path ? given->lrat.path : given->core.path;
+    char *path = zeroed(strlen(output) + sizeof ".re-hint", 1);
+    strcpy(path, output);
+    given->rehinted.path = strcat(path, ".re-hint");
 }
 
 static bool is_folder(const char *path) {
@@ -131,7 +158,7 @@ static bool is_folder(const char *path) {
 // Before a long time is spent.
 static void check_files(const CommandLine *given) {
     struct stat found;
-    const char *const outputs[] = { given->core.path, given->stream.path, given->lrat.path };
+    const char *const outputs[] = { given->core.path, given->stream.path, given->lrat.path, given->rehinted.path };
     for (size_t k = 0; k < sizeof outputs / sizeof *outputs; k++)
         if (outputs[k] && lstat(outputs[k], &found) == 0) stop("%s is there, and isn't written over", outputs[k]);
     for (uint32_t k = 0; k < given->streams_length; k++)
@@ -155,7 +182,7 @@ static void tell(const Proof *proof, const CommandLine *given, const Output *out
     if (!output->path) return;
     const char *option = given->assume ? "--assume " : "", *file = given->assume ? given->assume : "", *space = given->assume ? " " : "";
     printf("c %s: %llu bytes of %llu: ", output->path, (unsigned long long)output->bytes, (unsigned long long)proof->bytes);
-    if (1 + output->below + proof->formula.literals.length + proof->kept + proof->room <= MOST_WORDS)
+    if (1 + output->below + proof->literals + proof->kept + proof->room <= MOST_WORDS)
         printf("lrupd %s%s%s--lines %llu --room %llu %s %s\n", option, file, space, (unsigned long long)proof->kept,
                (unsigned long long)proof->room, formula, output->path);
     else
@@ -163,26 +190,34 @@ static void tell(const Proof *proof, const CommandLine *given, const Output *out
                output->path, option, file, space, formula);
 }
 
+static void run(Proof *proof, CommandLine *given) {
+    formula_read(&proof->formula, given->formula);
+    proof->clauses = proof->formula.clauses;
+    proof->literals = proof->formula.literals.length;
+    if (given->assume) assume(proof, given->assume);
+    if (is_folder(given->streams[0])) proof->folder = given->streams[0];
+    else round_add(proof, given->streams, given->streams_length);
+    order(proof);
+    mark(proof);
+    if (given->rehints) rehint(proof, &given->rehinted);
+    if (given->stream.path || given->lrat.path) lines_write(proof, &given->stream, &given->lrat);
+    if (given->core.path) core_write(proof, &given->core, given->formula);
+}
+
 int main(int count, char **words) {
     static Proof proof;
-    CommandLine given = { .streams = zeroed((size_t)count, sizeof *given.streams) };
+    static CommandLine given;
+    given.streams = zeroed((size_t)count, sizeof *given.streams);
     read_words(&given, words + 1);
+    if (given.rehints) name_rehinted(&given);
     check_files(&given);
     take_signals();
-    formula_read(&proof.formula, given.formula);
-    if (given.assume) assume(&proof, given.assume);
-    if (is_folder(given.streams[0])) proof.folder = given.streams[0];
-    else round_add(&proof, given.streams, given.streams_length);
-    order(&proof);
-    mark(&proof);
-    if (given.stream.path || given.lrat.path) lines_write(&proof, &given.stream, &given.lrat);
-    if (given.core.path) core_write(&proof, &given.core, given.formula);
-    printf("c %llu of %zu clauses, %llu lines of %llu\n", (unsigned long long)proof.core, proof.formula.clauses,
+    run(&proof, &given);
+    printf("c %llu of %llu clauses, %llu lines of %llu\n", (unsigned long long)proof.core, (unsigned long long)proof.clauses,
            (unsigned long long)proof.kept, (unsigned long long)proof.lines);
     tell(&proof, &given, &given.stream, given.core.path);
     tell(&proof, &given, &given.lrat, given.formula);
     if (fflush(stdout) != 0) stop("cannot write to standard output");
     outputs_keep();
-    free(given.streams);
     return 0;
 }

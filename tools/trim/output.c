@@ -8,7 +8,7 @@
 
 #include "trim.h"
 
-enum { OUTPUTS = 3 };
+enum { OUTPUTS = 4 };
 
 static const char *volatile made[OUTPUTS];
 static volatile int made_length;
@@ -21,11 +21,14 @@ void outputs_remove(void) {
 void outputs_keep(void) { made_length = 0; }
 
 static void to_output(const char *bytes, size_t length) {
-    if (!write_whole(output->file, bytes, length)) stop("cannot write %s: %s", output->path, strerror(errno));
+    if (!write_whole(output->file, bytes, length)) {
+        position_set(NULL, 0);
+        stop("cannot write %s: %s", output->path, strerror(errno));
+    }
     output->bytes += length;
 }
 
-static void output_open(Output *place) {
+void output_open(Output *place) {
     output = place;
     made[made_length] = output->path;
     output->file = open(output->path, O_WRONLY | O_CREAT | O_EXCL | O_CLOEXEC, 0666);
@@ -34,15 +37,23 @@ static void output_open(Output *place) {
     write_to(to_output);
 }
 
-static void output_close(void) {
+void output_close(void) {
+    write_flush();
     if (close(output->file) != 0) stop("cannot write %s: %s", output->path, strerror(errno));
 }
 
 // The core, in the order of FORMULA and with its variables. Before a clause stands its number there, as in what lrupd saves.
 
-static void formula_free(Formula *formula) {
+void formula_free(Formula *formula) {
     formula->starts.items = grow(formula->starts.items, 0);
     formula->literals.items = grow(formula->literals.items, 0);
+}
+
+static bool is_same(const Formula *one, size_t clause, const Formula *other, size_t another) {
+    const size_t *starts = one->starts.items + clause, *others = other->starts.items + another;
+    size_t length = starts[1] - starts[0];
+    if (others[1] - others[0] != length) return false;
+    return length == 0 || memcmp(one->literals.items + starts[0], other->literals.items + others[0], length * sizeof(Literal)) == 0;
 }
 
 static void core_check(const Proof *proof, const char *core, const char *formula) {
@@ -50,15 +61,13 @@ static void core_check(const Proof *proof, const char *core, const char *formula
     size_t place = 0;
     formula_read(&whole, formula);
     formula_read(&found, core);
-    for (size_t k = 0; k < whole.clauses && place < found.clauses; k++) {
-        if (k + 1 > proof->formula.clauses || proof->last_use[k + 1] == 0) continue;
-        size_t start = whole.starts.items[k], length = whole.starts.items[k + 1] - start, other = found.starts.items[place++];
-        if (found.starts.items[place] - other != length ||
-            (length > 0 && memcmp(whole.literals.items + start, found.literals.items + other, length * sizeof(Literal)) != 0))
-            stop("%s: clause %zu isn't clause %zu of %s: was one of them changed?", core, place, k + 1, formula);
+    for (Number k = 1; k <= proof->formula.clauses; k++) {
+        size_t name = name_of(proof, k);
+        if (proof->last_use[k] == 0) continue;
+        if (name > whole.clauses || place >= found.clauses || !is_same(&whole, name - 1, &found, place++))
+            stop("%s: clause %zu isn't clause %zu of %s: was one of them changed?", core, place, name, formula);
     }
-    if (place != proof->core || found.clauses != proof->core || found.variables != whole.variables)
-        stop("%s hasn't the clauses of %s that it should have: was one of them changed?", core, formula);
+    if (found.clauses != place || found.variables != whole.variables) stop("%s: it was changed", core);
     formula_free(&whole);
     formula_free(&found);
 }
@@ -73,11 +82,10 @@ void core_write(Proof *proof, Output *core, const char *path) {
     for (size_t k = 0; k < formula->clauses; k++) {
         if (proof->last_use[k + 1] == 0) continue;
         write_bytes("c id ", 5);
-        write_number(k + 1, '\n');
+        write_number(name_of(proof, (Number)k + 1), '\n');
         write_literals(formula->literals.items + formula->starts.items[k], formula->starts.items[k + 1] - formula->starts.items[k]);
         write_bytes("\n", 1);
     }
-    write_flush();
     output_close();
     formula_free(formula);
     core_check(proof, core->path, path);
@@ -87,7 +95,7 @@ void core_write(Proof *proof, Output *core, const char *path) {
 
 enum { PIECE = 1 << 14 };       // hints
 
-typedef struct { Number number; const char *literals; size_t bytes, first, count; } Kept;   // what it cites
+typedef struct { Number number; const char *literals; size_t bytes, first, count; } Kept;   // first, count: of `cited`
 
 static struct { Kept *items; size_t length, capacity; } lines;
 static struct { Number *items; size_t length, capacity; } cited;
@@ -95,7 +103,7 @@ static Identities list;
 
 static uint64_t identity_of(const Proof *proof, Number number) {
     if (number > proof->formula.clauses) return output->below + proof->place[number];
-    return output->whole ? number : proof->place[number];
+    return output->whole ? name_of(proof, number) : proof->place[number];
 }
 
 static void write_deletion(uint64_t lead) {
@@ -134,11 +142,10 @@ static void piece_write(const Proof *proof, Output *const outputs[2]) {
 
 static void line_take(Proof *proof, const Stream *stream, Number number) {
     const Round *round = &proof->rounds.items[stream->round];
-    unsigned char *end = hints_of(stream, number), *start = memrchr(stream->start, '\n', (size_t)(end - stream->start));
     Kept line = { .number = number, .first = cited.length };
     const int64_t *hints = hints_read(stream, number, &line.count);
-    line.literals = strchr(start ? (char *)start : (char *)stream->start, ' ') + 1;
-    line.bytes = (size_t)((char *)end - line.literals);
+    line.literals = strchr((char *)line_start(stream, number), ' ') + 1;
+    line.bytes = (size_t)((char *)hints_of(stream, number) - line.literals);
     for (size_t k = 0; k < line.bytes; k++) proof->room += line.literals[k] == ' ';
     proof->room--;
     for (size_t k = 0; k < line.count; k++) PUSH(&cited, number_of(proof, round, (uint64_t)hints[k]));
@@ -150,11 +157,16 @@ static void lines_begin(Proof *proof, Output *place, bool whole) {
     if (!place->path) return;
     output_open(place);
     place->whole = whole;
-    place->below = whole ? proof->formula.clauses : proof->core;
+    place->below = whole ? proof->clauses : proof->core;
     list.length = 0;
-    for (Number k = 1; k <= proof->formula.clauses && whole; k++)
-        if (proof->last_use[k] == 0) PUSH(&list, k);
-    write_deletion(proof->formula.clauses);
+    Number next = 1;        // of FORMULA
+    for (Number k = 1; k <= proof->formula.clauses && whole; k++) {
+        if (proof->last_use[k] == 0) continue;
+        for (; next < name_of(proof, k); next++) PUSH(&list, next);
+        next++;
+    }
+    for (; next <= proof->clauses && whole; next++) PUSH(&list, next);
+    write_deletion(proof->clauses);
     write_flush();
 }
 
@@ -175,6 +187,8 @@ void lines_write(Proof *proof, Output *stream, Output *lrat) {
         }
     }
     piece_write(proof, outputs);
-    for (int k = 0; k < 2; k++)
-        if (outputs[k]->path) output = outputs[k], output_close();
+    for (int k = 0; k < 2; k++) {
+        output = outputs[k];
+        if (output->path) output_close();
+    }
 }

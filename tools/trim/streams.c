@@ -106,6 +106,11 @@ unsigned char *hints_of(const Stream *stream, Number number) {
     return stream->places[slot / SLOTS] + stream->hints[slot] - 1;
 }
 
+unsigned char *line_start(const Stream *stream, Number number) {
+    unsigned char *before = memrchr(stream->start, '\n', (size_t)(hints_of(stream, number) - stream->start));
+    return before ? before + 1 : stream->start;
+}
+
 const int64_t *hints_read(const Stream *stream, Number number, size_t *count) {
     words_read(&words, line_at(stream, hints_of(stream, number)));
     *count = words.numbers.length - 1;

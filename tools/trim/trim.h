@@ -42,7 +42,9 @@ typedef struct {
 typedef struct { Number from, to; } Run;        // lines of one stream that follow each other
 
 typedef struct {
-    Formula formula;
+    Formula formula;                    // FORMULA; with --re-hint its core
+    Number *names;                      // of the core's clauses their numbers in FORMULA; NULL: it is FORMULA
+    uint64_t clauses, literals;         // of FORMULA
     struct { Stream *items; size_t length, capacity; } streams;
     struct { Round *items; size_t length, capacity; } rounds;
     struct { Run *items; size_t length, capacity; } runs;
@@ -61,6 +63,7 @@ const int64_t *numbers_read(const char *path, size_t *count);
 Line line_at(const Stream *stream, unsigned char *start);
 const char *line_read(Line line, Reading *reading);             // NULL, or the fault; what was read before is gone
 unsigned char *hints_of(const Stream *stream, Number number);  // their place
+unsigned char *line_start(const Stream *stream, Number number);
 const int64_t *hints_read(const Stream *stream, Number number, size_t *count);
 void hints_keep(Stream *stream, uint64_t slot, unsigned char *place);
 void words_free(void);                  // which are as many as a line had that was read
@@ -74,6 +77,8 @@ static inline Number number_of(const Proof *proof, const Round *round, uint64_t 
     return proof->streams.items[round->first + owner_of(round, identity)].first + (Number)slot_of(round, identity);
 }
 
+static inline Number name_of(const Proof *proof, Number clause) { return proof->names ? proof->names[clause - 1] : clause; }
+
 // order.c
 enum { STREAMS = 64 };                  // lrupd takes no more
 
@@ -85,7 +90,7 @@ void mark(Proof *proof);
 const Stream *stream_with(const Proof *proof, Number number);
 
 // output.c
-typedef struct {
+typedef struct Output {
     const char *path;                   // NULL: it isn't wanted
     int file;
     uint64_t bytes;
@@ -93,9 +98,15 @@ typedef struct {
     bool whole;                         // of FORMULA
 } Output;
 
+void output_open(Output *output);       // what is written goes there from then on
+void output_close(void);
 void outputs_remove(void);              // what was made so far; nothing once all are whole
 void outputs_keep(void);
+void formula_free(Formula *formula);
 void core_write(Proof *proof, Output *core, const char *formula);
 void lines_write(Proof *proof, Output *stream, Output *lrat);
+
+// rehint.c: --re-hint. The lines that are needed get other hints, and what is needed of these is marked once more.
+void rehint(Proof *proof, Output *lines);
 
 #endif
