@@ -400,7 +400,7 @@ FAULTS = [("spelling", [FIRST + "6  0 5 3 4 0\n"], ["f1, line 2: spelling"]), ("
           ("beyond all identities", [f"{5 + (1 << 28)} 2 0 1 2 0\n"], ["f1, line 1: identity"]),
           ("another stream's", ["6 2 0 1 2 0\n", ""], ["f1, line 1: identity"]),
           ("missing", [FIRST + "6 0 5 3 7 0\n"], ["f1, line 2: missing 7"]), ("itself", ["5 2 0 1 5 0\n"], ["f1, line 1: missing 5"]),
-          ("in a gap", [FIRST + "7 0 6 3 4 0\n"], ["f1, line 2: missing 6"]),
+          ("in a gap", [FIRST + "7 1 0 5 3 0\n8 0 6 7 4 0\n"], ["f1, line 3: missing 6"]),
           ("of a stream that ends", ["5 0 6 3 4 0\n", ""], ["f1, line 1: missing 6"]),
           ("of a stream with a fault", ["5 0 6 3 4 0\n", "6 x 0\n"], ["f2, line 1: spelling", "f1, line 1: missing 6"]),
           ("a circle", ["5 2 0 6 2 0\n", "6 1 0 5 3 0\n"],
