@@ -206,6 +206,12 @@ def two_halves(count: int, rounds: int, work: Path) -> None:
     want(max(literals) <= below, True, "whether the core's variables are those of the first half")
 
 
+def of_a_group(work: Path) -> None:
+    """Two streams of four, which cite each other alone."""
+    streams = [example("two-groups.1"), example("two-groups.2"), Path("/dev/null"), Path("/dev/null")]
+    trimmed(example("two-groups.cnf"), streams, work)
+
+
 def other_hints(work: Path) -> None:
     """Fewer lines are needed."""
     streams = [example(name) for name in ("bmc-four.1", "bmc-four.2", "bmc-four.3", "bmc-four.4")]
@@ -561,7 +567,7 @@ def rows() -> List[Row]:
         found += [(f"{streams[0]} in {count} rounds", recorded, formula, streams, count) for count in (0, 1, 2, 9)]
     found += [(f"few lines: {name}", few, *rest) for name, *rest in FEW]
     found += [("three rounds", few_in_rounds, ONE, OF_ONE), ("three rounds of two", few_in_rounds, TWO, OF_TWO),
-              ("fewer streams", fewer_streams), ("assumptions", assuming), ("other hints", other_hints)]
+              ("fewer streams", fewer_streams), ("assumptions", assuming), ("other hints", other_hints), ("a group", of_a_group)]
     found += [(f"two halves, {count} solvers, {rounds} rounds", two_halves, count, rounds) for count, rounds in ((1, 0), (3, 0), (2, 4))]
     found += [(f"{output} in rows", longer_than_a_row, output, name) for output, name in (("stream", "core"), ("lrat", "bmc.cnf"))]
     found += [(f"fault: {name}", fault, streams, said) for name, streams, said in FAULTS]

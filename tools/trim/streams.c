@@ -14,11 +14,17 @@ enum { SLOTS = 256 };       // that have one place
 
 static Words words;
 
+// It stands for a stream that is left out.
+static bool is_null(const struct stat *found) {
+    struct stat null;
+    return S_ISCHR(found->st_mode) && stat("/dev/null", &null) == 0 && found->st_rdev == null.st_rdev;
+}
+
 static int file_open(const char *path, size_t *length) {
     struct stat found;
     int file = open(path, O_RDONLY | O_NONBLOCK | O_CLOEXEC);
     if (file < 0 || fstat(file, &found) != 0) stop("cannot open %s: %s", path, strerror(errno));
-    if (!S_ISREG(found.st_mode)) stop("%s: it is read more than once, so it has to be a file", path);
+    if (!S_ISREG(found.st_mode) && !is_null(&found)) stop("%s: it is read more than once, so it has to be a file", path);
     *length = (size_t)found.st_size;
     return file;
 }
