@@ -7,9 +7,10 @@ VERSION := $(shell cat VERSION)
 PROGRAM := crates/lrupd/out/lrupd
 SOLVER := examples/solver/out/solver
 EXACT := tools/exact/out/exact
+TRIM := tools/trim/out/lrup-trim
 SOLVE := tools/solve/out/lrup-solve
 SOLVE_FLAGS ?= -O2
-# What of the filter is part of lrup-solve.
+# What of the filter is part of lrup-solve, and of lrup-trim.
 FILTER := $(filter-out tools/exact/main.c tools/exact/chain.c,$(wildcard tools/exact/*.c))
 # Of one process.
 ALONE := $(filter-out $(wildcard tools/solve/mpi*.cpp),$(wildcard tools/solve/*.cpp))
@@ -19,8 +20,8 @@ FORMULA ?= examples/bmc.cnf
 STREAMS ?= $(addprefix examples/bmc-four.,1 2 3 4)
 OPTIONS ?= --tries 1000000
 
-.PHONY: run build install examples live checkpoints rounds demo solver exact solve solver-test filter-test solve-test neighbours sweep
-.PHONY: leaks instructions audit tables pages test toolchain c-and-python libcadical solve-objects mpicxx
+.PHONY: run build install examples live checkpoints rounds demo solver exact trim solve solver-test filter-test trim-test solve-test
+.PHONY: neighbours sweep leaks instructions audit tables pages test toolchain c-and-python libcadical solve-objects mpicxx
 .PHONY: help try deb dist quick edits packages
 
 help:
@@ -48,12 +49,13 @@ build: toolchain ## build: prove the program, 7 to 30 minutes the first time, an
 
 # The filter's name is lrup-exact; lrup-solve is installed where CaDiCaL's library is there. The manual pages have the version at their
 # feet.
-install: build exact ## use: install lrupd, lrup-chain, lrup-exact and lrup-solve, with their manual pages, below PREFIX=/usr/local
+install: build exact trim ## use: install lrupd, lrup-chain, lrup-exact, lrup-trim, lrup-solve, with manual pages, below PREFIX=/usr/local
 	install -d "$(DESTDIR)$(PREFIX)/bin" "$(DESTDIR)$(PREFIX)/share/man/man1"
 	install -m 755 $(PROGRAM) "$(DESTDIR)$(PREFIX)/bin/lrupd"
 	install -m 755 tools/lrup-chain "$(DESTDIR)$(PREFIX)/bin"
 	install -m 755 $(EXACT) "$(DESTDIR)$(PREFIX)/bin/lrup-exact"
-	install -m 644 docs/lrupd.1 docs/lrup-chain.1 docs/lrup-exact.1 "$(DESTDIR)$(PREFIX)/share/man/man1"
+	install -m 755 $(TRIM) "$(DESTDIR)$(PREFIX)/bin"
+	install -m 644 docs/lrupd.1 docs/lrup-chain.1 docs/lrup-exact.1 docs/lrup-trim.1 "$(DESTDIR)$(PREFIX)/share/man/man1"
 	@if $(MAKE) -s solve; then \
 	install -m 755 $(SOLVE) "$(DESTDIR)$(PREFIX)/bin/lrup-solve" && \
 	install -m 644 docs/lrup-solve.1 "$(DESTDIR)$(PREFIX)/share/man/man1"; else echo "lrup-solve isn't installed"; fi
@@ -90,6 +92,11 @@ exact: c-and-python ## build: the filter that makes streams of other solvers' pr
 	@mkdir -p $(dir $(EXACT))
 	@$(CC) -std=c11 -O2 -Wall -Wextra -o $(EXACT).new tools/exact/*.c && mv $(EXACT).new $(EXACT)
 
+# Not verified, and not trusted.
+trim: c-and-python ## build: lrup-trim, cores and smaller proofs of recorded streams, at tools/trim/out
+	@mkdir -p $(dir $(TRIM))
+	@$(CC) -std=c11 -O2 -Wall -Wextra -o $(TRIM).new tools/trim/*.c $(FILTER) && mv $(TRIM).new $(TRIM)
+
 # Not verified. Engines and filters aren't trusted; the process that starts lrupd and prints its answer is believed.
 solve: solve-objects ## build: lrup-solve, from a formula to a proved verdict, at tools/solve/out; wants CaDiCaL's library
 	@$(CXX) -std=c++17 $(SOLVE_FLAGS) -Wall -Wextra -DVERSION='"$(VERSION)"' -o $(SOLVE).new $(ALONE) $(SOLVE).objects/*.o -lcadical && \
@@ -115,6 +122,9 @@ filter-test: $(FILTER_TESTS) ## check: the filter, in rounds too, with the solve
 
 $(FILTER_TESTS): $(BUILT) exact
 	@python3 tests/$@.py $(PROGRAM)
+
+trim-test: $(BUILT) solver exact trim ## check: lrup-trim, on 300 random runs in rounds, and on garbled streams
+	@python3 tests/trim.py $(PROGRAM)
 
 # Without CaDiCaL's library nothing is run, and without MPI nothing of lrup-solve-mpi. With MPI= only what takes seconds there, as in
 # the gate.
@@ -179,16 +189,16 @@ packages: ## check: install, as root, Debian's packages that the tests want
 
 # The whole gate: the pages; every proof from nothing, each edit that must be refused, each test, and the program as two compilers
 # build it; then, with the program that was built there, the examples, the live run, checkpoints, runs in rounds and chains, the
-# solver's streams and the filter's, mutated proofs, lrup-solve, a proof beside hostile streams, each call of the system refused in
-# turn, of the program and of tests, memory given back, and the instructions that lines take. The last line is rt's own, 'N passed,
-# M failed'.
+# solver's streams and the filter's, mutated proofs, trimmed ones, lrup-solve, a proof beside hostile streams, each call of the system
+# refused in turn, of the program and of tests, memory given back, and the instructions that lines take. The last line is rt's own,
+# 'N passed, M failed'.
 # Side by side, those that take longest first, and two more than there are cores, since most of them wait now and then; what each
 # one prints comes when it has ended.
-TESTS := lrup_solve_rounds sweep filter_mutants lrup_solve lrup_solve_solvers filter_rounds lrup_solve_mpi leaks filter_chains \
-	filter_streams checkpoints rounds examples solver-test instructions neighbours live
+TESTS := lrup_solve_rounds sweep filter_mutants lrup_solve lrup_solve_solvers filter_rounds trim-test lrup_solve_mpi leaks \
+	filter_chains filter_streams checkpoints rounds examples solver-test instructions neighbours live
 SIDE_BY_SIDE := --output-sync=target -j $(shell expr $$(nproc) + 2)
 test: SHELL := /bin/bash
-test: toolchain pages solver exact ## check: the gate, 25 to 100 minutes: every proof, edit and test; has to pass before a push
+test: toolchain pages solver exact trim ## check: the gate, 25 to 100 minutes: every proof, edit and test; has to pass before a push
 	@rm -f $(dir $(SOLVE))lrupd; set -o pipefail; log=$$(mktemp); trap 'rm -f "$$log"' EXIT; SECONDS=0; \
 	$(RT) ci | tee "$$log" && proved=$$SECONDS && $(MAKE) --no-print-directory $(SIDE_BY_SIDE) BUILT= MPI= $(TESTS) && \
 	echo "rt ci took $$proved seconds, and the tests of programs $$((SECONDS - proved))" && tail -n 1 "$$log"

@@ -28,6 +28,8 @@ GENERATOR = EXAMPLES / "solver" / "generate.py"
 LRUP_CHAIN = ROOT / "tools" / "lrup-chain"
 EXACT = ROOT / "tools" / "exact"
 FILTER, SANITIZED = EXACT / "out" / "exact", EXACT / "out" / "exact-sanitized"
+TRIM = ROOT / "tools" / "trim" / "out" / "lrup-trim"
+SANITIZED_TRIM = TRIM.with_name("lrup-trim-sanitized")
 LIMIT = 300  # seconds, after which a run hangs, also on a slow machine that does other work
 FOUR = "p cnf 2 4\n1 2 0\n-1 2 0\n1 -2 0\n-1 -2 0\n"
 # How files begin that these unpack.
@@ -242,6 +244,13 @@ def sanitized_filter() -> None:
     """The filter, built so that it reports undefined behaviour."""
     SANITIZED.parent.mkdir(exist_ok=True)
     compiled(SANITIZED, sorted(EXACT.glob("*.c")), *SANITIZE)
+
+
+def sanitized_trim() -> None:
+    """lrup-trim, likewise."""
+    sources = [*(ROOT / "tools" / "trim").glob("*.c"), *(path for path in EXACT.glob("*.c") if path.name not in ("main.c", "chain.c"))]
+    SANITIZED_TRIM.parent.mkdir(exist_ok=True)
+    compiled(SANITIZED_TRIM, sources, *SANITIZE)
 
 
 def words_given(usage: Optional[str], least: int = 1, most: int = 1) -> List[str]:

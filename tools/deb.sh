@@ -61,7 +61,8 @@ Description: proved checker of the proofs of SAT solvers that share clauses
  written, and answers 's UNSATISFIABLE' only if no assignment satisfies the
  formula, which is proved of it. lrup-exact, a filter that nobody has to trust,
  makes such streams of DRUP, DRAT, LRAT and FRAT proofs. lrup-chain has proofs
- of any length checked in rounds. lrup-solve, where it was built, solves a
+ of any length checked in rounds. lrup-trim makes unsatisfiable cores, smaller
+ proofs and LRAT of recorded streams. lrup-solve, where it was built, solves a
  formula and has the answer checked.
 END
 dpkg-deb --root-owner-group --build "$root" "$root/../lrupd_${version}_$(dpkg --print-architecture).deb"

@@ -1,0 +1,591 @@
+#!/usr/bin/env python3
+"""Runs lrup-trim, and over what it writes lrupd and a checker of LRAT that shares nothing with it.
+
+    trim.py PROGRAM [COUNT]
+
+COUNT is 300: random runs of one to five solvers, with and without imports, in one to seven rounds, some under an assumption, some with
+other hints; and as many garbled records. The core has to be clauses of the formula, lines have to be numbered densely, each has to be
+cited, and deleted right after that. lrupd has to take the lines over the core and over the formula, by the words that are told; where
+streams are garbled, either both or none, as the checker of LRAT does; and none where the formula is satisfiable. Records of lrup-solve
+are trimmed where CaDiCaL's library is there. lrup-trim is built with -fsanitize=address,undefined, where the compiler can. It shows
+what is off; the last line is 'N passed, M failed', and ', K skipped' where something isn't there. The status is 1 where a run failed.
+"""
+import os
+import random
+import re
+import shlex
+import subprocess
+import sys
+import time
+from pathlib import Path
+from typing import Callable, Dict, List, NamedTuple, Optional, Sequence, Tuple
+
+PROGRAM = os.path.abspath(sys.argv[1]) if len(sys.argv) > 1 else ""
+COUNT = int(sys.argv.pop(2)) if len(sys.argv) > 2 else 300      # the next word would be flags for lrup-solve
+
+sys.dont_write_bytecode = True
+from harness import (COMPRESSED, EXAMPLES, FILTER, FOUR, GENERATOR, LIMIT, ROOT, SANITIZED_TRIM, SANITIZING, TRIM, VERDICTS, Failure,
+                     Ran, Row, Skipped, dimacs, example, is_sanitizing, piped, random_clauses, run, run_all, sanitized_trim, started,
+                     want, within, words_given, written)
+from lrat import lrat_fault
+from proof_forms import Clause, Step, read_formula, read_steps
+from rounds import ONE, TWO, Proof, round_files
+from solving import build, solve
+
+words_given(__doc__)
+SOLVER, CHAIN, USING = EXAMPLES / "solver" / "out" / "solver", EXAMPLES / "chain.py", ROOT / "docs" / "USING.md"
+OUTPUTS = ["core", "stream", "lrat"]
+IS_SANITIZED = is_sanitizing()
+UNSATISFIABLE, SATISFIABLE = 20, 10
+
+
+def trim(words: Sequence[object], work: Path, program: Optional[Path] = None, **how: object) -> Ran:
+    found = program or (SANITIZED_TRIM if IS_SANITIZED else TRIM)
+    return run([found, *words], cwd=work, env={**os.environ, **SANITIZING}, **how)
+
+
+def outputs_of(work: Path, names: Sequence[str] = OUTPUTS) -> List[object]:
+    return [word for name in names for word in (f"--{name}", work / name)]
+
+
+# What is written.
+
+
+def core_of(path: Path) -> Tuple[int, List[int], List[Clause]]:
+    """The header's variables, and the number and the literals of each clause: a line for each."""
+    header, *lines = path.read_text().splitlines()
+    numbers = [int(line[len("c id "):]) for line in lines[::2] if line.startswith("c id ")]
+    clauses = [[int(word) for word in line.split()] for line in lines[1::2]]
+    want(header.split()[:2] + [int(header.split()[3]), len(clauses)], ["p", "cnf", len(numbers), len(numbers)], "the core's header")
+    want({clause.pop() for clause in clauses} | {0}, {0}, "what its clauses end with")
+    return int(header.split()[2]), numbers, clauses
+
+
+def is_tight(steps: Sequence[Step], clauses: int) -> None:
+    """Numbered densely, and each clause is deleted right after the line that cites it last; all are cited but the last one."""
+    last: Dict[int, int] = {}
+    for step in steps:
+        last.update({hint: step.identity for hint in step.hints if step.kind == "a"})
+    added = [step.identity for step in steps if step.kind == "a"]
+    want(added, list(range(clauses + 1, clauses + len(added) + 1)), "the identities")
+    want(sorted(last), list(range(1, clauses + len(added))), "what is cited")
+    deleted, now = {}, 0
+    for step in steps:
+        now = step.identity if step.kind == "a" else now
+        deleted.update({hint: now for hint in step.hints if step.kind == "d"})
+    want(deleted, {hint: use for hint, use in last.items() if use != added[-1]}, "after which line a clause is deleted")
+
+
+def over_formula(steps: Sequence[Step], core: List[int], clauses: int) -> List[Step]:
+    """The lines over the core, with the formula's identities."""
+    now = lambda identity: core[identity - 1] if identity <= len(core) else identity - len(core) + clauses
+    return [Step(step.kind, now(step.identity), step.literals, list(map(now, step.hints))) for step in steps]
+
+
+def verdicts(said: str, work: Path) -> List[Ran]:
+    """Of lrupd, by the words that are told for each output."""
+    told = re.findall(r"^c \S+: \d+ bytes of \d+: lrupd (.*)$", said, re.M)
+    want(len(told), 2, f"the commands in\n{said}")
+    return [run([PROGRAM, *shlex.split(words)], cwd=work) for words in told]
+
+
+def are_right(formula: Path, said: str, work: Path, status: int = 0) -> None:
+    """All three outputs, beside what is told."""
+    clauses = read_formula(formula)
+    variables, core, literals = core_of(work / "core")
+    want((literals, variables), ([clauses[k - 1] for k in core], int(formula.read_text().split()[2])), "the core's clauses")
+    want(core, sorted(set(core)), "their order")
+    steps = read_steps(work / "stream")
+    is_tight(steps, len(core))
+    lrat = read_steps(work / "lrat")
+    outside = sorted(set(range(1, len(clauses) + 1)) - set(core))
+    first = [Step("d", len(clauses), [], outside)] if outside else []
+    want(lrat, first + over_formula(steps, core, len(clauses)), "the lines over the formula")
+    want(lrat_fault(clauses, (work / "lrat").read_text()), "no empty clause" if status == 8 else "", "what the LRAT checker says")
+    added = sum(step.kind == "a" for step in steps)
+    want(said.startswith(f"c {len(core)} of {len(clauses)} clauses, {added} lines of "), True, f"what is told:\n{said}")
+    for done in verdicts(said, work):
+        want((done.out.splitlines()[-1:], done.err, done.status), ([VERDICTS[status]], "", status), "what lrupd says")
+
+
+def trimmed(formula: Path, proof: Sequence[Path], work: Path, assumptions: Optional[Path] = None, rehints: bool = False) -> str:
+    """What is told."""
+    words = [*(["--assume", assumptions] if assumptions else []), *["--re-hint"] * rehints]
+    done = trim([*outputs_of(work), *words, formula, *proof], work)
+    want((done.err, done.status, (work / "lrat.re-hint").exists()), ("", 0, False), "what is said, and whether a file is left")
+    are_right(formula, done.out, work, 8 if assumptions else 0)
+    return done.out
+
+
+# Runs.
+
+
+def recorded(formula: str, streams: Sequence[str], rounds: int, work: Path) -> None:
+    trimmed(example(formula), proof_in_rounds(example(formula), list(map(example, streams)), rounds, work), work)
+
+
+def proof_in_rounds(formula: Path, streams: List[Path], rounds: int, work: Path) -> List[Path]:
+    """The streams, or a folder of so many rounds."""
+    if rounds == 0:
+        return streams
+    want(run([sys.executable, CHAIN, rounds, formula, work / "rounds", *streams]), Ran("", "", 0), "what chain.py says")
+    return [work / "rounds"]
+
+
+def solved(formula: Path, count: int, options: Sequence[object], work: Path) -> Optional[List[Path]]:
+    """The streams of so many solvers; None where the formula is satisfiable."""
+    streams = [work / f"stream{number}" for number in range(1, count + 1)]
+    status = run([SOLVER, *options, formula, *streams]).status
+    want(status in (UNSATISFIABLE, SATISFIABLE), True, f"the solver's status {status}")
+    return streams if status == UNSATISFIABLE else None
+
+
+def random_formula(numbers: random.Random) -> Tuple[int, List[Clause]]:
+    variables = numbers.randrange(15, 70)
+    lengths: Sequence[int] = numbers.choice(((3,), (3,), (2, 3, 3, 3, 4), (1, 2, 3, 4, 5, 6)))
+    return variables, random_clauses(numbers, variables, round(numbers.uniform(4.5, 7) * variables), lengths)
+
+
+def refuted(numbers: random.Random, count: int, options: Sequence[object], work: Path) -> Tuple[Path, List[Path]]:
+    """A random formula, and the streams of so many solvers."""
+    while True:
+        formula = written(dimacs(*random_formula(numbers)), work)
+        streams = solved(formula, count, options, work)
+        if streams:
+            return formula, streams
+
+
+def selected(path: Path, literal: int) -> None:
+    """Each clause gets this literal, of a new variable: then it is what the streams derive."""
+    lines = []
+    for line in path.read_text().splitlines():
+        words = line.split()
+        if words[0] == "p":
+            words[2] = str(literal)
+        elif words[1] != "d":
+            words.insert(words.index("0", 1 if path.name.startswith("stream") else 0), str(literal))
+        lines.append(" ".join(words) + "\n")
+    path.write_text("".join(lines))
+
+
+def at_random(seed: int, work: Path) -> None:
+    """One to five solvers, in no round or one to seven."""
+    numbers = random.Random(f"{seed} trim")
+    options = ["--seed", seed, "--share", numbers.choice((0, 2, 4, 100)), *["--imports"] * (seed % 2)]
+    formula, streams = refuted(numbers, 1 + seed % 5, options, work)
+    literal = int(formula.read_text().split()[2]) + 1 if numbers.randrange(8) == 0 else 0
+    for path in [formula, *streams] if literal else []:
+        selected(path, literal)
+    proof = proof_in_rounds(formula, streams, seed % 8, work)
+    trimmed(formula, proof, work, written(f"-{literal} 0\n", work, "cube") if literal else None, numbers.randrange(4) == 0)
+
+
+def longer_than_a_row(output: str, formula: str, work: Path) -> None:
+    """What is told of such an output, but that the filter's rows are small here."""
+    trimmed(example("bmc.cnf"), [example("bmc.lrup")], work)
+    os.symlink(example("bmc.cnf"), work / "bmc.cnf")
+    told = f'"$1" --rounds live --memory 48K {formula} {output} | {{ read ready && "$2" --rounds live {formula} live/round-1.stream-1; }}'
+    done = run(["sh", "-c", told, "sh", FILTER, PROGRAM], cwd=work)
+    found = re.fullmatch(r"c round (\d+)\n.*\ns UNSATISFIABLE\n", done.out)
+    want((found is not None and int(found[1]) > 5, done.err, done.status), (True, "", 0), f"what lrupd says, {done.out}")
+
+
+def two_halves(count: int, rounds: int, work: Path) -> None:
+    """A formula of pigeons, and one over other variables that is satisfiable: the core is of the first alone."""
+    pigeons = written(run([sys.executable, GENERATOR, "pigeons", "5"]).out, work, "pigeons")
+    first, numbers = read_formula(pigeons), random.Random(count)
+    below = max(abs(literal) for clause in first for literal in clause)
+    second = [[literal + below if literal > 0 else literal - below for literal in clause] for clause in random_clauses(numbers, 40, 120)]
+    want(solved(written(dimacs(below + 40, second), work), 1, [], work), None, "the streams of the second half")
+    clauses = first + second
+    numbers.shuffle(clauses)
+    formula = written(dimacs(below + 40, clauses), work)
+    streams = solved(formula, count, [], work)
+    trimmed(formula, proof_in_rounds(formula, streams or [], rounds, work), work)
+    literals = {abs(literal) for clause in core_of(work / "core")[2] for literal in clause}
+    want(max(literals) <= below, True, "whether the core's variables are those of the first half")
+
+
+def of_a_group(work: Path) -> None:
+    """Two streams of four, which cite each other alone."""
+    streams = [example("two-groups.1"), example("two-groups.2"), Path("/dev/null"), Path("/dev/null")]
+    trimmed(example("two-groups.cnf"), streams, work)
+
+
+def other_hints(work: Path) -> None:
+    """Fewer lines are needed."""
+    streams = [example(name) for name in ("bmc-four.1", "bmc-four.2", "bmc-four.3", "bmc-four.4")]
+    lines = []
+    for rehints in (False, True):
+        lines.append(int(trimmed(example("bmc.cnf"), streams, work, rehints=rehints).split()[5]))
+        for name in OUTPUTS:
+            (work / name).unlink()
+    want(lines[1] < lines[0], True, f"{lines} lines")
+
+
+# By hand.
+
+CORE = "p cnf 2 4\nc id 1\n1 2 0\nc id 2\n-1 2 0\nc id 3\n1 -2 0\nc id 4\n-1 -2 0\n"
+BEGINS = "5 2 0 1 2 0\n5 d 1 2 0\n"
+OF_ONE = BEGINS + "6 1 0 5 3 0\n6 d 3 0\n7 0 5 6 4 0\n"
+OF_TWO = BEGINS + "6 1 0 5 3 0\n6 d 3 0\n7 -1 0 5 4 0\n7 d 5 4 0\n8 0 7 6 0\n"
+OF_FEWER = BEGINS + "6 1 0 5 3 0\n6 d 3 0\n7 0 6 5 4 0\n"
+OF_THREE = BEGINS + "6 -1 0 5 4 0\n6 d 4 0\n7 0 5 6 3 0\n"
+
+
+def few(streams: Sequence[str], core: str, stream: str, lrat: str, formula: str, work: Path) -> None:
+    proof = [written(text, work, f"f{number}") for number, text in enumerate(streams, 1)]
+    trimmed(written(formula, work), proof, work)
+    want([(work / name).read_text() for name in OUTPUTS], [core, stream, lrat], "what is written")
+
+
+def few_in_rounds(proof: Proof, stream: str, work: Path) -> None:
+    for name, text in round_files(proof.texts).items():
+        written(text, work, name)
+    trimmed(work / "formula", [work / "d"], work)
+    want([(work / name).read_text() for name in OUTPUTS], [CORE, stream, stream], "what is written")
+
+
+def fewer_streams(work: Path) -> None:
+    """In round 2, by its sizes; a file of another stream isn't looked at, nor is one behind the empty clause."""
+    files = {"round-1.stream-1": "5 2 0 1 2 0\n5 d 1 0\n", "round-1.stream-2": "6 d 4 1 0\n", "round-2.sizes": "1 9 9\n",
+             "round-2.stream-1": "5 1 0 4 2 0\n6 0 5 4 3 0\n", "round-2.stream-2": "x", "round-3.stream-1": "x"}
+    for name, text in files.items():
+        written(text, work, f"d/{name}")
+    formula = written(FOUR, work)
+    done = run([PROGRAM, "--rounds", "d", formula, "d/round-1.stream-1", "d/round-1.stream-2"], cwd=work)
+    want((done.err, done.status), ("", 0), "what lrupd says of the record")
+    trimmed(formula, [work / "d"], work)
+    want((work / "stream").read_text(), OF_FEWER, "the stream")
+
+
+def assuming(work: Path) -> None:
+    """A line behind the clause that contradicts the assumptions isn't needed, nor is one before."""
+    stream = written("3 2 1 0 1 0\n4 2 0 1 2 0\n5 1 2 0 4 0\n", work, "a stream")
+    trimmed(example("assumed.cnf"), [stream], work, example("assumed.cube"))
+    want((work / "stream").read_text(), "3 2 0 1 2 0\n", "the stream")
+
+
+FIVE = "p cnf 3 5\n1 2 0\n-1 2 0\n3 1 0\n1 -2 0\n-1 -2 0\n"
+FEW = [("four clauses", ["5 2 0 1 2 0\n6 0 5 3 4 0\n"], CORE, BEGINS + "6 0 5 3 4 0\n", BEGINS + "6 0 5 3 4 0\n", FOUR),
+       ("a clause more, lines more, gaps", ["7 2 0 1 2 0\n9 3 1 0 3 0\n11 1 3 0 3 0\n20 0 7 4 5 0\n"],
+        "p cnf 3 4\nc id 1\n1 2 0\nc id 2\n-1 2 0\nc id 4\n1 -2 0\nc id 5\n-1 -2 0\n", BEGINS + "6 0 5 3 4 0\n",
+        "5 d 3 0\n6 2 0 1 2 0\n6 d 1 2 0\n7 0 6 4 5 0\n", FIVE),
+       ("streams that wait for each other", ["8 0 7 9 3 0\n", "7 i 2 0\n9 -1 0 7 4 0\n", "7 2 0 1 2 0\n"], CORE, OF_THREE, OF_THREE, FOUR),
+       ("an empty clause in the formula", ["3 0 2 0\n"], "p cnf 1 1\nc id 2\n0\n", "2 0 1 0\n", "2 d 1 0\n3 0 2 0\n",
+        "p cnf 1 2\n1 0\n0\n")]
+
+
+# Streams that aren't right.
+
+
+class Garbled(NamedTuple):
+    """The formula, and the files of a record of rounds, or of a run, by name."""
+    formula: Path
+    files: Dict[str, str]
+
+
+def garbled_text(text: str, numbers: random.Random) -> str:
+    lines = text.splitlines(True) or ["\n"]
+    at, other, place = numbers.randrange(len(lines)), numbers.randrange(len(lines)), numbers.randrange(len(text) + 1)
+    words = lines[at].split(" ")
+    word = numbers.randrange(len(words))
+    number = int(re.sub(r"[^-0-9]", "", words[word]) or 0) if words[word].strip("-\n").isdigit() else 0
+    kinds: List[Callable[[], str]] = [
+        lambda: text[:place] + chr(numbers.randrange(256)) + text[place + 1:],
+        lambda: text[:place] + text[place + numbers.randrange(40):],
+        lambda: text[:place],
+        lambda: "".join(lines[:at] + lines[at + 1:]),
+        lambda: "".join(lines[:at] + [lines[other]] + lines[at:]),
+        lambda: "".join([*lines[:at], lines[other], *lines[at + 1:]]),
+        lambda: "".join([*lines[:at], " ".join(words[:word] + words[word + 1:]), *lines[at + 1:]]),
+        lambda: "".join([*lines[:at], " ".join([*words[:word], numbers.choice(wrong_numbers(number, numbers)), *words[word + 1:]]),
+                         *lines[at + 1:]]),
+        lambda: text[:place] + numbers.choice((" ", "\n", "-", "0 ", "d ", "i ", "\0", "\r\n", "00", "c x\n")) + text[place:]]
+    return numbers.choice(kinds)()
+
+
+def wrong_numbers(number: int, numbers: random.Random) -> List[str]:
+    near = [number + 1, number - 1, -number, number + numbers.randrange(-20, 20), numbers.randrange(1, 300)]
+    return [str(found) for found in [*near, *near, 1 << 20, 1 << 32, 10 ** 17, 10 ** 18, 10 ** 30]]
+
+
+BASES = [("four-clause.cnf", ["four-clause.lrup"], 0), ("pigeonhole.cnf", ["pigeonhole.lrup"], 0),
+         ("pigeonhole.cnf", ["pigeonhole-two.1", "pigeonhole-two.2"], 0), ("four-clause.cnf", ["four-clause.lrup"], 2),
+         ("pigeonhole.cnf", ["pigeonhole-two.1", "pigeonhole-two.2"], 3), ("pigeonhole.cnf", ["pigeonhole.lrup"], 4),
+         ("two-groups.cnf", [f"two-groups.{number}" for number in range(1, 5)], 2)]
+
+
+def base(number: int, work: Path) -> Garbled:
+    name, streams, rounds = BASES[number % len(BASES)]
+    found, = proof_in_rounds(example(name), list(map(example, streams)), max(rounds, 1), work)
+    files = {path.name: path.read_text() for path in sorted(found.iterdir()) if rounds or "stream" in path.name}
+    for path in found.iterdir():
+        path.unlink()
+    return Garbled(example(name), files)
+
+
+FAULTY_LINE = (r"spelling|too long|truncated|rat hint|identity|an identity above that of the last addition|missing \d+|"
+               r"a circle of lines that cite each other: \d+")
+FAULT = (rf"lrup-trim: (\S+, line \d+: ({FAULTY_LINE})|no line derives the empty clause|the run ends in round \d+, with that line|"
+         r"of the lines that are needed, number \d+: (no conflict by unit propagation: .*|a variable that the formula doesn't have)|"
+         r"\S+: not STREAMS LINES ROOM|\S+: compressed: \w+ it|\S+ isn't there)")
+
+
+def garbled_trim(found: Garbled, formula: Path, rehints: bool, work: Path) -> Optional[Tuple[bool, List[Ran]]]:
+    """What the LRAT checker says, and lrupd of both; None where nothing is written, and why is told."""
+    for name, text in found.files.items():
+        (work / "rounds" / name).write_bytes(text.encode("latin-1"))
+    is_record = any("sizes" in name for name in found.files)
+    proof = [work / "rounds"] if is_record else [work / "rounds" / name for name in found.files]
+    done = trim([*outputs_of(work), *["--re-hint"] * rehints, formula, *proof], work)
+    left = [name for name in [*OUTPUTS, "lrat.re-hint"] if (work / name).exists()]
+    for line in done.err.splitlines():
+        if not re.fullmatch(FAULT, line):
+            raise Failure(f"what is said: {line}")
+    if done.status == 1:
+        want((done.out, left, done.err != ""), ("", [], True), "what is left")
+        return None
+    want((done.status, left), (0, OUTPUTS), f"the status, and what is written, of\n{done.err}")
+    return lrat_fault(read_formula(formula), (work / "lrat").read_text()) == "", verdicts(done.out, work)
+
+
+def garbled(number: int, work: Path) -> None:
+    """lrupd takes both outputs, and the LRAT checker the one, or none does."""
+    numbers = random.Random(f"{number} garbled")
+    found = base(number, work)
+    for name in numbers.sample(sorted(found.files), numbers.randint(1, min(2, len(found.files)))):
+        for _ in range(numbers.choice((1, 1, 1, 2, 5))):
+            found.files[name] = garbled_text(found.files[name], numbers)
+    answers = garbled_trim(found, found.formula, number % 4 == 0, work)
+    if answers:
+        want([done.status for done in answers[1]], [0, 0] if answers[0] else [3, 3], "lrupd's statuses")
+
+
+def satisfiable(number: int, work: Path) -> None:
+    """Streams of another formula, garbled or not: of a clause that it needs there is another one twice. Nothing is taken; the filter finds
+    no hints."""
+    numbers = random.Random(f"{number} satisfiable")
+    found = base(number % 6, work)      # all clauses are needed
+    clauses = read_formula(found.formula)
+    left_out, again = numbers.sample(range(len(clauses)), 2)
+    clauses[left_out] = clauses[again]
+    variables = max(abs(literal) for clause in clauses for literal in clause)
+    formula = written(dimacs(variables, clauses), work)
+    want(solved(formula, 1, [], work), None, "the streams of the formula")
+    is_garbled, rehints = numbers.randrange(3) == 0, numbers.randrange(4) == 0
+    for name in found.files if is_garbled else []:
+        found.files[name] = garbled_text(found.files[name], numbers)
+    answers = garbled_trim(found, formula, rehints, work)
+    if rehints or not is_garbled:
+        want(answers is None, rehints, "whether nothing is written")
+    if answers:
+        want((answers[0], [done.status for done in answers[1]]), (False, [3, 3]), "what is said of a formula that is satisfiable")
+
+
+def fault(streams: Sequence[str], said: Sequence[str], work: Path) -> None:
+    """Nothing refutes the four clauses then."""
+    for number, text in enumerate(streams, 1):
+        written(text, work, f"f{number}")
+    done = trim([*outputs_of(work), written(FOUR, work), *(f"f{number}" for number in range(1, len(streams) + 1))], work)
+    last = "no line derives the empty clause"
+    want(done, Ran("", "".join(f"lrup-trim: {line}\n" for line in [*said, last]), 1), "what is said")
+    want([name for name in OUTPUTS if (work / name).exists()], [], "what is written")
+
+
+FIRST = "5 2 0 1 2 0\n"
+FAULTS = [("spelling", [FIRST + "6  0 5 3 4 0\n"], ["f1, line 2: spelling"]), ("an empty line", ["\n"], ["f1, line 1: spelling"]),
+          ("a word", ["c a comment\n"], ["f1, line 1: spelling"]), ("DRAT", ["2 0\n0\n"], ["f1, line 1: spelling"]),
+          ("no end", [FIRST + "6 0 5 3 4 0"], ["f1, line 2: truncated"]), ("no line", [""], []),
+          ("CR LF", [FIRST.replace("\n", "\r\n")], ["f1, line 1: spelling"]),
+          ("behind 0", [FIRST + "6 0 5 3 4 0 7\n"], ["f1, line 2: spelling"]),
+          ("three ends", ["5 2 0 1 0 2 0\n"], ["f1, line 1: spelling"]), ("a RAT step", ["5 2 0 1 -2 3 0\n"], ["f1, line 1: rat hint"]),
+          ("identity of the formula", ["4 2 0 1 2 0\n"], ["f1, line 1: identity"]),
+          ("not above the one before", ["6 2 0 1 2 0\n5 0 6 3 4 0\n"], ["f1, line 1: an identity above that of the last addition"]),
+          ("twice", [FIRST + "5 1 0 5 3 0\n"], ["f1, line 2: identity"]),
+          ("beyond all identities", [f"{5 + (1 << 28)} 2 0 1 2 0\n"], ["f1, line 1: identity"]),
+          ("another stream's", ["6 2 0 1 2 0\n", ""], ["f1, line 1: identity"]),
+          ("missing", [FIRST + "6 0 5 3 7 0\n"], ["f1, line 2: missing 7"]), ("itself", ["5 2 0 1 5 0\n"], ["f1, line 1: missing 5"]),
+          ("in a gap", [FIRST + "7 1 0 5 3 0\n8 0 6 7 4 0\n"], ["f1, line 3: missing 6"]),
+          ("of a stream that ends", ["5 0 6 3 4 0\n", ""], ["f1, line 1: missing 6"]),
+          ("of a stream with a fault", ["5 0 6 3 4 0\n", "6 x 0\n"], ["f2, line 1: spelling", "f1, line 1: missing 6"]),
+          ("a circle", ["5 2 0 6 2 0\n", "6 1 0 5 3 0\n"],
+           ["f2, line 1: a circle of lines that cite each other: 5", "f1, line 1: missing 6"]),
+          ("too many hints", ["5 0 " + "1 " * 65537 + "0\n"], ["f1, line 1: too long"]),
+          ("bytes", ["\0\0\0\0"], ["f1, line 1: truncated"]), ("a deletion without an end", ["4 d 1\n"], ["f1, line 1: spelling"]),
+          ("an import without an end", ["4 i 1\n"], ["f1, line 1: spelling"])]
+
+
+def goes_on_beside_a_fault(work: Path) -> None:
+    """Another stream has the empty clause."""
+    for name, text in (("f1", "5 1 0 9 0\n"), ("f2", "6 2 0 1 2 0\n8 0 6 3 4 0\n")):
+        written(text, work, name)
+    done = trim([*outputs_of(work), written(FOUR, work), "f1", "f2"], work)
+    want((done.err, done.status), ("lrup-trim: f1, line 1: missing 9\n", 0), "what is said")
+    are_right(work / "formula.cnf", done.out, work)
+
+
+def bad_round(files: Dict[str, str], said: str, work: Path) -> None:
+    for name, text in files.items():
+        written(text, work, f"d/{name}")
+    done = trim([written(FOUR, work), "d"], work)
+    want((done.out, done.err.splitlines()[-1:], done.status), ("", [f"lrup-trim: {said}"], 1), "what is said")
+
+
+ROUND = {"round-1.stream-1": FIRST, "round-2.stream-1": "6 0 5 3 4 0\n"}
+BAD_ROUNDS = [("no round", {"other": ""}, "d/round-1.stream-1 isn't there"),
+              ("a fault", {**ROUND, "round-1.stream-1": FIRST + "x\n"}, "the run ends in round 1, with that line"),
+              ("no stream 2", {**ROUND, "round-2.sizes": "2 1 1\n"}, "cannot open d/round-2.stream-2: No such file or directory")]
+BAD_ROUNDS += [(f"sizes '{text[:9]}'", {**ROUND, "round-2.sizes": text}, "d/round-2.sizes: not STREAMS LINES ROOM")
+               for text in ("", "1 2", "1 2\n", "1 2 3 4\n", "0 2 3\n", "65 2 3\n", "x 2 3\n", "1 2 3\n\n", "-1 2 3\n", "1  2 3\n")]
+
+
+# Files, and the command line.
+
+
+def refuses(words: str, status: int, said: str, work: Path) -> None:
+    """In a folder with a formula f, a stream s, a pipe p, a folder d without rounds, files there and r.re-hint, and one that is
+    compressed, z."""
+    files = {"f": FOUR.encode(), "s": FIRST.encode(), "there": b"mine", "r.re-hint": b"", "z": COMPRESSED["zcat"]}
+    for name, text in files.items():
+        written(text, work, name)
+    piped(work / "p")
+    (work / "d").mkdir()
+    done = trim(words.split(), work)
+    want((done.out, done.err.splitlines()[-1:], done.status), ("", [f"lrup-trim: {said}"], status), "what is said")
+    want((sorted(os.listdir(work)), (work / "there").read_text()), (sorted([*files, "d", "p"]), "mine"), "what is there")
+
+
+REFUSED = [("", 2, "error: no FORMULA"), ("f", 2, "error: no DIR or STREAM"), ("--cores x f s", 2, "error: no such option: --cores"),
+           ("--core", 2, "error: no value after --core"), ("--stream x f s", 2, "error: --stream without --core"),
+           ("--core x --core y f s", 2, "error: given twice: --core"), ("f" + " s" * 65, 2, "error: more than 64 streams, from s"),
+           ("-x f s", 2, "error: no such option: -x"),
+           ("--core there f s", 1, "there is there, and isn't written over"), ("--lrat f f s", 1, "f is there, and isn't written over"),
+           ("--core x --stream=s f s", 1, "s is there, and isn't written over"),
+           ("f d s", 1, "d is a folder, and goes alone"), ("f d", 1, "d/round-1.stream-1 isn't there"),
+           ("f p", 1, "p: it is read more than once, so it has to be a file"),
+           ("p s", 1, "p: it is read more than once, so it has to be a file"),
+           ("f none", 1, "cannot open none: No such file or directory"), ("none s", 1, "cannot open none: No such file or directory"),
+           ("f z", 1, "z: compressed: zcat it"), ("z s", 1, "z: compressed: zcat it"), ("f s", 1, "no line derives the empty clause"),
+           ("s s", 1, "s, line 1: no header 'p cnf VARIABLES CLAUSES', with which a formula in DIMACS CNF begins"),
+           ("--assume none f s", 1, "cannot open none: No such file or directory"),
+           ("--assume there f s", 1, "there: no line of literals of FORMULA's variables, and 0, with single spaces"),
+           ("--lrat d/none/x f s", 1, "no line derives the empty clause"),
+           ("--re-hint f s", 2, "error: --re-hint without --core or --lrat"),
+           ("--re-hint=1 f s", 2, "error: no such option: --re-hint=1"),
+           ("--re-hint --core r f s", 1, "r.re-hint is there, and isn't written over")]
+
+
+def cut_while_read(work: Path) -> None:
+    """Where a run races with what cuts it, it is tried again."""
+    stream = written("".join(f"{number} 1 2 0 1 0\n" for number in range(5, 400000)), work, "stream")
+    formula = written(FOUR, work)
+    with started([TRIM, "--lrat", "lrat", formula, stream], cwd=work, stderr=subprocess.PIPE, text=True) as running:
+        time.sleep(0.01)
+        os.truncate(stream, 0)
+        _, said = running.communicate(timeout=LIMIT)
+    want((said, running.returncode), ("lrup-trim: a file was cut while it was read\n", 1), "what is said")
+
+
+def no_place(work: Path) -> None:
+    """A folder that isn't there, and one name for two outputs: what was made before is removed."""
+    for name, cause in (("none/x", "No such file or directory"), ("core", "File exists")):
+        done = trim(["--core", "core", "--stream", "stream", "--lrat", name, example("four-clause.cnf"), example("four-clause.lrup")], work)
+        name = "core" if name == "core" else name
+        want((done.out, done.err, done.status, os.listdir(work)), ("", f"lrup-trim: cannot make {name}: {cause}\n", 1, []), name)
+
+
+def full(limit: int, options: Sequence[object], work: Path) -> None:
+    """A file can't have more bytes: no beginning of one is left."""
+    words = [*outputs_of(work), *options, example("bmc.cnf"), example("bmc.lrup")]
+    done = trim(words, work, preexec_fn=lambda: within(limit))
+    found = re.fullmatch(r"lrup-trim: cannot write \S+/(core|stream|lrat)(\.re-hint)?: File too large\n", done.err)
+    want((done.out, found is not None, done.status, os.listdir(work)), ("", True, 1, []), done.err)
+
+
+def help_of(work: Path) -> None:
+    for word in ("--help", "-h"):
+        done = trim([word], work)
+        want((done.out[:17], done.err, done.status), ("usage: lrup-trim ", "", 0), word)
+
+
+# What users do.
+
+SHOWN = """$ lrup-trim --core core.cnf --stream core.lrup --lrat proof.lrat examples/two-groups.cnf examples/two-groups.?
+{}$ {}
+{}"""
+
+
+def in_using(work: Path) -> None:
+    """USING's example, as the words there are run."""
+    os.symlink(EXAMPLES, work / "examples")
+    words = shlex.split(SHOWN.splitlines()[0])[2:-1] + [f"examples/two-groups.{number}" for number in range(1, 5)]
+    done = trim(words, work)
+    command = re.findall(r": (lrupd .*)$", done.out, re.M)[0]
+    checked = run([PROGRAM, *command.split()[1:]], cwd=work)
+    want((done.err, checked.err, checked.status), ("", "", 0), "what is said")
+    text = "".join(f"    {line}\n" for line in SHOWN.format(done.out, command, checked.out).splitlines())
+    want(text in USING.read_text(), True, f"whether USING has\n{text}")
+
+
+def of_lrup_solve(words: Sequence[str], tested: Dict[str, object], generated: str, assumed: bool, work: Path) -> None:
+    """A record that lrup-solve --proofs keeps, in one round or in several."""
+    text = run([sys.executable, GENERATOR, *generated.split()]).out
+    formula, kept = written(text, work), work / "kept"
+    options: List[object] = [*words, "--proofs", kept]
+    cube = None
+    if assumed:
+        literal = int(text.split()[2]) + 1
+        selected(formula, literal)
+        cube = written(f"-{literal} 0\n", work, "cube")
+        options += ["--assume", cube]
+    want(solve([*options, formula], tested=tested).status, 20, "lrup-solve's status")
+    rounds = len(list(kept.glob("round-*.stream-1")))
+    want(rounds > 2, bool(tested), f"{rounds} rounds")
+    trimmed(formula, [kept], work, cube)
+
+
+SMALL = {"SAME_WORDS": 1, "SLICE": 40, "FIRST_WORDS": 20000}
+RECORDS = [("one engine", ["-j", "1"], {}, "random 150 1", False), ("two engines", ["-j", "2"], {}, "random 170 4", False),
+           ("one engine in rounds", ["-j", "1"], SMALL, "pigeons 7", False), ("three in rounds", ["-j", "3"], SMALL, "random 180 3", False),
+           ("two in rounds, assuming", ["-j", "2"], SMALL, "random 170 4", True)]
+
+
+def skipped(why: str, work: Path) -> None:
+    raise Skipped(why)
+
+
+def rows_of_records() -> List[Row]:
+    cause = build("solve", True)
+    return [(f"lrup-solve, {name}", *((skipped, cause) if cause else (of_lrup_solve, *rest))) for name, *rest in RECORDS]
+
+
+def rows() -> List[Row]:
+    four, two = [f"bmc-four.{number}" for number in range(1, 5)], ["pigeonhole-two.1", "pigeonhole-two.2"]
+    found: List[Row] = [] if IS_SANITIZED else [("lrup-trim, sanitized", skipped, "the C compiler doesn't build so")]
+    for formula, streams in (("bmc.cnf", ["bmc.lrup"]), ("bmc.cnf", four), ("pigeonhole.cnf", two)):
+        found += [(f"{streams[0]} in {count} rounds", recorded, formula, streams, count) for count in (0, 1, 2, 9)]
+    found += [(f"few lines: {name}", few, *rest) for name, *rest in FEW]
+    found += [("three rounds", few_in_rounds, ONE, OF_ONE), ("three rounds of two", few_in_rounds, TWO, OF_TWO),
+              ("fewer streams", fewer_streams), ("assumptions", assuming), ("other hints", other_hints), ("a group", of_a_group)]
+    found += [(f"two halves, {count} solvers, {rounds} rounds", two_halves, count, rounds) for count, rounds in ((1, 0), (3, 0), (2, 4))]
+    found += [(f"{output} in rows", longer_than_a_row, output, name) for output, name in (("stream", "core"), ("lrat", "bmc.cnf"))]
+    found += [(f"fault: {name}", fault, streams, said) for name, streams, said in FAULTS]
+    found += [("beside a fault", goes_on_beside_a_fault), ("no place", no_place), ("a file that is cut", cut_while_read)]
+    found += [("help", help_of), ("USING", in_using)]
+    found += [(f"bad rounds: {name}", bad_round, files, said) for name, files, said in BAD_ROUNDS]
+    found += [(f"lrup-trim {words}", refuses, words, status, said) for words, status, said in REFUSED]
+    for limit in (0, 20000, 200000):
+        found += [(f"files of {limit} bytes {options}", full, limit, options) for options in ([], ["--re-hint"])]
+    found += [*rows_of_records(), *((f"random {seed}", at_random, seed) for seed in range(COUNT))]
+    found += [(f"satisfiable {number}", satisfiable, number) for number in range(COUNT // 3)]
+    return [*found, *((f"garbled {number}", garbled, number) for number in range(COUNT))]
+
+
+def main() -> int:
+    if IS_SANITIZED:
+        sanitized_trim()
+    return run_all(rows(), tries=3)     # a file that is cut races with the end
+
+
+sys.exit(main())

@@ -1,0 +1,194 @@
+// Unverified, as all of this tool. What is written: the core, and the lines that are needed. No file is written over, and none is left
+// that isn't whole.
+#define _GNU_SOURCE
+#include <errno.h>
+#include <fcntl.h>
+#include <string.h>
+#include <unistd.h>
+
+#include "trim.h"
+
+enum { OUTPUTS = 4 };
+
+static const char *volatile made[OUTPUTS];
+static volatile int made_length;
+static Output *output;          // the one that is written
+
+void outputs_remove(void) {
+    for (int k = 0; k < made_length; k++) unlink(made[k]);
+}
+
+void outputs_keep(void) { made_length = 0; }
+
+static void to_output(const char *bytes, size_t length) {
+    if (!write_whole(output->file, bytes, length)) {
+        position_set(NULL, 0);
+        stop("cannot write %s: %s", output->path, strerror(errno));
+    }
+    output->bytes += length;
+}
+
+void output_open(Output *place) {
+    output = place;
+    made[made_length] = output->path;
+    output->file = open(output->path, O_WRONLY | O_CREAT | O_EXCL | O_CLOEXEC, 0666);
+    if (output->file < 0) stop("cannot make %s: %s", output->path, strerror(errno));
+    made_length++;
+    write_to(to_output);
+}
+
+void output_close(void) {
+    write_flush();
+    if (close(output->file) != 0) stop("cannot write %s: %s", output->path, strerror(errno));
+}
+
+// The core, in the order of FORMULA and with its variables. Before a clause stands its number there, as in what lrupd saves.
+
+void formula_free(Formula *formula) {
+    formula->starts.items = grow(formula->starts.items, 0);
+    formula->literals.items = grow(formula->literals.items, 0);
+}
+
+static bool is_same(const Formula *one, size_t clause, const Formula *other, size_t another) {
+    const size_t *starts = one->starts.items + clause, *others = other->starts.items + another;
+    size_t length = starts[1] - starts[0];
+    if (others[1] - others[0] != length) return false;
+    return length == 0 || memcmp(one->literals.items + starts[0], other->literals.items + others[0], length * sizeof(Literal)) == 0;
+}
+
+static void core_check(const Proof *proof, const char *core, const char *formula) {
+    Formula whole = {0}, found = {0};
+    size_t place = 0;
+    formula_read(&whole, formula);
+    formula_read(&found, core);
+    for (Number k = 1; k <= proof->formula.clauses; k++) {
+        size_t name = name_of(proof, k);
+        if (proof->last_use[k] == 0) continue;
+        if (name > whole.clauses || place >= found.clauses || !is_same(&whole, name - 1, &found, place++))
+            stop("%s: clause %zu isn't clause %zu of %s: was one of them changed?", core, place, name, formula);
+    }
+    if (found.clauses != place || found.variables != whole.variables) stop("%s: it was changed", core);
+    formula_free(&whole);
+    formula_free(&found);
+}
+
+// The last that is done with the clauses of FORMULA, which are read once more.
+void core_write(Proof *proof, Output *core, const char *path) {
+    Formula *formula = &proof->formula;
+    output_open(core);
+    write_bytes("p cnf ", 6);
+    write_number((uint64_t)formula->variables, ' ');
+    write_number(proof->core, '\n');
+    for (size_t k = 0; k < formula->clauses; k++) {
+        if (proof->last_use[k + 1] == 0) continue;
+        write_bytes("c id ", 5);
+        write_number(name_of(proof, (Number)k + 1), '\n');
+        write_literals(formula->literals.items + formula->starts.items[k], formula->starts.items[k + 1] - formula->starts.items[k]);
+        write_bytes("\n", 1);
+    }
+    output_close();
+    formula_free(formula);
+    core_check(proof, core->path, path);
+}
+
+// Lines. Some are read, and then written to one output after the other.
+
+enum { PIECE = 1 << 14 };       // hints
+
+typedef struct { Number number; const char *literals; size_t bytes, first, count; } Kept;   // first, count: of `cited`
+
+static struct { Kept *items; size_t length, capacity; } lines;
+static struct { Number *items; size_t length, capacity; } cited;
+static Identities list;
+
+static uint64_t identity_of(const Proof *proof, Number number) {
+    if (number > proof->formula.clauses) return output->below + proof->place[number];
+    return output->whole ? name_of(proof, number) : proof->place[number];
+}
+
+static void write_deletion(uint64_t lead) {
+    for (size_t k = 0; k < list.length; k += IDENTITIES_OF_A_LINE) {
+        size_t left = list.length - k;
+        write_number(lead, ' ');
+        write_bytes("d ", 2);
+        write_numbers(list.items + k, left < IDENTITIES_OF_A_LINE ? left : IDENTITIES_OF_A_LINE);
+    }
+}
+
+static void write_line(const Proof *proof, const Kept *line) {
+    const Number *hints = cited.items + line->first;
+    uint64_t identity = identity_of(proof, line->number);
+    list.length = 0;
+    for (size_t k = 0; k < line->count; k++) PUSH(&list, identity_of(proof, hints[k]));
+    write_number(identity, ' ');
+    write_bytes(line->literals, line->bytes);
+    write_numbers(list.items, list.length);
+    if (line->number == proof->target) return;
+    list.length = 0;
+    for (size_t k = 0; k < line->count; k++)
+        if (proof->last_use[hints[k]] == line->number) PUSH(&list, identity_of(proof, hints[k]));
+    write_deletion(identity);
+}
+
+static void piece_write(const Proof *proof, Output *const outputs[2]) {
+    for (int k = 0; k < 2; k++) {
+        if (!outputs[k]->path) continue;
+        output = outputs[k];
+        for (size_t line = 0; line < lines.length; line++) write_line(proof, &lines.items[line]);
+        write_flush();
+    }
+    lines.length = cited.length = 0;
+}
+
+static void line_take(Proof *proof, const Stream *stream, Number number) {
+    const Round *round = &proof->rounds.items[stream->round];
+    Kept line = { .number = number, .first = cited.length };
+    const int64_t *hints = hints_read(stream, number, &line.count);
+    line.literals = strchr((char *)line_start(stream, number), ' ') + 1;
+    line.bytes = (size_t)((char *)hints_of(stream, number) - line.literals);
+    for (size_t k = 0; k < line.bytes; k++) proof->room += line.literals[k] == ' ';
+    proof->room--;
+    for (size_t k = 0; k < line.count; k++) PUSH(&cited, number_of(proof, round, (uint64_t)hints[k]));
+    PUSH(&lines, line);
+}
+
+// Over FORMULA all but the core is deleted first.
+static void lines_begin(Proof *proof, Output *place, bool whole) {
+    if (!place->path) return;
+    output_open(place);
+    place->whole = whole;
+    place->below = whole ? proof->clauses : proof->core;
+    list.length = 0;
+    Number next = 1;        // of FORMULA
+    for (Number k = 1; k <= proof->formula.clauses && whole; k++) {
+        if (proof->last_use[k] == 0) continue;
+        for (; next < name_of(proof, k); next++) PUSH(&list, next);
+        next++;
+    }
+    for (; next <= proof->clauses && whole; next++) PUSH(&list, next);
+    write_deletion(proof->clauses);
+    write_flush();
+}
+
+void lines_write(Proof *proof, Output *stream, Output *lrat) {
+    Output *const outputs[2] = { stream, lrat };
+    Number place = 0, derived = 0;
+    proof->place = zeroed(proof->numbers, sizeof *proof->place);
+    for (Number k = 1; k <= proof->formula.clauses; k++) proof->place[k] = proof->last_use[k] != 0 ? ++place : 0;
+    lines_begin(proof, stream, false);
+    lines_begin(proof, lrat, true);
+    for (size_t k = 0; k < proof->runs.length; k++) {
+        Run run = proof->runs.items[k];
+        for (Number number = run.from; number < run.to; number++) {
+            if (proof->last_use[number] == 0) continue;
+            proof->place[number] = ++derived;
+            line_take(proof, stream_with(proof, run.from), number);
+            if (cited.length >= PIECE) piece_write(proof, outputs);
+        }
+    }
+    piece_write(proof, outputs);
+    for (int k = 0; k < 2; k++) {
+        output = outputs[k];
+        if (output->path) output_close();
+    }
+}
