@@ -8,6 +8,7 @@ PROGRAM := crates/lrupd/out/lrupd
 SOLVER := examples/solver/out/solver
 EXACT := tools/exact/out/exact
 SOLVE := tools/solve/out/lrup-solve
+ENGINES = $(dir $(SOLVE))lrup-engines
 SOLVE_FLAGS ?= -O2
 # What of the filter is part of lrup-solve.
 FILTER := $(filter-out tools/exact/main.c tools/exact/chain.c,$(wildcard tools/exact/*.c))
@@ -90,16 +91,17 @@ exact: c-and-python ## build: the filter that makes streams of other solvers' pr
 	@mkdir -p $(dir $(EXACT))
 	@$(CC) -std=c11 -O2 -Wall -Wextra -o $(EXACT).new tools/exact/*.c && mv $(EXACT).new $(EXACT)
 
-# Not verified. Engines and filters aren't trusted; the process that starts lrupd and prints its answer is believed.
+# Not verified. The front, which starts lrupd and prints the answer, is believed; lrup-engines isn't.
 solve: solve-objects ## build: lrup-solve, from a formula to a proved verdict, at tools/solve/out; wants CaDiCaL's library
-	@$(CXX) -std=c++17 $(SOLVE_FLAGS) -Wall -Wextra -DVERSION='"$(VERSION)"' -o $(SOLVE).new $(ALONE) $(SOLVE).objects/*.o -lcadical && \
-	mv $(SOLVE).new $(SOLVE)
+	@$(CXX) -std=c++17 $(SOLVE_FLAGS) -Wall -Wextra -DVERSION='"$(VERSION)"' -o $(ENGINES).new $(ALONE) $(SOLVE).objects/*.o -lcadical && \
+	mv $(ENGINES).new $(ENGINES)
 
-# What both look for beside them is there, too: lrupd.
+# And the front, with what it looks for beside it, lrupd.
 solve-objects: c-and-python libcadical
 	@mkdir -p $(SOLVE).objects
 	@cd $(SOLVE).objects && $(CC) -std=c11 -D_GNU_SOURCE $(SOLVE_FLAGS) -Wall -Wextra -c $(abspath $(wildcard tools/solve/*.c) $(FILTER))
 	@ln -sfr $(PROGRAM) $(dir $(SOLVE))lrupd
+	@$(CC) -std=c11 $(SOLVE_FLAGS) -Wall -Wextra -o $(SOLVE).new tools/solve/front/front.c && mv $(SOLVE).new $(SOLVE)
 
 # It isn't installed: it goes with the MPI of where it was built.
 solve-mpi: solve-objects mpicxx ## build: lrup-solve-mpi, the same in several processes on one host or more; wants MPI, too

@@ -237,6 +237,7 @@ def beside(work: Path) -> None:
     """lrupd is found beside the program, then on the PATH."""
     for folder in ("one", "two"):
         (work / folder).mkdir()
+    shutil.copy(SOLVE.with_name("lrup-engines"), work / "one")
     words: List[object] = [shutil.copy(SOLVE, work / "one"), example("four-clause.cnf")]
     where = {**os.environ, "PATH": str(work / "two")}
     out, said, status = run(words, env=where)

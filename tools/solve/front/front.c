@@ -1,0 +1,249 @@
+// The front: all of lrup-solve that is believed. It hands the user's formula to lrupd, and prints what lrupd's status says, or an
+// assignment that it has evaluated. lrup-engines, in processes of its own, solves, and feeds lrupd; of what comes from there only these
+// lines count, and it is told how each lrupd ended, and why it is to stop:
+//
+//     check STREAMS LINES ROOM TRIES      numbers for lrupd's words, once: it reads FOLDER/round-1.stream-1, -2 and so on
+//     done                                nothing more is wanted of lrupd
+//     v LITERALS                          an assignment, of all variables in order, and 0
+//     c WORDS                             for the user
+#define _GNU_SOURCE
+#include <err.h>
+#include <errno.h>
+#include <fcntl.h>
+#include <getopt.h>
+#include <poll.h>
+#include <signal.h>
+#include <stdarg.h>
+#include <stdbool.h>
+#include <stdio.h>
+#include <stdlib.h>
+#include <string.h>
+#include <sys/mman.h>
+#include <sys/prctl.h>
+#include <sys/resource.h>
+#include <sys/signalfd.h>
+#include <sys/socket.h>
+#include <sys/stat.h>
+#include <sys/time.h>
+#include <sys/wait.h>
+#include <unistd.h>
+
+#include "inputs.h"
+
+enum { LONGEST_LINE = 1 << 16, MOST_STREAMS = 64, MOST_SIZE = 1 << 28, MOST_TRIES = 1000000, MOST_LAST = 1000, GRACE = 8 /* seconds */ };
+enum { PROVED = 0, UNKNOWN = 3, PROVED_UNDER = 8 };     // lrupd's statuses
+enum { ENGINES, PROBE, LRUPD, CLEANER, CHILDREN };      // the probe is an lrupd that reads the formula, and no stream
+
+static struct { pid_t pid; bool has_ended; int status; } children[CHILDREN];
+static const char *lrupd, *formula, *assume, *verdict, *folder;
+static int null, signals, engines, cleaning, ended_by;
+static sigset_t mask_before;
+static bool is_model, is_faulty, is_ending, is_late, is_closed;     // the last one of lrup-engines' socket
+
+static bool ended_with(int which, int status) {
+    return children[which].has_ended && WIFEXITED(children[which].status) && WEXITSTATUS(children[which].status) == status;
+}
+
+static void signal_all(int number) {
+    for (int k = 0; k < CLEANER; k++)
+        if (children[k].pid && !children[k].has_ended) kill(-children[k].pid, number);
+}
+
+static void set_timer(double seconds) {
+    struct itimerval timer = { { 0, 0 }, { (time_t)seconds, (suseconds_t)(1e6 * (seconds - (double)(time_t)seconds)) } };
+    setitimer(ITIMER_REAL, &timer, NULL);
+}
+
+static void end_soon(void) {
+    if (!is_ending) set_timer(GRACE);
+    is_ending = true;
+}
+
+// What isn't read there isn't waited for.
+static void say(const char *line) { send(engines, line, strlen(line), MSG_DONTWAIT | MSG_NOSIGNAL); }
+
+// Each in a process group of its own. Only the cleaner outlives this process.
+static void start(int which, const char *const *list, int in, int out, int err_out) {
+    pid_t parent = getpid(), pid = children[which].pid = fork();
+    if (pid < 0) err(1, "cannot start %s", list[0]);
+    setpgid(pid, pid);
+    if (pid > 0) return;
+    signal(SIGPIPE, SIG_DFL);
+    sigprocmask(SIG_SETMASK, &mask_before, NULL);
+    if (which != CLEANER && (prctl(PR_SET_PDEATHSIG, SIGKILL) != 0 || getppid() != parent)) _exit(127);
+    if (dup2(in, 0) < 0 || dup2(out, 1) < 0 || dup2(err_out, 2) < 0) _exit(127);
+    execvp(list[0], (char **)list);
+    warn("cannot start %s", list[0]);
+    _exit(which == ENGINES ? 1 : 127);
+}
+
+// Its output goes to files that lrup-engines reads.
+static void start_lrupd(int which, char *const *numbers) {
+    const char *list[MOST_STREAMS + 16] = { lrupd, "--tries", numbers[3], "--lines", numbers[1], "--room", numbers[2] }, **next = list + 7;
+    int out = open(text("%s/%d.out", folder, which), O_WRONLY | O_CREAT | O_EXCL | O_CLOEXEC, 0600);
+    int said = open(text("%s/%d.said", folder, which), O_WRONLY | O_CREAT | O_EXCL | O_CLOEXEC, 0600);
+    if (assume) *next++ = "--assume", *next++ = assume;
+    if (which == LRUPD) *next++ = "--rounds", *next++ = folder;
+    if (which == LRUPD && value['v']) *next++ = "--watch";
+    *next++ = formula;
+    if (which == PROBE) *next++ = "/dev/null";
+    for (long k = 1, streams = atol(numbers[0]); k <= streams; k++) *next++ = text("%s/round-1.stream-%ld", folder, k);
+    start(which, list, null, out, said);
+    close(out), close(said);
+}
+
+static bool start_checking(char *line) {
+    static const unsigned long most[] = { MOST_STREAMS, MOST_SIZE, MOST_SIZE, MOST_TRIES };
+    char *numbers[4];
+    for (int k = 0; k < 4; k++) {
+        numbers[k] = strtok(k ? NULL : line, " ");
+        if (!numbers[k] || numbers[k][strspn(numbers[k], "0123456789")] || strtoul(numbers[k], NULL, 10) > most[k]) return false;
+    }
+    if (strtok(NULL, " ") || atol(numbers[0]) == 0 || children[LRUPD].pid) return false;
+    start_lrupd(LRUPD, numbers);
+    return true;
+}
+
+static void take_line(char *line) {
+    if (strncmp(line, "check ", 6) == 0) is_faulty |= !start_checking(line + 6);
+    if (strncmp(line, "v ", 2) == 0) is_faulty |= !take_values(line + 2);
+    if (strcmp(line, "done") == 0 && children[LRUPD].pid && !children[LRUPD].has_ended) kill(children[LRUPD].pid, SIGKILL);
+    if (strncmp(line, "c ", 2) != 0 || value['q']) return;
+    for (char *at = line; *at; at++)
+        if ((unsigned char)*at < ' ' || *at == 127) *at = '?';
+    puts(line);
+    fflush(stdout);
+}
+
+// False where nothing is there. Lines that are too long are cut.
+static bool read_lines(void) {
+    static char line[LONGEST_LINE + 1], bytes[4096];
+    static size_t length;
+    ssize_t count = recv(engines, bytes, sizeof bytes, MSG_DONTWAIT);
+    for (ssize_t k = 0; k < count; k++) {
+        if (bytes[k] != '\n' && length < LONGEST_LINE) line[length++] = bytes[k];
+        if (bytes[k] != '\n') continue;
+        line[length] = 0;
+        length = 0;
+        take_line(line);
+    }
+    is_closed |= count == 0;
+    return count > 0;
+}
+
+static void take_end(int which, int status, double seconds) {
+    children[which].has_ended = true;
+    children[which].status = status;
+    for (int k = 0; which == ENGINES && k < MOST_LAST && read_lines(); k++) {}
+    if (which == LRUPD && ended_with(LRUPD, PROVED)) verdict = "s UNSATISFIABLE";
+    if (which == LRUPD && assume && ended_with(LRUPD, PROVED_UNDER)) verdict = "s UNSATISFIABLE UNDER ASSUMPTIONS";
+    if (which == LRUPD || (which == PROBE && !ended_with(PROBE, UNKNOWN))) end_soon();
+    say(text("%s %d %.6f\n", which == LRUPD ? "lrupd" : "probe", status, seconds));
+}
+
+static void take_signal(int number) {
+    if (number == SIGTSTP) signal_all(SIGSTOP), raise(SIGSTOP), signal_all(SIGCONT);
+    is_late |= number == SIGALRM && is_ending;
+    if (number == SIGTSTP || number == SIGCHLD || (number == SIGALRM && is_late)) return;
+    if (number != SIGALRM) ended_by = number;
+    end_soon();
+    say(number == SIGALRM ? "stop time is up\n" : text("signal ended by a signal: %s\n", strsignal(number)));
+}
+
+static void turn(void) {
+    struct pollfd list[] = { { signals, POLLIN, 0 }, { is_closed ? -1 : engines, POLLIN, 0 } };
+    struct signalfd_siginfo found;
+    struct rusage used;
+    int status;
+    poll(list, 2, -1);
+    while (read(signals, &found, sizeof found) == sizeof found) take_signal((int)found.ssi_signo);
+    read_lines();
+    for (pid_t pid; (pid = wait4(-1, &status, WNOHANG, &used)) > 0;)
+        for (int k = 0; k < CLEANER; k++)
+            if (children[k].pid == pid) take_end(k, status, (double)(used.ru_utime.tv_sec + used.ru_stime.tv_sec) +
+                                                            1e-6 * (double)(used.ru_utime.tv_usec + used.ru_stime.tv_usec));
+    if (!is_whole || verdict || is_faulty || !ended_with(PROBE, UNKNOWN)) return;
+    is_model = satisfies(formula, true) && (!assume || satisfies(assume, false));
+    is_faulty = !is_model;
+}
+
+// A formula that lrupd refuses is told as that, however early the solving has ended.
+static bool is_over(void) {
+    return is_model || is_faulty || ended_with(ENGINES, 1) ||
+           ((children[PROBE].has_ended || verdict || ended_by) && (is_late || children[ENGINES].has_ended));
+}
+
+// What it has started ends with it, or is ended.
+static void end(int which) {
+    pid_t pid = children[which].pid, found = pid ? 0 : -1;
+    if (pid && !children[which].has_ended) kill(pid, SIGKILL);
+    for (int tries = 0; found >= 0 && tries < 200; tries++) {
+        if (tries == 100) kill(-pid, SIGKILL);
+        if ((found = waitpid(-pid, NULL, WNOHANG)) == 0) usleep(10000);
+    }
+}
+
+static int answer(void) {
+    bool is_refused = children[PROBE].has_ended && !ended_with(PROBE, UNKNOWN) && !verdict && !ended_by, has_refused = ended_with(ENGINES, 1);
+    if (is_refused && !has_refused) errx(1, "lrupd refuses the formula");
+    if (is_faulty && !value['q']) puts("c lrup-engines has said what it may not");
+    if (verdict || (!is_model && !has_refused)) puts(verdict ? verdict : "s UNKNOWN");
+    if (is_model && !verdict) printf("s SATISFIABLE%s", known == 0 ? "\nv" : "");
+    for (long k = 1; is_model && !verdict && k <= known; k++) printf(k % 10 == 1 ? "\nv %ld" : " %ld", k * assignment[k]);
+    if (is_model && !verdict) puts(" 0");
+    errno = 0;
+    if (fflush(stdout) != 0 || ferror(stdout)) err(1, "cannot write the answer");
+    if (ended_by) signal(ended_by, SIG_DFL), raise(ended_by), sigprocmask(SIG_SETMASK, &mask_before, NULL);
+    return has_refused ? 1 : verdict ? 20 : is_model ? 10 : 0;
+}
+
+// Signals that are ignored stay so, as under nohup.
+static void prepare(void) {
+    static const int numbers[] = { SIGINT, SIGTERM, SIGHUP, SIGTSTP, SIGCHLD, SIGALRM };
+    static const char cleaning_up[] = "read x; for k in 1 2 3 4 5 6 7 8 9; do /bin/rm -rf -- \"$0\" && exit; /bin/sleep 0.1; done";
+    const char *place = getenv("TMPDIR") && *getenv("TMPDIR") ? getenv("TMPDIR") : "/tmp";
+    const char *list[] = { "/bin/sh", "-c", cleaning_up, text("%s/lrup-solve-XXXXXX", place), NULL };
+    struct sigaction found;
+    sigset_t all;
+    int ends[2];
+    sigemptyset(&all);
+    for (size_t k = 0; k < sizeof numbers / sizeof *numbers; k++)
+        if (sigaction(numbers[k], NULL, &found) != 0 || found.sa_handler != SIG_IGN) sigaddset(&all, numbers[k]);
+    sigprocmask(SIG_BLOCK, &all, &mask_before);
+    signals = signalfd(-1, &all, SFD_CLOEXEC | SFD_NONBLOCK);
+    if (!(folder = mkdtemp((char *)list[3]))) err(1, "cannot make a folder %s/lrup-solve-XXXXXX", place);
+    if (signals < 0 || pipe2(ends, O_CLOEXEC) != 0 || prctl(PR_SET_CHILD_SUBREAPER, 1) != 0) err(1, "cannot begin");
+    start(CLEANER, list, ends[0], null, null);
+    close(ends[0]);
+    cleaning = ends[1];
+}
+
+int main(int count, char **words) {
+    for (int file = 0; file <= 2; file++)
+        if (fcntl(file, F_GETFD) < 0 && open("/dev/null", O_RDONLY) != file) return 1;
+    bool are_right = read_words(count, words);
+    const char *program = value['e'] ? value['e'] : beside_this("lrup-engines", beside_this("../libexec/lrupd/lrup-engines", NULL));
+    const char *list[count + 6];
+    int ends[2];
+    if (value['h']) execvp(program, words), err(1, "cannot start %s", program);
+    signal(SIGCHLD, SIG_DFL), signal(SIGXFSZ, SIG_IGN), signal(SIGPIPE, SIG_IGN);
+    lrupd = value['l'] ? value['l'] : beside_this("lrupd", "lrupd");    // on the PATH
+    formula = are_right ? read_again(value['f'] ? value['f'] : "-") : "/dev/null";
+    assume = are_right && value['a'] ? read_again(value['a']) : NULL;
+    null = open("/dev/null", O_RDWR | O_CLOEXEC);
+    prepare();
+    if (socketpair(AF_UNIX, SOCK_STREAM | SOCK_CLOEXEC, 0, ends) != 0) err(1, "cannot make a socket");
+    engines = ends[0];
+    const char *first[] = { program, "--front", folder, lrupd, formula, assume ? assume : "" };
+    memcpy(list, first, sizeof first);
+    memcpy(list + 6, words + 1, (size_t)count * sizeof *words);
+    start(ENGINES, list, STDIN_FILENO, ends[1], STDERR_FILENO);
+    close(ends[1]);
+    start_lrupd(PROBE, (char *[]){ "0", "0", "0", "0" });
+    set_timer(value['t'] ? strtod(value['t'], NULL) : 0);
+    while (!is_over()) turn();
+    for (int which = LRUPD; which >= ENGINES; which--) end(which);
+    close(cleaning);
+    waitpid(children[CLEANER].pid, NULL, 0);
+    return answer();
+}
