@@ -46,11 +46,12 @@ void copy_name(char (&place)[LONGEST_PATH], const std::string &name) {
 
 // Before anything is solved.
 
-// What the front has copied is kept where the record is.
-std::string Run::again(const std::string &path, const char *kept_as) {
-    if (!options.proofs || path.rfind(OPEN_FILES, 0) != 0) return path;
+// By which it can be read more than once: what is no file on a disk the front has copied, and that is kept where the record is.
+std::string Run::again(const std::string &path, const std::string &fronts, const char *kept_as) {
+    if (is_read_again(path)) return path[0] == '-' ? "./" + path : path;
+    if (!options.proofs) return fronts;
     std::string copied = std::string(options.proofs) + "/" + kept_as, begun = unfinished(copied);
-    int file = open_input(path), copy = create_file(begun);
+    int file = open_input(fronts), copy = create_file(begun);
     copy_file(file, kept_as, copy);
     close(file);
     close_file(copy);
@@ -64,8 +65,8 @@ void Run::read_inputs() {
     if (options.assume) inputs.push_back(options.assume);
     for (const std::string &path : inputs) check_input(path);
     if (options.proofs) open_record(options.proofs, inputs);
-    formula_path = again(front.formula, "formula.cnf");
-    if (options.assume) assume_path = again(front.assumptions, "assumptions");
+    formula_path = again(inputs[0], front.formula, "formula.cnf");
+    if (options.assume) assume_path = again(inputs[1], front.assumptions, "assumptions");
     if (options.proofs) clear_record(options.proofs, { formula_path, assume_path });
     open_teams();
     check_plain(formula_path, title(inputs[0]));

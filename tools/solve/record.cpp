@@ -100,6 +100,13 @@ void check_input(const std::string &path) {
     if (!is_standard_input(path) && access(path.c_str(), R_OK) != 0) refuse(quoted(path) + ": " + error_text());
 }
 
+// Standard input has other names, but lrupd has another standard input.
+bool is_read_again(const std::string &path) {
+    struct stat found;
+    bool is_ours = is_standard_input(path) || path.rfind("/dev/fd/", 0) == 0 || path.rfind("/proc/", 0) == 0;
+    return !is_ours && find(path, found) && (S_ISREG(found.st_mode) || S_ISDIR(found.st_mode));
+}
+
 int open_input(const std::string &path) {
     int file = path == "-" ? -1 : open(path.c_str(), O_RDONLY | O_CLOEXEC);
     if (file < 0 && is_standard_input(path)) file = fcntl(STDIN_FILENO, F_DUPFD_CLOEXEC, 3);

@@ -67,7 +67,7 @@ protected:
     void prepare();
     void read_inputs();
     std::string contradiction() const;
-    std::string again(const std::string &path, const char *kept_as);
+    std::string again(const std::string &path, const std::string &fronts, const char *kept_as);
     void read_formula();
     void read_assumptions();
     std::string named(const std::string &why) const;

@@ -84,6 +84,7 @@ std::string one_line(const std::string &text);
 std::string absolute(const std::string &path);
 std::string unfinished(const std::string &path);        // its name while it is written
 void check_input(const std::string &path);              // refuses where it can't be read
+bool is_read_again(const std::string &path);            // others can open it, too, and as often as they like
 int open_input(const std::string &path);
 void check_plain(const std::string &path, const std::string &name);     // refuses where it is compressed
 void open_record(const std::string &folder, const std::vector<std::string> &inputs);    // refuses to write over these

@@ -34,28 +34,24 @@ enum { LONGEST_LINE = 1 << 16, MOST_STREAMS = 64, MOST_SIZE = 1 << 28, MOST_TRIE
 enum { PROVED = 0, UNKNOWN = 3, PROVED_UNDER = 8 };     // lrupd's statuses
 enum { ENGINES, PROBE, LRUPD, CLEANER, CHILDREN };      // the probe is an lrupd that reads the formula, and no stream
 
-static struct { pid_t pid; bool has_ended; int status; } children[CHILDREN];
+static struct { pid_t pid; bool is_running; int status; } children[CHILDREN];
 static const char *lrupd, *formula, *assume, *verdict, *folder;
 static int null, signals, engines, cleaning, ended_by;
 static sigset_t mask_before;
-static bool is_model, is_faulty, is_ending, is_late, is_closed;     // the last one of lrup-engines' socket
+static bool is_model, is_faulty, is_ending, is_late;
 
 static bool ended_with(int which, int status) {
-    return children[which].has_ended && WIFEXITED(children[which].status) && WEXITSTATUS(children[which].status) == status;
+    return children[which].pid && !children[which].is_running && WIFEXITED(children[which].status) &&
+           WEXITSTATUS(children[which].status) == status;
 }
 
 static void signal_all(int number) {
     for (int k = 0; k < CLEANER; k++)
-        if (children[k].pid && !children[k].has_ended) kill(-children[k].pid, number);
-}
-
-static void set_timer(double seconds) {
-    struct itimerval timer = { { 0, 0 }, { (time_t)seconds, (suseconds_t)(1e6 * (seconds - (double)(time_t)seconds)) } };
-    setitimer(ITIMER_REAL, &timer, NULL);
+        if (children[k].is_running) kill(-children[k].pid, number);
 }
 
 static void end_soon(void) {
-    if (!is_ending) set_timer(GRACE);
+    if (!is_ending) alarm(GRACE);
     is_ending = true;
 }
 
@@ -66,6 +62,7 @@ static void say(const char *line) { send(engines, line, strlen(line), MSG_DONTWA
 static void start(int which, const char *const *list, int in, int out, int err_out) {
     pid_t parent = getpid(), pid = children[which].pid = fork();
     if (pid < 0) err(1, "cannot start %s", list[0]);
+    children[which].is_running = true;
     setpgid(pid, pid);
     if (pid > 0) return;
     signal(SIGPIPE, SIG_DFL);
@@ -77,9 +74,10 @@ static void start(int which, const char *const *list, int in, int out, int err_o
     _exit(which == ENGINES ? 1 : 127);
 }
 
-// Its output goes to files that lrup-engines reads.
-static void start_lrupd(int which, char *const *numbers) {
-    const char *list[MOST_STREAMS + 16] = { lrupd, "--tries", numbers[3], "--lines", numbers[1], "--room", numbers[2] }, **next = list + 7;
+// Its output goes to files that lrup-engines reads. The numbers are of streams, lines, room and tries.
+static void start_lrupd(int which, const unsigned long *numbers) {
+    const char *list[MOST_STREAMS + 16] = { lrupd, "--tries", text("%lu", numbers[3]), "--lines", text("%lu", numbers[1]), "--room",
+                                            text("%lu", numbers[2]) }, **next = list + 7;
     int out = open(text("%s/%d.out", folder, which), O_WRONLY | O_CREAT | O_EXCL | O_CLOEXEC, 0600);
     int said = open(text("%s/%d.said", folder, which), O_WRONLY | O_CREAT | O_EXCL | O_CLOEXEC, 0600);
     if (assume) *next++ = "--assume", *next++ = assume;
@@ -87,32 +85,28 @@ static void start_lrupd(int which, char *const *numbers) {
     if (which == LRUPD && value['v']) *next++ = "--watch";
     *next++ = formula;
     if (which == PROBE) *next++ = "/dev/null";
-    for (long k = 1, streams = atol(numbers[0]); k <= streams; k++) *next++ = text("%s/round-1.stream-%ld", folder, k);
+    for (unsigned long k = 1; k <= numbers[0]; k++) *next++ = text("%s/round-1.stream-%lu", folder, k);
     start(which, list, null, out, said);
     close(out), close(said);
 }
 
-static bool start_checking(char *line) {
-    static const unsigned long most[] = { MOST_STREAMS, MOST_SIZE, MOST_SIZE, MOST_TRIES };
-    char *numbers[4];
-    for (int k = 0; k < 4; k++) {
-        numbers[k] = strtok(k ? NULL : line, " ");
-        if (!numbers[k] || numbers[k][strspn(numbers[k], "0123456789")] || strtoul(numbers[k], NULL, 10) > most[k]) return false;
-    }
-    if (strtok(NULL, " ") || atol(numbers[0]) == 0 || children[LRUPD].pid) return false;
-    start_lrupd(LRUPD, numbers);
-    return true;
+static bool start_checking(const char *line) {
+    unsigned long numbers[4];
+    char more;
+    int found = sscanf(line, "check %lu %lu %lu %lu%c", &numbers[0], &numbers[1], &numbers[2], &numbers[3], &more);
+    bool are_within = found == 4 && numbers[0] >= 1 && numbers[0] <= MOST_STREAMS && numbers[1] <= MOST_SIZE && numbers[2] <= MOST_SIZE &&
+                      numbers[3] <= MOST_TRIES;
+    if (are_within && !children[LRUPD].pid) return start_lrupd(LRUPD, numbers), true;
+    return false;
 }
 
 static void take_line(char *line) {
-    if (strncmp(line, "check ", 6) == 0) is_faulty |= !start_checking(line + 6);
+    if (strncmp(line, "check", 5) == 0) is_faulty |= !start_checking(line);
     if (strncmp(line, "v ", 2) == 0) is_faulty |= !take_values(line + 2);
-    if (strcmp(line, "done") == 0 && children[LRUPD].pid && !children[LRUPD].has_ended) kill(children[LRUPD].pid, SIGKILL);
-    if (strncmp(line, "c ", 2) != 0 || value['q']) return;
+    if (strcmp(line, "done") == 0 && children[LRUPD].is_running) kill(children[LRUPD].pid, SIGKILL);
     for (char *at = line; *at; at++)
         if ((unsigned char)*at < ' ' || *at == 127) *at = '?';
-    puts(line);
-    fflush(stdout);
+    if (strncmp(line, "c ", 2) == 0 && !value['q']) puts(line), fflush(stdout);
 }
 
 // False where nothing is there. Lines that are too long are cut.
@@ -127,12 +121,12 @@ static bool read_lines(void) {
         length = 0;
         take_line(line);
     }
-    is_closed |= count == 0;
+    if (count == 0) engines = -1;
     return count > 0;
 }
 
 static void take_end(int which, int status, double seconds) {
-    children[which].has_ended = true;
+    children[which].is_running = false;
     children[which].status = status;
     for (int k = 0; which == ENGINES && k < MOST_LAST && read_lines(); k++) {}
     if (which == LRUPD && ended_with(LRUPD, PROVED)) verdict = "s UNSATISFIABLE";
@@ -151,7 +145,7 @@ static void take_signal(int number) {
 }
 
 static void turn(void) {
-    struct pollfd list[] = { { signals, POLLIN, 0 }, { is_closed ? -1 : engines, POLLIN, 0 } };
+    struct pollfd list[] = { { signals, POLLIN, 0 }, { engines, POLLIN, 0 } };
     struct signalfd_siginfo found;
     struct rusage used;
     int status;
@@ -169,14 +163,14 @@ static void turn(void) {
 
 // A formula that lrupd refuses is told as that, however early the solving has ended.
 static bool is_over(void) {
-    return is_model || is_faulty || ended_with(ENGINES, 1) ||
-           ((children[PROBE].has_ended || verdict || ended_by) && (is_late || children[ENGINES].has_ended));
+    bool is_read = !children[PROBE].is_running || verdict || ended_by;
+    return is_model || is_faulty || ended_with(ENGINES, 1) || (is_read && (is_late || !children[ENGINES].is_running));
 }
 
 // What it has started ends with it, or is ended.
 static void end(int which) {
     pid_t pid = children[which].pid, found = pid ? 0 : -1;
-    if (pid && !children[which].has_ended) kill(pid, SIGKILL);
+    if (children[which].is_running) kill(pid, SIGKILL);
     for (int tries = 0; found >= 0 && tries < 200; tries++) {
         if (tries == 100) kill(-pid, SIGKILL);
         if ((found = waitpid(-pid, NULL, WNOHANG)) == 0) usleep(10000);
@@ -184,9 +178,12 @@ static void end(int which) {
 }
 
 static int answer(void) {
-    bool is_refused = children[PROBE].has_ended && !ended_with(PROBE, UNKNOWN) && !verdict && !ended_by, has_refused = ended_with(ENGINES, 1);
-    if (is_refused && !has_refused) errx(1, "lrupd refuses the formula");
-    if (is_faulty && !value['q']) puts("c lrup-engines has said what it may not");
+    bool has_refused = ended_with(ENGINES, 1), is_refused = !children[PROBE].is_running && !ended_with(PROBE, UNKNOWN);
+    int end_of_engines = children[ENGINES].is_running ? 0 : children[ENGINES].status;
+    if (is_refused && !has_refused && !verdict && !ended_by) errx(1, "lrupd refuses the formula");
+    const char *signalled = WIFSIGNALED(end_of_engines) ? strsignal(WTERMSIG(end_of_engines)) : NULL;
+    if (!value['q'] && is_faulty) puts("c lrup-engines has said what it may not");
+    else if (!value['q'] && signalled) printf("c lrup-engines ended by a signal: %s\n", signalled);
     if (verdict || (!is_model && !has_refused)) puts(verdict ? verdict : "s UNKNOWN");
     if (is_model && !verdict) printf("s SATISFIABLE%s", known == 0 ? "\nv" : "");
     for (long k = 1; is_model && !verdict && k <= known; k++) printf(k % 10 == 1 ? "\nv %ld" : " %ld", k * assignment[k]);
@@ -224,12 +221,14 @@ int main(int count, char **words) {
     bool are_right = read_words(count, words);
     const char *program = value['e'] ? value['e'] : beside_this("lrup-engines", beside_this("../libexec/lrupd/lrup-engines", NULL));
     const char *list[count + 6];
+    double seconds = value['t'] ? strtod(value['t'], NULL) : 0;
+    struct itimerval time = { .it_value = { (time_t)seconds, (suseconds_t)(1e6 * (seconds - (double)(time_t)seconds)) } };
     int ends[2];
     if (value['h']) execvp(program, words), err(1, "cannot start %s", program);
     signal(SIGCHLD, SIG_DFL), signal(SIGXFSZ, SIG_IGN), signal(SIGPIPE, SIG_IGN);
     lrupd = value['l'] ? value['l'] : beside_this("lrupd", "lrupd");    // on the PATH
-    formula = are_right ? read_again(value['f'] ? value['f'] : "-") : "/dev/null";
-    assume = are_right && value['a'] ? read_again(value['a']) : NULL;
+    formula = are_right ? open_input(value['f'] ? value['f'] : "-") : "/dev/null";
+    assume = are_right && value['a'] ? open_input(value['a']) : NULL;
     null = open("/dev/null", O_RDWR | O_CLOEXEC);
     prepare();
     if (socketpair(AF_UNIX, SOCK_STREAM | SOCK_CLOEXEC, 0, ends) != 0) err(1, "cannot make a socket");
@@ -239,8 +238,8 @@ int main(int count, char **words) {
     memcpy(list + 6, words + 1, (size_t)count * sizeof *words);
     start(ENGINES, list, STDIN_FILENO, ends[1], STDERR_FILENO);
     close(ends[1]);
-    start_lrupd(PROBE, (char *[]){ "0", "0", "0", "0" });
-    set_timer(value['t'] ? strtod(value['t'], NULL) : 0);
+    start_lrupd(PROBE, (unsigned long[4]){ 0 });
+    setitimer(ITIMER_REAL, &time, NULL);
     while (!is_over()) turn();
     for (int which = LRUPD; which >= ENGINES; which--) end(which);
     close(cleaning);

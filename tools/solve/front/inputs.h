@@ -2,10 +2,10 @@
 
 static const char *value['z'];      // of the option with that letter; of 'f' the formula
 static const struct option options[] = {
-    { "assume", 1, NULL, 'a' }, { "engines", 1, NULL, 'e' }, { "help", 0, NULL, 'h' }, { "lrupd", 1, NULL, 'l' }, { "memory", 1, NULL, 'o' },
-    { "no-share", 0, NULL, 'o' }, { "proofs", 1, NULL, 'o' }, { "quiet", 0, NULL, 'q' }, { "seed", 1, NULL, 'o' },
-    { "share-size", 1, NULL, 'o' }, { "solver", 1, NULL, 'o' }, { "time", 1, NULL, 't' }, { "verbose", 0, NULL, 'v' },
-    { "version", 0, NULL, 'h' }, { NULL, 0, NULL, 0 } };
+    { "assume", 1, NULL, 'a' }, { "engines", 1, NULL, 'e' }, { "help", 0, NULL, 'h' }, { "lrupd", 1, NULL, 'l' },
+    { "memory", 1, NULL, 'o' }, { "no-share", 0, NULL, 'o' }, { "proofs", 1, NULL, 'o' }, { "quiet", 0, NULL, 'q' },
+    { "seed", 1, NULL, 'o' }, { "share-size", 1, NULL, 'o' }, { "solver", 1, NULL, 'o' }, { "time", 1, NULL, 't' },
+    { "verbose", 0, NULL, 'v' }, { "version", 0, NULL, 'h' }, { NULL, 0, NULL, 0 } };
 
 static char *text(const char *format, ...) {
     char *found;
@@ -18,10 +18,10 @@ static char *text(const char *format, ...) {
 
 // False where something is wrong with them, which lrup-engines says.
 static bool read_words(int count, char **list) {
-    int found;
-    for (opterr = 0; (found = getopt_long(count, list, "-j:qvh", options, NULL)) != -1; value[found] = optarg ? optarg : "") {
+    opterr = 0;
+    for (int found; (found = getopt_long(count, list, "-j:qvh", options, NULL)) != -1;) {
         if (found == '?' || (found == 1 ? value['f'] != NULL : optarg && !*optarg)) return false;
-        if (found == 1) found = 'f';
+        value[found == 1 ? 'f' : found] = optarg ? optarg : "";
     }
     if (optind < count && !value['f']) value['f'] = list[optind++];
     return optind == count;
@@ -36,21 +36,20 @@ static const char *beside_this(const char *name, const char *elsewhere) {
     return access(found, X_OK) == 0 || !elsewhere ? found : elsewhere;
 }
 
-// A path that others can read, and more than once: what is no file on a disk is copied, to memory that nobody writes to from then on.
-// Standard input has other names, too. Of a path that can't be read lrup-engines says so.
-static const char *read_again(const char *path) {
-    struct stat found, standard;
+// The file's name for all who have it open. What can't be read twice is copied, to memory that nobody writes to from then on. Of a path
+// that can't be read lrup-engines says so.
+static const char *open_input(const char *path) {
+    struct stat found;
     char bytes[1 << 16];
-    bool is_there = stat(path, &found) == 0, is_ours = strncmp(path, "/dev/fd/", 8) == 0 || strncmp(path, "/proc/", 6) == 0;
-    bool is_standard = strcmp(path, "-") == 0 || (is_there && fstat(STDIN_FILENO, &standard) == 0 &&
-                                                  found.st_dev == standard.st_dev && found.st_ino == standard.st_ino);
-    if (!is_standard && !is_ours && (!is_there || S_ISREG(found.st_mode) || S_ISDIR(found.st_mode)))
-        return path[0] == '-' ? text("./%s", path) : path;
-    int file = strcmp(path, "-") == 0 ? -1 : open(path, O_RDONLY | O_CLOEXEC), copy = memfd_create("lrup-solve", MFD_ALLOW_SEALING);
-    if (file < 0 && !is_standard) return path;
-    for (ssize_t count; (count = read(file < 0 ? STDIN_FILENO : file, bytes, sizeof bytes)) != 0;)
+    bool is_standard = strcmp(path, "-") == 0;
+    int file = is_standard ? dup(STDIN_FILENO) : open(path, O_RDONLY);
+    if (file < 0 || fstat(file, &found) != 0) return path;
+    if (!is_standard && (S_ISREG(found.st_mode) || S_ISDIR(found.st_mode))) return text("/dev/fd/%d", file);
+    int copy = memfd_create("lrup-solve", MFD_ALLOW_SEALING);
+    for (ssize_t count; (count = read(file, bytes, sizeof bytes)) != 0;)
         if (count < 0 ? errno != EINTR : write(copy, bytes, (size_t)count) != count) err(1, "cannot copy %s", path);
     if (fcntl(copy, F_ADD_SEALS, F_SEAL_WRITE | F_SEAL_GROW | F_SEAL_SHRINK | F_SEAL_SEAL) != 0) err(1, "cannot seal %s", path);
+    close(file);
     return text("/dev/fd/%d", copy);
 }
 
@@ -71,10 +70,6 @@ static bool take_values(const char *at) {
     return true;
 }
 
-static bool is_true(long literal) {
-    return literal != 0 && labs(literal) <= known && assignment[labs(literal)] == (literal > 0 ? 1 : -1);
-}
-
 // Each clause of the formula has a literal that is true; of assumptions, which have no header, all are. lrupd has taken the file: but for
 // comments and the header it has numbers alone.
 static bool satisfies(const char *path, bool is_formula) {
@@ -86,7 +81,8 @@ static bool satisfies(const char *path, bool is_formula) {
     while (is_good && getline(&line, &size, file) > 0) {
         if (line[0] == 'c' || (clauses == -1 && sscanf(line, " p cnf %ld %ld", &variables, &clauses) == 2)) continue;
         for (char *at = line, *end; is_good && (literal = strtol(at, &end, 10), end != at); at = end) {
-            if (literal != 0) holds = is_formula ? holds || is_true(literal) : holds && is_true(literal);
+            bool is_true = literal != 0 && labs(literal) <= known && assignment[labs(literal)] == (literal > 0 ? 1 : -1);
+            if (literal != 0) holds = is_formula ? holds || is_true : holds && is_true;
             else if ((is_good = holds)) clauses--, holds = !is_formula;
         }
     }
