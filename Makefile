@@ -56,7 +56,8 @@ install: build exact ## use: install lrupd, lrup-chain, lrup-exact and lrup-solv
 	install -m 755 $(EXACT) "$(DESTDIR)$(PREFIX)/bin/lrup-exact"
 	install -m 644 docs/lrupd.1 docs/lrup-chain.1 docs/lrup-exact.1 "$(DESTDIR)$(PREFIX)/share/man/man1"
 	@if $(MAKE) -s solve; then \
-	install -m 755 $(SOLVE) "$(DESTDIR)$(PREFIX)/bin/lrup-solve" && \
+	install -d "$(DESTDIR)$(PREFIX)/libexec/lrupd" && install -m 755 $(SOLVE) "$(DESTDIR)$(PREFIX)/bin/lrup-solve" && \
+	install -m 755 $(ENGINES) "$(DESTDIR)$(PREFIX)/libexec/lrupd/lrup-engines" && \
 	install -m 644 docs/lrup-solve.1 "$(DESTDIR)$(PREFIX)/share/man/man1"; else echo "lrup-solve isn't installed"; fi
 	sed -i 's/^\.Os$$/.Os lrupd $(VERSION)/' "$(DESTDIR)$(PREFIX)"/share/man/man1/lrup*.1
 
@@ -121,7 +122,7 @@ $(FILTER_TESTS): $(BUILT) exact
 # Without CaDiCaL's library nothing is run, and without MPI nothing of lrup-solve-mpi. With MPI= only what takes seconds there, as in
 # the gate.
 MPI ?= yes
-SOLVE_TESTS := lrup_solve_rounds lrup_solve lrup_solve_solvers lrup_solve_mpi
+SOLVE_TESTS := lrup_solve_rounds lrup_solve lrup_solve_solvers lrup_solve_front lrup_solve_mpi
 .PHONY: $(SOLVE_TESTS)
 solve-test: $(SOLVE_TESTS) ## check: lrup-solve, and what may happen to it, with 300 random formulas
 
@@ -182,8 +183,8 @@ edits: toolchain ## check: the edits that the gate leaves out, of CRATE=name or 
 # M failed'.
 # Side by side, those that take longest first, and two more than there are cores, since most of them wait now and then; what each
 # one prints comes when it has ended.
-TESTS := lrup_solve_rounds sweep filter_mutants lrup_solve lrup_solve_solvers filter_rounds lrup_solve_mpi leaks filter_streams \
-	checkpoints rounds examples solver-test instructions neighbours live
+TESTS := lrup_solve_rounds sweep filter_mutants lrup_solve lrup_solve_solvers filter_rounds lrup_solve_front lrup_solve_mpi leaks \
+	filter_streams checkpoints rounds examples solver-test instructions neighbours live
 SIDE_BY_SIDE := --output-sync=target -j $(shell expr $$(nproc) + 2)
 test: SHELL := /bin/bash
 test: toolchain pages solver exact ## check: the gate, 25 to 100 minutes: every proof, edit and test; has to pass before a push

@@ -23,7 +23,7 @@ from proof_forms import read_formula
 from solving import PROGRAM, SOLVE, Answer, before_lrupd, in_place_of_lrupd, is_alive, none_left, marked, run_built, want_answer
 
 words_given(__doc__, most=2)
-SATISFIABLE = "p cnf 3 4\nc a comment\n1 2 0\n-1\n2 0 1 -3 0\nc 3 0\n3 -2 1 0\n"       # by 1 2 and either 3, and by -1 2 -3
+SATISFIABLE = "p cnf 3 4\nc a comment\n1 2 0\n-1\n2 0 1 -3 0\nc 3 0\n3 -2 1 0\n"       # by 1 2, and either 3
 PROOF = "5 2 0 1 2 0\n6 0 5 3 4 0\n"                         # of FOUR
 SOON = 6        # seconds, after a run has come to its end
 
@@ -201,12 +201,14 @@ def rows() -> List[Row]:
     unknown, proved, found = "s UNKNOWN", "s UNSATISFIABLE", "s SATISFIABLE"
     ends, lasting = "told('lrupd')", ["--time", "1"]
     proves = f"stream(1, {PROOF!r})\nsay('check 1 10 10 0')\n"
-    listed: List[Row] = [("a proof", hostile, proves + ends, proved, [], FOUR), ("a model", hostile, "say('v 1 2 -3 0')", found, [], SATISFIABLE),
+    listed: List[Row] = [("a proof", hostile, proves + ends, proved, [], FOUR),
+                         ("a model", hostile, "say('v 1 2 -3 0')", found, [], SATISFIABLE),
                          ("a model in pieces", hostile, "for k in '1', '2', '-3', '0': say('v ' + k)", found, [], SATISFIABLE),
                          ("a proof and a crash", hostile, proves + ends + "\nos.abort()", proved, [], FOUR),
                          ("a proof, and it stays", hostile, proves + "while True: time.sleep(100)", proved, [], FOUR)]
-    for words in ("1 99999999999999999999 1 1", "1 268435457 1 1", "99 1 1 1", "65 1 1 1", "0 1 1 1", "1 1 1 1000001", "1 -1 1 1", "-1 1 1 1",
-                  "1 1 1", "", "1", "1 1 1 1 1", "1 1 1 1 --help", "1 1 1 1;", "x 1 1 1", "1 0x10 1 1", "1 1 1 +1", "1 1e3 1 1", "1 1.5 1 1"):
+    for words in ("1 99999999999999999999 1 1", "1 268435457 1 1", "99 1 1 1", "65 1 1 1", "0 1 1 1", "1 1 1 1000001", "1 -1 1 1",
+                  "-1 1 1 1", "1 1 1", "", "1", "1 1 1 1 1", "1 1 1 1 --help", "1 1 1 1;", "x 1 1 1", "1 0x10 1 1", "1 1 1 x1",
+                  "1 1e3 1 1", "1 1.5 1 1"):
         listed.append((f"check {words}", hostile, proves.replace("1 10 10 0", words) + "time.sleep(100)", unknown, lasting, FOUR))
     listed += [("checked twice", hostile, proves + "say('check 1 10 10 0')\ntime.sleep(100)", unknown, lasting, SATISFIABLE)]
     for name, body in (("a verdict", "say('s UNSATISFIABLE')\nsay('s SATISFIABLE')\nsay('lrupd 0 0.0')"),
@@ -231,18 +233,19 @@ def rows() -> List[Row]:
                         "for name in os.listdir(folder): open(folder + '/' + name, 'w').write('s UNSATISFIABLE\\n')"),
                        ("nothing", ""), ("status 20", "os._exit(20)"), ("status 10", "os._exit(10)"), ("a crash", "os.abort()"),
                        ("it ends its group", "os.killpg(0, signal.SIGKILL)"), ("done at once", "say('done')\nsay('done')"),
-                       ("forks", "for k in range(20): os.fork()\ntime.sleep(k)" if False else
-                        "if not os.fork():\n    os.fork()\n    os.fork()\n    time.sleep(1000)"),
+                       ("forks", "if not os.fork():\n    os.fork()\n    os.fork()\n    time.sleep(1000)"),
                        ("a link in the folder", f"os.symlink({str(Path(__file__).parent)!r}, folder + '/link')"),
                        ("folders in the folder", "os.makedirs(folder + '/a/b/c')\nopen(folder + '/a/b/c/d', 'w')"),
                        ("no folder", "subprocess.run(['rm', '-rf', folder])\nsay('check 1 10 10 0')\n" + ends)):
         listed.append((name, hostile, body, unknown, ["--time", "20"], SATISFIABLE))
     for name, body in (("sleeps", "time.sleep(1000)"), ("stands", "os.kill(os.getpid(), signal.SIGSTOP)"),
-                       ("closes all", "os.closerange(0, 1000)\ntime.sleep(1000)"), ("no line's end", "while True: os.write(1, b'c ' + b'x' * 1000)"),
-                       ("no end of lines", "while True: say('c x' * 1000)"), ("no end of nonsense", "while True: os.write(1, b'x\\n' * 1000)"),
-                       ("heeds nothing", "for k in range(1, 65):\n    try: signal.signal(k, signal.SIG_IGN)\n    except (OSError, ValueError): "
-                        "pass\ntime.sleep(1000)"),
-                       ("its children stay", "if os.fork(): os._exit(0)\nos.setpgid(0, 0) if False else None\ntime.sleep(1000)"),
+                       ("closes all", "os.closerange(0, 1000)\ntime.sleep(1000)"),
+                       ("no line's end", "while True: os.write(1, b'c ' + b'x' * 1000)"),
+                       ("no end of lines", "while True: say('c x' * 1000)"),
+                       ("no end of nonsense", "while True: os.write(1, b'x\\n' * 1000)"),
+                       ("heeds nothing", "for k in range(1, 65):\n    try: signal.signal(k, signal.SIG_IGN)\n"
+                        "    except (OSError, ValueError): pass\ntime.sleep(1000)"),
+                       ("its children stay", "if os.fork(): os._exit(0)\ntime.sleep(1000)"),
                        ("lrupd waits", "os.mkfifo(folder + '/round-1.stream-1')\nsay('check 1 10 10 0')\ntime.sleep(1000)")):
         listed.append((name, hostile, body, unknown, ["-q", *lasting], SATISFIABLE))
     listed += [("status 1", hostile, "os._exit(1)", "1", [], FOUR), ("by a pipe", by_pipe), ("comments", without_lines),

@@ -179,11 +179,12 @@ def shows(word: str, beginning: str, work: Path) -> None:
 
 
 def bad_formula(work: Path) -> None:
-    """lrupd's words."""
+    """lrupd's words, and what is known of the file."""
     formula = written("p cnf 2 1\n1 3 0\n", work)
-    said = run([PROGRAM, formula, "/dev/null"]).err
+    said = run([PROGRAM, formula, "/dev/null"]).err.rstrip()
     answer = solve(2, ["-j", "1", formula])
-    want((answer.out, answer.said, answer.status), ("", said, 1), "what is said")
+    told = f"{said} ({formula}, line 2: variable 3, above the 2 of the header: write the largest there)\n"
+    want((answer.out, answer.said, answer.status), ("", told, 1), "what is said")
 
 
 # Deaths.

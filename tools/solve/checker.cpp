@@ -46,6 +46,13 @@ std::string on_the_path(const std::string &name) {
 
 Front front;
 
+std::string folder_of_this() {
+    std::vector<char> path(4096);
+    ssize_t length = readlink("/proc/self/exe", path.data(), path.size());
+    std::string whole(path.data(), length > 0 ? size_t(length) : 0);
+    return whole.substr(0, whole.rfind('/') + 1);
+}
+
 // Which one the front starts.
 std::string find_checker(const char *given) {
     std::string found = front.lrupd.find('/') == std::string::npos ? on_the_path(front.lrupd) : front.lrupd;

@@ -163,6 +163,7 @@ struct Front {
 
 extern Front front;
 std::string find_checker(const char *given);            // refuses where there is none
+std::string folder_of_this();                           // with a slash
 std::string sizes_text(size_t streams, Row row);                // as lrupd reads it from a file
 std::string tries();
 

@@ -90,18 +90,13 @@ static void start_lrupd(int which, const unsigned long *numbers) {
     close(out), close(said);
 }
 
-static bool start_checking(const char *line) {
-    unsigned long numbers[4];
-    char more;
-    int found = sscanf(line, "check %lu %lu %lu %lu%c", &numbers[0], &numbers[1], &numbers[2], &numbers[3], &more);
-    bool are_within = found == 4 && numbers[0] >= 1 && numbers[0] <= MOST_STREAMS && numbers[1] <= MOST_SIZE && numbers[2] <= MOST_SIZE &&
-                      numbers[3] <= MOST_TRIES;
-    if (are_within && !children[LRUPD].pid) return start_lrupd(LRUPD, numbers), true;
-    return false;
-}
-
 static void take_line(char *line) {
-    if (strncmp(line, "check", 5) == 0) is_faulty |= !start_checking(line);
+    unsigned long numbers[4];       // what may stand there, and nothing else, reaches lrupd's words
+    char more;
+    bool are_four = sscanf(line, "check %lu %lu %lu %lu%c", &numbers[0], &numbers[1], &numbers[2], &numbers[3], &more) == 4;
+    if (are_four && numbers[0] >= 1 && numbers[0] <= MOST_STREAMS && numbers[1] <= MOST_SIZE && numbers[2] <= MOST_SIZE &&
+        numbers[3] <= MOST_TRIES && !children[LRUPD].pid) start_lrupd(LRUPD, numbers);
+    else if (strncmp(line, "check", 5) == 0) is_faulty = true;
     if (strncmp(line, "v ", 2) == 0) is_faulty |= !take_values(line + 2);
     if (strcmp(line, "done") == 0 && children[LRUPD].is_running) kill(children[LRUPD].pid, SIGKILL);
     for (char *at = line; *at; at++)
