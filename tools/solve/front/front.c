@@ -74,6 +74,12 @@ static void start(int which, const char *const *list, int in, int out, int err_o
     _exit(which == ENGINES ? 1 : 127);
 }
 
+// It removes the folder once that file is at its end, whatever ends this process.
+static void start_cleaner(int file) {
+    static const char removing[] = "read x; for k in 1 2 3 4 5 6 7 8 9; do /bin/rm -rf -- \"$0\" && exit; /bin/sleep 0.1; done";
+    start(CLEANER, (const char *[]){ "/bin/sh", "-c", removing, folder, NULL }, file, null, null);
+}
+
 // Its output goes to files that lrup-engines reads. The numbers are of streams, lines, room and tries.
 static void start_lrupd(int which, const unsigned long *numbers) {
     const char *list[MOST_STREAMS + 16] = { lrupd, "--tries", text("%lu", numbers[3]), "--lines", text("%lu", numbers[1]), "--room",
@@ -192,9 +198,7 @@ static int answer(void) {
 // Signals that are ignored stay so, as under nohup.
 static void prepare(void) {
     static const int numbers[] = { SIGINT, SIGTERM, SIGHUP, SIGTSTP, SIGCHLD, SIGALRM };
-    static const char cleaning_up[] = "read x; for k in 1 2 3 4 5 6 7 8 9; do /bin/rm -rf -- \"$0\" && exit; /bin/sleep 0.1; done";
     const char *place = getenv("TMPDIR") && *getenv("TMPDIR") ? getenv("TMPDIR") : "/tmp";
-    const char *list[] = { "/bin/sh", "-c", cleaning_up, text("%s/lrup-solve-XXXXXX", place), NULL };
     struct sigaction found;
     sigset_t all;
     int ends[2];
@@ -203,9 +207,9 @@ static void prepare(void) {
         if (sigaction(numbers[k], NULL, &found) != 0 || found.sa_handler != SIG_IGN) sigaddset(&all, numbers[k]);
     sigprocmask(SIG_BLOCK, &all, &mask_before);
     signals = signalfd(-1, &all, SFD_CLOEXEC | SFD_NONBLOCK);
-    if (!(folder = mkdtemp((char *)list[3]))) err(1, "cannot make a folder %s/lrup-solve-XXXXXX", place);
+    if (!(folder = mkdtemp(text("%s/lrup-solve-XXXXXX", place)))) err(1, "cannot make a folder %s/lrup-solve-XXXXXX", place);
     if (signals < 0 || pipe2(ends, O_CLOEXEC) != 0 || prctl(PR_SET_CHILD_SUBREAPER, 1) != 0) err(1, "cannot begin");
-    start(CLEANER, list, ends[0], null, null);
+    start_cleaner(ends[0]);
     close(ends[0]);
     cleaning = ends[1];
 }
@@ -216,11 +220,11 @@ int main(int count, char **words) {
     bool are_right = read_words(count, words);
     const char *program = value['e'] ? value['e'] : beside_this("lrup-engines", beside_this("../libexec/lrupd/lrup-engines", NULL));
     const char *list[count + 6];
-    double seconds = value['t'] ? strtod(value['t'], NULL) : 0;
-    struct itimerval time = { .it_value = { (time_t)seconds, (suseconds_t)(1e6 * (seconds - (double)(time_t)seconds)) } };
+    double seconds = !value['t'] ? 0 : strtod(value['t'], NULL) < 1e9 ? strtod(value['t'], NULL) : 1e9;
+    struct itimerval time = { .it_value = { (time_t)seconds, (suseconds_t)(1 + 999998 * (seconds - (double)(time_t)seconds)) } };
     int ends[2];
     if (value['h']) execvp(program, words), err(1, "cannot start %s", program);
-    signal(SIGCHLD, SIG_DFL), signal(SIGXFSZ, SIG_IGN), signal(SIGPIPE, SIG_IGN);
+    signal(SIGCHLD, SIG_DFL), signal(SIGALRM, SIG_DFL), signal(SIGXFSZ, SIG_IGN), signal(SIGPIPE, SIG_IGN);
     lrupd = value['l'] ? value['l'] : beside_this("lrupd", "lrupd");    // on the PATH
     formula = are_right ? open_input(value['f'] ? value['f'] : "-") : "/dev/null";
     assume = are_right && value['a'] ? open_input(value['a']) : NULL;
@@ -234,10 +238,11 @@ int main(int count, char **words) {
     start(ENGINES, list, STDIN_FILENO, ends[1], STDERR_FILENO);
     close(ends[1]);
     start_lrupd(PROBE, (unsigned long[4]){ 0 });
-    setitimer(ITIMER_REAL, &time, NULL);
+    if (seconds > 0) setitimer(ITIMER_REAL, &time, NULL);
     while (!is_over()) turn();
     for (int which = LRUPD; which >= ENGINES; which--) end(which);
     close(cleaning);
     waitpid(children[CLEANER].pid, NULL, 0);
+    if (access(folder, F_OK) == 0) start_cleaner(null), waitpid(children[CLEANER].pid, NULL, 0);
     return answer();
 }

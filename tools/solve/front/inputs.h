@@ -75,7 +75,7 @@ static bool take_values(const char *at) {
 static bool satisfies(const char *path, bool is_formula) {
     FILE *file = fopen(path, "re");
     char *line = NULL;
-    size_t size;
+    size_t size = 0;
     long variables = known, clauses = is_formula ? -1 : 1, literal;
     bool holds = !is_formula, is_good = file != NULL;
     while (is_good && getline(&line, &size, file) > 0) {
