@@ -135,6 +135,13 @@ def proof_of(formula: str, stream: str, form: str) -> Tuple[bytes, str, int]:
     return b"".join(make(read_formula(example(formula)), steps)), word, sum(step.kind == "a" for step in steps)
 
 
+def want_added(checked: Checked, count: int, form: str) -> None:
+    """As many as the proof has. Where hints are missing the empty clause comes as soon as unit propagation has it."""
+    is_whole = "LRAT" in form or form == "FRAT with hints"
+    if not (count if is_whole else 1) <= checked.added() <= count:
+        raise Failure(f"{checked.added()} additions of all rounds, and the proof has {count}")
+
+
 def recorded(name: str, stream: str, memory: str, least: int, most: int, form: str, told: bool, program: Path, work: Path) -> None:
     proof, word, count = proof_of(name, stream, form)
     words = ["--memory", memory, *(["--format", word] if told else [])]
@@ -142,7 +149,7 @@ def recorded(name: str, stream: str, memory: str, least: int, most: int, form: s
     if not told and form.startswith("binary") and "--format" in checked.filter_said:
         return want((checked.filter_status, checked.status, checked.added()), (1, 3, 0), "the end, where the form isn't clear")
     want_refuted(checked, least, most, work)
-    want(checked.added(), count, "additions of all rounds")
+    want_added(checked, count, form)
 
 
 # A solver's command, the form where it has to be said, what is generated, the memory, and the rounds.
@@ -277,6 +284,37 @@ def beside_others(work: Path) -> None:
     formula = written(FOUR, work / "d", "formula of round-1")
     checked = check(formula, "2 0\n0\n", [], work)
     want((checked[2:], left(work)), (("", 0, "", 0), ["formula of round-1", "round-2.cnf"]), "the end, and what is left")
+
+
+def others_write(mode: int, taken: bool, work: Path) -> None:
+    """Where others may remove files they may put their own in the place of a stream; where the folder is sticky they can't."""
+    (work / "d").mkdir()
+    (work / "d").chmod(mode)
+    checked = check(written(FOUR, work), "2 0\n0\n", [], work)
+    wanted = (0, "", 0) if taken else (None, "exact: others may write to the folder d\n", 1)
+    want((checked.status, checked.filter_said, checked.filter_status), wanted, "the ends")
+
+
+def made_where_all_may_write(work: Path) -> None:
+    formula = written(FOUR, work)
+    with started(["sh", "-c", 'umask 0; exec "$@"', "sh", FILTER, "--rounds", "d", formula, "/dev/null"], cwd=work,
+                 stdout=subprocess.DEVNULL):
+        until("the first stream", lambda: (work / "d" / "round-1.stream-1").exists())
+        want((work / "d").stat().st_mode & 0o7777, 0o775, "the mode of the folder that is made")
+
+
+def put_in_place(how: str, work: Path) -> None:
+    """A file in the place of the FIFO isn't written to."""
+    mine = written("mine", work, "mine")
+    with filtering([written(FOUR, work), written("2 0\n0\n", work, "proof")], work) as running:
+        assert running.stdout and running.stderr
+        running.stdout.readline()
+        place = work / "d" / "round-1.stream-1"
+        place.unlink()
+        {"link": lambda: place.symlink_to(mine), "file": lambda: os.link(mine, place)}[how]()
+        end = running.stderr.read().decode(), running.wait(LIMIT)
+    want(end, ("exact: somebody has put another file in the place of d/round-1.stream-1\n", 1), "the end")
+    want(mine.read_text(), "mine", "what the file has")
 
 
 def locked(work: Path) -> None:
@@ -501,7 +539,11 @@ def rows() -> List[Row]:
     found += [(f"a wrong step, {form}", wrong, form, 2500) for form in ("LRAT text", "DRAT text", "binary DRAT")]
     found += [("rows grow", rows_grow), ("behind the empty clause", behind), ("no room", no_room),
               ("no room for one clause", no_room_for_one), ("an import", imported), ("other files", beside_others),
-              ("no folder", no_folder), ("a folder of another run", locked)]
+              ("no folder", no_folder), ("a folder of another run", locked),
+              ("a folder that is made", made_where_all_may_write)]
+    found += [(f"a folder of mode {mode:o}", others_write, mode, taken)
+              for mode, taken in ((0o777, False), (0o757, False), (0o1777, True), (0o775, True), (0o700, True))]
+    found += [(f"a {how} in the place of a FIFO", put_in_place, how) for how in ("link", "file")]
     found += [(f"{name} is there", in_the_way, name)
               for name in ("round-1.stream-1", "round-1.stream-2", "round-1.sizes", "round-2.cnf", "round-7.sizes")]
     found += [(f"exact {words}", usage, words, cause) for words, cause in USAGE]

@@ -31,6 +31,7 @@ from proof_forms import FORMS, Step, code, codes, read_formula, read_steps, vari
 USING = ROOT / "docs" / "USING.md"
 Text = Union[str, bytes]
 UNITS = "p cnf 3 4\n1 0\n-1 2 0\n-2 3 0\n-3 -2 0\n"
+LATER = "p cnf 5 7\n1 0\n-1 2 0\n-2 3 0\n-3 4 5 0\n-3 4 -5 0\n-3 -4 5 0\n-3 -4 -5 0\n"
 FIRST = "5 2 0 1 2 0\n"
 
 
@@ -39,13 +40,21 @@ def exact(words: Sequence[object], given: Text = b"") -> Ran:
     return run([FILTER, *words], given)
 
 
+def is_refuting(path: object) -> bool:
+    """Whether the stream's last line is the empty clause, which comes as soon as unit propagation has it."""
+    lines = Path(str(path)).read_text().splitlines()
+    return bool(lines) and lines[-1].split()[1] == "0"
+
+
 def check(program: str, formula: Path, streams: Sequence[Tuple[object, int]]) -> None:
-    """Each stream has to end, with the additions wanted of it; the formula to be refuted."""
+    """Each stream has to end, with the additions wanted of it, or fewer if it ends with the empty clause; the formula to be refuted."""
     done = run([program, "--tries", "1000000", formula, *(path for path, _ in streams)])
     *lines, verdict = done.out.splitlines() or [""]
     want((len(lines), verdict, done.status), (len(streams), "s UNSATISFIABLE", 0), f"{done.err}the verdict")
-    for number, (line, (_, wanted)) in enumerate(zip(lines, streams), 1):
-        if not line.startswith(f"c stream {number}: {wanted} added, ") or not line.endswith(" deleted, ended"):
+    for number, (line, (path, wanted)) in enumerate(zip(lines, streams), 1):
+        found = re.fullmatch(rf"c stream {number}: (\d+) added, \d+ deleted, ended", line)
+        count = int(found[1]) if found else -1
+        if count != wanted and not (0 <= count < wanted and is_refuting(path)):
             raise Failure(f"wanted {wanted} additions, and not\n{line}")
 
 
@@ -339,7 +348,7 @@ def refusals_in_binary() -> List[Row]:
 
 def in_another_order() -> List[Row]:
     """Hints in an order that isn't named."""
-    unit = "6 d 5 0\n"
+    unit = "5 d 5 0\n"
     return [
         ("FRAT, hints that aren't there", FOUR, TOLD + "a 10 2 0 l 33 34 0\na 11 0 l 0\n", FIRST + "6 0 3 4 5 0\n", []),
         ("FRAT, no hints", FOUR, TOLD + "a 10 2 0\na 12 0\n", FIRST + "6 0 3 4 5 0\n", []),
@@ -352,10 +361,19 @@ def in_another_order() -> List[Row]:
         ("a unit that is deleted, binary", FOUR, b"a" + codes([2]) + b"d" + codes([2]) + b"a\0", FIRST + "6 0 3 4 5 0\n",
          ["--format", "binary-drat"]),
         ("a reason that is deleted", UNITS, "d -1 2 0\n0\n", "5 0 1 2 3 4 0\n", []),
-        ("a unit of the formula that is deleted", UNITS, "d 1 0\n3 0\n0\n", "5 3 0 1 2 3 0\n6 0 1 2 4 5 0\n", []),
-        ("a reason that is deleted, after a clause", UNITS, "1 2 3 0\nd 2 -1 0\n0\n", "5 1 2 3 0 1 0\n6 0 1 2 3 4 0\n", []),
-        ("a unit that is deleted, LRAT without hints", FOUR, "5 2 0 0\n6 -2 1 0 0\n" + unit + "7 0 0\n",
-         FIRST + "6 -2 1 0 3 0\n7 0 3 4 5 0\n", []),
+        ("a unit of the formula that is deleted", UNITS, "d 1 0\n3 0\n0\n", "5 0 1 2 3 4 0\n", []),
+        ("a reason that is deleted, before its literal has a unit clause", LATER, "1 4 0\nd 2 -1 0\n4 0\n",
+         "8 1 4 0 1 0\n9 2 0 1 2 0\n10 3 0 9 3 0\n11 4 0 10 4 5 0\n", []),
+        ("a reason that is deleted, after that", LATER, "4 0\nd 2 -1 0\n0\n",
+         "8 2 0 1 2 0\n9 3 0 8 3 0\n10 4 0 9 4 5 0\n10 d 2 0\n11 0 9 10 6 7 0\n", []),
+        ("units that hold before the proof has them", LATER, "4 0\n3 0\n", "8 2 0 1 2 0\n9 3 0 8 3 0\n10 4 0 9 4 5 0\n11 0 9 10 6 7 0\n", []),
+        ("lines that LRAT doesn't have, and its numbers after them", LATER, "8 4 0 0\n9 5 1 0 1 0\n20 -4 5 0 8 6 0\n",
+         "8 2 0 1 2 0\n9 3 0 8 3 0\n10 4 0 9 4 5 0\n11 5 1 0 1 0\n12 0 9 10 6 7 0\n", []),
+        ("LRAT of two streams, which has no numbers to spare", LATER, "8 4 0 0\n10 0 0\n",
+         "8 4 0 1 2 3 4 5 0\n10 0 1 2 3 6 7 8 0\n", ONE_OF_TWO),
+        ("steps behind the empty clause", FOUR, "2 0\n0\nd 1 2 0\n1 0\n", FIRST + "6 0 3 4 5 0\n", []),
+        ("a unit that is deleted, LRAT without hints", FOUR, "5 2 0 0\n" + unit + "6 0 0\n",
+         FIRST + "6 0 3 4 5 0\n", []),
         ("a deletion of nothing", FOUR, "d 1 0\nd 1 2 -1 0\n2 0\n", FIRST, []),
         ("a deletion in another order", FOUR, "2 0\nd 2 1 0\n0\n", FIRST + "5 d 1 0\n6 0 3 4 5 0\n", []),
         ("a literal twice", FOUR, "2 2 0\n", FIRST, []),
@@ -433,11 +451,8 @@ def longest_chain(program: str, count: int, work: Path) -> None:
     hints = " ".join(map(str, range(1, count + 1)))
     for proof in (f"{count + 1} 0 {hints} 0\n", f"{count + 1} 0 0\n"):
         text, said, status = exact([formula], proof)
-        if count > 65536:
-            want((text, status, said.count("\n")), ("", 1, 1), "what came out")
-        else:
-            want((len(text.split()), said, status), (count + 3, "", 0), "the words of the line")
-            check_report(program, formula, text, "1 added, 0 deleted, ended", work)
+        want((len(text.split()), said, status), (count + 3, "", 0), "the words of the line")
+        check_report(program, formula, text, "1 added, 0 deleted, ended", work)
 
 
 def many_deletions(program: str, count: int, work: Path) -> None:
@@ -591,7 +606,6 @@ def limits(program: str) -> List[Row]:
         ("65,535 literals", longest, program, 65535),
         ("65,536 literals", longest, program, 65536),
         ("65,536 hints", longest_chain, program, 65536),
-        ("65,537 hints", longest_chain, program, 65537),
         ("65,536 deletions in one line", many_deletions, program, 65536),
         ("65,537 deletions in one line", many_deletions, program, 65537),
         ("the largest variable", largest, program),

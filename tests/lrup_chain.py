@@ -207,6 +207,25 @@ def impostor(shell: str, script: Path, work: Path) -> None:
         want(done, Ran("s UNSATISFIABLE\n", "said\n", status), "the answer")
 
 
+def no_verdict(body: str, out: str, shell: str, script: Path, work: Path) -> None:
+    """Status 0 alone, of another program, is none. Nothing is removed."""
+    lay(work, others={"d/round-2.cnf": OTHER})
+    written(f"#!/bin/sh\n{body}\n", work, "lrupd").chmod(0o755)
+    done = run([shell, script, "--lrupd", "./lrupd", "formula", "d"], cwd=work)
+    said = "lrup-chain: status 0 without its verdict: ./lrupd is another program than lrupd\n"
+    want((done, (work / "d/round-2.cnf").exists()), (Ran(out, said, 1), True), "the answer, and whether a file is there")
+
+
+def endless_sizes(source: str, shell: str, script: Path, work: Path) -> None:
+    """They are looked at no further than sizes go."""
+    lay(work)
+    sizes, pipe = work / "d/round-1.sizes", piped(work / "pipe")
+    sizes.symlink_to("/dev/zero" if source == "/dev/zero" else pipe)
+    with started(["sh", "-c", f"{source} > pipe"], cwd=work, stderr=subprocess.DEVNULL):
+        done = run([shell, script, "--lrupd", PROGRAM, "formula", "d"], cwd=work, limit=20)
+    want((done.out, done.status), ("", 2), f"{done.err}the answer")
+
+
 def killed(number: int, by: int, shell: str, script: Path, work: Path) -> None:
     """In this round lrupd is killed at a stream that goes on. Nothing is removed."""
     lay(work)
@@ -307,7 +326,7 @@ WRONG = [("exec \"$lrupd\" \"$@\"", 'exec "$lrupd" "$@" 2> /dev/null', "another 
          ("status=$?", "status=$?; [ $status -ne 9 ] || status=3", "a full disk"),
          ('exit "$status"', "exit", "two rounds"),
          ('exit "$status"', "exit 0", "another lrupd"),
-         ("|| exit 7", "", "no report, > /dev/full"),
+         ("|| exit 7", "", "no report, > /dev/full"), ("exit 1 ;;", ";;", "no verdict: echo s UNKNOWN"),
          ("printf '%s\\n' \"$report\"", 'echo $report', "one round"),
          ('--rounds="$folder" ', "", "three rounds"),
          ('--rounds="$folder"', '--rounds "$folder"', "names"),
@@ -372,6 +391,8 @@ def rows_of(shell: str) -> List[Row]:
     found += [(f"{name} forged", forged, *rest) for name, *rest in FORGED]
     found += [("a full disk in round 2", torn), ("sizes twice", sizes_twice), ("where lrupd is", where),
               ("another lrupd", impostor), ("pipes", live)]
+    found += [(f"no verdict: {body}", no_verdict, body, out) for body, out in (("", ""), ("echo s UNKNOWN", "s UNKNOWN\n"))]
+    found += [(f"sizes of {source}", endless_sizes, source) for source in ("/dev/zero", "yes 1 | tr -d '\\n'", "yes '1 ' | tr -d '\\n'")]
     return [(*row, shell, LRUP_CHAIN) for row in found]
 
 

@@ -38,6 +38,7 @@ from solving import (EARLY, ELIMINATING, OUT, PROGRAM, SOLVE, Answer, before_lru
 words_given(__doc__, most=2)
 MITERS = EXAMPLES / "miter"
 TRIES = 10      # of runs that may be over before something happens to them
+CUBE = os.fsdecode(b"cube\xe9")
 SOON = 9        # seconds, fewer than a filter has for its last line
 PROGRESS = re.compile(rb"\r([^\r\n\x1b]* conflicts[^\r\n\x1b]*)\x1b\[K")
 
@@ -101,6 +102,17 @@ def keeps_standard_input(work: Path) -> None:
     check_again(work / "kept")
 
 
+def keeps_not_utf8(words: List[str], tested: Dict[str, object], work: Path) -> None:
+    """Names that aren't UTF-8, of which lrupd takes none: the formula's, the assumptions' and the record's, from one such folder."""
+    folder = work / os.fsdecode(b"\xff \xed\xa0\x80")
+    formula = written(example("bmc.cnf").read_text(), folder, os.fsdecode(b"formula\xc0\x80"))
+    written("0\n", folder, CUBE)
+    want_answer(solve(["-v", "-j", "2", *words, formula.name], cwd=folder, tested=tested, env_more={"TMPDIR": str(folder)}), 20)
+    if "--proofs" in words:
+        check_again(folder / words[-1])
+    want(list(folder.glob("lrup-solve-*")), [], "folders of rounds that are left")
+
+
 def keeps_by_short_names(work: Path) -> None:
     """The command does in any folder, though the formula, the checker and the record were named from another one."""
     written("0\n", work, "cube")
@@ -159,6 +171,24 @@ def earlier_run(work: Path) -> None:
         out = running.communicate(timeout=LIMIT)[0]
     want((out.splitlines()[-1], running.returncode), ("s UNKNOWN", -signal.SIGTERM), "the answer of a run that was ended")
     want(sorted(os.listdir(kept)), sorted([*others, *one]), "what is there after 's UNKNOWN'")
+
+
+def others_write(mode: int, taken: bool, work: Path) -> None:
+    """Where others may remove files they may put their own in the place of a stream; where the folder is sticky they can't."""
+    kept = work / "kept"
+    kept.mkdir()
+    kept.chmod(mode)
+    words = ["-j", "1", "--proofs", kept, example("bmc.cnf")]
+    if not taken:
+        return refused(words, f"{kept}: others may write there: another --proofs", work)
+    want_answer(solve(words), 20)
+    check_again(kept)
+
+
+def made_where_all_may_write(work: Path) -> None:
+    in_shell('umask 0; exec "$@"', "sh", SOLVE, "--lrupd", PROGRAM, "-j", "1", "--proofs", work / "kept", example("bmc.cnf"))
+    want((work / "kept").stat().st_mode & 0o7777, 0o775, "the mode of the folder that is made")
+    check_again(work / "kept")
 
 
 def locked(name: str, ends: int, work: Path) -> None:
@@ -686,6 +716,13 @@ def words_and_files() -> List[Row]:
     runs += [(" ".join(["standard input as", *words]), another_name, words) for words in
              (["/dev/stdin"], ["/proc/self/fd/0"], ["{work}/link"], ["/dev/fd/5"], ["--", "-"],
               ["--proofs", "{work}/kept", "/dev/stdin"])]
+    many = {"FIRST_WORDS": 4000, "SAME_WORDS": 1}
+    runs += [(f"names that aren't UTF-8 {number}", keeps_not_utf8, words, tested) for tested in ({"SLICE": 50}, {**many, "SLICE": 50})
+             for number, words in enumerate(([], ["--assume", CUBE], ["--proofs", "kept"], ["--proofs", os.fsdecode(b"kept\xff")],
+                                             ["--assume", CUBE, "--proofs", "kept"]))]
+    runs += [("a folder that is made", made_where_all_may_write)]
+    runs += [(f"a folder of mode {mode:o}", others_write, mode, taken)
+             for mode, taken in ((0o777, False), (0o757, False), (0o1777, True), (0o775, True), (0o700, True))]
     runs += [(f"an own {name}", own_files, name) for name in ("formula.cnf", "assumptions", "report", "command")]
     runs += [(" ".join(["over", *words]), writes_over, words) for words in
              (["formula.cnf"], ["formula.cnf", "{path}"], ["round-1.stream-1", "{path}"], ["round-12.stream-64", "{path}"],
@@ -726,11 +763,16 @@ def refusals() -> List[Row]:
             ("p cnf 2 1 1 2 0\n", 1, "more in the line than the header 'p cnf VARIABLES CLAUSES'"),
             ("p cnf 2 1\n1 x 0\n", 2, "a word that is no number: x"), ("p cnf 2 1\n1\v2 0\n", 2, "a word that is no number: 1?2"),
             ("p cnf 2 1\nc 0\n1 -0\n", 3, "a word that is no number: -0"),
-            ("p cnf 2 2\n1 0\n", 3, "the end, after 1 of the 2 clauses of the header: is the file cut? Else write their number there"),
-            ("p cnf 2 1\n1 0\n2 0\n", 3, "more clauses than the 1 of the header: write their number there"),
-            ("p cnf 2 1\n1 -3 0\n", 2, "variable 3, above the 2 of the header: write the largest there"),
-            ("p cnf 2 1\n1 99999999999999999999 0\n", 2,
-             "variable 99999999999999999999, above the 2 of the header: write the largest there"),
+            ("p cnf 2 2\n1 0\n", 3, "the end, after 1 of the 2 clauses of the header: is the file cut? Else it has to be 'p cnf 2 1'"),
+            ("p cnf 2 1\n1 0\n2 0\n", 3, "more clauses than the 1 of the header, which has to be 'p cnf 2 2'"),
+            ("p cnf 2 1\n1 0\n0\nc\n-2 1\n0 -1 0", 3, "more clauses than the 1 of the header, which has to be 'p cnf 2 4'"),
+            ("p cnf 2 1\n1 0\n2 0\n1 7 0", 3, "more clauses than the 1 of the header, which has to be 'p cnf 7 3'"),
+            ("p cnf 2 1\n1 0\n2 0\n1 x 0", 3, "more clauses than the 1 of the header"),
+            ("p cnf 2 1\n1 0\n2 0\n1", 3, "more clauses than the 1 of the header"),
+            ("p cnf 2 1\n1 -3 0\n", 2, "variable 3, above the 2 of the header, which has to be 'p cnf 3 1'"),
+            ("p cnf 2 1\n1 3\n-16777215 0\n9 0\n", 2, "variable 3, above the 2 of the header, which has to be 'p cnf 16777215 2'"),
+            ("p cnf 2 1\n1 3 16777216 0\n", 2, "variable 3, above the 2 of the header"),
+            ("p cnf 2 1\n1 99999999999999999999 0\n", 2, "variable 99999999999999999999, above the 2 of the header"),
             ("p cnf 2 1\n1 2", 2, "the last clause has no 0 at its end"),
             ("p cnf 99999999 1\n1 0\n", 1, "99999999 variables, and lrupd takes at most 16777215"),
             ("p cnf 1 16777216\n1 0\n", 1, "16777216 clauses, and lrupd takes at most 16777215"),

@@ -181,10 +181,10 @@ def shows(word: str, beginning: str, work: Path) -> None:
 def bad_formula(work: Path) -> None:
     """lrupd's words, and what is known of the file."""
     formula = written("p cnf 2 1\n1 3 0\n", work)
-    said = run([PROGRAM, formula, "/dev/null"]).err.rstrip()
+    known = f"({formula}, line 2: variable 3, above the 2 of the header, which has to be 'p cnf 3 1')"
+    said = f"{run([PROGRAM, formula, '/dev/null']).err.rstrip()} {known}\n"
     answer = solve(2, ["-j", "1", formula])
-    told = f"{said} ({formula}, line 2: variable 3, above the 2 of the header: write the largest there)\n"
-    want((answer.out, answer.said, answer.status), ("", told, 1), "what is said")
+    want((answer.out, answer.said, answer.status), ("", said, 1), "what is said")
 
 
 # Deaths.

@@ -16,8 +16,8 @@ from typing import Dict, Iterator, List, Optional, Sequence, Tuple
 
 sys.dont_write_bytecode = True
 from checkpoints import MOST_CLAUSES, live, most_clauses, printed, variables_of, want_checkpoint
-from harness import (FOUR, Failure, Ran, Row, Skipped, Wanted, answered, answers, example, report, run, run_all, run_by_another, want,
-                     with_memory, within, words_given, written)
+from harness import (FOUR, Failure, Ran, Row, Skipped, Wanted, answered, answers, example, held, report, run, run_all, run_by_another,
+                     want, with_memory, within, words_given, written)
 
 WAYS = ["", "--serial"]
 ONE, TWO = "5 2 0 1 2 0\n", "5 2 0 1 2 0\n6 0 5 3 4 0\n"
@@ -135,6 +135,13 @@ def order_of_work() -> Iterator[Named]:
         for path, left in ("saved", None), ("one", ONE):
             yield f"{cause}, {path}", Wanted(["--checkpoint", path, *words], status, err=f"lrupd: {cause}\n", files=refused,
                                              left={path: left})
+
+
+def before_the_check(program: str, way: str, work: Path) -> None:
+    """That it can't be created is said while the stream is still silent."""
+    with held(work / "silent"):
+        found = run([program, *way.split(), "--checkpoint", "absent/saved", written(FOUR, work), "silent"], cwd=work)
+    want(found, Ran("", NOT_CREATED, 5), "the answer")
 
 
 USAGE = [["--checkpoint"], ["--checkpoint", "saved"], ["--checkpoint", "saved", "formula"],
@@ -264,6 +271,7 @@ def rows(program: str) -> Iterator[Row]:
     for words in USAGE:
         yield " ".join(words), usage, program, words
     for way in WAYS:
+        yield f"not created, and a silent stream {way}", before_the_check, program, way
         for limit in 1, 512, 4096, None:
             yield f"torn at {limit} {way}", torn, program, way.split(), limit
         for formula, names in RECORDED:

@@ -2,7 +2,7 @@
 // there before a stream ends, since lrupd looks for it then. Once lrupd has opened it, nothing looks for its name or its sizes again,
 // and both are removed, as is what lrupd has saved once it is read. So the folder has files of a round that isn't over only while
 // lrupd is awaited.
-#define _POSIX_C_SOURCE 200809L
+#define _XOPEN_SOURCE 700
 #include <dirent.h>
 #include <errno.h>
 #include <fcntl.h>
@@ -19,6 +19,7 @@
 enum { LONGEST_PATH = 4096, LONGEST_NAME = 64, PAUSE = 5 };     // milliseconds
 enum { USUAL_LINES = 65536 };       // lrupd's without words; a first row's room is never above lrupd's
 #define OF_A_ROUND "round-"
+#define ANOTHER_FILE "somebody has put another file in the place of"
 
 static const char *folder;
 static Filter *filter;
@@ -28,12 +29,15 @@ static uint64_t round_number;               // from 1
 static char sizes[LONGEST_PATH], stream[LONGEST_PATH];      // paths
 static volatile sig_atomic_t is_awaited;    // lrupd, at the FIFO
 static int file;
-static bool refuted, over;
+static struct stat made;                    // the FIFO
 
-// No other run has the folder until this process ends, however it does. Where the system has no locks nobody is told.
+// No other run has the folder until this process ends, however it does; where the system has no locks nobody is told. Others may
+// not remove files there and make new ones.
 static void lock_folder(void) {
+    struct stat found;
     int held = open(folder, O_RDONLY | O_DIRECTORY | O_CLOEXEC);
-    if (held < 0) fail("cannot read the folder", folder);
+    if (held < 0 || fstat(held, &found) != 0) fail("cannot read the folder", folder);
+    if ((found.st_mode & S_IWOTH) && !(found.st_mode & S_ISVTX)) fail("others may write to the folder", folder);
     if (flock(held, LOCK_EX | LOCK_NB) != 0 && errno == EWOULDBLOCK) fail("another run that goes on has its files in", folder);
 }
 
@@ -41,7 +45,7 @@ static void lock_folder(void) {
 void chain_open(const char *path) {
     folder = path;
     if (strlen(folder) > LONGEST_PATH - LONGEST_NAME) fail("too long a name:", folder);
-    if (mkdir(folder, 0777) != 0 && errno != EEXIST) fail("cannot make the folder", folder);
+    if (mkdir(folder, 0775) != 0 && errno != EEXIST) fail("cannot make the folder", folder);
     lock_folder();
     DIR *list = opendir(folder);
     if (list == NULL) fail("cannot read the folder", folder);
@@ -67,7 +71,7 @@ static void make_files(void) {
     if (out < 0) fail("cannot make", sizes);
     bool written = write_whole(out, text, (size_t)length);
     is_awaited = 1;
-    if (close(out) == 0 && written && mkfifo(stream, 0666) == 0) return;
+    if (close(out) == 0 && written && mkfifo(stream, 0666) == 0 && lstat(stream, &made) == 0) return;
     unlink(sizes);
     fail("cannot make", stream);
 }
@@ -81,7 +85,7 @@ static void remove_files(void) {
 // Where lrupd waits at the FIFO, or is about to, it gets an empty stream, or none.
 static void end_by_signal(int number) {
     if (is_awaited) {
-        open(stream, O_RDWR | O_NONBLOCK);      // until this process has ended
+        open(stream, O_RDWR | O_NONBLOCK | O_NOFOLLOW);     // until this process has ended
         remove_files();
     }
     signal(number, SIG_DFL);
@@ -97,7 +101,9 @@ static void take_signals(void) {
 // Waits until lrupd opens it, too. Where standard output is a pipe whose reader, which runs lrupd, has ended, it never will.
 static void open_stream(void) {
     struct pollfd reader = { .fd = STDOUT_FILENO };
-    while ((file = open(stream, O_WRONLY | O_NONBLOCK)) < 0) {
+    struct stat found;
+    while ((file = open(stream, O_WRONLY | O_NONBLOCK | O_NOFOLLOW)) < 0) {
+        if (errno == ELOOP) fail(ANOTHER_FILE, stream);
         if (errno != ENXIO && errno != EINTR) fail("cannot open", stream);
         if (poll(&reader, 1, PAUSE) <= 0) continue;
         if (reader.revents & POLLERR) {
@@ -106,6 +112,7 @@ static void open_stream(void) {
         }
         reader.fd = -1;
     }
+    if (fstat(file, &found) != 0 || found.st_dev != made.st_dev || found.st_ino != made.st_ino) fail(ANOTHER_FILE, stream);
     fcntl(file, F_SETFL, 0);
     remove_files();
 }
@@ -116,7 +123,7 @@ static void close_stream(void) {
 }
 
 static void to_stream(const char *bytes, size_t length) {
-    if (!over && !write_whole(file, bytes, length)) fail("cannot write the stream:", strerror(errno));
+    if (!write_whole(file, bytes, length)) fail("cannot write the stream:", strerror(errno));
 }
 
 static void take_checkpoint(void) {
@@ -149,21 +156,13 @@ static void next_round(uint64_t wanted) {
     take_checkpoint();
 }
 
-// What comes behind the empty clause needs no round more.
-static bool has_room(uint64_t literals) {
-    if (over || row_holds(rows.row, used, literals)) return true;
-    if (!refuted) return false;
-    close_stream();
-    over = true;
-    return true;
-}
+static bool has_room(uint64_t literals) { return row_holds(rows.row, used, literals); }
 
 static void derives(const Filter *one) { round_make_room(one, has_room, next_round); }
 
 static void derived(const Filter *one) {
     used.lines++;
     used.room += one->literals.length;
-    refuted |= one->literals.length == 0;
 }
 
 static bool never_ends(void) { return false; }
@@ -185,6 +184,4 @@ void chain_begin(Filter *one, uint64_t memory) {
     open_stream();
 }
 
-void chain_end(void) {
-    if (!over) close_stream();
-}
+void chain_end(void) { close_stream(); }

@@ -5,7 +5,11 @@
 
 #include "proof.h"
 
-enum { LITERALS_OF_A_LINE = 65535, IDENTITIES_OF_A_LINE = 65536, DIGITS = 18 };     // lrupd takes no more
+// lrupd takes no more; a build for tests takes fewer.
+#ifndef IDENTITIES_OF_A_LINE
+#define IDENTITIES_OF_A_LINE 65536
+#endif
+enum { LITERALS_OF_A_LINE = 65535, DIGITS = 18 };
 enum { LONGEST_STEP = 1 << 28, MOST_NUMBERS = 1 << 25 };   // bytes of a step of text, and numbers of a binary one: no proof has more
 #define LAST_IDENTITY UINT64_C(999999999999999999)
 
@@ -126,13 +130,15 @@ typedef struct { Place clause; uint32_t other; } Watch;     // twice the other w
 typedef struct { Watch *items; uint32_t length, capacity; } Watches;
 typedef struct { Place *items; size_t length, capacity; } Places;
 
+enum { UNSEEN, ASSUMED, MET, NEEDED };      // of a variable, while a conflict is traced. MET: assumed, and needed
+
 typedef struct {
     Clauses *clauses;
     int variables;
     signed char *values;        // by literal: 1 true, -1 false, 0 open
     Place *reasons;             // by variable
     uint32_t *positions;        // by variable, on the trail
-    unsigned char *seen;        // by variable, while a conflict is traced
+    unsigned char *seen;        // by variable; all UNSEEN but while a conflict is traced
     Watches *watches[2];        // by literal: those of clauses that were needed of late, and of the others
     Literals trail;             // the true ones, in order; at first those that are true for good
     size_t propagated[2], root;     // how far each of the two has come on the trail
@@ -141,14 +147,26 @@ typedef struct {
     bool used;
     Place conflict;             // one without an assumption
     Literals marked;            // variables that were seen
-    Places old;                 // positions below `root` that a conflict needs
+    Places needed;              // positions, of all that a clause rests on
+    Places missing;             // positions of literals that a chain needs, and that have no unit clause
 } Propagation;
 
 void propagation_open(Propagation *propagation, Clauses *clauses, int variables);
 void propagation_settle(Propagation *propagation);
-bool propagation_chain(Propagation *propagation, const Literals *literals, Identities *chain);
+Place propagation_conflict(Propagation *propagation, const Literals *literals);     // what it assumes stays
+void propagation_take_back(Propagation *propagation);
+bool propagation_trace(Propagation *propagation, const Literals *literals, Place conflict, Identities *chain);
+void propagation_trace_all(Propagation *propagation, const Literals *literals, Place conflict, Identities *chain);
+void propagation_see(Propagation *propagation, const Literals *literals, unsigned char what);
+void propagation_need(Propagation *propagation, Place place, Literals *met);
+void propagation_need_all(Propagation *propagation, Literals *met);
+void propagation_chain(const Propagation *propagation, Place place, Identities *chain);
 bool propagation_needs(const Propagation *propagation, Place place);
 void propagation_move(Propagation *propagation, const uint64_t *old);
+
+static inline Place reason_at(const Propagation *propagation, size_t position) {
+    return propagation->reasons[variable_of(propagation->trail.items[position])];
+}
 
 // hints.c: an exact chain of given hints.
 enum { OPEN, GIVEN, TOUCHED, WANTED };      // of a literal that isn't open, that it is false
@@ -198,6 +216,9 @@ typedef struct {
     void (*passed)(uint64_t engine, uint64_t position);         // nothing before it will be taken over
 } Hooks;
 
+// Of a literal that a chain needs: by how many clauses of it, and how many hints show it, if it has no lemma.
+typedef struct { uint32_t uses, hints; } Weight;
+
 struct Filter {
     Formula formula;
     uint64_t stream, streams;
@@ -207,6 +228,8 @@ struct Filter {
     bool frat;                      // names aren't identities, not even the formula's
     bool keeps_clauses;             // deletions aren't written, so what others were given stays
     bool marked;                    // the proof has marked the addition that comes next
+    bool refuted;                   // the empty clause is in the stream: nothing more has to be
+    bool busy;                      // a chain is looked for: no clause moves
     const Hooks *hooks;             // NULL: nobody asks
     Others others;
     Clauses clauses;
@@ -216,6 +239,9 @@ struct Filter {
     Literals literals;              // of the step, each once
     Places given;
     Identities chain;
+    Literals spare, left;           // of a lemma; of a clause, what it isn't rid of
+    Places lemmas;                  // that only the line that comes next needs
+    Weight *weights;                // by variable; all 0 but while a chain is split. NULL: none was
 };
 
 typedef struct {
@@ -238,6 +264,12 @@ void filter_delete_literals(Filter *filter, const int64_t *literals, size_t leng
 void filter_original(Filter *filter, int64_t name, const int64_t *literals, size_t length);
 void filter_rename(Filter *filter, const int64_t *pairs, size_t length);
 void filter_write_deletion(Filter *filter);                     // of the identities of the chain
+Place filter_write_line(Filter *filter, uint64_t identity);     // of the literals and the chain: the clause
+uint64_t filter_next_identity(const Filter *filter);
+
+// lemmas.c: lines that the proof doesn't have.
+Place lemmas_for(Filter *filter, Place conflict);       // so that the chain of this conflict fits into a line: it, or another one
+void lemmas_refute(Filter *filter);                     // the root has a conflict
 
 // rounds.c: from a run of lrupd to the next one.
 void round_delete(Filter *filter, const Identities *kept);

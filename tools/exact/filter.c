@@ -100,6 +100,12 @@ static Found try_hints(Filter *filter, const Addition *addition) {
     return hints_chain(&filter->hints, given, &filter->chain);
 }
 
+uint64_t filter_next_identity(const Filter *filter) {
+    uint64_t identity = filter->last ? filter->last + filter->streams : filter->formula.clauses + filter->stream;
+    if (identity > LAST_IDENTITY) stop("an identity of more than %d digits", DIGITS);
+    return identity;
+}
+
 // The next one of the stream; or LRAT's own, where the stream is alone, or others cite it.
 static uint64_t new_identity(const Filter *filter, const Addition *addition) {
     int64_t formula = (int64_t)filter->formula.clauses, name = addition->name;
@@ -108,9 +114,31 @@ static uint64_t new_identity(const Filter *filter, const Addition *addition) {
             stop("the identity %lld isn't the stream's own, or not above the one before", (long long)name);
         return (uint64_t)name;
     }
-    uint64_t identity = filter->last ? filter->last + filter->streams : (uint64_t)formula + filter->stream;
-    if (identity > LAST_IDENTITY) stop("an identity of more than %d digits", DIGITS);
-    return identity;
+    return filter_next_identity(filter);
+}
+
+// Whether there are identities for lines that the proof doesn't have. Streams of LRAT that may cite each other have none to spare.
+static bool has_identities(const Filter *filter, const Addition *addition) {
+    bool is_alone = filter->streams == 1 && filter->others.length == 0;
+    return !addition->named || filter->frat || filter->hooks || is_alone || (filter->renumbered && !filter->keeps_identities);
+}
+
+static Place add_clause(Filter *filter, uint64_t identity) {
+    filter->last = identity;
+    return clauses_add(&filter->clauses, identity, filter->literals.items, filter->literals.length, false);
+}
+
+static void write_line(const Filter *filter) {
+    write_number(filter->last, ' ');
+    write_literals(filter->literals.items, filter->literals.length);
+    write_bytes(" ", 1);
+    write_numbers(filter->chain.items, filter->chain.length);
+}
+
+Place filter_write_line(Filter *filter, uint64_t identity) {
+    Place place = add_clause(filter, identity);
+    write_line(filter);
+    return place;
 }
 
 static void write_addition(Filter *filter, const Addition *addition, Found found) {
@@ -122,27 +150,60 @@ static void write_addition(Filter *filter, const Addition *addition, Found found
     if (same) filter->chain.length = 0;
     for (size_t k = 0; k < (same ? filter->given.length : 0); k++)
         PUSH(&filter->chain, clause_at(&filter->clauses, filter->given.items[k])->identity);
-    write_number(filter->last, ' ');
-    write_literals(filter->literals.items, filter->literals.length);
-    write_bytes(" ", 1);
-    write_numbers(filter->chain.items, filter->chain.length);
+    write_line(filter);
 }
+
+// A chain by unit propagation. A round may end at each line that comes before it.
+static void look_for_chain(Filter *filter, bool has_lemmas) {
+    Propagation *propagation = &filter->propagation;
+    Place conflict = propagation_conflict(propagation, &filter->literals);
+    if (conflict == 0)
+        stop("no conflict by unit propagation: a RAT step, which lrupd doesn't check, or a clause that doesn't follow");
+    if (!has_lemmas) {
+        propagation_trace_all(propagation, &filter->literals, conflict, &filter->chain);
+    } else if (!propagation_trace(propagation, &filter->literals, conflict, &filter->chain) ||
+               filter->chain.length > IDENTITIES_OF_A_LINE) {
+        filter->busy = true;
+        conflict = lemmas_for(filter, conflict);
+        if (filter->hooks) filter->hooks->derives(filter);
+        propagation_trace(propagation, &filter->literals, conflict, &filter->chain);
+        filter->busy = false;
+    }
+    propagation_take_back(propagation);
+}
+
+// A chain of the hints, or else by unit propagation. NO_CHAIN where the stream has the empty clause in the place of this one.
+static Found find_chain(Filter *filter, const Addition *addition) {
+    bool has_lemmas = has_identities(filter, addition);
+    Found found = addition->hinted > 0 ? try_hints(filter, addition) : NO_CHAIN;
+    size_t hints = found == SAME_CHAIN ? addition->hinted : filter->chain.length;
+    if (filter->literals.length > LITERALS_OF_A_LINE) stop("longer than a line may be");
+    if (found == NO_CHAIN || (hints > IDENTITIES_OF_A_LINE && has_lemmas)) {
+        propagation_settle(&filter->propagation);
+        if (has_lemmas && filter->propagation.conflict != 0) return lemmas_refute(filter), NO_CHAIN;
+        look_for_chain(filter, has_lemmas);
+        found = SOME_CHAIN;
+        hints = filter->chain.length;
+    }
+    if (hints > IDENTITIES_OF_A_LINE) stop("longer than a line may be");
+    return found;
+}
+
+static void forget_lemmas(Filter *filter);
 
 static void derive(Filter *filter, const Addition *addition) {
     if (filter->hooks) filter->hooks->derives(filter);
-    Found found = addition->hinted > 0 ? try_hints(filter, addition) : NO_CHAIN;
-    if (found == NO_CHAIN && !propagation_chain(&filter->propagation, &filter->literals, &filter->chain))
-        stop("no conflict by unit propagation: a RAT step, which lrupd doesn't check, or a clause that doesn't follow");
-    size_t hints = found == SAME_CHAIN ? addition->hinted : filter->chain.length;
-    if (hints > IDENTITIES_OF_A_LINE || filter->literals.length > LITERALS_OF_A_LINE)
-        stop("longer than a line may be");
-    filter->last = new_identity(filter, addition);
-    filter->renumbered |= addition->named && addition->name != (int64_t)filter->last;
-    Place place = clauses_add(&filter->clauses, filter->last, filter->literals.items, filter->literals.length, false);
+    Found found = find_chain(filter, addition);
+    if (found == NO_CHAIN) return;
+    filter->refuted = filter->literals.length == 0 && has_identities(filter, addition);
+    uint64_t identity = new_identity(filter, addition);
+    filter->renumbered |= addition->named && addition->name != (int64_t)identity;
+    Place place = add_clause(filter, identity);
     if (addition->named) clauses_name(&filter->clauses, (uint64_t)addition->name, place);
     make_known(filter, place);
     write_addition(filter, addition, found);
     if (filter->hooks) filter->hooks->derived(filter);
+    forget_lemmas(filter);
 }
 
 // A tautology is of no use, and refused by lrupd.
@@ -153,7 +214,7 @@ void filter_add(Filter *filter, const Addition *addition) {
     bool tautology = take_or_stop(filter, addition->literals, addition->length);
     if (addition->named && clauses_named(&filter->clauses, (uint64_t)addition->name) != 0)
         stop("the identity %lld a second time", (long long)addition->name);
-    if (!tautology) derive(filter, addition);
+    if (!tautology && !filter->refuted) derive(filter, addition);
     filter->marked = false;
     release(filter);
 }
@@ -180,6 +241,7 @@ static void write_import(uint64_t identity, const int64_t *literals, size_t leng
 void filter_import(Filter *filter, int64_t identity, const int64_t *literals, size_t length) {
     int64_t formula = (int64_t)filter->formula.clauses;
     if (filter->hooks) stop("an import, of a solver that shares nothing");
+    if (filter->refuted) return;
     if (identity < 1 || (identity > formula && owner(filter, (uint64_t)identity) == filter->stream))
         stop("an import of %lld, which is no clause of the formula or of another stream", (long long)identity);
     bool tautology = take_or_stop(filter, literals, length);
@@ -215,6 +277,7 @@ void filter_take_over(Filter *filter, uint64_t identity, const int64_t *literals
 // The memory of the dead, where it is half of all, and much for what a move goes through.
 static void give_back(Filter *filter) {
     Clauses *clauses = &filter->clauses;
+    if (filter->busy) return;
     size_t least = DEAD_WORDS + (size_t)filter->formula.variables + clauses->near_length / 4;
     if (clauses->dead < least || 2 * clauses->dead < clauses->used) return;
     uint64_t *old = clauses_begin_move(clauses);
@@ -242,8 +305,18 @@ void filter_write_deletion(Filter *filter) {
     give_back(filter);
 }
 
+// Those of the line that is written.
+static void forget_lemmas(Filter *filter) {
+    if (filter->lemmas.length == 0) return;
+    filter->chain.length = 0;
+    for (size_t k = 0; k < filter->lemmas.length; k++) delete(filter, filter->lemmas.items[k]);
+    filter->lemmas.length = 0;
+    filter_write_deletion(filter);
+}
+
 // Of clauses that are there. FRAT may use a name again.
 void filter_delete(Filter *filter, const int64_t *names, size_t length) {
+    if (filter->refuted) return;
     if (filter->propagation.used) propagation_settle(&filter->propagation);
     filter->chain.length = 0;
     for (size_t k = 0; k < length; k++) {
@@ -267,6 +340,7 @@ static Place take_set(Filter *filter, const int64_t *literals, size_t length) {
 }
 
 void filter_delete_literals(Filter *filter, const int64_t *literals, size_t length) {
+    if (filter->refuted) return;
     if (filter->clauses.sets == NULL) clauses_keep_sets(&filter->clauses);
     propagation_settle(&filter->propagation);
     Place place = take_set(filter, literals, length);

@@ -82,21 +82,26 @@ private:
         solver.traverse_witnesses_forward(*this);
     }
 
-    // Engines differ by their options; the first has CaDiCaL's own.
-    void configure() {
-        solver.set("quiet", 1);
-        solver.set("seed", engine.options->seed + engine.number - 1);
-        if (engine.number > 1) solver.set("lucky", 0);
+    // The first two, in the one and in the other of the modes that CaDiCaL takes turns with, are at their best on different formulas.
+    void differ() {
         switch ((engine.number - 1) % 8) {
-            case 1: solver.configure("unsat"); break;
-            case 2: solver.set("reverse", 1), solver.set("shuffle", 1), solver.set("shufflerandom", 1); break;
-            case 3: solver.configure("sat"); break;
-            case 4: solver.set("phase", 0); break;
-            case 5: solver.set("chrono", 0), solver.set("restartint", 20); break;
+            case 0: solver.configure("unsat"); break;
+            case 1: solver.set("stabilizeonly", 1); break;
+            case 3: solver.set("phase", 0); break;
+            case 4: solver.set("reverse", 1), solver.set("shuffle", 1), solver.set("shufflerandom", 1); break;
+            case 5: solver.set("stabilizeonly", 1), solver.set("reduceint", 150); break;
             case 6: solver.set("elim", 0); break;
             case 7: solver.set("bumpreason", 0), solver.set("shrink", 0); break;
             default: break;
         }
+    }
+
+    // One that is alone has CaDiCaL's own options.
+    void configure() {
+        solver.set("quiet", 1);
+        solver.set("seed", engine.options->seed + engine.number - 1);
+        if (engine.number > 1) solver.set("lucky", 0);
+        if (size_t(engine.options->engines) > engine.options->solvers.size() + 1) differ();
         if (const char *words = test_word("LRUP_SOLVE_SET")) {
             std::istringstream list(words);
             bool any = false;       // not every CaDiCaL has all

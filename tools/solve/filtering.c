@@ -266,7 +266,8 @@ static void read_proof(const Formula *formula) {
 // Where a solver says 20, and hasn't written the empty clause.
 static void end_proof(void) {
     if (refuted || LOAD(own->shared->over) || own->form != UNKNOWN_FORM || LOAD(part->answer) != 20) return;
-    if (!propagation_chain(&filter.propagation, &filter.literals, &filter.chain)) leave("the proof ends without the empty clause");
+    propagation_settle(&filter.propagation);
+    if (filter.propagation.conflict == 0) leave("the proof ends without the empty clause");
     filter_add(&filter, &(Addition){0});
 }
 

@@ -33,7 +33,8 @@ const int PROOF_PIPE = 1 << 20, ALL_PROOF_PIPES = 1 << 24;     // the system giv
 const double ENDING = 10;       // seconds that a filter has for the line that it is at
 const int UNKNOWN_STATUS = 3;   // of lrupd
 const int LONGEST_NUMBER = 20;
-const char OPEN_FILES[] = "/dev/fd/";
+const double MOMENT = 0.1;      // seconds in which the first engine is alone, beside READINGS of the formula
+const int READINGS = 2;
 
 Run *the_run;
 
@@ -182,6 +183,25 @@ void Run::start_team(size_t k) {
     close_file(team.proof.write);
 }
 
+// The first engine begins, and the others where it hasn't answered after a moment: what is easy takes no more cores than it needs.
+void Run::start_teams() {
+    bool first_alone = starts_late() && !is_solver(0) && !teams.empty();
+    for (size_t k = 0; k < teams.size(); k++)
+        if (k == 0 || !first_alone || is_solver(k)) start_team(k);
+    others_start = first_alone ? now() + MOMENT + READINGS * reading : 0;
+}
+
+void Run::start_others() {
+    for (size_t k = 1; k < teams.size() && others_start > 0; k++)
+        if (!is_solver(k)) start_team(k);
+    others_start = 0;
+}
+
+void Run::look_at_start() {
+    bool has_answered = !teams[0].told && LOAD(shared->parts[0].answer) != 0;
+    if (others_start > 0 && !has_answered && (teams[0].told || now() >= others_start)) start_others();
+}
+
 void Run::start_engine(size_t k) {
     Team &team = teams[k];
     int number = int(k) + 1;
@@ -253,6 +273,7 @@ void Run::look() {
     if (!front.stopped.empty()) return finish(UNKNOWN_ANSWER, front.stopped);
     look_at_reading();
     if (phase < ENDING_STREAMS) look_at_teams();
+    if (phase == SOLVING) look_at_start();
     if (phase == SOLVING) pause_others();
     if (phase != SAVING && phase < ENDING_STREAMS) look_at_checker();
     if (phase < ENDING_STREAMS) look_at_round();
@@ -349,7 +370,7 @@ void Run::end_streams() {
         team.engine.signal(SIGKILL);
         team.filter.signal(SIGCONT);
         if (now() > ending) team.filter.signal(SIGKILL);
-        all_ended &= team.filter.ended();
+        all_ended &= !team.filter.running;
     }
     if (!all_ended) return;
     cut_streams();
@@ -375,13 +396,15 @@ void Run::prepare() {
     if (options.engines == 0 && options.solvers.empty()) options.engines = half_of_the_cores();
     options.engines += int(options.solvers.size());
     read_inputs();
+    double begun = now();
     read_formula();
+    reading = now() - begun;
     if (options.assume) read_assumptions();
     for (Team &team : teams) team.model = shared_memory<signed char>(size_t(formula.variables));
     first_round();
     take_signals();
     begin_elsewhere();
-    for (size_t k = 0; k < teams.size(); k++) start_team(k);
+    start_teams();
     shows_progress = !options.quiet && isatty(STDERR_FILENO);
 }
 

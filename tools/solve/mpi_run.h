@@ -159,6 +159,7 @@ protected:
     double looked = now();
 
     bool is_here(size_t k) const override { return int(k) >= first && int(k) < first + here; }
+    bool starts_late() const override { return false; }     // those elsewhere don't wait for a word
     void start_team(size_t k) override;
     std::vector<pollfd> more_files() const override { return link.files(); }
     std::vector<Child *> children() override;

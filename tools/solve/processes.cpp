@@ -90,8 +90,10 @@ void create_pipe(const std::string &path) {
 }
 
 int open_pipe(const std::string &path, int bytes) {
-    int file = open(path.c_str(), O_WRONLY | O_NONBLOCK | O_CLOEXEC);
+    struct stat found;
+    int file = open(path.c_str(), O_WRONLY | O_NONBLOCK | O_NOFOLLOW | O_CLOEXEC);
     if (file < 0) return -1;
+    if (fstat(file, &found) != 0 || !S_ISFIFO(found.st_mode)) refuse("somebody has put another file in the place of " + path);
     unlink(path.c_str());
     if (bytes > 0) fcntl(file, F_SETPIPE_SZ, bytes);
     return kept_open(file);

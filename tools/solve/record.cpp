@@ -76,6 +76,23 @@ std::string quoted(const std::string &word) {
     return text + "'";
 }
 
+// As lrupd's words have to be.
+bool is_utf8(const std::string &text) {
+    static const uint32_t least[] = { 0, 0x80, 0x800, 0x10000 };
+    for (size_t at = 0; at < text.size();) {
+        auto first = static_cast<unsigned char>(text[at++]);
+        int more = first < 0x80 ? 0 : first < 0xc0 ? -1 : first < 0xe0 ? 1 : first < 0xf0 ? 2 : first < 0xf8 ? 3 : -1;
+        if (more < 0) return false;
+        uint32_t letter = more > 0 ? first & (0x3fu >> more) : first;
+        for (int k = 0; k < more; k++, at++) {
+            if (at == text.size() || (text[at] & 0xc0) != 0x80) return false;
+            letter = letter << 6 | (text[at] & 0x3f);
+        }
+        if (letter < least[more] || letter > 0x10ffff || (letter >= 0xd800 && letter < 0xe000)) return false;
+    }
+    return true;
+}
+
 // A name may have an LF in it.
 std::string one_line(const std::string &text) {
     std::string line;
@@ -124,10 +141,13 @@ void check_plain(const std::string &path, const std::string &name) {
 
 // The folder.
 
-// No other run has it until this process ends, however it does. Where the system has no locks nobody is told.
+// No other run has it until this process ends, however it does; where the system has no locks nobody is told. Where others may
+// remove files and make new ones, streams that are opened again by their names may be anything.
 static void lock_folder(const std::string &folder) {
+    struct stat found;
     int file = open(folder.c_str(), O_RDONLY | O_DIRECTORY | O_CLOEXEC);
-    if (file < 0) refuse(folder + ": " + error_text());
+    if (file < 0 || fstat(file, &found) != 0) refuse(folder + ": " + error_text());
+    if ((found.st_mode & S_IWOTH) && !(found.st_mode & S_ISVTX)) refuse(folder + ": others may write there: another --proofs");
     if (flock(kept_open(file), LOCK_EX | LOCK_NB) != 0 && errno == EWOULDBLOCK)
         refuse(folder + ": another run that goes on has its files there: another --proofs");
 }
@@ -135,7 +155,7 @@ static void lock_folder(const std::string &folder) {
 // A run that has read its inputs leaves a first stream. Where there is none, a file with one of the names is somebody's own.
 void open_record(const std::string &folder, const std::vector<std::string> &inputs) {
     struct stat input, found;
-    if (mkdir(folder.c_str(), 0777) != 0 && errno != EEXIST) refuse("cannot make " + folder + ": " + error_text());
+    if (mkdir(folder.c_str(), 0775) != 0 && errno != EEXIST) refuse("cannot make " + folder + ": " + error_text());
     lock_folder(folder);
     for (const std::string &path : files_of(folder))
         for (const std::string &name : inputs)

@@ -56,25 +56,37 @@ std::string Run::stream_path(size_t k) const {
     return std::string(shared->record) + name_of_round(round) + ".stream-" + std::to_string(LOAD(shared->parts[k].stream));
 }
 
-std::vector<std::string> Run::checker_words(Row sizes) const {
+std::vector<std::string> Run::checker_words(Row sizes, const std::string &assume) const {
     std::vector<std::string> words = { "--tries", tries(), "--lines", std::to_string(sizes.lines), "--room", std::to_string(sizes.room) };
-    if (options.assume) words.insert(words.end(), { "--assume", absolute(assume_path) });
+    if (options.assume) words.insert(words.end(), { "--assume", assume });
     return words;
 }
 
+// A word for lrupd, in a command: where the name isn't UTF-8 the shell opens the file.
+static std::string word_in_command(const std::string &path, int number, std::string &opened) {
+    if (is_utf8(path)) return quoted(path);
+    opened += " " + std::to_string(number) + "< " + quoted(path);
+    return OPEN_FILES + std::to_string(number);
+}
+
 // Of round 1, with names that a record's streams have, from whatever folder it is run.
-std::string Run::command_of(const std::vector<std::string> &words) const {
-    std::string line = quoted(checker_program);
-    for (const std::string &word : words) line += " " + quoted(word);
-    line += " " + quoted(absolute(formula_path));
-    for (size_t k = 0; k < teams.size(); k++) line += " " + quoted(stream_path(k));
-    return line;
+std::string Run::command_of(Row sizes) const {
+    std::string opened, line, record = shared->record;
+    if (!is_utf8(record)) line = "cd " + quoted(record) + " && ";
+    size_t left_out = is_utf8(record) ? 0 : record.size();
+    line += quoted(checker_program);
+    std::string formula = word_in_command(absolute(formula_path), 3, opened);
+    std::string assume = options.assume ? word_in_command(absolute(assume_path), 4, opened) : "";
+    for (const std::string &word : checker_words(sizes, "")) line += " " + (word.empty() ? assume : quoted(word));
+    line += " " + formula;
+    for (size_t k = 0; k < teams.size(); k++) line += " " + quoted(stream_path(k).substr(left_out));
+    return line + opened;
 }
 
 // Of all rounds. lrupd leaves what it saves.
 std::string Run::command_again() const {
-    std::string folder = quoted(absolute(options.proofs));
-    return round == 1 ? command : command + " --rounds " + folder + "; status=$?; rm -f " + folder + "/round-[0-9]*.cnf; exit $status";
+    std::string folder = absolute(options.proofs), here = is_utf8(folder) ? quoted(folder) : ".";
+    return round == 1 ? command : command + " --rounds " + here + "; status=$?; rm -f " + here + "/round-[0-9]*.cnf; exit $status";
 }
 
 // In the record.
@@ -94,7 +106,7 @@ std::vector<int> Run::stream_files() const {
 
 void Run::start_checker(Row wanted) {
     rows.row = wanted;
-    command = command_of(checker_words(wanted));
+    command = command_of(wanted);
     keep_sizes();
     if (options.verbose) tell(command);
     checker.start(wanted, stream_files());
@@ -144,6 +156,7 @@ void Run::look_at_round() {
 
 // One has no room for a line more: all streams end. Those that stand still go on to their ends.
 void Run::end_round() {
+    start_others();         // they begin with round 1
     STORE(shared->ending_round, round);
     pause_begun = now();
     phase = ENDING_ROUND;

@@ -45,6 +45,8 @@ protected:
     bool shows_progress = false;
     int signals = -1, ended_by = 0;
     double started = now(), answered = 0, ending = 0, shown = 0;
+    double reading = 0;                 // seconds, of the formula
+    double others_start = 0;            // 0: they have
 
     // Of the round.
     uint64_t round = 1;
@@ -58,6 +60,7 @@ protected:
 
     // Of engines on other hosts.
     virtual bool is_here(size_t) const { return true; }
+    virtual bool starts_late() const { return true; }   // all engines but the first
     virtual void begin_elsewhere() {}                   // before engines start here
     virtual void look_elsewhere() {}                    // at each turn
     virtual void end_elsewhere() {}
@@ -74,6 +77,9 @@ protected:
     void take_signals();
     void open_teams();
     virtual void start_team(size_t k);
+    void start_teams();
+    void start_others();
+    void look_at_start();
     void start_engine(size_t k);
 
     // Events.
@@ -109,8 +115,8 @@ protected:
     std::string bytes_of_row() const;
     std::string stream_path(size_t k) const;
     Row needed_row() const;
-    std::vector<std::string> checker_words(Row sizes) const;
-    std::string command_of(const std::vector<std::string> &words) const;
+    std::vector<std::string> checker_words(Row sizes, const std::string &assume) const;
+    std::string command_of(Row sizes) const;
     std::string command_again() const;
     void keep_sizes() const;
     std::vector<int> stream_files() const;

@@ -48,6 +48,7 @@ void create_pipe(const std::string &path);
 int open_pipe(const std::string &path, int bytes);      // to write to it, without a name from then on; -1 where nobody reads yet
 std::string write_file(const std::string &path, const std::string &text);   // the cause, where it can't be written
 int file_in_memory();
+const char OPEN_FILES[] = "/dev/fd/";
 void *shared_bytes(size_t bytes);                       // with the children that come later
 
 template <typename Item> Item *shared_memory(size_t count) {
@@ -79,6 +80,7 @@ void give_way();                                        // this process ends bef
 
 // record.cpp: paths, and the folder of --proofs. An input is a path, or `-`.
 bool is_plain(const std::string &word);
+bool is_utf8(const std::string &text);
 std::string quoted(const std::string &word);
 std::string one_line(const std::string &text);
 std::string absolute(const std::string &path);

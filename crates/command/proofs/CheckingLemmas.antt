@@ -19,9 +19,9 @@ use Rattle.checkpoint.specs.declared.saving.SaveFault.{SaveFault}
 use Rattle.command_line.specs.CommandLine.{AskFor, IsCommandLineOf}
 use Rattle.command_line.specs.declared.words.CommandLine.{CommandLine}
 use Rattle.command.specs.Commands.{AreAssumed, AreChecked, AreOpened, Deeds, FilesView, HasNoFault, IsAssumeCause, IsBegunWith, IsCause}
-use Rattle.command.specs.Commands.{IsFormulaAt, IsLeftUnused, IsOpenCause, IsOutcome, IsReadCause, IsStartCause, LeavesBehind, LeavesCheckpoint}
-use Rattle.command.specs.Commands.{NameUnsatisfiable, NameUnsatisfiableUnder, SavesCheckpoint, Text, WasRead, WasReadIn, assumed_at}
-use Rattle.command.specs.Commands.{checkpoint_at, created_at, layout_at, options_of, terms_given}
+use Rattle.command.specs.Commands.{IsFormulaAt, IsLeftUnused, IsOpenCause, IsOutcome, IsReadCause, IsStartCause, LeavesBehind}
+use Rattle.command.specs.Commands.{LeavesCheckpoint, NameUnsatisfiable, NameUnsatisfiableUnder, SavesCheckpoint, Text, WasRead, WasReadIn}
+use Rattle.command.specs.Commands.{assumed_at, checkpoint_at, created_at, layout_at, options_of, terms_given}
 use Rattle.command.specs.Running.{IsLayoutCause, IsRunCause}
 use Rattle.command.specs.Saving.{IsNotCreated}
 use Rattle.command.specs.Faults.{of_run}

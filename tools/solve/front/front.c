@@ -35,7 +35,7 @@ enum { PROVED = 0, UNKNOWN = 3, PROVED_UNDER = 8 };     // lrupd's statuses
 enum { ENGINES, PROBE, LRUPD, CLEANER, CHILDREN };      // the probe is an lrupd that reads the formula, and no stream
 
 static struct { pid_t pid; bool is_running; int status; } children[CHILDREN];
-static const char *lrupd, *formula, *assume, *verdict, *folder;
+static const char *lrupd, *formula, *assume, *verdict, *folder, *opened_folder;
 static int null, signals, engines, cleaning, ended_by;
 static sigset_t mask_before;
 static bool is_model, is_faulty, is_ending, is_late;
@@ -87,11 +87,11 @@ static void start_lrupd(int which, const unsigned long *numbers) {
     int out = open(text("%s/%d.out", folder, which), O_WRONLY | O_CREAT | O_EXCL | O_CLOEXEC, 0600);
     int said = open(text("%s/%d.said", folder, which), O_WRONLY | O_CREAT | O_EXCL | O_CLOEXEC, 0600);
     if (assume) *next++ = "--assume", *next++ = assume;
-    if (which == LRUPD) *next++ = "--rounds", *next++ = folder;
+    if (which == LRUPD) *next++ = "--rounds", *next++ = opened_folder;
     if (which == LRUPD && value['v']) *next++ = "--watch";
     *next++ = formula;
     if (which == PROBE) *next++ = "/dev/null";
-    for (unsigned long k = 1; k <= numbers[0]; k++) *next++ = text("%s/round-1.stream-%lu", folder, k);
+    for (unsigned long k = 1; k <= numbers[0]; k++) *next++ = text("%s/round-1.stream-%lu", opened_folder, k);
     start(which, list, null, out, said);
     close(out), close(said);
 }
@@ -208,6 +208,7 @@ static void prepare(void) {
     sigprocmask(SIG_BLOCK, &all, &mask_before);
     signals = signalfd(-1, &all, SFD_CLOEXEC | SFD_NONBLOCK);
     if (!(folder = mkdtemp(text("%s/lrup-solve-XXXXXX", place)))) err(1, "cannot make a folder %s/lrup-solve-XXXXXX", place);
+    opened_folder = text("/dev/fd/%d", open(folder, O_PATH | O_DIRECTORY));     // lrupd takes no name that isn't UTF-8
     if (signals < 0 || pipe2(ends, O_CLOEXEC) != 0 || prctl(PR_SET_CHILD_SUBREAPER, 1) != 0) err(1, "cannot begin");
     start_cleaner(ends[0]);
     close(ends[0]);

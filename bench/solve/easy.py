@@ -1,0 +1,111 @@
+#!/usr/bin/env python3
+"""Writes a formula in DIMACS CNF on standard output that is large and easily refuted. In words: reversed, the last clause comes first.
+
+    easy.py units VARIABLES [reversed]      a chain of units: each variable implies the next one, the first holds, and the last doesn't
+    easy.py failed STEPS [reversed]         one failed literal: no unit, and one literal implies a conflict by a chain of so many steps
+    easy.py corridor CELLS HORIZON [reversed]   a plan to walk to the last cell of a corridor; refuted where the horizon is below CELLS
+    easy.py lfsr BITS STEPS [reversed]      a feedback shift register that starts in one state, and wouldn't come to the one where it does
+    easy.py simulation STEPS                the same register, of 32 bits, in Verilog, as yosys unrolls it; wants yosys
+
+Unit propagation alone refutes all but that of the failed literal.
+"""
+import subprocess
+import sys
+import tempfile
+from pathlib import Path
+
+VERILOG = """\
+module register(input clk, output reg [31:0] state, output wrong);
+  initial state = 1;
+  always @(posedge clk) state <= {state[30:0], state[31] ^ state[21] ^ state[1] ^ state[0]};
+  assign wrong = state == 0;
+endmodule
+"""
+SCRIPT = "read_verilog {folder}/register.v; prep -top register; sat -seq 1 -set-init-def -set-at {steps} wrong 1 -dump_cnf {folder}/cnf"
+
+
+def units(variables):
+    """Unit propagation goes along all variables."""
+    steps = [(-variable, variable + 1) for variable in range(1, variables)]
+    return variables, [(1,), *steps, (-variables,)]
+
+
+def failed(steps):
+    """The variable 1 implies as many others, the last two of which clash; where it is false two clauses clash at once."""
+    last, other = steps + 1, steps + 2
+    chain = [(-variable, variable + 1) for variable in range(1, steps)]
+    return other, [*chain, (-steps, last), (-steps, -last), (1, other), (1, -other)]
+
+
+def corridor(cells, horizon):
+    """Where one is at a time, one was before, or has walked there; a step begins where one is."""
+    width = 3 * (cells + 1)
+
+    def at(cell, time):
+        return width * time + 3 * cell + 1
+
+    def right(cell, time):
+        return at(cell, time) + 1
+
+    def left(cell, time):
+        return at(cell, time) + 2
+
+    clauses = [(at(0, 0),), *((-at(cell, 0),) for cell in range(1, cells + 1))]
+    for time in range(horizon):
+        for cell in range(cells + 1):
+            reasons = [at(cell, time)] + [right(cell - 1, time)] * (cell > 0) + [left(cell + 1, time)] * (cell < cells)
+            clauses.append((-at(cell, time + 1), *reasons))
+            for step, target in ((right(cell, time), cell + 1), (left(cell, time), cell - 1)):
+                clauses.append((-step, at(cell, time)))
+                clauses.append((-step, at(target, time + 1)) if 0 <= target <= cells else (-step,))
+    clauses.append((at(cells, horizon),))
+    return width * (horizon + 1), clauses
+
+
+def lfsr(bits, steps):
+    """Each step shifts, and puts in the exclusive or of two bits: of the first and the last variable of the state."""
+    state, value = list(range(1, bits + 1)), [1] + [0] * (bits - 1)
+    variables, clauses = bits, [(variable if bit else -variable,) for variable, bit in zip(state, value)]
+    for _ in range(steps):
+        variables += 1
+        one, other = state[0], state[-1]
+        clauses += [(-variable_sign * variables, one * one_sign, other * other_sign)
+                    for variable_sign, one_sign, other_sign in ((1, 1, 1), (1, -1, -1), (-1, 1, -1), (-1, -1, 1))]
+        state, value = [*state[1:], variables], [*value[1:], value[0] ^ value[-1]]
+    clauses.append(tuple(-variable if bit else variable for variable, bit in zip(state, value)))
+    return variables, clauses
+
+
+def simulation(steps):
+    """As text: what yosys writes."""
+    with tempfile.TemporaryDirectory() as name:
+        folder = Path(name)
+        (folder / "register.v").write_text(VERILOG)
+        subprocess.run(["yosys", "-q", "-p", SCRIPT.format(folder=folder, steps=steps)], check=True, stdout=subprocess.DEVNULL)
+        return (folder / "cnf").read_text()
+
+
+KINDS = {"units": (units, 1), "failed": (failed, 1), "corridor": (corridor, 2), "lfsr": (lfsr, 2)}
+
+
+def dimacs(kind, *numbers, backwards=False):
+    """The text of a formula."""
+    variables, clauses = KINDS[kind][0](*numbers)
+    lines = [" ".join(map(str, clause)) + " 0" for clause in (reversed(clauses) if backwards else clauses)]
+    return "\n".join([f"p cnf {variables} {len(lines)}", *lines, ""])
+
+
+def main():
+    kind, *words = sys.argv[1:] or [""]
+    backwards = words[-1:] == ["reversed"]
+    numbers = [int(word) for word in words[:len(words) - backwards] if word.isdigit()]
+    if kind == "simulation" and len(numbers) == len(words) == 1:
+        sys.stdout.write(simulation(*numbers))
+    elif kind in KINDS and len(numbers) == KINDS[kind][1] == len(words) - backwards:
+        sys.stdout.write(dimacs(kind, *numbers, backwards=backwards))
+    else:
+        sys.exit(__doc__)
+
+
+if __name__ == "__main__":
+    main()

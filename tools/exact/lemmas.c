@@ -1,0 +1,185 @@
+// Unverified, as all of this filter. Lines that the proof doesn't have. A literal that holds for good gets a unit clause once a chain
+// needs it, so that no chain goes along the trail again. A chain that is longer than a line may be is split: of a literal on its way
+// a lemma says that it holds, or one of the clause's own literals does.
+#include "exact.h"
+
+enum { MOST_NEEDED = IDENTITIES_OF_A_LINE - 1 };        // of one clause's literals, each by a hint
+enum { WORTH_A_LEMMA = 16 };                            // hints, and as many more as the clause has literals
+enum { NONE = -1 };
+
+// What follows from the clause and all that it rests on, but for what is assumed: in a line of its own.
+static Place write_lemma(Filter *filter, Place place) {
+    Propagation *propagation = &filter->propagation;
+    Literals literals = filter->literals;
+    bool marked = filter->marked;
+    filter->literals = filter->spare;
+    filter->literals.length = propagation->needed.length = 0;
+    filter->marked = filter->keeps_identities = false;
+    propagation_need(propagation, place, &filter->literals);
+    propagation_need_all(propagation, &filter->literals);
+    if (propagation->needed.length > MOST_NEEDED || filter->literals.length > LITERALS_OF_A_LINE) stop("longer than a line may be");
+    if (filter->hooks) filter->hooks->derives(filter);
+    propagation_chain(propagation, place, &filter->chain);
+    Place lemma = filter_write_line(filter, filter_next_identity(filter));
+    if (filter->hooks) filter->hooks->derived(filter);
+    filter->spare = filter->literals;
+    filter->literals = literals;
+    filter->marked = marked;
+    return lemma;
+}
+
+// The reason of this variable's literal from now on. What holds for good, holds in all that follows.
+static void give_lemma(Filter *filter, int variable) {
+    Propagation *propagation = &filter->propagation;
+    propagation->seen[variable] = ASSUMED;
+    Place lemma = write_lemma(filter, propagation->reasons[variable]);
+    propagation->seen[variable] = UNSEEN;
+    propagation->reasons[variable] = lemma;
+    if (propagation->positions[variable] >= propagation->root) PUSH(&filter->lemmas, lemma);
+}
+
+// The clause without as many of its false literals as a line has hints for. Each of them has a lemma; its own literal is true.
+static Place shorten(Filter *filter, Place place, int own) {
+    Propagation *propagation = &filter->propagation;
+    const Clause *clause = clause_at(&filter->clauses, place);
+    Literals *left = &filter->left;
+    size_t found = 0;
+    for (unsigned k = 0; k < clause->length; k++) {
+        int variable = variable_of(clause->literals[k]);
+        if (propagation->seen[variable] == UNSEEN && (variable == own || ++found > MOST_NEEDED)) PUSH(left, clause->literals[k]);
+    }
+    propagation_see(propagation, left, ASSUMED);
+    Place shorter = write_lemma(filter, place);
+    propagation_see(propagation, left, UNSEEN);
+    left->length = 0;
+    PUSH(&filter->lemmas, shorter);
+    return shorter;
+}
+
+// On how many literals the clause rests, and how many hints show all of them, and the clause.
+static uint64_t hints_for(const Filter *filter, Place place, int own, size_t floor, size_t *needed) {
+    const Propagation *propagation = &filter->propagation;
+    const Clause *clause = clause_at(&filter->clauses, place);
+    uint64_t hints = 1;
+    *needed = 0;
+    for (unsigned k = 0; k < clause->length; k++) {
+        int variable = variable_of(clause->literals[k]);
+        if (variable == own || propagation->seen[variable] != UNSEEN) continue;
+        hints += propagation->positions[variable] >= floor ? filter->weights[variable].hints : 1;
+        ++*needed;
+    }
+    return hints;
+}
+
+// The clause, or a shorter one, after lemmas for what takes too many hints: so all fits into a line. What lies below the floor has unit
+// clauses.
+static Place fit(Filter *filter, Place place, int own, size_t floor, uint32_t *hints) {
+    const Propagation *propagation = &filter->propagation;
+    size_t needed;
+    uint64_t all = hints_for(filter, place, own, floor, &needed);
+    if (all > IDENTITIES_OF_A_LINE) {
+        size_t share = needed < MOST_NEEDED ? MOST_NEEDED / needed : 1;
+        for (unsigned k = 0; k < clause_at(&filter->clauses, place)->length; k++) {
+            int variable = variable_of(clause_at(&filter->clauses, place)->literals[k]);
+            if (variable == own || propagation->seen[variable] != UNSEEN || propagation->positions[variable] < floor) continue;
+            if (filter->weights[variable].hints <= share) continue;
+            give_lemma(filter, variable);
+            filter->weights[variable].hints = 1;
+        }
+        while ((all = hints_for(filter, place, own, floor, &needed)) > IDENTITIES_OF_A_LINE) place = shorten(filter, place, own);
+    }
+    *hints = (uint32_t)all;
+    return place;
+}
+
+static void use(Filter *filter, Place place, int own, size_t floor) {
+    const Propagation *propagation = &filter->propagation;
+    const Clause *clause = clause_at(&filter->clauses, place);
+    for (unsigned k = 0; k < clause->length; k++) {
+        int variable = variable_of(clause->literals[k]);
+        if (variable == own || propagation->seen[variable] != UNSEEN || propagation->positions[variable] < floor) continue;
+        filter->weights[variable].uses++;
+    }
+}
+
+// Of all that the conflict needs on the trail from the floor on: how much that is.
+static size_t count_uses(Filter *filter, Place conflict, size_t floor) {
+    const Propagation *propagation = &filter->propagation;
+    size_t count = 0;
+    use(filter, conflict, NONE, floor);
+    for (size_t position = propagation->trail.length; position-- > floor;) {
+        int variable = variable_of(propagation->trail.items[position]);
+        if (filter->weights[variable].uses == 0) continue;
+        use(filter, propagation->reasons[variable], variable, floor);
+        count++;
+    }
+    return count;
+}
+
+// Along the trail. What several clauses need gets a lemma, unless it is shown as quickly again: so few hints are written twice.
+static void weigh(Filter *filter, size_t floor, size_t worth) {
+    Propagation *propagation = &filter->propagation;
+    for (size_t position = floor; position < propagation->trail.length; position++) {
+        int variable = variable_of(propagation->trail.items[position]);
+        Weight *weight = &filter->weights[variable];
+        if (weight->uses == 0) continue;
+        propagation->reasons[variable] = fit(filter, propagation->reasons[variable], variable, floor, &weight->hints);
+        if ((uint64_t)(weight->uses - 1) * weight->hints <= worth || weight->hints == 1) continue;
+        give_lemma(filter, variable);
+        weight->hints = 1;
+    }
+}
+
+// The conflict, or a shorter one, whose chain fits into a line.
+static Place split(Filter *filter, Place conflict, size_t floor, size_t worth) {
+    const Propagation *propagation = &filter->propagation;
+    uint32_t hints;
+    if (filter->weights == NULL) filter->weights = zeroed((size_t)propagation->variables, sizeof *filter->weights);
+    if (count_uses(filter, conflict, floor) > MOST_NEEDED || floor > 0) {
+        weigh(filter, floor, worth);
+        conflict = fit(filter, conflict, NONE, floor, &hints);
+    }
+    for (size_t position = floor; position < propagation->trail.length; position++)
+        filter->weights[variable_of(propagation->trail.items[position])] = (Weight){0};
+    return conflict;
+}
+
+// For what the trace missed, and what that rests on, in the order of the trail.
+static void give_units(Filter *filter) {
+    Propagation *propagation = &filter->propagation;
+    Places *missing = &propagation->missing, *needed = &propagation->needed;
+    needed->length = 0;
+    for (size_t k = 0; k < missing->length; k++) {
+        PUSH(needed, missing->items[k]);
+        propagation->seen[variable_of(propagation->trail.items[missing->items[k]])] = NEEDED;
+    }
+    filter->spare.length = missing->length = 0;
+    propagation_need_all(propagation, &filter->spare);
+    for (size_t k = 0; k < needed->length; k++) PUSH(missing, needed->items[k]);
+    for (size_t k = 0; k < missing->length; k++) {
+        int variable = variable_of(propagation->trail.items[missing->items[k]]);
+        Place *reason = &propagation->reasons[variable];
+        if (clause_at(&filter->clauses, *reason)->length == 1) continue;
+        while (clause_at(&filter->clauses, *reason)->length > IDENTITIES_OF_A_LINE) *reason = shorten(filter, *reason, variable);
+        give_lemma(filter, variable);
+    }
+}
+
+// After a trace.
+Place lemmas_for(Filter *filter, Place conflict) {
+    Propagation *propagation = &filter->propagation;
+    size_t hints = filter->chain.length + propagation->missing.length;
+    if (propagation->missing.length > 0) give_units(filter);
+    if (hints <= IDENTITIES_OF_A_LINE) return conflict;
+    propagation_see(propagation, &filter->literals, ASSUMED);
+    conflict = split(filter, conflict, propagation->root, WORTH_A_LEMMA + filter->literals.length);
+    propagation_see(propagation, &filter->literals, UNSEEN);
+    return conflict;
+}
+
+// The empty clause is all that is needed. What it rests on gets no more unit clauses than it takes.
+void lemmas_refute(Filter *filter) {
+    filter->busy = true;
+    write_lemma(filter, split(filter, filter->propagation.conflict, 0, WORTH_A_LEMMA));
+    filter->refuted = true;
+}
