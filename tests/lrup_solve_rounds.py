@@ -319,7 +319,7 @@ next=$2/round-2 formula=$3; shift 3
 cat "$@" > /dev/null
 saved=$next.cnf
 """ + body, work)
-    answer = solve(["--lrupd", path, "-j", "2", generated("pigeons 11", work)], tested={**SMALL, "FIRST_WORDS": 50000})
+    answer = solve(["--lrupd", path, "-j", "1", generated("pigeons 11", work)], tested={**SMALL, "FIRST_WORDS": 50000})
     want((answer.status, answer.answers), (status, ["s UNKNOWN"] * (status == 0)), f"the answer {answer.said}")
     found = [line for line in [*answer.comments, answer.said] if re.search(cause, line)]
     want(len(found) > 0, True, f"a word on '{cause}' in\n{answer.out}{answer.said}")

@@ -106,7 +106,7 @@ void Checker::expect(const std::string &path) {
 void Checker::take_end(const std::string &words) {
     char *rest;
     child.status = int(strtol(words.c_str(), &rest, 10));
-    child.seconds = strtod(rest, nullptr);
+    child.seconds = 1e-6 * strtod(rest, nullptr);
     child.running = false;
 }
 

@@ -132,7 +132,7 @@ public:
     void read_on();                                         // what it says
     bool next_line(std::string &line);                      // of standard error, each once
     std::string last_line() const;                          // of standard error
-    void take_end(const std::string &words);                // of the front: the status as wait gives it, and seconds
+    void take_end(const std::string &words);                // of the front: the status as wait gives it, and microseconds
 
 private:
     struct Stream {

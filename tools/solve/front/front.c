@@ -45,14 +45,8 @@ static bool ended_with(int which, int status) {
            WEXITSTATUS(children[which].status) == status;
 }
 
-static void signal_all(int number) {
-    for (int k = 0; k < CLEANER; k++)
-        if (children[k].is_running) kill(-children[k].pid, number);
-}
-
 static void end_soon(void) {
-    if (!is_ending) alarm(GRACE);
-    is_ending = true;
+    if (!is_ending) is_ending = true, alarm(GRACE);
 }
 
 // What isn't read there isn't waited for.
@@ -126,18 +120,20 @@ static bool read_lines(void) {
     return count > 0;
 }
 
-static void take_end(int which, int status, double seconds) {
+static void take_end(int which, int status, const struct rusage *used) {
+    long microseconds = 1000000 * (used->ru_utime.tv_sec + used->ru_stime.tv_sec) + used->ru_utime.tv_usec + used->ru_stime.tv_usec;
     children[which].is_running = false;
     children[which].status = status;
     for (int k = 0; which == ENGINES && k < MOST_LAST && read_lines(); k++) {}
     if (which == LRUPD && ended_with(LRUPD, PROVED)) verdict = "s UNSATISFIABLE";
     if (which == LRUPD && assume && ended_with(LRUPD, PROVED_UNDER)) verdict = "s UNSATISFIABLE UNDER ASSUMPTIONS";
     if (which == LRUPD || (which == PROBE && !ended_with(PROBE, UNKNOWN))) end_soon();
-    say(text("%s %d %.6f\n", which == LRUPD ? "lrupd" : "probe", status, seconds));
+    say(text("%s %d %ld\n", which == LRUPD ? "lrupd" : "probe", status, microseconds));
 }
 
 static void take_signal(int number) {
-    if (number == SIGTSTP) signal_all(SIGSTOP), raise(SIGSTOP), signal_all(SIGCONT);
+    if (number == SIGTSTP && children[ENGINES].is_running)      // lrupd waits for them
+        kill(-children[ENGINES].pid, SIGSTOP), raise(SIGSTOP), kill(-children[ENGINES].pid, SIGCONT);
     is_late |= number == SIGALRM && is_ending;
     if (number == SIGTSTP || number == SIGCHLD || (number == SIGALRM && is_late)) return;
     if (number != SIGALRM) ended_by = number;
@@ -155,8 +151,7 @@ static void turn(void) {
     read_lines();
     for (pid_t pid; (pid = wait4(-1, &status, WNOHANG, &used)) > 0;)
         for (int k = 0; k < CLEANER; k++)
-            if (children[k].pid == pid) take_end(k, status, (double)(used.ru_utime.tv_sec + used.ru_stime.tv_sec) +
-                                                            1e-6 * (double)(used.ru_utime.tv_usec + used.ru_stime.tv_usec));
+            if (children[k].pid == pid) take_end(k, status, &used);
     if (!is_whole || verdict || is_faulty || !ended_with(PROBE, UNKNOWN)) return;
     is_model = satisfies(formula, true) && (!assume || satisfies(assume, false));
     is_faulty = !is_model;
@@ -170,25 +165,20 @@ static bool is_over(void) {
 
 // What it has started ends with it, or is ended.
 static void end(int which) {
-    pid_t pid = children[which].pid, found = pid ? 0 : -1;
+    pid_t pid = children[which].pid;
     if (children[which].is_running) kill(pid, SIGKILL);
-    for (int tries = 0; found >= 0 && tries < 200; tries++) {
-        if (tries == 100) kill(-pid, SIGKILL);
-        if ((found = waitpid(-pid, NULL, WNOHANG)) == 0) usleep(10000);
-    }
+    for (int tries = 0; pid && tries < 2000 && waitpid(-pid, NULL, WNOHANG) >= 0; tries++, usleep(1000))
+        if (tries == 1000) kill(-pid, SIGKILL);
 }
 
 static int answer(void) {
     bool has_refused = ended_with(ENGINES, 1), is_refused = !children[PROBE].is_running && !ended_with(PROBE, UNKNOWN);
-    int end_of_engines = children[ENGINES].is_running ? 0 : children[ENGINES].status;
+    int engines_end = children[ENGINES].is_running ? 0 : children[ENGINES].status;
     if (is_refused && !has_refused && !verdict && !ended_by) errx(1, "lrupd refuses the formula");
-    const char *signalled = WIFSIGNALED(end_of_engines) ? strsignal(WTERMSIG(end_of_engines)) : NULL;
     if (!value['q'] && is_faulty) puts("c lrup-engines has said what it may not");
-    else if (!value['q'] && signalled) printf("c lrup-engines ended by a signal: %s\n", signalled);
-    if (verdict || (!is_model && !has_refused)) puts(verdict ? verdict : "s UNKNOWN");
-    if (is_model && !verdict) printf("s SATISFIABLE%s", known == 0 ? "\nv" : "");
-    for (long k = 1; is_model && !verdict && k <= known; k++) printf(k % 10 == 1 ? "\nv %ld" : " %ld", k * assignment[k]);
-    if (is_model && !verdict) puts(" 0");
+    if (!value['q'] && WIFSIGNALED(engines_end)) printf("c lrup-engines ended by a signal: %s\n", strsignal(WTERMSIG(engines_end)));
+    if (is_model) print_model();
+    else if (verdict || !has_refused) puts(verdict ? verdict : "s UNKNOWN");
     errno = 0;
     if (fflush(stdout) != 0 || ferror(stdout)) err(1, "cannot write the answer");
     if (ended_by) signal(ended_by, SIG_DFL), raise(ended_by), sigprocmask(SIG_SETMASK, &mask_before, NULL);

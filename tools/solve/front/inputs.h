@@ -88,3 +88,9 @@ static bool satisfies(const char *path, bool is_formula) {
     }
     return is_good && clauses == 0 && variables == known;
 }
+
+static void print_model(void) {
+    printf(known > 0 ? "s SATISFIABLE" : "s SATISFIABLE\nv");
+    for (long k = 1; k <= known; k++) printf(k % 10 == 1 ? "\nv %ld" : " %ld", k * assignment[k]);
+    puts(" 0");
+}
