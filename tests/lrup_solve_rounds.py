@@ -262,7 +262,7 @@ def folder_removed(work: Path) -> None:
         return want((answer.answers, re.search(r"cannot (open|make) \S*/round-\d+\.", answer.said) is not None), ([], True),
                     f"what is said: {answer.said}")
     want_answer(answer, 0)
-    want_cause(answer, r"^lrupd ended with status [459]$|^engine \d is lost: its filter stopped: cannot open ")
+    want_cause(answer, r"^lrupd ended with status [459]$|^lrupd hasn't taken|^engine \d is lost: its filter stopped: cannot open ")
 
 
 def is_whole(path: Path) -> bool:
