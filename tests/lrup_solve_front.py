@@ -12,15 +12,16 @@ import os
 import re
 import signal
 import stat
+import subprocess
 import sys
 import time
 from pathlib import Path
-from typing import Any, List, Optional, Sequence
+from typing import Any, List, Sequence
 
 sys.dont_write_bytecode = True
-from harness import FOUR, LIMIT, Row, dimacs, run, started, until, want, words_given, written
+from harness import FOUR, LIMIT, Row, run, started, until, want, words_given, written
 from proof_forms import read_formula
-from solving import PROGRAM, SOLVE, Answer, before_lrupd, in_place_of_lrupd, is_alive, none_left, marked, run_built, want_answer
+from solving import PROGRAM, SOLVE, Answer, before_lrupd, marked, none_left, run_built
 
 words_given(__doc__, most=2)
 SATISFIABLE = "p cnf 3 4\nc a comment\n1 2 0\n-1\n2 0 1 -3 0\nc 3 0\n3 -2 1 0\n"       # by 1 2, and either 3
@@ -174,7 +175,7 @@ def signalled(number: int, body: str, work: Path) -> None:
     formula, files, mark = written(FOUR, work), work / "temporary", marked(work)
     files.mkdir()
     with started([SOLVE, "--lrupd", PROGRAM, "--engines", program(f"open({str(work / 'begun')!r}, 'w')\n" + body, work), formula],
-                 env={**os.environ, "TMPDIR": str(files)}, stdout=-1, text=True) as running:
+                 env={**os.environ, "TMPDIR": str(files)}, stdout=subprocess.PIPE, stderr=subprocess.DEVNULL, text=True) as running:
         until("it has begun", lambda: (work / "begun").exists())
         running.send_signal(number)
         out = running.communicate(timeout=LIMIT)[0]

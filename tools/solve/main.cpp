@@ -389,7 +389,7 @@ void Run::verdict() {
     finish(UNKNOWN_ANSWER, is_unknown ? "lrupd hasn't taken the proof" : "lrupd " + checker.child.end());
 }
 
-// Signals are taken from when there is something to end: until then one ends this process, and with it the first lrupd.
+// Signals are taken from when there is something to end.
 void Run::prepare() {
     checker_program = find_checker(options.lrupd);
     probe.expect(front.folder + "/1");
