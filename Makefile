@@ -9,6 +9,7 @@ SOLVER := examples/solver/out/solver
 EXACT := tools/exact/out/exact
 TRIM := tools/trim/out/lrup-trim
 SOLVE := tools/solve/out/lrup-solve
+ENGINES = $(dir $(SOLVE))lrup-engines
 SOLVE_FLAGS ?= -O2
 # What of the filter is part of lrup-solve, and of lrup-trim.
 FILTER := $(filter-out tools/exact/main.c tools/exact/chain.c,$(wildcard tools/exact/*.c))
@@ -57,7 +58,8 @@ install: build exact trim ## use: install lrupd, lrup-chain, lrup-exact, lrup-tr
 	install -m 755 $(TRIM) "$(DESTDIR)$(PREFIX)/bin"
 	install -m 644 docs/lrupd.1 docs/lrup-chain.1 docs/lrup-exact.1 docs/lrup-trim.1 "$(DESTDIR)$(PREFIX)/share/man/man1"
 	@if $(MAKE) -s solve; then \
-	install -m 755 $(SOLVE) "$(DESTDIR)$(PREFIX)/bin/lrup-solve" && \
+	install -d "$(DESTDIR)$(PREFIX)/libexec/lrupd" && install -m 755 $(SOLVE) "$(DESTDIR)$(PREFIX)/bin/lrup-solve" && \
+	install -m 755 $(ENGINES) "$(DESTDIR)$(PREFIX)/libexec/lrupd/lrup-engines" && \
 	install -m 644 docs/lrup-solve.1 "$(DESTDIR)$(PREFIX)/share/man/man1"; else echo "lrup-solve isn't installed"; fi
 	sed -i 's/^\.Os$$/.Os lrupd $(VERSION)/' "$(DESTDIR)$(PREFIX)"/share/man/man1/lrup*.1
 
@@ -97,16 +99,17 @@ trim: c-and-python ## build: lrup-trim, cores and smaller proofs of recorded str
 	@mkdir -p $(dir $(TRIM))
 	@$(CC) -std=c11 -O2 -Wall -Wextra -o $(TRIM).new tools/trim/*.c $(FILTER) && mv $(TRIM).new $(TRIM)
 
-# Not verified. Engines and filters aren't trusted; the process that starts lrupd and prints its answer is believed.
+# Not verified. The front, which starts lrupd and prints the answer, is believed; lrup-engines isn't.
 solve: solve-objects ## build: lrup-solve, from a formula to a proved verdict, at tools/solve/out; wants CaDiCaL's library
-	@$(CXX) -std=c++17 $(SOLVE_FLAGS) -Wall -Wextra -DVERSION='"$(VERSION)"' -o $(SOLVE).new $(ALONE) $(SOLVE).objects/*.o -lcadical && \
-	mv $(SOLVE).new $(SOLVE)
+	@$(CXX) -std=c++17 $(SOLVE_FLAGS) -Wall -Wextra -DVERSION='"$(VERSION)"' -o $(ENGINES).new $(ALONE) $(SOLVE).objects/*.o -lcadical && \
+	mv $(ENGINES).new $(ENGINES)
 
-# What both look for beside them is there, too: lrupd.
+# And the front, with what it looks for beside it, lrupd.
 solve-objects: c-and-python libcadical
 	@mkdir -p $(SOLVE).objects
 	@cd $(SOLVE).objects && $(CC) -std=c11 -D_GNU_SOURCE $(SOLVE_FLAGS) -Wall -Wextra -c $(abspath $(wildcard tools/solve/*.c) $(FILTER))
 	@ln -sfr $(PROGRAM) $(dir $(SOLVE))lrupd
+	@$(CC) -std=c11 $(SOLVE_FLAGS) -Wall -Wextra -o $(SOLVE).new tools/solve/front/front.c && mv $(SOLVE).new $(SOLVE)
 
 # It isn't installed: it goes with the MPI of where it was built.
 solve-mpi: solve-objects mpicxx ## build: lrup-solve-mpi, the same in several processes on one host or more; wants MPI, too
@@ -129,7 +132,7 @@ trim-test: $(BUILT) solver exact trim ## check: lrup-trim, on 300 random runs in
 # Without CaDiCaL's library nothing is run, and without MPI nothing of lrup-solve-mpi. With MPI= only what takes seconds there, as in
 # the gate.
 MPI ?= yes
-SOLVE_TESTS := lrup_solve_rounds lrup_solve lrup_solve_solvers lrup_solve_mpi
+SOLVE_TESTS := lrup_solve_rounds lrup_solve lrup_solve_solvers lrup_solve_front lrup_solve_mpi
 .PHONY: $(SOLVE_TESTS)
 solve-test: $(SOLVE_TESTS) ## check: lrup-solve, and what may happen to it, with 300 random formulas
 
@@ -194,8 +197,8 @@ packages: ## check: install, as root, Debian's packages that the tests want
 # 'N passed, M failed'.
 # Side by side, those that take longest first, and two more than there are cores, since most of them wait now and then; what each
 # one prints comes when it has ended.
-TESTS := lrup_solve_rounds sweep filter_mutants lrup_solve lrup_solve_solvers filter_rounds trim-test lrup_solve_mpi leaks \
-	filter_chains filter_streams checkpoints rounds examples solver-test instructions neighbours live
+TESTS := lrup_solve_rounds sweep filter_mutants lrup_solve lrup_solve_solvers filter_rounds trim-test lrup_solve_front lrup_solve_mpi \
+	leaks filter_chains filter_streams checkpoints rounds examples solver-test instructions neighbours live
 SIDE_BY_SIDE := --output-sync=target -j $(shell expr $$(nproc) + 2)
 test: SHELL := /bin/bash
 test: toolchain pages solver exact trim ## check: the gate, 25 to 100 minutes: every proof, edit and test; has to pass before a push

@@ -267,6 +267,7 @@ def beside(work: Path) -> None:
     """lrupd is found beside the program, then on the PATH."""
     for folder in ("one", "two"):
         (work / folder).mkdir()
+    shutil.copy(SOLVE.with_name("lrup-engines"), work / "one")
     words: List[object] = [shutil.copy(SOLVE, work / "one"), example("four-clause.cnf")]
     where = {**os.environ, "PATH": str(work / "two")}
     out, said, status = run(words, env=where)
@@ -548,8 +549,22 @@ def ignored(number: int, work: Path) -> None:
     want("ended by a signal: Terminated" in answer.comments, True, f"a word on the other signal in\n{answer.out}")
 
 
+def stopped(work: Path) -> None:
+    """As by Ctrl-Z: engines and filters stand still with the front, which stands in a group of its own, and go on with it."""
+    with Running(generated("pigeons 11", work), work) as running:
+        pids = [running.process.pid, *(running.children[name] for name in ("lrup-engines", "engine 1", "filter 2"))]
+        states = lambda: {of_process(pid, "stat").rsplit(")", 1)[-1].split()[0] for pid in pids}
+        running.process.send_signal(signal.SIGTSTP)
+        until("all stand", lambda: states() == {"T"})
+        running.process.send_signal(signal.SIGCONT)
+        until("all go on", lambda: "T" not in states())
+        running.process.terminate()
+        answer = running.end()
+    want((answer.answers, answer.status), (["s UNKNOWN"], -signal.SIGTERM), "the end")
+
+
 def left_alone(work: Path) -> None:
-    """Where the first process is killed the others end, too."""
+    """Where the front is killed the others end, too."""
     with Running(generated("pigeons 11", work), work) as running:
         running.process.kill()
         want(running.end().status, -signal.SIGKILL, "the end")
@@ -847,7 +862,8 @@ def what_happens() -> List[Row]:
             ("filter 1 killed", killed, ["filter 1"], kill, 20, "engine 1 is lost"),
             ("filter 2 killed", killed, ["filter 2"], term, 20, "engine 2 is lost"),
             ("an engine and a filter killed", killed, ["engine 1", "filter 2"], kill, 0, "no engine is left"),
-            ("the first process killed", left_alone), ("who gives way", gives_way), ("time", time_is_up), ("a full row", row_is_full),
+            ("the front killed", left_alone), ("stopped", stopped),
+            ("who gives way", gives_way), ("time", time_is_up), ("a full row", row_is_full),
             ("a full disk for streams", full, ["-j", "1", "--proofs", "{work}"], os.devnull, 4096, "round-1.stream-1: File too large"),
             ("a full disk for the answer", full, [], "/dev/full", 0, "cannot write the answer"),
             ("a closed output", closed, "bmc.cnf"), ("a closed output, satisfiable", closed, "assumed.cnf"),

@@ -187,7 +187,7 @@ def shows(word: str, beginning: str, work: Path) -> None:
 
 
 def bad_formula(work: Path) -> None:
-    """lrupd's words."""
+    """lrupd's words, and what is known of the file."""
     formula = written("p cnf 2 1\n1 3 0\n", work)
     known = f"({formula}, line 2: variable 3, above the 2 of the header, which has to be 'p cnf 3 1')"
     said = f"{run([PROGRAM, formula, '/dev/null']).err.rstrip()} {known}\n"

@@ -262,7 +262,7 @@ def folder_removed(work: Path) -> None:
         return want((answer.answers, re.search(r"cannot (open|make) \S*/round-\d+\.", answer.said) is not None), ([], True),
                     f"what is said: {answer.said}")
     want_answer(answer, 0)
-    want_cause(answer, r"^lrupd ended with status [459]$|^engine \d is lost: its filter stopped: cannot open ")
+    want_cause(answer, r"^lrupd ended with status [459]$|^lrupd hasn't taken|^engine \d is lost: its filter stopped: cannot open ")
 
 
 def is_whole(path: Path) -> bool:
@@ -275,14 +275,14 @@ def forged(work: Path) -> None:
     """A contradiction stands in the place of what lrupd has saved, before anybody has read that: the filters miss their clauses
     there. lrupd doesn't read it, and no verdict rests on it."""
     with Running(["-j", "2", generated("pigeons 11", work)], 1, work, True, FIRST_WORDS=50000) as running:
-        running.process.send_signal(signal.SIGSTOP)
+        os.kill(running.children["lrup-engines"], signal.SIGSTOP)
         running.go_on()
         number, = running.rounds("sizes")
         saved, = running.folder.glob(f"*/round-{number}.cnf")
         until("it is saved", lambda: is_whole(saved))
         saved.unlink()
         written("p cnf 2 2\n1 0\n-1 0\n", saved.parent, saved.name)
-        running.process.send_signal(signal.SIGCONT)
+        os.kill(running.children["lrup-engines"], signal.SIGCONT)
         answer = running.end()
     want_answer(answer, 0)
     lost = [re.search(r"lrupd hasn't saved the clause \d+, which the solver has$", line) is not None for line in answer.lost()]
@@ -319,7 +319,7 @@ next=$2/round-2 formula=$3; shift 3
 cat "$@" > /dev/null
 saved=$next.cnf
 """ + body, work)
-    answer = solve(["--lrupd", path, "-j", "2", generated("pigeons 11", work)], tested={**SMALL, "FIRST_WORDS": 50000})
+    answer = solve(["--lrupd", path, "-j", "1", generated("pigeons 11", work)], tested={**SMALL, "FIRST_WORDS": 50000})
     want((answer.status, answer.answers), (status, ["s UNKNOWN"] * (status == 0)), f"the answer {answer.said}")
     found = [line for line in [*answer.comments, answer.said] if re.search(cause, line)]
     want(len(found) > 0, True, f"a word on '{cause}' in\n{answer.out}{answer.said}")
@@ -347,8 +347,8 @@ def stays_small(work: Path) -> None:
     """From round 10 to round 60, of some 500 KB of streams each, with clauses that the engines soon delete."""
     tested = {"FIRST_WORDS": 100000, "SET": "reduceint=20 reducetarget=95"}
     with Running(["-j", "2", generated("random 300 5", work)], 10, work, **tested) as running:
-        sizes = lambda: {"files": in_files(running.process.pid), "first": resident(running.process.pid),
-                         **{name: resident(pid) for name, pid in running.children.items() if name.startswith(("filter", "engine"))}}
+        sizes = lambda: {"files": in_files(running.children["lrup-engines"]), "front": resident(running.process.pid),
+                         **{name: resident(pid) for name, pid in running.children.items() if "engine" in name or "filter" in name}}
         before = sizes()
         running.number = 60
         until("round 60", running.has_come)

@@ -23,7 +23,8 @@ from typing import Dict, List, Mapping, Sequence
 sys.dont_write_bytecode = True
 from harness import (EXAMPLES, FOUR, LIMIT, ROOT, Row, compiled, dimacs, example, generated, needs, run, started, until, want, words_given,
                      written)
-from solving import PROGRAM, SOLVE, check_again, is_alive, of_process, random_formula, run_built, solve, want_answer
+from solving import (PROGRAM, SOLVE, check_again, marked, none_left, of_process, processes_of, random_formula, run_built, solve,
+                     want_answer)
 
 words_given(__doc__, most=2)
 CADICAL, AS_TEXT = "cadical -q %formula %proof", "cadical -q --no-binary %formula %proof"
@@ -236,27 +237,6 @@ def after_a_model(work: Path) -> None:
     long = "printf 's SATISFIABLE\\nv'; yes ' 2' | head -n 100000 | tr -d '\\n'; echo ' 0'; exit 10 # %formula %proof"
     want_answer(solve([*by([long]), formula]), 10, formula)
     want_answer(solve([*by([MODEL.format("-2 0") + " # %formula %proof", CADICAL]), formula]), 10, formula)
-
-
-def marked(work: Path) -> str:
-    """What the environment of all has that is started from now on."""
-    os.environ["LRUP_MARK"] = work.name
-    return f"LRUP_MARK={work.name}"
-
-
-def processes_of(mark: str) -> List[int]:
-    found = []
-    for place in Path("/proc").glob("[0-9]*"):
-        try:
-            if mark.encode() in (place / "environ").read_bytes() and is_alive(int(place.name)):
-                found.append(int(place.name))
-        except OSError:
-            pass
-    return found
-
-
-def none_left(mark: str) -> None:
-    until("no process of the run is left", lambda: not processes_of(mark))
 
 
 def standing(command: str, work: Path) -> None:

@@ -23,7 +23,7 @@ PROGRAM = os.path.abspath(sys.argv[1]) if len(sys.argv) > 1 else ""
 FLAGS = sys.argv[2] if len(sys.argv) > 2 else "-O2"
 COMPILERS = [os.environ.get(name, "") for name in ("CC", "CXX")]
 OUT = ROOT / "tools" / "solve" / "out" / re.sub(r"\W+", "", "".join(["tested", *COMPILERS, FLAGS]))
-SOLVE, TESTED = OUT / "lrup-solve", OUT / "lrup-solve-tested"
+SOLVE, TESTED = OUT / "lrup-solve", OUT / "tested" / "lrup-solve"
 EARLY = "elimint=10 probeint=10 subsumeint=10 compactint=10 reduceint=20 rephaseint=20"
 ELIMINATING = "elimint=1 compact=0"
 ANSWERS = {0: VERDICTS[3], 10: "s SATISFIABLE", 20: VERDICTS[0]}
@@ -113,12 +113,14 @@ def of_process(pid: int, name: str) -> str:
 
 
 def children_of(pid: int) -> Dict[str, int]:
-    """Their names, with the ids. Of two lrupd the one counts that reads streams."""
+    """Their names, with the ids, and so what the front has started has. Of two lrupd the one counts that reads streams."""
     found = {}
     for child in map(int, of_process(pid, f"task/{pid}/children").split()):
         title = of_process(child, "comm").strip()
-        if title and (title != "lrupd" or "/dev/fd/" in of_process(child, "cmdline")):
+        if title and (title != "lrupd" or "--rounds" in of_process(child, "cmdline")):
             found[title] = child
+        if title in ("lrup-engines", "lrup-solve-mpi"):
+            found.update(children_of(child))
     return found
 
 
@@ -137,13 +139,35 @@ def waits_of(pid: int) -> int:
 
 def goes_on(process: "subprocess.Popen[Any]") -> None:
     """Until it has come back to its loop several times, each of which waits, or has ended."""
-    before = waits_of(process.pid)
-    until("the program goes on", lambda: process.poll() is not None or waits_of(process.pid) > before + 10)
+    looping = children_of(process.pid).get("lrup-engines", 0)
+    before = waits_of(looping)
+    until("the program goes on", lambda: process.poll() is not None or waits_of(looping) > before + 10)
 
 
 def is_alive(pid: int) -> bool:
     state = of_process(pid, "stat").rsplit(")", 1)[-1].split()
     return bool(state) and state[0] not in "ZX"
+
+
+def marked(work: Path) -> str:
+    """What the environment of all has that is started from now on."""
+    os.environ["LRUP_MARK"] = work.name
+    return f"LRUP_MARK={work.name}"
+
+
+def processes_of(mark: str) -> List[int]:
+    found = []
+    for place in Path("/proc").glob("[0-9]*"):
+        try:
+            if mark.encode() in (place / "environ").read_bytes() and is_alive(int(place.name)):
+                found.append(int(place.name))
+        except OSError:
+            pass
+    return found
+
+
+def none_left(mark: str) -> None:
+    until("no process of the run is left", lambda: not processes_of(mark))
 
 
 def kill_children(children: Mapping[str, int], names: Sequence[str], number: int = signal.SIGKILL) -> None:
@@ -160,17 +184,17 @@ def kill_children(children: Mapping[str, int], names: Sequence[str], number: int
 
 def is_built(path: Path) -> bool:
     """Whether it is younger than what it is made of."""
-    sources = [ROOT / "Makefile", ROOT / "VERSION", *ROOT.glob("tools/solve/*.*"), *ROOT.glob("tools/exact/*.*")]
+    sources = [ROOT / "Makefile", ROOT / "VERSION", *ROOT.glob("tools/solve/**/*.[ch]*"), *ROOT.glob("tools/exact/*.*")]
     return path.exists() and path.stat().st_mtime > max(file.stat().st_mtime for file in sources)
 
 
 def build(target: str, for_tests: bool) -> Optional[str]:
     """None, or why there is nothing to be tested."""
-    OUT.mkdir(parents=True, exist_ok=True)
+    TESTED.parent.mkdir(parents=True, exist_ok=True)
     with (OUT / "lock").open("w") as lock:
         fcntl.flock(lock, fcntl.LOCK_EX)
         for path, flags in ((SOLVE, FLAGS), (TESTED, FLAGS + " -DSOLVE_TESTS"))[:1 + for_tests]:
-            if is_built(path.with_name(path.name + target[len("solve"):])):
+            if is_built(path.with_name("lrup-engines" if target == "solve" else "lrup-solve-mpi")):
                 continue
             out, err, status = run(["make", "-s", "-C", ROOT, target, f"SOLVE={path.relative_to(ROOT)}", f"SOLVE_FLAGS={flags}"],
                                    limit=600)

@@ -46,7 +46,7 @@ done
 # dpkg-shlibdeps wants a source package around it, and no script.
 mkdir "$work/debian"
 printf 'Source: lrupd\n\nPackage: lrupd\nArchitecture: any\n' > "$work/debian/control"
-depends=$(cd "$work" && find "$root/usr/bin" ! -name lrup-chain -type f -exec dpkg-shlibdeps -O {} + | sed -n 's/^shlibs:Depends=//p')
+depends=$(cd "$work" && find "$root/usr" -path "$root/usr/share" -prune -o ! -name lrup-chain -type f -exec dpkg-shlibdeps -O {} + | sed -n 's/^shlibs:Depends=//p')
 cat > "$root/DEBIAN/control" << END
 Package: lrupd
 Version: $version

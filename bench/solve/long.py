@@ -37,10 +37,15 @@ def rounds_of(text: str) -> List[Round]:
     return [Round(int(number), int(clauses), int(words), int(carried), float(pause)) for number, clauses, words, carried, pause in found]
 
 
+def children_of(pid: str) -> List[str]:
+    """And theirs."""
+    children = Path(f"/proc/{pid}/task/{pid}/children").read_text().split()
+    return children + [other for child in children for other in children_of(child)]
+
+
 def look(pid: int, began: float, samples: Samples) -> None:
     try:
-        children = Path(f"/proc/{pid}/task/{pid}/children").read_text().split()
-        for child in [str(pid), *children]:
+        for child in [str(pid), *children_of(str(pid))]:
             facts = dict(re.findall(r"^(\w+):\s+(.*)$", Path(f"/proc/{child}/status").read_text(), re.M))
             samples.setdefault(facts["Name"], []).append((time.monotonic() - began, int(facts["RssAnon"].split()[0]) / 1000))
     except (OSError, KeyError):

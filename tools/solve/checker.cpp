@@ -1,12 +1,12 @@
-// Unverified, as all of this solver. lrupd: where it is, its words, what it reads and says.
+// Unverified, as all of this solver. The front, and lrupd, which it starts: what they say, and what lrupd reads.
 #include <algorithm>
 #include <cerrno>
-#include <csignal>
-#include <cstdio>
 #include <cstdlib>
+#include <cstring>
 
 #include <fcntl.h>
 #include <sys/ioctl.h>
+#include <sys/socket.h>
 #include <sys/stat.h>
 #include <unistd.h>
 
@@ -17,17 +17,17 @@ namespace {
 const int STREAM_PIPE = 1 << 20, PIECE = 1 << 16;
 const uint64_t DROPPED = UINT64_C(1) << 22, PAGE = 4096;    // bytes that are given back at once
 const char TRIES[] = "1000000";     // a stream waits for another one's line up to a minute
+const int FRONTS_WORDS = 5;
+
+void append(int &file, const std::string &path, std::string &text) {
+    char bytes[4096];
+    if (file < 0 && (file = open(path.c_str(), O_RDONLY | O_CLOEXEC)) >= 0) kept_open(file);
+    for (ssize_t count; (count = read(file, bytes, sizeof bytes)) > 0;) text.append(bytes, size_t(count));
+}
 
 bool is_program(const std::string &path) {
     struct stat found;
     return stat(path.c_str(), &found) == 0 && S_ISREG(found.st_mode) && access(path.c_str(), X_OK) == 0;
-}
-
-std::string folder_of_this() {
-    std::vector<char> path(4096);
-    ssize_t length = readlink("/proc/self/exe", path.data(), path.size());
-    std::string whole(path.data(), length > 0 ? size_t(length) : 0);
-    return whole.substr(0, whole.rfind('/') + 1);
 }
 
 std::string on_the_path(const std::string &name) {
@@ -42,36 +42,50 @@ std::string on_the_path(const std::string &name) {
     return "";
 }
 
-void append(int file, std::string &text) {
-    char bytes[4096];
-    for (ssize_t count; (count = read(file, bytes, sizeof bytes)) > 0;) text.append(bytes, size_t(count));
 }
 
-[[noreturn]] void run_program(const std::string &program, const std::vector<std::string> &words, int out, int err) {
-    dup2(open("/dev/null", O_RDONLY), STDIN_FILENO);
-    dup2(out, STDOUT_FILENO);
-    dup2(err, STDERR_FILENO);
-    std::vector<char *> list = { const_cast<char *>(program.c_str()) };
-    for (const std::string &word : words) list.push_back(const_cast<char *>(word.c_str()));
-    list.push_back(nullptr);
-    execv(program.c_str(), list.data());
-    fprintf(stderr, "%s: cannot start %s: %s\n", program_name, program.c_str(), error_text().c_str());
-    _exit(127);
+Front front;
+
+std::string folder_of_this() {
+    std::vector<char> path(4096);
+    ssize_t length = readlink("/proc/self/exe", path.data(), path.size());
+    std::string whole(path.data(), length > 0 ? size_t(length) : 0);
+    return whole.substr(0, whole.rfind('/') + 1);
 }
 
-}
-
+// Which one the front starts.
 std::string find_checker(const char *given) {
-    if (given) {
-        std::string found = std::string(given).find('/') != std::string::npos ? given : on_the_path(given);
-        if (!is_program(found)) refuse("no program that can be run: " + quoted(given));
-        return absolute(found);
+    std::string found = front.lrupd.find('/') == std::string::npos ? on_the_path(front.lrupd) : front.lrupd;
+    if (is_program(found)) return absolute(found);
+    if (given) refuse("no program that can be run: " + quoted(given));
+    refuse("no lrupd, neither beside this program nor on the PATH: --lrupd says where, or `make build` makes it");
+}
+
+void Front::read_words(int &count, char **&words) {
+    if (count <= FRONTS_WORDS || strcmp(words[1], "--front") != 0) return;
+    folder = words[2];
+    lrupd = words[3];
+    formula = words[4];
+    assumptions = words[5];
+    count -= FRONTS_WORDS;
+    words += FRONTS_WORDS;
+}
+
+void Front::say(const std::string &line) const {
+    puts(line.c_str());
+    fflush(stdout);
+}
+
+void Front::read_on(Checker &probe, Checker &checker) {
+    char bytes[4096];
+    for (ssize_t count; (count = recv(STDOUT_FILENO, bytes, sizeof bytes, MSG_DONTWAIT)) > 0;) unread.append(bytes, size_t(count));
+    for (size_t end; (end = unread.find('\n')) != std::string::npos; unread.erase(0, end + 1)) {
+        std::string line = unread.substr(0, end), name = line.substr(0, line.find(' ')), rest = line.substr(line.find(' ') + 1);
+        if (name == "probe") probe.take_end(rest);
+        if (name == "lrupd") checker.take_end(rest);
+        if (name == "stop" || name == "signal") stopped = rest;
+        by_signal |= name == "signal";
     }
-    std::string beside = folder_of_this() + "lrupd";
-    if (is_program(beside)) return beside;
-    std::string found = on_the_path("lrupd");
-    if (found.empty()) refuse("no lrupd, neither beside this program nor on the PATH: --lrupd says where, or `make build` makes it");
-    return absolute(found);
 }
 
 std::string sizes_text(size_t streams, Row row) {
@@ -83,29 +97,33 @@ std::string tries() {
     return given ? given : TRIES;
 }
 
-void Checker::start(const std::string &program, std::vector<std::string> words, std::vector<int> kept,
-                    const std::vector<int> &files) {
-    std::vector<int> readers;
+void Checker::expect(const std::string &path) {
+    output = path;
+    child.pid = ELSEWHERE;
+    child.running = true;
+}
+
+void Checker::take_end(const std::string &words) {
+    char *rest;
+    child.status = int(strtol(words.c_str(), &rest, 10));
+    child.seconds = 1e-6 * strtod(rest, nullptr);
+    child.running = false;
+}
+
+void Checker::open_streams(const std::vector<int> &files) {
+    streams.clear();
     for (int file : files) {
-        Pipe pipe = make_pipe(STREAM_PIPE);
-        fcntl(pipe.write, F_SETFL, O_NONBLOCK);
-        streams.push_back({ file, pipe.write, "" });
-        words.push_back("/dev/fd/" + std::to_string(pipe.read));
-        readers.push_back(pipe.read);
+        streams.push_back({ file, -1, next + ".stream-" + std::to_string(streams.size() + 1) });
+        create_pipe(streams.back().path);
     }
-    kept.insert(kept.end(), readers.begin(), readers.end());
-    out = make_pipe(0);
-    err = make_pipe(0);
-    std::vector<int> all = kept;
-    all.insert(all.end(), { out.write, err.write });
-    if (begin(child, "lrupd", all)) {
-        for (int file : kept) fcntl(file, F_SETFD, 0);      // lrupd opens them by their numbers
-        run_program(program, words, out.write, err.write);
-    }
-    for (int &file : readers) close_file(file);
-    close_file(out.write);
-    close_file(err.write);
-    for (int file : { out.read, err.read }) fcntl(file, F_SETFL, O_NONBLOCK);
+}
+
+void Checker::start(Row row, const std::vector<int> &files) {
+    next = front.folder + "/round-1";
+    open_streams(files);
+    std::string sizes = sizes_text(files.size(), row);
+    front.say("check " + sizes.substr(0, sizes.size() - 1) + " " + tries());
+    expect(front.folder + "/2");
 }
 
 // Between rounds lrupd opens the sizes first, and then the streams, in order. Each open waits for somebody who writes.
@@ -121,11 +139,7 @@ bool Checker::awaits_sizes() {
 
 // Where lrupd has ended meanwhile that is seen soon.
 void Checker::begin_round(Row row, const std::vector<int> &files) {
-    streams.clear();
-    for (int file : files) {
-        streams.push_back({ file, -1, next + ".stream-" + std::to_string(streams.size() + 1) });
-        create_pipe(streams.back().path);
-    }
+    open_streams(files);
     std::string text = sizes_text(files.size(), row);
     if (write(sizes, text.data(), text.size()) < 0 && errno != EPIPE) refuse("cannot write the sizes of a round: " + error_text());
     close_file(sizes);
@@ -163,20 +177,10 @@ uint64_t Checker::read_of(size_t number) const {
     return stream.fed - std::min<uint64_t>(stream.fed, uint64_t(waiting));
 }
 
-std::vector<pollfd> Checker::files() const {
-    std::vector<pollfd> list;
-    for (int file : { out.read, err.read })
-        if (file >= 0) list.push_back({ file, POLLIN, 0 });
-    return list;
-}
-
 void Checker::read_on() {
-    if (out.read < 0) return;
-    append(out.read, report);
-    append(err.read, said);
-    if (!child.ended()) return;
-    close_file(out.read);
-    close_file(err.read);
+    if (child.pid == 0) return;
+    append(out, output + ".out", report);
+    append(err, output + ".said", said);
 }
 
 bool Checker::next_line(std::string &line) {

@@ -1,11 +1,11 @@
-// Unverified. Where this says 's UNSATISFIABLE', lrupd ended with status 0 on that formula: engines and filters are trusted for
-// nothing. That this process copies a formula unchanged, starts lrupd on it, and prints its answer, is believed.
+// lrup-engines: unverified, and trusted for nothing. The front, which starts it, starts lrupd, too, and says the answer (front/front.c).
 //
 //     engine process --pipe: its proof--> filter process --file: LRUP--> first process --pipe--> lrupd
-//           ^                                   |
-//           +------ outbox, shared memory <-----+    each filter writes its own, each engine reads all
+//           ^                                   |                             |
+//           +------ outbox, shared memory <-----+                             +--- socket ---- front
+//              each filter writes its own, each engine reads all
 //
-// The first process reads the formula, starts the others, feeds lrupd, and watches them all. Whatever happens to one of them is
+// The first process reads the formula, starts engines and filters, feeds lrupd, and watches them all. Whatever happens to one of them is
 // an event of its loop; whatever ends it ends them all. A run goes on in rounds (rounds.cpp).
 #include <algorithm>
 #include <cerrno>
@@ -47,28 +47,17 @@ void copy_name(char (&place)[LONGEST_PATH], const std::string &name) {
 
 // Before anything is solved.
 
-// A path that can be read more than once: what is no file on a disk is copied to memory, or to where the record is kept.
-std::string Run::again(const std::string &path, const char *kept_as) {
+// By which it can be read more than once: what is no file on a disk the front has copied, and that is kept where the record is.
+std::string Run::again(const std::string &path, const std::string &fronts, const char *kept_as) {
     if (is_read_again(path)) return path[0] == '-' ? "./" + path : path;
-    std::string copied = options.proofs ? std::string(options.proofs) + "/" + kept_as : "", begun = unfinished(copied);
-    int file = open_input(path), copy = options.proofs ? create_file(begun) : file_in_memory();
-    copy_file(file, title(path), copy);
+    if (!options.proofs) return fronts;
+    std::string copied = std::string(options.proofs) + "/" + kept_as, begun = unfinished(copied);
+    int file = open_input(fronts), copy = create_file(begun);
+    copy_file(file, kept_as, copy);
     close(file);
-    if (options.proofs) {
-        close_file(copy);
-        if (rename(begun.c_str(), copied.c_str()) != 0) refuse("cannot write " + copied + ": " + error_text());
-        return copied;
-    }
-    seal(copy);
-    copies.push_back(copy);
-    return "/dev/fd/" + std::to_string(copy);
-}
-
-// lrupd takes no word that isn't UTF-8: then it has an open file.
-std::string Run::word_of(const std::string &path) {
-    if (is_utf8(path)) return path;
-    copies.push_back(kept_open(open_input(path)));
-    return OPEN_FILES + std::to_string(copies.back());
+    close_file(copy);
+    if (rename(begun.c_str(), copied.c_str()) != 0) refuse("cannot write " + copied + ": " + error_text());
+    return copied;
 }
 
 // Of an earlier run in the folder nothing is removed until they are read: they may come from there, by a pipe.
@@ -77,11 +66,9 @@ void Run::read_inputs() {
     if (options.assume) inputs.push_back(options.assume);
     for (const std::string &path : inputs) check_input(path);
     if (options.proofs) open_record(options.proofs, inputs);
-    formula_path = again(inputs[0], "formula.cnf");
-    if (options.assume) assume_path = again(inputs[1], "assumptions");
+    formula_path = again(inputs[0], front.formula, "formula.cnf");
+    if (options.assume) assume_path = again(inputs[1], front.assumptions, "assumptions");
     if (options.proofs) clear_record(options.proofs, { formula_path, assume_path });
-    formula_word = word_of(formula_path);
-    if (options.assume) assume_word = word_of(absolute(assume_path));
     open_teams();
     check_plain(formula_path, title(inputs[0]));
 }
@@ -128,11 +115,9 @@ std::string Run::named(const std::string &why) const {
 
 // lrupd reads the formula, too: where it refuses it, its words are told, and what is known here.
 void Run::formula_refused(const std::string &why) {
-    double limit = now() + 600;
-    while (probe.child.running && now() < limit) {
-        reap(children());
-        probe.read_on();
+    while (probe.child.running && !front.by_signal) {
         usleep(2000);
+        front.read_on(probe, checker);
     }
     probe.read_on();
     if (probe.child.ended() && !probe.child.ended_with(UNKNOWN_STATUS) && !probe.last_line().empty()) {
@@ -233,7 +218,6 @@ void Run::start_engine(size_t k) {
     std::string command;
     int renamed = -1;       // by a name that no shell takes for anything else
     if (is_solver(k)) {
-        files.insert(files.end(), copies.begin(), copies.end());
         if (!is_plain(formula_path)) files.push_back(renamed = kept_open(open_input(formula_path)));
         command = solver_command(options.solvers[k + options.solvers.size() - teams.size()],
                                  renamed < 0 ? formula_path : OPEN_FILES + std::to_string(renamed),
@@ -251,15 +235,13 @@ void Run::start_engine(size_t k) {
 // Events.
 
 void Run::wait() {
-    std::vector<pollfd> list = { { signals, POLLIN, 0 } };
-    for (const Checker *one : { &probe, &checker })
-        for (const pollfd &file : one->files()) list.push_back(file);
+    std::vector<pollfd> list = { { signals, POLLIN, 0 }, { STDOUT_FILENO, POLLIN, 0 } };
     for (const pollfd &file : more_files()) list.push_back(file);
     double tick = phase == SOLVING ? 0.02 : 0.002;
-    if (options.time > 0 && phase != DONE) tick = std::min(tick, std::max(0.0, started + options.time - now()));
     poll(list.data(), list.size(), int(std::ceil(1000 * tick)));
     take_signal();
     while (reap(children())) {}
+    front.read_on(probe, checker);
     for (Checker *one : { &probe, &checker }) one->read_on();
     tell_lines();
 }
@@ -286,10 +268,9 @@ void Run::look_at_reading() {
 
 // However early the solving has ended, a formula that lrupd refuses is told as that. A signal ends the waiting.
 void Run::await_reading() {
-    for (Child *child : children())
-        if (child != &probe.child) child->signal(SIGKILL);
-    while (answer == UNKNOWN_ANSWER && probe.child.running && !ended_by) wait();
-    if (answer == UNKNOWN_ANSWER && !ended_by) look_at_reading();
+    for (Child *child : children()) child->signal(SIGKILL);
+    while (answer == UNKNOWN_ANSWER && probe.child.running && !ended_by && !front.by_signal) wait();
+    if (answer == UNKNOWN_ANSWER && !ended_by && !front.by_signal) look_at_reading();
 }
 
 // What the end of one of the others means.
@@ -297,7 +278,7 @@ void Run::look() {
     look_elsewhere();
     if (phase == DONE) return;
     if (ended_by) return finish(UNKNOWN_ANSWER, std::string("ended by a signal: ") + strsignal(ended_by));
-    if (options.time > 0 && now() - started >= options.time) return finish(UNKNOWN_ANSWER, "time is up");
+    if (!front.stopped.empty()) return finish(UNKNOWN_ANSWER, front.stopped);
     look_at_reading();
     if (phase < ENDING_STREAMS) look_at_teams();
     if (phase == SOLVING) look_at_start();
@@ -402,7 +383,7 @@ void Run::end_streams() {
     }
     if (!all_ended) return;
     cut_streams();
-    if (!checker.child.pid) start_checker(needed_row(), false);
+    if (!checker.child.pid) start_checker(needed_row());
     phase = CHECKING;
 }
 
@@ -417,15 +398,13 @@ void Run::verdict() {
     finish(UNKNOWN_ANSWER, is_unknown ? "lrupd hasn't taken the proof" : "lrupd " + checker.child.end());
 }
 
-// Signals are taken from when there is something to end: until then one ends this process, and with it the first lrupd.
+// Signals are taken from when there is something to end.
 void Run::prepare() {
     checker_program = find_checker(options.lrupd);
+    probe.expect(front.folder + "/1");
     if (options.engines == 0 && options.solvers.empty()) options.engines = half_of_the_cores();
     options.engines += int(options.solvers.size());
     read_inputs();
-    std::vector<std::string> words = checker_words({ 0, 0 }, assume_word);
-    words.insert(words.end(), { formula_word, "/dev/null" });
-    probe.start(checker_program, words, copies, {});
     double begun = now();
     read_formula();
     reading = now() - begun;
@@ -449,16 +428,12 @@ int Run::run() {
     await_reading();
     for (Child *child : children()) child->signal(SIGKILL);
     for (Child *child : children()) wait_for(*child);
+    front.say("done");
+    while (checker.child.running) wait();
     checker.read_on();
     end_children();
-    int status = print_answer();
-    if (!ended_by) return status;
-    signal(ended_by, SIG_DFL);
-    raise(ended_by);
-    sigset_t none;
-    sigemptyset(&none);
-    sigprocmask(SIG_SETMASK, &none, nullptr);
-    return status;
+    send_answer();
+    return 0;
 }
 
 // What comes from the caller: where SIGCHLD is ignored nobody can wait for a child. A limit on the size of files is met as a
@@ -479,6 +454,7 @@ void formula_refused(const char *cause) { the_run->formula_refused(cause); }
 int main(int count, char **words) {
     hold_first_files();
     set_signals();
+    front.read_words(count, words);
     the_run = make_run(count, words);
     int status = the_run->run();
     _exit(status);

@@ -44,13 +44,13 @@ private:
     bool ended = false;
     std::vector<Told> told;
     std::string saved_bytes;
+    int saved_file = -1;
     double traffic_at = 0;
 
     // Before anything is solved.
 
     void prepare_here() {
         options.proofs = options.assume = nullptr;
-        options.time = 0;
         receive_inputs();
         read_formula();
         open_teams();
@@ -65,6 +65,14 @@ private:
         for (size_t k = 0; k < teams.size(); k++) start_team(k);
     }
 
+    static void keep(int file, const char *bytes, size_t length) {
+        while (length > 0) {
+            ssize_t count = write(file, bytes, length);
+            if (count < 0 && errno != EINTR) refuse("cannot keep what comes from process 0: " + error_text());
+            if (count > 0) bytes += count, length -= size_t(count);
+        }
+    }
+
     void receive_inputs() {
         int file = file_in_memory();
         for (Message message;;) {
@@ -73,11 +81,7 @@ private:
             char kind = 0;
             message.take(kind);
             for (Literal literal; kind == 'a' && message.take(literal);) assumed.push_back(literal);
-            while (kind == 'f' && message.left() > 0) {
-                ssize_t count = write(file, message.rest(), message.left());
-                if (count < 0 && errno != EINTR) refuse("cannot keep the formula: " + error_text());
-                if (count > 0) message.skip(size_t(count));
-            }
+            if (kind == 'f') keep(file, message.rest(), message.left());
         }
         formula_path = "/dev/fd/" + std::to_string(file);
     }
@@ -114,7 +118,7 @@ private:
 
     // As a file that filters read as they read lrupd's: it has no literals.
     void take_saved(uint64_t number) {
-        std::string text, path = folder_of_rounds() + "/" + "round-" + std::to_string(number + 1);
+        std::string text;
         uint64_t identity = 0, value = 0, count = 0;
         unsigned shift = 0;
         for (unsigned char byte : saved_bytes) {
@@ -126,8 +130,10 @@ private:
             count++;
             text += "c id " + std::to_string(identity) + "\n0\n";
         }
-        std::string unwritten = write_file(path, format("p cnf 0 %llu\n", (unsigned long long)count) + text);
-        if (!unwritten.empty()) refuse(unwritten);
+        text.insert(0, format("p cnf 0 %llu\n", (unsigned long long)count));
+        saved_file = file_in_memory();
+        keep(saved_file, text.data(), text.size());
+        std::string path = "/proc/" + std::to_string(getpid()) + "/fd/" + std::to_string(saved_file);
         saved_bytes.clear();
         checkpoint_read(&saved, path.c_str());
         for (int k = first; k < first + here; k++) {
@@ -145,7 +151,7 @@ private:
             if (!is_here(k) || teams[k].filter.ended()) outbox_renew(shared, outboxes[k], int(k) + 1, &saved);
         }
         checkpoint_free(&saved);
-        unlink(shared->checkpoint);
+        close_file(saved_file);
         phase = SOLVING;
         STORE(shared->round, number);
     }

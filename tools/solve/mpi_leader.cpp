@@ -192,7 +192,7 @@ private:
 
     void end_elsewhere() override {
         to_all(END, "");
-        leave(ended_by || silent_process() >= 0 ? 0 : LEAVING);
+        leave(ended_by || front.by_signal || silent_process() >= 0 ? 0 : LEAVING);
     }
 };
 

@@ -55,8 +55,18 @@ Options read_words_once(int count, char **words) {
 
 }
 
+// Process 0 begins as the front, which starts this program once more.
+[[noreturn]] static void begin_with_front(int count, char **words) {
+    std::string path = folder_of_this() + "lrup-solve", own = folder_of_this() + program_name;
+    std::vector<char *> list = { &path[0], const_cast<char *>("--engines"), &own[0] };
+    list.insert(list.end(), words + 1, words + count + 1);
+    execv(path.c_str(), list.data());
+    refuse("cannot start " + path + ": " + error_text());
+}
+
 Run *make_run(int count, char **words) {
     Options options = read_words_once(count, words);
+    if (is_process_0() && !front.is_there()) begin_with_front(count, words);
     if (options.engines == 0) options.engines = half_of_the_cores();
     Link &link = *new Link;             // for as long as the process is there
     link.open(options.engines);

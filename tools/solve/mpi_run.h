@@ -1,6 +1,6 @@
 // Unverified, as all of this solver. lrup-solve-mpi: the engines of one run in several processes of MPI, on several hosts.
 //
-//     process 0: Run <--pipes--> carrier <--MPI--> carrier <--pipes--> Run :process 1
+//     process 0: front --> Run <--pipes--> carrier <--MPI--> carrier <--pipes--> Run :process 1
 //
 // Each process has engines and filters as lrup-solve has them, and a `Shared` of its own with all engines of all processes: what
 // others know of theirs comes in messages. Process 0 leads: it has lrupd, to which the streams of all go, and says when rounds

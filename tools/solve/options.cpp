@@ -29,6 +29,7 @@ const char summary[] =
     "                     sh DIR/command. Those of an earlier run are removed\n"
     "  --assume FILE      literals that are assumed, in one line that ends with 0, as for lrupd\n"
     "  --lrupd PATH       the checker; if not said it is looked for beside this program, and then on the PATH\n"
+    "  --engines PATH     the program that solves, of which nothing is believed; lrup-engines beside this one if not said\n"
     "  -v, --verbose      say what goes on, in lines that begin with c\n"
     "  -q, --quiet        no lines but the answer, and no progress, also with -v\n"
     "  -h, --help         show this\n"
@@ -81,14 +82,14 @@ uint64_t number(const char *name, const char *value, uint64_t least, uint64_t mo
     return found;
 }
 
-double seconds(const char *name, const char *value) {
+// The front takes it.
+void seconds(const char *name, const char *value) {
     char *end;
     errno = 0;
     double found = strtod(value, &end);
     bool digits = strspn(value, "0123456789.") == strlen(value);
     if (!digits || end == value || *end != 0 || errno != 0 || !(found > 0) || !std::isfinite(found))
         bad_value(name, "seconds above 0", value);
-    return found;
 }
 
 uint64_t bytes(const char *name, const char *value) {
@@ -118,13 +119,14 @@ bool read_valued(Options &options, Words &words, const char *word) {
     const char *value;
     if (words.option(word, "-j", value)) options.engines = int(number("-j", value, 1, MOST_ENGINES));
     else if (words.option(word, "--solver", value)) options.solvers.push_back(solver_of(value));
-    else if (words.option(word, "--time", value)) options.time = seconds("--time", value);
+    else if (words.option(word, "--time", value)) seconds("--time", value);
     else if (words.option(word, "--memory", value)) options.memory = bytes("--memory", value);
     else if (words.option(word, "--share-size", value)) options.share_size = int(number("--share-size", value, 0, 1000));
     else if (words.option(word, "--seed", value)) options.seed = int(number("--seed", value, 0, 1000000000));
     else if (words.option(word, "--proofs", value)) options.proofs = name_of_file("--proofs", "a folder", value);
     else if (words.option(word, "--assume", value)) options.assume = name_of_file("--assume", "a file", value);
     else if (words.option(word, "--lrupd", value)) options.lrupd = name_of_file("--lrupd", "a program", value);
+    else if (words.option(word, "--engines", value)) name_of_file("--engines", "a program", value);
     else return false;
     return true;
 }

@@ -6,7 +6,6 @@
 #include <cstdlib>
 #include <cstring>
 
-#include <dirent.h>
 #include <fcntl.h>
 #include <sys/mman.h>
 #include <sys/prctl.h>
@@ -23,9 +22,6 @@ namespace {
 std::vector<pid_t> alive;       // children that weren't waited for
 std::vector<pid_t> handing_on;  // those that hand signals on
 std::vector<int> opened;        // files of ours
-std::string folder;             // for this process alone, removed at its end
-pid_t cleaner = 0;              // which removes it where this process doesn't come to that
-const int CLEANING = 500;       // tries to remove it
 const unsigned LETTING_ANOTHER = 30;    // seconds
 
 bool write_all(int file, const char *bytes, size_t length) {
@@ -120,15 +116,9 @@ void *shared_bytes(size_t bytes) {
 }
 
 int file_in_memory() {
-    int file = memfd_create("lrup-solve", MFD_CLOEXEC | MFD_ALLOW_SEALING);
+    int file = memfd_create("lrup-solve", MFD_CLOEXEC);
     if (file < 0) refuse("cannot make a file in memory: " + error_text());
     return kept_open(file);
-}
-
-// Nobody writes to it from now on, not even by its name below /proc.
-void seal(int file) {
-    if (fcntl(file, F_ADD_SEALS, F_SEAL_WRITE | F_SEAL_GROW | F_SEAL_SHRINK | F_SEAL_SEAL) != 0)
-        refuse("cannot seal a file in memory: " + error_text());
 }
 
 void copy_file(int file, const std::string &name, int copy) {
@@ -140,45 +130,6 @@ void copy_file(int file, const std::string &name, int copy) {
         if (count == 0) return;
         if (!write_all(copy, bytes.data(), size_t(count))) refuse("cannot write a copy of " + name + ": " + error_text());
     }
-}
-
-// All that is in it is lrupd's, or pipes to it.
-static bool remove_folder() {
-    if (DIR *list = opendir(folder.c_str())) {
-        while (const dirent *entry = readdir(list)) unlink((folder + "/" + entry->d_name).c_str());
-        closedir(list);
-    }
-    return rmdir(folder.c_str()) == 0 || errno == ENOENT;
-}
-
-// A child that does nothing until this process has ended, however it did. lrupd ends then, too, but maybe a moment later.
-static void watch_folder() {
-    Pipe pipe = make_pipe(0);
-    pid_t pid = fork();
-    if (pid < 0) refuse("cannot start a process: " + error_text());
-    if (pid == 0) {
-        char byte;
-        prctl(PR_SET_NAME, "cleaner");
-        setsid();       // what kills the whole group leaves it alone
-        for (int number : { SIGINT, SIGTERM, SIGHUP }) signal(number, SIG_IGN);
-        for (int file : opened)
-            if (file != pipe.read) close(file);
-        for (int file = 0; file <= 2; file++) close(file);
-        while (read(pipe.read, &byte, 1) < 0 && errno == EINTR) {}
-        for (int tries = 0; tries < CLEANING && !remove_folder(); tries++) usleep(20000);
-        _exit(0);
-    }
-    cleaner = pid;
-    close_file(pipe.read);
-}
-
-std::string private_folder(const std::string &begin) {
-    if (!folder.empty()) return folder;
-    std::string path = begin + "XXXXXX";
-    if (!mkdtemp(&path[0])) refuse("cannot make a folder " + begin + "XXXXXX: " + error_text());
-    folder = path;
-    watch_folder();
-    return folder;
 }
 
 // Children. One ends with its parent, whatever ends that; what a terminal sends to all is the parent's to handle.
@@ -266,8 +217,4 @@ void end_children() {
     for (pid_t pid : alive)
         while (waitpid(pid, nullptr, 0) < 0 && errno == EINTR) {}
     alive.clear();
-    if (cleaner == 0) return;
-    remove_folder();
-    kill(cleaner, SIGKILL);
-    waitpid(cleaner, nullptr, 0);
 }

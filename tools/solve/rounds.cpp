@@ -56,14 +56,6 @@ std::string Run::stream_path(size_t k) const {
     return std::string(shared->record) + name_of_round(round) + ".stream-" + std::to_string(LOAD(shared->parts[k].stream));
 }
 
-// In the record, or where temporary files go.
-std::string Run::folder_of_rounds() {
-    const char *place = getenv("TMPDIR");
-    std::string begin = std::string(place && place[0] ? place : "/tmp") + "/lrup-solve-";
-    if (options.proofs) begin = absolute(options.proofs) + "/.rounds-";
-    return private_folder(is_utf8(begin) ? begin : "/tmp/lrup-solve-");
-}
-
 std::vector<std::string> Run::checker_words(Row sizes, const std::string &assume) const {
     std::vector<std::string> words = { "--tries", tries(), "--lines", std::to_string(sizes.lines), "--room", std::to_string(sizes.room) };
     if (options.assume) words.insert(words.end(), { "--assume", assume });
@@ -112,23 +104,19 @@ std::vector<int> Run::stream_files() const {
     return files;
 }
 
-void Run::start_checker(Row wanted, bool goes_on) {
+void Run::start_checker(Row wanted) {
     rows.row = wanted;
-    std::vector<std::string> words = checker_words(wanted, assume_word);
     command = command_of(wanted);
-    if (goes_on) words.insert(words.end(), { "--rounds", folder_of_rounds() });
-    if (options.verbose) words.push_back("--watch");
-    words.push_back(formula_word);
     keep_sizes();
-    checker.start(checker_program, words, copies, stream_files());
     if (options.verbose) tell(command);
+    checker.start(wanted, stream_files());
 }
 
 // The first one starts once streams aren't short any more.
 void Run::look_at_checker() {
     if (checker.child.ended()) return finish(UNKNOWN_ANSWER, "lrupd " + checker.child.end());
     uint64_t least = test_word("LRUP_SOLVE_FIRST_WORDS") ? 1 : SHORT_STREAMS;
-    if (!checker.child.pid && all(&Part::bytes) >= least) start_checker(rows.row, true);
+    if (!checker.child.pid && all(&Part::bytes) >= least) start_checker(rows.row);
 }
 
 // While filters come to the next round their counts are of either.
@@ -157,8 +145,8 @@ void Run::look_at_round() {
     for (size_t k = 0; k < teams.size() && phase == SOLVING; k++)
         if (LOAD(shared->parts[k].ended_round) == round) end_round();
     if (phase == ENDING_ROUND && have_all(&Part::ended_round, round)) {
-        if (!checker.child.pid) start_checker(rows.row, true);
-        checker.expect_round(folder_of_rounds() + "/" + name_of_round(round + 1));
+        if (!checker.child.pid) start_checker(rows.row);
+        checker.expect_round(front.folder + "/" + name_of_round(round + 1));
         phase = SAVING;
     }
     if (phase == SAVING && checker.child.ended()) verdict();
@@ -210,7 +198,7 @@ void Run::open_streams() {
 void Run::map_round() {
     cut_streams();
     number_streams();
-    copy_name(shared->checkpoint, folder_of_rounds() + "/" + name_of_round(round + 1) + ".cnf");
+    copy_name(shared->checkpoint, front.folder + "/" + name_of_round(round + 1) + ".cnf");
     STORE(shared->saved_round, round);
     phase = MAPPING;
     checkpoint_read(&saved, shared->checkpoint);

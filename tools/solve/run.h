@@ -33,8 +33,6 @@ protected:
     Formula formula = {};
     std::vector<Literal> assumed;
     std::string formula_path, assume_path, checker_program, unkept;
-    std::string formula_word, assume_word;      // lrupd's
-    std::vector<int> copies;
     Shared *shared = nullptr;
     std::vector<Team> teams;
     std::vector<uint32_t *> outboxes;
@@ -73,8 +71,7 @@ protected:
     void prepare();
     void read_inputs();
     std::string contradiction() const;
-    std::string again(const std::string &path, const char *kept_as);
-    std::string word_of(const std::string &path);
+    std::string again(const std::string &path, const std::string &fronts, const char *kept_as);
     void read_formula();
     void read_assumptions();
     std::string named(const std::string &why) const;
@@ -118,7 +115,6 @@ protected:
     void cut_stream(size_t k, uint64_t bytes);
     bool have_all(uint64_t Part::*field, uint64_t wanted) const;
     std::string bytes_of_row() const;
-    std::string folder_of_rounds();
     std::string stream_path(size_t k) const;
     Row needed_row() const;
     std::vector<std::string> checker_words(Row sizes, const std::string &assume) const;
@@ -126,7 +122,7 @@ protected:
     std::string command_again() const;
     void keep_sizes() const;
     std::vector<int> stream_files() const;
-    void start_checker(Row wanted, bool goes_on);
+    void start_checker(Row wanted);
     void feed();
 
     // What is told (telling.cpp).
@@ -140,7 +136,7 @@ protected:
     void summary() const;
     virtual void details() const;
     void tell_causes() const;
-    int print_answer();
+    void send_answer();
     double processor_seconds(bool engines) const;
     double checker_seconds() const;
     uint64_t all(uint64_t Part::*field) const;

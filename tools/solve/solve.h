@@ -20,7 +20,6 @@ extern const char program_name[], program_usage[], program_words[];
 struct Options {
     int engines = 0;            // 0: half of the cores; once it is known, with the solvers
     std::vector<const char *> solvers;      // commands; they are the last engines, and share nothing
-    double time = 0;            // seconds; 0: as long as it takes
     uint64_t memory = 0;        // bytes of lrupd's row; 0: by the machine's
     int share_size = 4;         // literals of a clause that is given away; units always are
     bool share = true;
@@ -49,7 +48,6 @@ void create_pipe(const std::string &path);
 int open_pipe(const std::string &path, int bytes);      // to write to it, without a name from then on; -1 where nobody reads yet
 std::string write_file(const std::string &path, const std::string &text);   // the cause, where it can't be written
 int file_in_memory();
-void seal(int file);                                    // in memory
 const char OPEN_FILES[] = "/dev/fd/";
 void *shared_bytes(size_t bytes);                       // with the children that come later
 
@@ -58,9 +56,8 @@ template <typename Item> Item *shared_memory(size_t count) {
 }
 
 void copy_file(int file, const std::string &name, int copy);
-std::string private_folder(const std::string &begin);   // made where it isn't there, by a name that begins so; removed at the end
 
-const pid_t ELSEWHERE = INT_MAX;                        // of a process on another host, in place of its id
+const pid_t ELSEWHERE = INT_MAX;                        // of a process that isn't this one's child, in place of its id
 
 struct Child {
     pid_t pid = 0;
@@ -89,7 +86,7 @@ std::string one_line(const std::string &text);
 std::string absolute(const std::string &path);
 std::string unfinished(const std::string &path);        // its name while it is written
 void check_input(const std::string &path);              // refuses where it can't be read
-bool is_read_again(const std::string &path);            // lrupd can open it, too, and as often as it likes
+bool is_read_again(const std::string &path);            // others can open it, too, and as often as they like
 int open_input(const std::string &path);
 void check_plain(const std::string &path, const std::string &name);     // refuses where it is compressed
 void open_record(const std::string &folder, const std::vector<std::string> &inputs);    // refuses to write over these
@@ -113,15 +110,14 @@ const char *engine_version();
 std::string solver_command(const std::string &command, const std::string &formula, const std::string &proof);
 [[noreturn]] void solver_process(const Engine &engine, const std::string &command, const std::vector<int> &files);
 
-// checker.cpp: lrupd, and its words.
+// checker.cpp: an lrupd, which the front starts: what is known of it, and what it reads.
 class Checker {
 public:
     Child child;
     std::string report, said;           // standard output, and standard error
 
-    // The words end with the streams of round 1, which are fed from these files.
-    void start(const std::string &program, std::vector<std::string> words, std::vector<int> kept,
-               const std::vector<int> &files);
+    void expect(const std::string &path);   // it is at work; so the name of its output begins
+    void start(Row row, const std::vector<int> &files);     // asks for one; the streams of round 1 are fed from these files
 
     // Before a round's streams end: its files' names in the folder of lrupd's rounds begin so. Then, once it has saved what the round
     // came to, the sizes of the next one, whose streams are fed from these files.
@@ -135,8 +131,8 @@ public:
     uint64_t read_of(size_t stream) const;                  // bytes that it has read
     void read_on();                                         // what it says
     bool next_line(std::string &line);                      // of standard error, each once
-    std::vector<pollfd> files() const;                      // to be waited for
     std::string last_line() const;                          // of standard error
+    void take_end(const std::string &words);                // of the front: the status as wait gives it, and microseconds
 
 private:
     struct Stream {
@@ -147,12 +143,29 @@ private:
 
     std::vector<Stream> streams;
     std::string next;                   // how the names of the next round's files begin
-    int sizes = -1;
-    Pipe out, err;
+    std::string output;                 // how those of its output begin
+    int sizes = -1, out = -1, err = -1;
     size_t told = 0;
+
+    void open_streams(const std::vector<int> &files);
 };
 
-std::string find_checker(const char *given);                    // refuses where there is none
+// The front, which believes nothing that it is told here (front/front.c). Its socket is standard output.
+struct Front {
+    std::string folder, lrupd, formula, assumptions;    // names that it has given; none where it hasn't started this
+    std::string stopped;                // why this is to end
+    bool by_signal = false;             // and so without waiting
+    std::string unread;
+
+    void read_words(int &count, char **&words);         // takes its own away
+    bool is_there() const { return !folder.empty(); }
+    void say(const std::string &line) const;
+    void read_on(Checker &probe, Checker &checker);     // what it says
+};
+
+extern Front front;
+std::string find_checker(const char *given);            // refuses where there is none
+std::string folder_of_this();                           // with a slash
 std::string sizes_text(size_t streams, Row row);                // as lrupd reads it from a file
 std::string tries();
 

@@ -160,21 +160,17 @@ static void print_model(const std::vector<signed char> &model) {
     puts(line.c_str());
 }
 
-int Run::print_answer() {
+// The front says which one it is.
+void Run::send_answer() {
     hide_progress();
     summary();
-    if (answer == SATISFIABLE) puts("s SATISFIABLE"), print_model(model);
-    else if (answer == UNKNOWN_ANSWER) puts("s UNKNOWN");
-    else puts(checker.child.ended_with(0) ? "s UNSATISFIABLE" : "s UNSATISFIABLE UNDER ASSUMPTIONS");
-    errno = 0;
-    if (fflush(stdout) != 0 || ferror(stdout))
-        refuse("cannot write the answer: " + (errno ? error_text() : "standard output failed"));
+    if (answer == SATISFIABLE) print_model(model);
+    fflush(stdout);
     if (!unkept.empty()) refuse(unkept);
-    return answer;
 }
 
 std::vector<Child *> Run::children() {
-    std::vector<Child *> list = { &probe.child, &checker.child };
+    std::vector<Child *> list;
     for (Team &team : teams) list.push_back(&team.engine), list.push_back(&team.filter);
     return list;
 }

@@ -81,7 +81,7 @@ static void take_signals(void) {
 
 static const char usage[] =
     "usage: lrup-trim [--core FILE] [--stream FILE] [--lrat FILE] [--assume FILE] [--re-hint] FORMULA DIR|STREAM...\n"
-    "Of the streams of a run of lrupd, or of a record that lrup-solve --proofs DIR keeps, writes what the empty clause needs:\n"
+    "Of the streams of a run of lrupd, or of a record of lrup-solve (--proofs DIR), writes what the empty clause needs:\n"
     "  --core FILE    the clauses of FORMULA that are needed\n"
     "  --stream FILE  one stream over the core\n"
     "  --lrat FILE    one stream over FORMULA, which is LRAT text\n"

@@ -1,0 +1,268 @@
+#!/usr/bin/env python3
+"""Runs lrup-solve with programs in the place of lrup-engines, which lie, die, and write to whatever they have.
+
+    lrup_solve_front.py PROGRAM [FLAGS]
+
+Whatever they do, 's UNSATISFIABLE' is said only where lrupd has ended with status 0 on the formula that was named, and 's SATISFIABLE'
+only with an assignment that makes each of its clauses true, and the assumptions; each other line begins with c; and no process and no
+file is left. It builds as lrup_solve.py does. It shows what is off; the last line is 'N passed, M failed'. The status is 1 where a run
+failed.
+"""
+import os
+import re
+import signal
+import stat
+import subprocess
+import sys
+import time
+from pathlib import Path
+from typing import Any, List, Sequence
+
+sys.dont_write_bytecode = True
+from harness import FOUR, LIMIT, Row, run, started, until, want, words_given, written
+from proof_forms import read_formula
+from solving import PROGRAM, SOLVE, Answer, before_lrupd, marked, none_left, run_built
+
+words_given(__doc__, most=2)
+SATISFIABLE = "p cnf 3 4\nc a comment\n1 2 0\n-1\n2 0 1 -3 0\nc 3 0\n3 -2 1 0\n"       # by 1 2, and either 3
+PROOF = "5 2 0 1 2 0\n6 0 5 3 4 0\n"                         # of FOUR
+SOON = 6        # seconds, after a run has come to its end
+
+# What the programs have in common. `say` is a line for the front.
+BEGINS = f"""#!{sys.executable}
+import os, signal, socket, subprocess, sys, time
+folder, lrupd, formula, assumptions = sys.argv[2:6]
+FRONT = socket.socket(fileno=os.dup(1))
+
+def say(line):
+    os.write(1, (line + "\\n").encode())
+
+def stream(number, text):
+    open(folder + f"/round-1.stream-{{number}}", "w").write(text)
+
+def told(name):
+    text = ""
+    while True:
+        more = FRONT.recv(1 << 16).decode()
+        text += more
+        if not more or any(line.startswith(name + " ") for line in text.splitlines()):
+            return text
+
+def everywhere(data):
+    for name in os.listdir("/proc/self/fd"):
+        try:
+            if int(name) != 2:
+                os.set_blocking(int(name), False)
+                os.write(int(name), data)
+        except OSError:
+            pass
+
+"""
+
+
+def program(body: str, work: Path) -> Path:
+    path = written(BEGINS + body + "\n", work, "engines")
+    path.chmod(path.stat().st_mode | stat.S_IXUSR)
+    return path
+
+
+def run_with(body: str, words: Sequence[object], text: str, work: Path, lrupd: object = PROGRAM, **how: Any) -> Answer:
+    """A run in a temporary folder of its own, of which nothing is left, and no process. Lines are answers, values or comments."""
+    formula, files, mark = written(text, work), work / "temporary", marked(work)
+    files.mkdir()
+    word = "-" if "given" in how else formula
+    begun = time.monotonic()
+    answer = Answer(run([SOLVE, "--lrupd", lrupd, "--engines", program(body, work), *words, word], limit=60,
+                        env={**os.environ, "TMPDIR": str(files)}, **how))
+    none_left(mark)
+    until("its files are removed", lambda: not os.listdir(files), SOON)
+    strange = [line for line in answer.out.splitlines() if line[:2] not in ("c ", "s ", "v ")]
+    want((strange, len(answer.answers) < 2), ([], True), f"lines of another kind in\n{answer.out[-2000:]}")
+    want(time.monotonic() - begun < 30, True, "whether it came to an end")
+    return answer
+
+
+def is_model(answer: Answer, formula: Path, assumed: Sequence[int] = ()) -> bool:
+    true = set(answer.values)
+    return true.issuperset(assumed) and all(true & set(clause) for clause in read_formula(formula))
+
+
+def hostile(body: str, wanted: str, words: List[str], text: str, work: Path) -> None:
+    """The answer is this, or none; with a status for none."""
+    answer = run_with(body, words, text, work)
+    if wanted.isdigit():
+        return want((answer.answers, answer.status), ([], int(wanted)), f"the answer of\n{answer.out}{answer.said}")
+    status = {"s UNSATISFIABLE": 20, "s SATISFIABLE": 10, "s UNSATISFIABLE UNDER ASSUMPTIONS": 20, "s UNKNOWN": 0}[wanted]
+    want((answer.answers, answer.status), ([wanted], status), f"the answer of\n{answer.out[-2000:]}{answer.said[-2000:]}")
+    if status == 10:
+        want(is_model(answer, work / "formula.cnf"), True, f"whether {answer.values} makes it true")
+
+
+def by_pipe(work: Path) -> None:
+    """It can't write to the copy of a formula, from which it could be refuted then."""
+    body = """for name in os.listdir("/proc/self/fd"):
+    try:
+        if "memfd" in os.readlink("/proc/self/fd/" + name):
+            for file in (int(name), os.open("/proc/self/fd/" + name, os.O_RDWR)):
+                os.pwrite(file, b"p cnf 1 2\\n1 0\\n-1 0\\n", 0)
+                os.ftruncate(file, 19)
+    except OSError:
+        pass
+open("%s", "a").write(open(formula).read())
+stream(1, "3 0 1 2 0\\n")
+say("check 1 10 10 0")
+told("lrupd")""" % (work / "seen")
+    answer = run_with(body, [], SATISFIABLE, work, given=SATISFIABLE)
+    want((answer.answers, answer.status), (["s UNKNOWN"], 0), f"the answer of\n{answer.out}{answer.said}")
+    want((work / "seen").read_text(), SATISFIABLE, "what it read")
+
+
+def assuming(literals: str, body: str, wanted: str, status: int, work: Path) -> None:
+    cube = written(literals, work, "cube")
+    answer = run_with(body, ["--assume", str(cube)], SATISFIABLE, work)
+    want((answer.answers, answer.status), ([wanted], status), f"the answer of\n{answer.out}{answer.said}")
+
+
+def dies_at_each_moment(number: int, work: Path) -> None:
+    """As it goes on to a verdict it dies, after each of its steps, by a signal, with a status, or as others hold what it had open."""
+    steps = ["told('probe')", "stream(1, %r)" % PROOF[:14], "stream(2, '')", "say('check 2 10 10 1000000')",
+             "stream(1, %r)" % PROOF, "told('lrupd')"]
+    for end in ("os.kill(os.getpid(), 9)", "os.kill(os.getpid(), 11)", "os._exit(0)", "os._exit(1)", "os._exit(20)",
+                "os.fork() or time.sleep(1000)"):
+        folder = work / re.sub(r"\W", "", end)
+        folder.mkdir()
+        body = "\n".join([*steps[:number], end])
+        answer = run_with(body, ["--time", "3"], FOUR, folder)
+        whole = number == len(steps) and answer.answers == ["s UNSATISFIABLE"]
+        want(answer.answers in ([], ["s UNKNOWN"]) or whole, True, f"the answer of\n{answer.out}{answer.said}")
+
+
+def without_lines(work: Path) -> None:
+    """Comments are printed one by one, without bytes that a terminal obeys; not with -q."""
+    body = r"""say("c one\x1b[2J\rs UNSATISFIABLE\x07\x00")
+say("c s UNSATISFIABLE")
+say("s UNSATISFIABLE\nv 1 2 3 0x\nsUNSATISFIABLE")
+say("c " + 200000 * "x")"""
+    for words in ([], ["-q"]):
+        folder = work / "".join(["run", *words])
+        folder.mkdir()
+        answer = run_with(body, words, FOUR, folder)
+        want((answer.answers, answer.status), (["s UNKNOWN"], 0), "the answer")
+        comments = [line[:40] for line in answer.comments if "lrup-engines" not in line]
+        want(comments, [] if words else ["one?[2J?s UNSATISFIABLE?", "s UNSATISFIABLE"], "the comments")
+
+
+def impostor(status: int, words: List[str], wanted: str, work: Path) -> None:
+    """An lrupd that ends with another status, of a run that is asked for. 8 counts only under assumptions."""
+    path = before_lrupd(f"echo s UNSATISFIABLE; exit {status}", work)
+    cube = written("2 0\n", work, "cube")
+    body = "stream(1, '')\nsay('check 1 1 1 0')\ntold('lrupd')"
+    answer = run_with(body, [word.format(cube=cube) for word in words], SATISFIABLE, work, path)
+    want(answer.answers, [wanted], f"the answer of\n{answer.out}{answer.said}")
+
+
+def refused_formula(work: Path) -> None:
+    """However it came to an assignment."""
+    for text, values in (("p cnf 1 1\n1 -2 0\n", "1"), ("p cnf 2 1\n1 x 2 0\n", "1 2"), ("p cnf 2 3\n1 0\n", "1 2"), ("", "1")):
+        folder = work / str(len(text))
+        folder.mkdir()
+        answer = run_with(f"say('v {values} 0')\ntime.sleep(1)", [], text, folder)
+        want((answer.answers, answer.status, answer.said), ([], 1, "lrup-solve: lrupd refuses the formula\n"), "the answer")
+
+
+def signalled(number: int, body: str, work: Path) -> None:
+    """It doesn't heed what it is told, and the run ends all the same."""
+    formula, files, mark = written(FOUR, work), work / "temporary", marked(work)
+    files.mkdir()
+    with started([SOLVE, "--lrupd", PROGRAM, "--engines", program(f"open({str(work / 'begun')!r}, 'w')\n" + body, work), formula],
+                 env={**os.environ, "TMPDIR": str(files)}, stdout=subprocess.PIPE, stderr=subprocess.DEVNULL, text=True) as running:
+        until("it has begun", lambda: (work / "begun").exists())
+        running.send_signal(number)
+        out = running.communicate(timeout=LIMIT)[0]
+    want((out.splitlines()[-1:] if number != signal.SIGKILL else [], running.returncode),
+         (["s UNKNOWN"] if number != signal.SIGKILL else [], -number), "the end")
+    none_left(mark)
+    until("its files are removed", lambda: not os.listdir(files), SOON)
+
+
+def missing(work: Path) -> None:
+    answer = Answer(run([SOLVE, "--lrupd", PROGRAM, "--engines", work / "none", written(FOUR, work)]))
+    want((answer.out, answer.status, answer.said), ("", 1, f"lrup-solve: cannot start {work}/none: No such file or directory\n"),
+         "what is said")
+
+
+def length(work: Path) -> None:
+    """What one has to read."""
+    files = sorted((Path(__file__).parent.parent / "tools" / "solve" / "front").iterdir())
+    lines = [line for file in files for line in file.read_text().splitlines()]
+    want((len(files), len(lines) <= 340), (2, True), f"files and lines of the front, {len(lines)}")
+
+
+def rows() -> List[Row]:
+    unknown, proved, found = "s UNKNOWN", "s UNSATISFIABLE", "s SATISFIABLE"
+    ends, lasting = "told('lrupd')", ["--time", "1"]
+    proves = f"stream(1, {PROOF!r})\nsay('check 1 10 10 0')\n"
+    listed: List[Row] = [("a proof", hostile, proves + ends, proved, [], FOUR),
+                         ("a model", hostile, "say('v 1 2 -3 0')", found, [], SATISFIABLE),
+                         ("a model in pieces", hostile, "for k in '1', '2', '-3', '0': say('v ' + k)", found, [], SATISFIABLE),
+                         ("a proof and a crash", hostile, proves + ends + "\nos.abort()", proved, [], FOUR),
+                         ("a proof, and it stays", hostile, proves + "while True: time.sleep(100)", proved, [], FOUR)]
+    for words in ("1 99999999999999999999 1 1", "1 268435457 1 1", "99 1 1 1", "65 1 1 1", "0 1 1 1", "1 1 1 1000001", "1 -1 1 1",
+                  "-1 1 1 1", "1 1 1", "", "1", "1 1 1 1 1", "1 1 1 1 --help", "1 1 1 1;", "x 1 1 1", "1 0x10 1 1", "1 1 1 x1",
+                  "1 1e3 1 1", "1 1.5 1 1"):
+        listed.append((f"check {words}", hostile, proves.replace("1 10 10 0", words) + "time.sleep(100)", unknown, lasting, FOUR))
+    listed += [("checked twice", hostile, proves + "say('check 1 10 10 0')\ntime.sleep(100)", unknown, lasting, SATISFIABLE)]
+    for name, body in (("a verdict", "say('s UNSATISFIABLE')\nsay('s SATISFIABLE')\nsay('lrupd 0 0')"),
+                       ("a verdict everywhere", "everywhere(b's UNSATISFIABLE\\n' * 3)"),
+                       ("garbage everywhere", "everywhere(os.urandom(100000))"),
+                       ("a wrong model", "say('v -1 -2 -3 0')"), ("a partial one", "say('v 1 2 0')"), ("none", "say('v 0')"),
+                       ("too many variables", "say('v 1 2 -3 4 0')"), ("other variables", "say('v 4 5 6 0')"),
+                       ("twice", "say('v 1 1 2 -3 0')"), ("both", "say('v 1 -1 2 -3 0')"), ("in disorder", "say('v 2 1 -3 0')"),
+                       ("no end", "say('v 1 2 -3')"), ("with garbage", "say('v 1 2 x -3 0')"), ("huge", "say('v 1 2 -%d 0')" % (1 << 63)),
+                       ("empty", "say('v ')\nsay('v  ')\nsay('v')"),
+                       ("endless", "for k in range(1, 30000000, 1000): say('v ' + ' '.join(map(str, range(k, k + 1000))))"),
+                       ("a stream that is garbage", "stream(1, os.urandom(5000).hex())\nsay('check 1 10 10 0')\n" + ends),
+                       ("of another formula", proves + ends), ("without an end", "stream(1, '5 2 0 1')\nsay('check 1 10 10 0')\n" + ends),
+                       ("a folder as a stream", "os.mkdir(folder + '/round-1.stream-1')\nsay('check 1 10 10 0')\n" + ends),
+                       ("no stream", "say('check 1 10 10 0')\n" + ends), ("done", "say('check 1 10 10 0')\nsay('done')\n" + ends),
+                       ("a round that is forged", "stream(1, '')\nopen(folder + '/round-2.sizes', 'w').write('1 10 10\\n')\n"
+                        "open(folder + '/round-2.cnf', 'w').write('p cnf 1 2\\n1 0\\n-1 0\\n')\n"
+                        "open(folder + '/round-2.stream-1', 'w').write('3 0 1 2 0\\n')\nsay('check 1 10 10 0')\n" + ends),
+                       ("a second round", "stream(1, '')\nopen(folder + '/round-2.sizes', 'w').write('1 10 10\\n')\n"
+                        "open(folder + '/round-2.stream-1', 'w').write('3 0 1 2 0\\n')\nsay('check 1 10 10 0')\n" + ends),
+                       ("a report", "stream(1, '')\nsay('check 1 10 10 0')\ntold('lrupd')\n"
+                        "for name in os.listdir(folder): open(folder + '/' + name, 'w').write('s UNSATISFIABLE\\n')"),
+                       ("nothing", ""), ("status 20", "os._exit(20)"), ("status 10", "os._exit(10)"), ("a crash", "os.abort()"),
+                       ("it ends its group", "os.killpg(0, signal.SIGKILL)"), ("done at once", "say('done')\nsay('done')"),
+                       ("forks", "if not os.fork():\n    os.fork()\n    os.fork()\n    time.sleep(1000)"),
+                       ("a link in the folder", f"os.symlink({str(Path(__file__).parent)!r}, folder + '/link')"),
+                       ("folders in the folder", "os.makedirs(folder + '/a/b/c')\nopen(folder + '/a/b/c/d', 'w')"),
+                       ("no folder", "subprocess.run(['rm', '-rf', folder])\nsay('check 1 10 10 0')\n" + ends)):
+        listed.append((name, hostile, body, unknown, ["--time", "20"], SATISFIABLE))
+    for name, body in (("sleeps", "time.sleep(1000)"), ("stands", "os.kill(os.getpid(), signal.SIGSTOP)"),
+                       ("closes all", "os.closerange(0, 1000)\ntime.sleep(1000)"),
+                       ("no line's end", "while True: os.write(1, b'c ' + b'x' * 1000)"),
+                       ("no end of lines", "while True: say('c x' * 1000)"),
+                       ("no end of nonsense", "while True: os.write(1, b'x\\n' * 1000)"),
+                       ("heeds nothing", "for k in range(1, 65):\n    try: signal.signal(k, signal.SIG_IGN)\n"
+                        "    except (OSError, ValueError): pass\ntime.sleep(1000)"),
+                       ("its children stay", "if os.fork(): os._exit(0)\ntime.sleep(1000)"),
+                       ("lrupd waits", "os.mkfifo(folder + '/round-1.stream-1')\nsay('check 1 10 10 0')\ntime.sleep(1000)")):
+        listed.append((name, hostile, body, unknown, ["-q", *lasting], SATISFIABLE))
+    listed += [("status 1", hostile, "os._exit(1)", "1", [], FOUR), ("by a pipe", by_pipe), ("comments", without_lines),
+               ("a formula that lrupd refuses", refused_formula), ("no program", missing), ("length", length)]
+    listed += [(f"dies after {number}", dies_at_each_moment, number) for number in range(7)]
+    under = "stream(1, '5 1 0 1 2 0\\n')\nsay('check 1 10 10 0')\ntold('lrupd')"
+    listed += [("under assumptions", assuming, "-2 0\n", "stream(1, '5 2 0 1 2 0\\n')\nsay('check 1 10 10 0')\ntold('lrupd')",
+                "s UNSATISFIABLE UNDER ASSUMPTIONS", 20), ("not under these", assuming, "2 0\n", under, unknown, 0),
+               ("a model under assumptions", assuming, "2 -3 0\n", "say('v 1 2 -3 0')", found, 10),
+               ("one that breaks them", assuming, "2 3 0\n", "say('v 1 2 -3 0')", unknown, 0)]
+    listed += [(f"lrupd ends with {status}, {words}", impostor, status, words, wanted) for status, words, wanted in (
+        (3, [], unknown), (8, [], unknown), (8, ["--assume", "{cube}"], "s UNSATISFIABLE UNDER ASSUMPTIONS"), (20, [], unknown),
+        (10, [], unknown), (1, [], unknown), (0, [], proved))]
+    listed += [(f"signal {number}, {name}", signalled, number, body) for number in (signal.SIGTERM, signal.SIGINT, signal.SIGKILL)
+               for name, body in (("it sleeps", "time.sleep(1000)"), ("it writes", "while True: say('c x')"))]
+    return listed
+
+
+sys.exit(run_built(rows(), for_tests=False))
