@@ -89,6 +89,10 @@ def run(words: Words, given: Union[str, bytes, None] = None, limit: float = LIMI
     return Ran(text_of(done.stdout), text_of(done.stderr), done.returncode)
 
 
+def in_shell(command: str, *words: object, **how: Any) -> Ran:
+    return run(["sh", "-c", command, *words], **how)
+
+
 @contextlib.contextmanager
 def started(words: Words, **how: Any) -> Iterator["subprocess.Popen[Any]"]:
     """A program at work, which is killed where it hasn't ended when the block is left."""
