@@ -8,6 +8,7 @@ import os
 import random
 import re
 import resource
+import select
 import shlex
 import shutil
 import signal
@@ -178,6 +179,14 @@ def waiting(pipe: int) -> int:
     """How many bytes were written to a pipe and not read."""
     count: int = struct.unpack("i", fcntl.ioctl(pipe, termios.FIONREAD, bytes(4)))[0]
     return count
+
+
+def read_line(file: IO[bytes]) -> str:
+    """One that comes while the pipe is open."""
+    ready, _, _ = select.select([file], [], [], LIMIT)
+    if not ready:
+        raise Failure("no line came while the pipe was open")
+    return file.readline().decode()
 
 
 def feed(path: Path, pieces: Pieces) -> threading.Thread:
