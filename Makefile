@@ -119,7 +119,7 @@ solve-mpi: solve-objects mpicxx ## build: lrup-solve-mpi, the same in several pr
 solver-test: $(BUILT) solver ## check: the example solver's streams, of one to eight solvers, and of some that are killed
 	@python3 tests/example_solver.py $(PROGRAM) $(SOLVER)
 
-FILTER_TESTS := filter_rounds filter_mutants filter_chains filter_streams
+FILTER_TESTS := filter_rounds filter_mutants filter_chains filter_streams filter_solvers
 .PHONY: $(FILTER_TESTS)
 filter-test: $(FILTER_TESTS) ## check: the filter, in rounds too, with the solvers that are on the PATH, and 10,000 mutated proofs
 
@@ -132,7 +132,7 @@ trim-test: $(BUILT) solver exact trim ## check: lrup-trim, on 300 random runs in
 # Without CaDiCaL's library nothing is run, and without MPI nothing of lrup-solve-mpi. With MPI= only what takes seconds there, as in
 # the gate.
 MPI ?= yes
-SOLVE_TESTS := lrup_solve_rounds lrup_solve lrup_solve_solvers lrup_solve_front lrup_solve_mpi
+SOLVE_TESTS := lrup_solve_rounds lrup_solve lrup_solve_inputs lrup_solve_solvers lrup_solve_front lrup_solve_mpi
 .PHONY: $(SOLVE_TESTS)
 solve-test: $(SOLVE_TESTS) ## check: lrup-solve, and what may happen to it, with 300 random formulas
 
@@ -198,7 +198,7 @@ packages: ## check: install, as root, Debian's packages that the tests want
 # Side by side, those that take longest first, and two more than there are cores, since most of them wait now and then; what each
 # one prints comes when it has ended.
 TESTS := lrup_solve_rounds sweep filter_mutants lrup_solve lrup_solve_solvers filter_rounds trim-test lrup_solve_front lrup_solve_mpi \
-	leaks filter_chains filter_streams checkpoints rounds examples solver-test instructions neighbours live
+	lrup_solve_inputs leaks filter_chains filter_streams filter_solvers checkpoints rounds examples solver-test instructions neighbours live
 SIDE_BY_SIDE := --output-sync=target -j $(shell expr $$(nproc) + 2)
 test: SHELL := /bin/bash
 test: toolchain pages solver exact trim ## check: the gate, 25 to 100 minutes: every proof, edit and test; has to pass before a push

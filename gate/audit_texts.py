@@ -30,9 +30,9 @@ AUDIT_TOP = f"""# What there is to believe: status 0 and 8
 
 {MADE}
 
-The prover shows that the code keeps its contracts. That the contracts say what one wants to rely on is for a reader to judge.
+The prover shows that code keeps its contracts. Whether these say what one relies on, a reader judges.
 This page has all that the clauses behind status 0 and 8 rest on, and of checkpoints what the sentences say, down to names
-of libraries, which have a line each; whole runs are on [AUDIT-RUNS](AUDIT-RUNS.md). At each definition ask: is this what the words mean? [DEFINITIONS](DEFINITIONS.md) has
+of libraries, each with a line; whole runs are on [AUDIT-RUNS](AUDIT-RUNS.md). At each definition ask: is this what the words mean? [DEFINITIONS](DEFINITIONS.md) has
 examples.
 
 No clause says that something is answered: 'out of memory' may always come.
@@ -61,10 +61,10 @@ of each call that it stands in them. The machine's files tell nothing and allow 
 the words have no fault. But `command` hands the bytes
 that it has read to [[fn check_formula]], of which this is proved: [[fn check_formula.sound: result ≡ 0 → (f : Cnf) × IsFormulaText
 asked.entry.formula.items f × IsUnsatisfiable f]]. So one loop, `read_all`, which fills their list, is left to an argument: take
-any run, and files that play its calls back, where `opens` and `reads` hold of these calls alone. `command` would do the same
-with them, since it knows files only by the calls of their traits, and there only what was read can be meant.
+any run, and files that play its calls back, where `opens` and `reads` hold of these alone. `command` would do the same
+with them: it knows files only by such calls, and only what was read can be meant.
 
-**And `--rounds`?** However many there were, both clauses speak of FORMULA, and of no file in the folder: none of these need be trusted."""
+**And `--rounds`?** Both clauses speak of FORMULA alone: no file of the folder need be trusted."""
 
 AUDIT_HOW = """## How to read it
 
@@ -144,11 +144,13 @@ TRUST = """## What one has to trust
   compilers, which the gate compares; the linker, the system and the machine.
 - **The lines above** on names of libraries, and `gate/audit.py`, that it left nothing out. Which word is FORMULA, `clap` says;
   where no word begins with a hyphen it is the first ([[law plain_words]]).
-- **[`main`](../crates/lrupd/src/main.rt)**, which has no contract. It opens the machine's file at the path that it is given,
+- **[`main`](../crates/lrupd/src/main.rt)**, which has no contract. It opens the machine's file at the given path,
   hands files, arguments and outputs to `command_with_arguments`, and returns what that answers: [[fn command_with_arguments.sound: exit_status result ≡ 0 → IsOkAnd arguments (λ given. NameUnsatisfiable
   _ read files.old (words_after_name given))]]. `exit_status` is the status; `IsOkAnd`: they were given, and of them it holds;
   `words_after_name`: those after the first.
-- **The machine's files**: that reads give what the file holds, and that it is the one you mean."""
+- **The machine's files**: that reads give what the file holds, and it is the one you mean.
+- **Of `lrup-solve` its [front](../tools/solve/front/front.c)**, unverified: that it starts `lrupd` on your formula, and prints
+  what its status says. Nothing else of it is believed."""
 
 GLOSSES = """
 `AllByRecursion P xs` P of each element

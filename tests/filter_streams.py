@@ -6,29 +6,24 @@
 The recorded streams of examples/, with their hints shuffled, doubled and missing, with comments and loose spaces, have to come
 out as good streams of as many additions; so have those of several solvers with an import for each clause of another one that
 they cite, the recorded streams in each other form, and CaDiCaL's DRAT text in tests/proofs. Then what a few lines come to, what is
-refused and where, limits from both sides, cut proofs, pipes that stay open, and outputs that fail. Where they are on the PATH,
-CaDiCaL and CryptoMiniSat run beside the filter and the program, by the commands that USING has. It shows what is off; the last
-line is 'N passed, M failed', and ', K skipped' where solvers aren't there. The status is 1 where a run failed.
+refused and where, limits from both sides, cut proofs, pipes that stay open, and outputs that fail. It shows what is off; the
+last line is 'N passed, M failed', and ', K skipped' where something can't be tried. The status is 1 where a run failed.
 """
 import os
 import random
 import re
 import resource
-import select
-import shutil
-import signal
 import subprocess
 import sys
 from pathlib import Path
-from typing import IO, Any, Callable, Dict, Iterable, List, Sequence, Tuple, Union
+from typing import Any, Callable, Dict, Iterable, List, Sequence, Tuple, Union
 
 sys.dont_write_bytecode = True
-from harness import (COMPRESSED, FILTER, FOUR, LIMIT, ROOT, TESTS, Failure, Ran, Row, Skipped, example, generated, needs, piped, report,
-                     run, run_all, started, want, with_memory, words_given, written)
+from harness import (COMPRESSED, FILTER, FOUR, LIMIT, TESTS, Failure, Ran, Row, Skipped, example, read_line, report, run, run_all,
+                     started, want, words_given, written)
 from lrat import lrat_fault
 from proof_forms import FORMS, Step, code, codes, read_formula, read_steps, varint
 
-USING = ROOT / "docs" / "USING.md"
 Text = Union[str, bytes]
 UNITS = "p cnf 3 4\n1 0\n-1 2 0\n-2 3 0\n-3 -2 0\n"
 LATER = "p cnf 5 7\n1 0\n-1 2 0\n-2 3 0\n-3 4 5 0\n-3 4 -5 0\n-3 -4 5 0\n-3 -4 -5 0\n"
@@ -545,14 +540,6 @@ def cut(form: str, work: Path) -> None:
         want((status, said.count("\n")), (0, 0) if at_end else (1, 1), f"cut at {length}: the status, and lines on standard error")
 
 
-def read_line(file: IO[bytes]) -> str:
-    """One that comes while the pipe is open."""
-    ready, _, _ = select.select([file], [], [], LIMIT)
-    if not ready:
-        raise Failure("no line came while the pipe was open")
-    return file.readline().decode()
-
-
 def live(form: str, options: List[str], work: Path) -> None:
     """A line comes out while the pipe is open."""
     parts, rest = parts_of(form)
@@ -643,134 +630,6 @@ def pipes_and_files() -> List[Row]:
     return runs
 
 
-# The solvers that people have, beside the filter and the program.
-
-
-SIZES = "--lines 4000000 --room 60000000 "
-CADICAL = f"""\
-cadical -q formula.cnf proof > answer &
-lrupd {SIZES}formula.cnf \\
-    <(tools/exact/out/exact --format binary-drat formula.cnf proof)
-"""
-CADICAL_TWICE = f"""\
-cadical -q formula.cnf proof1 > answer1 &
-cadical -q --seed=2 formula.cnf proof2 > answer2 &
-lrupd {SIZES}formula.cnf \\
-    <(tools/exact/out/exact --stream 1 --streams 2 --format binary-drat formula.cnf proof1) \\
-    <(tools/exact/out/exact --stream 2 --streams 2 --format binary-drat formula.cnf proof2)
-"""
-CRYPTOMINISAT = f"""\
-cryptominisat5 --verb 0 formula.cnf proof > answer &
-lrupd {SIZES}formula.cnf <(tools/exact/out/exact formula.cnf proof)
-"""
-CRYPTOMINISAT_TWICE = f"""\
-cryptominisat5 --verb 0 formula.cnf proof1 > answer1 &
-cryptominisat5 --verb 0 --random 2 formula.cnf proof2 > answer2 &
-lrupd {SIZES}formula.cnf \\
-    <(tools/exact/out/exact --stream 1 --streams 2 formula.cnf proof1) \\
-    <(tools/exact/out/exact --stream 2 --streams 2 formula.cnf proof2)
-"""
-PICOSAT = f"""\
-picosat formula.cnf -R proof > answer &
-lrupd {SIZES}formula.cnf <(tools/exact/out/exact formula.cnf proof)
-"""
-BOTH = f"""\
-cadical -q formula.cnf proof1 > answer1 &
-cryptominisat5 --verb 0 formula.cnf proof2 > answer2 &
-lrupd {SIZES}formula.cnf \\
-    <(tools/exact/out/exact --stream 1 --streams 2 --format binary-drat formula.cnf proof1) \\
-    <(tools/exact/out/exact --stream 2 --streams 2 formula.cnf proof2)
-"""
-IN_ROUNDS = """\
-cadical -q formula.cnf proof > answer &
-tools/exact/out/exact --rounds live --format binary-drat formula.cnf proof |
-    { read ready && lrupd --rounds live formula.cnf live/round-1.stream-1; }
-"""
-COMMANDS = [("CaDiCaL", CADICAL), ("two of CaDiCaL", CADICAL_TWICE), ("CryptoMiniSat", CRYPTOMINISAT),
-            ("two of CryptoMiniSat", CRYPTOMINISAT_TWICE), ("PicoSAT", PICOSAT), ("CaDiCaL and CryptoMiniSat", BOTH)]
-
-
-def wanted_on_path(commands: str) -> None:
-    for solver in ("cadical", "cryptominisat5", "picosat"):
-        if solver in commands:
-            needs(solver)
-
-
-def make_formula(words: str, work: Path) -> Path:
-    if words.endswith(".cnf"):
-        return Path(shutil.copy(example(words), work / "formula.cnf"))
-    return generated(words, work)
-
-
-def in_bash(program: str, commands: str, work: Path) -> Ran:
-    """The outputs of the commands, in a folder that has the repository's tools."""
-    os.symlink(ROOT / "tools", work / "tools")
-    os.symlink(program, work / "lrupd")
-    for pipe in ("proof", "proof1", "proof2"):
-        piped(work / pipe)
-    path = os.pathsep.join([str(work), os.environ["PATH"]])
-    with subprocess.Popen(["bash", "-c", commands], cwd=work, env={**os.environ, "PATH": path}, stdout=subprocess.PIPE,
-                          stderr=subprocess.PIPE, text=True, start_new_session=True) as running:
-        try:
-            out, err = running.communicate(timeout=LIMIT)
-            return Ran(out, err, running.returncode)
-        finally:
-            if running.returncode is None:
-                os.killpg(running.pid, signal.SIGKILL)
-
-
-def beside(program: str, commands: str, words: str, work: Path) -> None:
-    """Each stream ends, and the formula is refuted."""
-    wanted_on_path(commands)
-    make_formula(words, work)
-    out, said, status = in_bash(program, commands, work)
-    *lines, verdict = out.splitlines() or [""]
-    want((verdict, said, status), ("s UNSATISFIABLE", "", 0), "the verdict")
-    want([line.endswith(", ended") for line in lines], [True] * commands.count("tools/exact"), "streams that ended")
-
-
-def in_rounds(program: str, memory: str, rounds: int, work: Path) -> None:
-    """USING's command, in this number of rounds or more."""
-    wanted_on_path(IN_ROUNDS)
-    make_formula("random 180 3", work)
-    out, said, status = in_bash(program, IN_ROUNDS.replace("exact --rounds live", f"exact --rounds live --memory {memory}"), work)
-    found = re.fullmatch(r"(?:c round (\d+)\n)?c stream 1: \d+ added, \d+ deleted, ended\ns UNSATISFIABLE\n", out)
-    number = int((found and found[1]) or 1)
-    want((bool(found), number >= rounds, said, status), (True, True, "", 0), f"{out}: the report, the rounds, and the status")
-    want(os.listdir(work / "live"), [f"round-{number + 1}.cnf"], "what is left")
-
-
-def in_using(commands: str, work: Path) -> None:
-    """These are the commands that USING has."""
-    if "".join("    " + line for line in commands.splitlines(True)) not in USING.read_text():
-        raise Failure(f"docs/USING.md doesn't have\n{commands}")
-
-
-def while_it_runs(commands: str, words: str, work: Path) -> None:
-    """The filter's first line comes while the solver runs: it writes more than the pipes hold, and nobody reads on."""
-    wanted_on_path(commands)
-    formula, proof = make_formula(words, work), piped(work / "proof")
-    solver = commands.splitlines()[0].split(" > ")[0].split()
-    form = ["--format", "binary-drat"] * (solver[0] == "cadical")
-    with started(solver, cwd=work, stdout=subprocess.DEVNULL) as running, \
-            started([FILTER, *form, formula, proof], stdout=subprocess.PIPE, bufsize=0) as filtering:
-        assert filtering.stdout
-        line = read_line(filtering.stdout)
-        want((line[-3:], running.poll()), (" 0\n", None), "a line, while the solver runs")
-
-
-def solvers(program: str) -> List[Row]:
-    formulas = ("random 150 1", "pigeons 7", "order 15", "bmc.cnf")
-    runs: List[Row] = [(f"{name}, {words}", beside, program, commands.replace(SIZES, ""), words)
-                       for name, commands in COMMANDS for words in formulas]
-    runs += [("CaDiCaL, more than the default sizes hold", with_memory, beside, program, CADICAL, "pigeons 9")]
-    runs += [(f"USING, {name}", in_using, commands) for name, commands in COMMANDS]
-    runs += [("USING, in rounds", in_using, IN_ROUNDS)]
-    runs += [(f"in rounds with {memory}", in_rounds, program, memory, rounds) for memory, rounds in (("500K", 3), ("512M", 1))]
-    return runs + [("CaDiCaL writes while it runs", while_it_runs, CADICAL, "random 200 3"),
-                   ("CryptoMiniSat writes while it runs", while_it_runs, CRYPTOMINISAT, "random 200 3")]
-
-
 def recorded(program: str) -> List[Row]:
     runs: List[Row] = []
     for seed, (formula, *names) in enumerate((
@@ -798,7 +657,7 @@ def recorded(program: str) -> List[Row]:
 def main() -> int:
     program, = words_given(__doc__)
     refused = [(name, stops, *rest) for name, *rest in refusals() + refusals_of_frat() + refusals_in_binary()]
-    return run_all(recorded(program) + refused + what_comes_out(program) + limits(program) + pipes_and_files() + solvers(program))
+    return run_all(recorded(program) + refused + what_comes_out(program) + limits(program) + pipes_and_files())
 
 
 sys.exit(main())

@@ -8,6 +8,7 @@ import os
 import random
 import re
 import resource
+import select
 import shlex
 import shutil
 import signal
@@ -87,6 +88,10 @@ def run(words: Words, given: Union[str, bytes, None] = None, limit: float = LIMI
     how = {"stdout": subprocess.PIPE, "stderr": subprocess.PIPE, **how}
     done = subprocess.run(list(map(str, words)), timeout=limit, **how)
     return Ran(text_of(done.stdout), text_of(done.stderr), done.returncode)
+
+
+def in_shell(command: str, *words: object, **how: Any) -> Ran:
+    return run(["sh", "-c", command, *words], **how)
 
 
 @contextlib.contextmanager
@@ -174,6 +179,14 @@ def waiting(pipe: int) -> int:
     """How many bytes were written to a pipe and not read."""
     count: int = struct.unpack("i", fcntl.ioctl(pipe, termios.FIONREAD, bytes(4)))[0]
     return count
+
+
+def read_line(file: IO[bytes]) -> str:
+    """One that comes while the pipe is open."""
+    ready, _, _ = select.select([file], [], [], LIMIT)
+    if not ready:
+        raise Failure("no line came while the pipe was open")
+    return file.readline().decode()
 
 
 def feed(path: Path, pieces: Pieces) -> threading.Thread:

@@ -3,8 +3,8 @@
 
     lrup_solve.py PROGRAM [FLAGS]
 
-Known formulas with each status, 300 random ones with early inprocessing, one to eight engines; what is refused; each child
-killed in turn, signals, a full disk, outputs that are closed. What holds sharing together is left out, one thing at a time, in
+Known formulas with each status, 300 random ones with early inprocessing, one to eight engines; each child killed
+in turn, signals, a full disk, outputs that are closed. What holds sharing together is left out, one thing at a time, in
 a build for tests: each has to be found out. It builds both with `make`, and the compilers' flags where they are said, as '-O1
 -g -fsanitize=thread'; where `make` doesn't find CaDiCaL's library everything is skipped, and that is told. It shows what is
 off; the last line is 'N passed, M failed', and ', K skipped' where something isn't there. The status is 1 where a run failed.
@@ -15,7 +15,6 @@ import pty
 import random
 import re
 import resource
-import shutil
 import signal
 import struct
 import subprocess
@@ -27,24 +26,17 @@ from pathlib import Path
 from typing import Any, Dict, List, Optional, Sequence, Tuple
 
 sys.dont_write_bytecode = True
-from harness import (COMPRESSED, EXAMPLES, FOUR, LIMIT, ROOT, Failure, Ran, Row, Skipped, dimacs, example, generated, needs, piped,
-                     random_clauses, run, started, until, want, words_given, written)
-from lrat import lrat_fault
+from harness import (EXAMPLES, FOUR, LIMIT, ROOT, Failure, Ran, Row, Skipped, dimacs, example, generated, in_shell, needs, random_clauses,
+                     run, started, until, want, words_given, written)
 from proof_forms import read_formula
-from solving import (ANSWERS, EARLY, ELIMINATING, OUT, PROGRAM, SOLVE, Answer, before_lrupd, check_again, children_of, command,
-                     end_group, goes_on, in_environment, in_place_of_lrupd, is_alive, kill_children, of_process, random_formula,
-                     run_built, solve, want_answer)
+from solving import (ANSWERS, EARLY, ELIMINATING, PROGRAM, SOLVE, Answer, check_again, children_of, command, end_group, goes_on,
+                     in_environment, in_place_of_lrupd, is_alive, kill_children, of_process, random_formula, run_built, solve, want_answer)
 
 words_given(__doc__, most=2)
 MITERS = EXAMPLES / "miter"
 TRIES = 10      # of runs that may be over before something happens to them
-CUBE = os.fsdecode(b"cube\xe9")
 SOON = 9        # seconds, fewer than a filter has for its last line
 PROGRESS = re.compile(rb"\r([^\r\n\x1b]* conflicts[^\r\n\x1b]*)\x1b\[K")
-
-
-def in_shell(command: str, *words: object, **how: Any) -> Ran:
-    return run(["sh", "-c", command, *words], **how)
 
 
 # Answers.
@@ -80,232 +72,6 @@ def randomly(seed: int, work: Path) -> None:
     want_answer(answer, answer.status if answer.status in (10, 20) else 20, formula)
     if keeps and answer.status == 20:
         check_again(kept)
-
-
-def keeps(words: List[str], work: Path) -> None:
-    kept, formula = work / "what's kept", shutil.copy(example("bmc.cnf"), work / "a formula")
-    want_answer(solve([*words, "--proofs", kept, formula]), 20)
-    check_again(kept)
-
-
-def keeps_lrat(words: str, work: Path) -> None:
-    """The stream of an engine alone, in one round, is LRAT, for any checker of that."""
-    kept, formula = work / "kept", generated(words, work)
-    want_answer(solve(["-j", "1", "--memory", "256M", "--proofs", kept, formula], tested={"FIRST_WORDS": 1 << 24}), 20)
-    want(sorted(os.listdir(kept)), ["command", "report", "round-1.sizes", "round-1.stream-1"], "what is kept")
-    want(lrat_fault(read_formula(formula), (kept / "round-1.stream-1").read_text()), "", "as LRAT")
-
-
-def keeps_standard_input(work: Path) -> None:
-    """The record has a copy of what came by a pipe."""
-    want_answer(solve(["--proofs", work / "kept"], given=example("bmc.cnf").read_text()), 20)
-    check_again(work / "kept")
-
-
-def keeps_not_utf8(words: List[str], tested: Dict[str, object], work: Path) -> None:
-    """Names that aren't UTF-8, of which lrupd takes none: the formula's, the assumptions' and the record's, from one such folder."""
-    folder = work / os.fsdecode(b"\xff \xed\xa0\x80")
-    formula = written(example("bmc.cnf").read_text(), folder, os.fsdecode(b"formula\xc0\x80"))
-    written("0\n", folder, CUBE)
-    want_answer(solve(["-v", "-j", "2", *words, formula.name], cwd=folder, tested=tested, env_more={"TMPDIR": str(folder)}), 20)
-    if "--proofs" in words:
-        check_again(folder / words[-1])
-    want(list(folder.glob("lrup-solve-*")), [], "folders of rounds that are left")
-
-
-def keeps_by_short_names(work: Path) -> None:
-    """The command does in any folder, though the formula, the checker and the record were named from another one."""
-    written("0\n", work, "cube")
-    os.symlink(PROGRAM, work / "lrupd")
-    shutil.copy(example("bmc.cnf"), work / "formula.cnf")
-    done = run([SOLVE, "--lrupd", "./lrupd", "--proofs", "a record", "--assume", "cube", "formula.cnf"], cwd=work)
-    want((done.err, done.status), ("", 20), "the run")
-    check_again(work / "a record")
-
-
-def writes_over(words: List[str], work: Path) -> None:
-    """In a record's folder nothing is written over that the run reads, whatever its name."""
-    text, kept = example("bmc.cnf").read_text(), work / "kept"
-    path, cube = written(text, kept, words[0]), written("0\n", kept, "assumptions")
-    os.symlink(path, work / "link")
-    os.link(path, work / "other")
-    with open(path) as file:
-        out, said, status = run([SOLVE, "--lrupd", PROGRAM, "--proofs", kept,
-                                 *(word.format(path=path, work=work, cube=cube) for word in words[1:])], stdin=file)
-    over = " would be written over: another --proofs\n"
-    want((out, said.count("\n"), said.endswith(over), status), ("", 1, True, 1), f"what is said: {said}")
-    want((path.read_text(), cube.read_text(), sorted(os.listdir(kept))), (text, "0\n", sorted({path.name, "assumptions"})),
-         "what stands there")
-
-
-def links_in_a_record(work: Path) -> None:
-    """Links that have a stream's name are removed, and what they lead to stays."""
-    kept, targets = work / "kept", [written("text", work, name) for name in ("one", "two", "three")]
-    kept.mkdir()
-    for target, name in zip(targets, ("round-1.stream-1", "report", ".report.new")):
-        os.symlink(target, kept / name)
-    os.link(targets[1], kept / "round-1.stream-2")
-    want_answer(solve(["-j", "2", "--proofs", kept, example("bmc.cnf")]), 20)
-    want([target.read_text() for target in targets], ["text"] * 3, "what the links led to")
-    check_again(kept)
-
-
-def earlier_run(work: Path) -> None:
-    """Of a record there is nothing left once the next run is there; its formula may come from the record, by a pipe."""
-    kept = work / "kept"
-    rounds = [f"round-{k}.{name}" for k in (1, 2, 9, 10, 123) for name in ("sizes", "cnf", "stream-1", "stream-2", "stream-64")]
-    others = ["another", "round-0.sizes", "round-1.stream-", "round-1.stream-x", "round-2.cnf.old", "round.cnf", "stream1"]
-    for name in ["report", "command", "assumptions", *rounds, *others]:
-        written("of an earlier run\n", kept, name)
-    shutil.copy(example("bmc.cnf"), kept / "formula.cnf")
-    in_shell('cat "$2"/formula.cnf | "$0" --lrupd "$1" -j 2 --proofs "$2" -', SOLVE, PROGRAM, kept)
-    one = ["round-1.sizes", "round-1.stream-1"]
-    want(sorted(os.listdir(kept)), sorted([*others, "command", "formula.cnf", "report", *one, "round-1.stream-2"]), "what is there")
-    want((kept / "formula.cnf").read_text(), example("bmc.cnf").read_text(), "the formula")
-    check_again(kept)
-    one_round = {"FIRST_WORDS": 1 << 24}      # no machine fills its row before it is ended
-    with started(command(["-j", "1", "--proofs", kept, generated("pigeons 11", work)], one_round), env=in_environment(one_round),
-                 stdout=subprocess.PIPE, text=True) as running:
-        until("lrupd is there", lambda: "lrupd" in children_of(running.pid) or running.poll() is not None)
-        running.terminate()
-        out = running.communicate(timeout=LIMIT)[0]
-    want((out.splitlines()[-1], running.returncode), ("s UNKNOWN", -signal.SIGTERM), "the answer of a run that was ended")
-    want(sorted(os.listdir(kept)), sorted([*others, *one]), "what is there after 's UNKNOWN'")
-
-
-def others_write(mode: int, taken: bool, work: Path) -> None:
-    """Where others may remove files they may put their own in the place of a stream; where the folder is sticky they can't."""
-    kept = work / "kept"
-    kept.mkdir()
-    kept.chmod(mode)
-    words = ["-j", "1", "--proofs", kept, example("bmc.cnf")]
-    if not taken:
-        return refused(words, f"{kept}: others may write there: another --proofs", work)
-    want_answer(solve(words), 20)
-    check_again(kept)
-
-
-def made_where_all_may_write(work: Path) -> None:
-    in_shell('umask 0; exec "$@"', "sh", SOLVE, "--lrupd", PROGRAM, "-j", "1", "--proofs", work / "kept", example("bmc.cnf"))
-    want((work / "kept").stat().st_mode & 0o7777, 0o775, "the mode of the folder that is made")
-    check_again(work / "kept")
-
-
-def locked(name: str, ends: int, work: Path) -> None:
-    """Another run has the folder, until it ends, however it does. The second one is refused at once, and touches nothing."""
-    kept, words = work / "kept", ["--proofs", work / name, "-j", "1", example("bmc.cnf")]
-    os.symlink("kept", work / "link")
-    with started(command(["-j", "1", "--proofs", kept, generated("pigeons 11", work)]), stdout=subprocess.DEVNULL) as running:
-        until("an engine is there", lambda: "engine 1" in children_of(running.pid) or running.poll() is not None)
-        before = sorted(os.listdir(kept))
-        refused(words, f"{work / name}: another run that goes on has its files there: another --proofs", work)
-        want((sorted(os.listdir(kept)), running.poll()), (before, None), "what is there, and the run")
-        running.send_signal(ends)
-        running.wait(LIMIT)
-        want_answer(solve(words), 20)
-    check_again(kept)
-
-
-def own_files(name: str, work: Path) -> None:
-    """What has a name of the record's, and isn't of one, is left alone. Every run that has read its formula leaves a record."""
-    own = work / "own"
-    path = written("mine\n", own, name)
-    refused(["--proofs", own, example("bmc.cnf")], f"{path} is there, and isn't of an earlier run: another --proofs", work)
-    want(path.read_text(), "mine\n", "what stands there")
-    for text, status in ((FOUR, 20), ("x", 1), ("p cnf 1 0\n", 10), ("p cnf 1 1\n2 0\n", 1), (FOUR, 20)):
-        want(solve(["--proofs", work / "kept", "-"], given=text).status, status, f"the status with {text}")
-
-
-def unkept(work: Path) -> None:
-    """The report can't be kept: the answer is told all the same."""
-    kept = work / "kept"
-    path = before_lrupd(f"mkdir {kept}/report", work)
-    answer = solve(["--lrupd", path, "--proofs", kept, example("bmc.cnf")])
-    want((answer.answers, answer.status, answer.said), (["s UNSATISFIABLE"], 1,
-         f"lrup-solve: cannot write {kept}/report: Is a directory\n"), "the answer")
-    want([name for name in os.listdir(kept) if not name.startswith("round-1.")], ["report"], "what is there")
-
-
-def another_name(words: List[str], work: Path) -> None:
-    """Standard input, and other files of this process, by names that lrupd couldn't open."""
-    formula = example("bmc.cnf")
-    os.symlink("/dev/stdin", work / "link")
-    for how in ('"$@" < "$formula"', 'cat "$formula" | "$@"', '"$@" 5< "$formula" < "$formula"'):
-        done = in_shell(how, "sh", SOLVE, "--lrupd", PROGRAM, *(word.format(work=work) for word in words),
-                        env={**os.environ, "formula": str(formula)})
-        if "/dev/fd/5" not in words or "5<" in how:
-            want_answer(Answer(done), 20)
-
-
-def name_with_an_end_of_line(work: Path) -> None:
-    kept, formula = work / "a\nrecord", written("p cnf 1 2\n1 0\n-1 0\n", work, "a\nformula")
-    answer = solve(["-v", "-j", "1", "--proofs", kept, formula])
-    want_answer(answer, 20)
-    want([line for line in answer.out.splitlines() if line[:2] not in ("c ", "s ")], [], "lines that are neither")
-    want(sum("1 clause checked" in line for line in answer.comments), 1, f"clauses in\n{answer.out}")
-    check_again(kept)
-
-
-def relative_link(work: Path) -> None:
-    """What `make solve` leaves can be moved with the repository."""
-    want(os.readlink(OUT / "lrupd"), os.path.relpath(ROOT / "crates" / "lrupd" / "out" / "lrupd", OUT), "the link to lrupd")
-
-
-def standard_input(words: List[str], work: Path) -> None:
-    want_answer(solve(words, given=example("bmc.cnf").read_text()), 20)
-    with open(example("bmc.cnf")) as file:
-        want_answer(solve(words, stdin=file), 20)
-
-
-def from_fifo(work: Path) -> None:
-    fifo = piped(work / "fifo")
-    with started(["cp", example("bmc.cnf"), fifo]):
-        want_answer(solve([fifo]), 20)
-
-
-def beside(work: Path) -> None:
-    """lrupd is found beside the program, then on the PATH."""
-    for folder in ("one", "two"):
-        (work / folder).mkdir()
-    shutil.copy(SOLVE.with_name("lrup-engines"), work / "one")
-    words: List[object] = [shutil.copy(SOLVE, work / "one"), example("four-clause.cnf")]
-    where = {**os.environ, "PATH": str(work / "two")}
-    out, said, status = run(words, env=where)
-    want((out, said.count("\n"), "no lrupd" in said, status), ("", 1, True, 1), "without lrupd")
-    for folder in ("two", "one"):
-        os.symlink(PROGRAM, work / folder / "lrupd")
-        done = run(words, env=where)
-        want((done.out.splitlines()[-1:], done.status), (["s UNSATISFIABLE"], 20), f"with lrupd in {folder}")
-        (work / folder / "lrupd").unlink()
-
-
-def assuming(text: str, literals: str, status: int, verdict: Optional[str], work: Path) -> None:
-    formula, cube = written(text, work), written(literals, work, "cube")
-    for engines in ("1", "3"):
-        answer = solve(["-j", engines, "--assume", cube, formula])
-        want_answer(answer, status, formula, verdict)
-        if status == 10 and not set(map(int, literals.split())) <= set(answer.values):
-            raise Failure("the assignment isn't one under the assumptions")
-
-
-def contradicting(work: Path) -> None:
-    formula, cube = written("p cnf 3 2\n1 2 0\n-1 2 0\n", work), written("3 1 -1 0\n", work, "cube")
-    answer = solve(["-j", "2", "--assume", cube, formula])
-    want_answer(answer, 0)
-    want(answer.comments[:-1], ["assumptions 1 and -1 contradict each other, which no clause shows"], "what is said")
-
-
-def quiet(work: Path) -> None:
-    """-q leaves the answer alone, also beside -v."""
-    for words in (["-q"], ["--quiet"], ["-qv"], ["-vq"], ["-v", "-q"], ["--quiet", "--verbose"]):
-        want(solve([*words, example("bmc.cnf")]).out, "s UNSATISFIABLE\n", f"what {words} leaves")
-
-
-def verbose(work: Path) -> None:
-    for word in ("-v", "-vv", "--verbose"):
-        answer = solve([word, example("bmc.cnf")])
-        want_answer(answer, 20)
-        want(any(line.startswith("engine 1: ") for line in answer.comments), True, f"whether {word} tells of an engine\n{answer.out}")
 
 
 # CaDiCaL's own search.
@@ -350,61 +116,6 @@ def holes(work: Path) -> None:
     want_answer(answer, 10, formula)
     first, = [re.match(r"engine 1: ([\d.]+) s, .*; 0 conflicts;", line) for line in answer.comments if line.startswith("engine 1: ")]
     want(first is not None and float(first[1]) < 0.3, True, f"whether engine 1 was quick\n{answer.comments}")
-
-
-# Refusals.
-
-
-def refused(words: Sequence[object], cause: str, work: Path) -> None:
-    """One line on standard error, and status 1."""
-    formula = written(FOUR, work)
-    for name, begins in COMPRESSED.items():
-        written(begins, work, name)
-    answer = solve([str(word).format(work=work, formula=formula) for word in words])
-    want((answer.out, answer.status, answer.said.count("\n"), answer.said.startswith("lrup-solve: ")), ("", 1, 1, True),
-         f"what is said of {words}: {answer.said}")
-    cause = cause.format(work=work)
-    if cause not in answer.said:
-        raise Failure(f"wanted a word on '{cause}', and not\n{answer.said}")
-
-
-def refused_by_lrupd(text: str, words: List[str], known: str, work: Path) -> None:
-    """In lrupd's words, and with what is known of the file, by its name; also where it came by a pipe."""
-    formula = written(text, work, "a formula")
-    words = [word.format(work=work) for word in words]
-    for name, literals in (("bad", "-2 x 0\n"), ("beyond", "-7 0\n"), ("spaces", "1  2 0\n"), ("open", "1 2\n"),
-                           ("least", f"-{1 << 63} 0\n"), ("less", f"-{(1 << 64) + 1} 0\n"), ("long", "1" * 100 + " 0\n")):
-        written(literals, work, name)
-    said = run([PROGRAM, *words, formula, "/dev/null"]).err.rstrip("\n")
-    want((said[:7], said.count("\n")), ("lrupd: ", 0), "lrupd's refusal")
-    for given, name in ((None, f"'{formula}'"), (text, "standard input")):
-        answer = solve([*words, "-" if given else formula], given=given)
-        told = f"{said} ({known.format(name=name, work=work)})\n"
-        if given is None or given:
-            want((answer.out, answer.said, answer.status), ("", told, 1), "what is said")
-
-
-def refused_folder(work: Path) -> None:
-    (work / "folder").mkdir()
-    answer = solve([work / "folder"])
-    want((answer.out, answer.said, answer.status),
-         ("", f"lrupd: cannot read formula ({work}/folder: Is a directory)\n", 1), "what is said")
-
-
-def refused_late(words: List[str], text: str, work: Path) -> None:
-    """lrupd takes long to refuse it, and the solving has ended before, or its time is up; a signal ends the waiting."""
-    path = in_place_of_lrupd("case \"$*\" in *' /dev/null') touch read; sleep 2; echo 'lrupd: formula refused: limit' >&2; exit 4;; esac\n"
-                             "exit 4", work)
-    words, formula = ["--lrupd", str(path), "-j", "1", *words], written(text, work)
-    answer = solve([*words, formula], cwd=work)
-    want((answer.out, answer.said, answer.status), ("", f"lrupd: formula refused: limit ({formula})\n", 1), "what is said")
-    (work / "read").unlink()
-    with started([SOLVE, *words, formula], cwd=work, stdout=subprocess.PIPE, text=True) as running:
-        until("the formula is read", lambda: (work / "read").exists())
-        time.sleep(0.5)
-        running.terminate()
-        out = running.communicate(timeout=LIMIT)[0]
-    want((out.splitlines()[-1:], running.returncode), (["s UNKNOWN"], -signal.SIGTERM), "the end by a signal")
 
 
 def impostor(body: str, cause: str, work: Path) -> None:
@@ -760,100 +471,6 @@ def known() -> List[Row]:
     return runs
 
 
-def words_and_files() -> List[Row]:
-    cube = "p cnf 3 3\n1 2 0\n-1 2 0\n3 -3 0\n"
-    under = "s UNSATISFIABLE UNDER ASSUMPTIONS"
-    runs: List[Row] = [("standard input" + word, standard_input, [word] * bool(word)) for word in ("", "-")]
-    runs += [("a FIFO", from_fifo), ("where lrupd is", beside), ("-q", quiet), ("verbose", verbose), ("keeps", keeps, []),
-             ("keeps four", keeps, ["-j", "4"]), ("keeps LRAT", keeps_lrat, "pigeons 7"),
-             ("keeps LRAT, random", keeps_lrat, "random 150 1"), ("keeps standard input", keeps_standard_input),
-             ("keeps by short names", keeps_by_short_names), ("an earlier run", earlier_run),
-             ("another run's record", locked, "kept", signal.SIGTERM), ("of one that is killed", locked, "link", signal.SIGKILL),
-             ("links in a record", links_in_a_record), ("a report that can't be kept", unkept),
-             ("a name with an end of line", name_with_an_end_of_line), ("the link to lrupd", relative_link),
-             ("assumptions that contradict", assuming, cube, "-2 0\n", 20, under),
-             ("assumptions of which one does", assuming, cube, "3 1 -2 0\n", 20, under),
-             ("assumptions that fit", assuming, cube, "2 -1 0\n", 10, None),
-             ("no assumptions", assuming, cube, "0\n", 10, None),
-             ("assumptions, and no need of them", assuming, FOUR.replace("cnf 2", "cnf 3"), "3 0\n", 20, None),
-             ("assumptions against each other", contradicting),
-             ("a unit against the assumption", assuming, "p cnf 1 1\n1 0\n", "-1 0\n", 20, under)]
-    runs += [(" ".join(["standard input as", *words]), another_name, words) for words in
-             (["/dev/stdin"], ["/proc/self/fd/0"], ["{work}/link"], ["/dev/fd/5"], ["--", "-"],
-              ["--proofs", "{work}/kept", "/dev/stdin"])]
-    many = {"FIRST_WORDS": 4000, "SAME_WORDS": 1}
-    runs += [(f"names that aren't UTF-8 {number}", keeps_not_utf8, words, tested) for tested in ({"SLICE": 50}, {**many, "SLICE": 50})
-             for number, words in enumerate(([], ["--assume", CUBE], ["--proofs", "kept"], ["--proofs", os.fsdecode(b"kept\xff")],
-                                             ["--assume", CUBE, "--proofs", "kept"]))]
-    runs += [("a folder that is made", made_where_all_may_write)]
-    runs += [(f"a folder of mode {mode:o}", others_write, mode, taken)
-             for mode, taken in ((0o777, False), (0o757, False), (0o1777, True), (0o775, True), (0o700, True))]
-    runs += [(f"an own {name}", own_files, name) for name in ("formula.cnf", "assumptions", "report", "command")]
-    runs += [(" ".join(["over", *words]), writes_over, words) for words in
-             (["formula.cnf"], ["formula.cnf", "{path}"], ["round-1.stream-1", "{path}"], ["round-12.stream-64", "{path}"],
-              ["report", "{work}/link"], ["command", "{work}/other"], ["round-1.stream-2", "/dev/stdin"],
-              ["round-3.sizes", "{path}"], ["x", "--assume", "{cube}", "{path}"])]
-    return runs
-
-
-def refusals() -> List[Row]:
-    runs: List[Row] = []
-    for words, cause in ((["--nothing", "{formula}"], "--nothing"), (["-vx", "{formula}"], "-vx"),
-                         (["{formula}", "{formula}"], "one word too many"),
-                         (["-j"], "no value after -j"), (["-j", "0", "{formula}"], "-j takes 1 to 64, not 0"),
-                         (["-j", "65", "{formula}"], "-j takes 1 to 64, not 65"), (["-j", "x", "{formula}"], "not x"),
-                         (["--time", "-1", "{formula}"], "--time takes seconds above 0, not -1"),
-                         (["--time", "nan", "{formula}"], "not nan"), (["--time", "0", "{formula}"], "not 0"),
-                         (["--memory", "", "{formula}"], "not ''"), (["--memory", "2g", "{formula}"], "2000M or 2G, not 2g"),
-                         (["--memory", "3G", "{formula}"], "--memory takes at most 2147483648 bytes, not 3G"),
-                         (["--memory", "2147483649", "{formula}"], "at most"),
-                         (["--memory", "99999999999999999999", "{formula}"], "at most"),
-                         (["--memory", "100", "{formula}"], "a row of 100 bytes"),
-                         (["--memory", "1", "{formula}"], "a row of 1 byte:"),
-                         (["--share-size", "-1", "{formula}"], "--share-size takes 0 to 1000, not -1"),
-                         (["--seed", "1.5", "{formula}"], "--seed takes 0 to 1000000000, not 1.5"),
-                         (["--lrupd", "{work}/none", "{formula}"], "none"), (["--lrupd", "", "{formula}"], "not ''"),
-                         (["--lrupd", "{work}", "{formula}"], "no program"), (["--lrupd", "none", "{formula}"], "no program"),
-                         (["--proofs", "{work}/none/none", "{formula}"], "none/none"), (["--proofs", "", "{formula}"], "not ''"),
-                         (["--proofs", "{formula}", "{formula}"], "Not a directory"), (["--", "{formula}", "-v"], "too many: -v"),
-                         (["{work}/none"], "{work}/none: No such file or directory"),
-                         (["{work}/a\nb"], "a\\nb': No such file or directory"),
-                         (["--assume", "{work}/none", "{formula}"], "{work}/none: No such file or directory"),
-                         (["--proofs", "{work}/new", "{work}/none"], "none: No such file or directory"),
-                         *((["{work}/" + name], f"{name}: compressed: {name} it") for name in COMPRESSED)):
-        runs.append((" ".join(["lrup-solve", *words]), refused, words, cause))
-    header = "no header 'p cnf VARIABLES CLAUSES', with which a formula in DIMACS CNF begins"
-    for text, line, known in (
-            ("", 1, header), ("c x\np cnf 2\n", 2, header), ("1 2 0\n", 1, header), ("p cnf 02 1\n1 0\n", 1, header),
-            ("p cnf 2 1 1 2 0\n", 1, "more in the line than the header 'p cnf VARIABLES CLAUSES'"),
-            ("p cnf 2 1\n1 x 0\n", 2, "a word that is no number: x"), ("p cnf 2 1\n1\v2 0\n", 2, "a word that is no number: 1?2"),
-            ("p cnf 2 1\nc 0\n1 -0\n", 3, "a word that is no number: -0"),
-            ("p cnf 2 2\n1 0\n", 3, "the end, after 1 of the 2 clauses of the header: is the file cut? Else it has to be 'p cnf 2 1'"),
-            ("p cnf 2 1\n1 0\n2 0\n", 3, "more clauses than the 1 of the header, which has to be 'p cnf 2 2'"),
-            ("p cnf 2 1\n1 0\n0\nc\n-2 1\n0 -1 0", 3, "more clauses than the 1 of the header, which has to be 'p cnf 2 4'"),
-            ("p cnf 2 1\n1 0\n2 0\n1 7 0", 3, "more clauses than the 1 of the header, which has to be 'p cnf 7 3'"),
-            ("p cnf 2 1\n1 0\n2 0\n1 x 0", 3, "more clauses than the 1 of the header"),
-            ("p cnf 2 1\n1 0\n2 0\n1", 3, "more clauses than the 1 of the header"),
-            ("p cnf 2 1\n1 -3 0\n", 2, "variable 3, above the 2 of the header, which has to be 'p cnf 3 1'"),
-            ("p cnf 2 1\n1 3\n-16777215 0\n9 0\n", 2, "variable 3, above the 2 of the header, which has to be 'p cnf 16777215 2'"),
-            ("p cnf 2 1\n1 3 16777216 0\n", 2, "variable 3, above the 2 of the header"),
-            ("p cnf 2 1\n1 99999999999999999999 0\n", 2, "variable 99999999999999999999, above the 2 of the header"),
-            ("p cnf 2 1\n1 2", 2, "the last clause has no 0 at its end"),
-            ("p cnf 99999999 1\n1 0\n", 1, "99999999 variables, and lrupd takes at most 16777215"),
-            ("p cnf 1 16777216\n1 0\n", 1, "16777216 clauses, and lrupd takes at most 16777215"),
-            ("p cnf 1 1\n" + "1 " * 1048576 + "0\n", 2, "more than 1048575 literals in a clause, which lrupd doesn't take")):
-        runs.append((f"refused {text[:20]!r}", refused_by_lrupd, text, [], f"{{name}}, line {line}: {known}"))
-    beyond = "the literal {}, and the formula has the variables 1 to 2"
-    for name, known in (("bad", ": a word that is no number: x"), ("beyond", ": " + beyond.format(-7)), ("spaces", ""),
-                        ("open", ": no line of literals that ends with 0"), ("least", ": " + beyond.format(-(1 << 63))),
-                        ("less", ": " + beyond.format(str(-(1 << 64) - 1)[:20])), ("long", ": " + beyond.format("1" * 20)),
-                        ("", ": no line of literals that ends with 0")):
-        runs.append((f"refused --assume {name}", refused_by_lrupd, FOUR, ["--assume", "{work}/" + name], "{work}/" + name + known))
-    return runs + [("refused, a folder", refused_folder), ("refused late", refused_late, [], FOUR),
-                   ("refused late, satisfiable", refused_late, [], "p cnf 1 0\n"),
-                   ("refused when time is up", refused_late, ["--time", "0.1"], dimacs(1, [[1]]))]
-
-
 def what_happens() -> List[Row]:
     kill, term = signal.SIGKILL, signal.SIGTERM
     runs: List[Row] = [("lrupd killed", killed, ["lrupd"], kill, 0, "lrupd ended by a signal"),
@@ -905,7 +522,7 @@ def sharing() -> List[Row]:
 
 
 def main() -> int:
-    runs = known() + words_and_files() + searches() + refusals() + what_happens() + others_formulas() + sharing()
+    runs = known() + searches() + what_happens() + others_formulas() + sharing()
     runs += [(f"random with cubes {seed}", randomly_cubed, seed) for seed in range(100)]
     return run_built(runs + [(f"random {seed}", randomly, seed) for seed in range(300)])
 

@@ -10,6 +10,7 @@ streams are garbled, either both or none, as the checker of LRAT does; and none 
 are trimmed where CaDiCaL's library is there. lrup-trim is built with -fsanitize=address,undefined, where the compiler can. It shows
 what is off; the last line is 'N passed, M failed', and ', K skipped' where something isn't there. The status is 1 where a run failed.
 """
+import mmap
 import os
 import random
 import re
@@ -210,6 +211,18 @@ def of_a_group(work: Path) -> None:
     """Two streams of four, which cite each other alone."""
     streams = [example("two-groups.1"), example("two-groups.2"), Path("/dev/null"), Path("/dev/null")]
     trimmed(example("two-groups.cnf"), streams, work)
+
+
+def whole_pages(work: Path) -> None:
+    """Files that end where a page does."""
+    lines = "5 2 0 1 2 0\n6 0 5 3 4 0\n"
+    for pages in (1, 2, 16):
+        rest = pages * mmap.PAGESIZE - len(lines)
+        stream = written("10 d 0\n" * (rest % 6) + "1 d 0\n" * (rest // 6 - rest % 6) + lines, work, "a stream")
+        want(stream.stat().st_size % mmap.PAGESIZE, 0, "the bytes behind the last page")
+        trimmed(written(FOUR, work), [stream], work)
+        for name in OUTPUTS:
+            (work / name).unlink()
 
 
 def other_hints(work: Path) -> None:
@@ -567,7 +580,8 @@ def rows() -> List[Row]:
         found += [(f"{streams[0]} in {count} rounds", recorded, formula, streams, count) for count in (0, 1, 2, 9)]
     found += [(f"few lines: {name}", few, *rest) for name, *rest in FEW]
     found += [("three rounds", few_in_rounds, ONE, OF_ONE), ("three rounds of two", few_in_rounds, TWO, OF_TWO),
-              ("fewer streams", fewer_streams), ("assumptions", assuming), ("other hints", other_hints), ("a group", of_a_group)]
+              ("fewer streams", fewer_streams), ("assumptions", assuming), ("other hints", other_hints), ("a group", of_a_group),
+              ("pages", whole_pages)]
     found += [(f"two halves, {count} solvers, {rounds} rounds", two_halves, count, rounds) for count, rounds in ((1, 0), (3, 0), (2, 4))]
     found += [(f"{output} in rows", longer_than_a_row, output, name) for output, name in (("stream", "core"), ("lrat", "bmc.cnf"))]
     found += [(f"fault: {name}", fault, streams, said) for name, streams, said in FAULTS]

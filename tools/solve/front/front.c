@@ -74,20 +74,24 @@ static void start_cleaner(int file) {
     start(CLEANER, (const char *[]){ "/bin/sh", "-c", removing, folder, NULL }, file, null, null);
 }
 
-// Its output goes to files that lrup-engines reads. The numbers are of streams, lines, room and tries.
+// In memory, so that no full disk costs a verdict. lrup-engines reads it by its name in the folder.
+static int output(int which, const char *end) {
+    int file = memfd_create("lrupd", MFD_CLOEXEC);
+    bool is_named = symlink(text("/proc/%d/fd/%d", getpid(), file), text("%s/%d.%s", folder, which, end)) == 0;
+    return is_named ? file : -1;
+}
+
+// The numbers are of streams, lines, room and tries.
 static void start_lrupd(int which, const unsigned long *numbers) {
     const char *list[MOST_STREAMS + 16] = { lrupd, "--tries", text("%lu", numbers[3]), "--lines", text("%lu", numbers[1]), "--room",
                                             text("%lu", numbers[2]) }, **next = list + 7;
-    int out = open(text("%s/%d.out", folder, which), O_WRONLY | O_CREAT | O_EXCL | O_CLOEXEC, 0600);
-    int said = open(text("%s/%d.said", folder, which), O_WRONLY | O_CREAT | O_EXCL | O_CLOEXEC, 0600);
     if (assume) *next++ = "--assume", *next++ = assume;
     if (which == LRUPD) *next++ = "--rounds", *next++ = opened_folder;
     if (which == LRUPD && value['v']) *next++ = "--watch";
     *next++ = formula;
     if (which == PROBE) *next++ = "/dev/null";
     for (unsigned long k = 1; k <= numbers[0]; k++) *next++ = text("%s/round-1.stream-%lu", opened_folder, k);
-    start(which, list, null, out, said);
-    close(out), close(said);
+    start(which, list, null, output(which, "out"), output(which, "said"));
 }
 
 static void take_line(char *line) {
