@@ -21,6 +21,8 @@ module register(input clk, output reg [31:0] state, output wrong);
   assign wrong = state == 0;
 endmodule
 """
+# What table.py times.
+FORMULAS = ["units 60000", "units 60000 reversed", "failed 70000", "corridor 300 250", "lfsr 32 20000 reversed", "simulation 400"]
 SCRIPT = "read_verilog {folder}/register.v; prep -top register; sat -timeout 1 -seq {steps} -set-at {steps} wrong 1 -dump_cnf {folder}/cnf"
 
 
