@@ -401,7 +401,7 @@ abbrev pub AskForOne : CommandLine → Type 0
 AskForOne given = (rounds_at given ≡ None) ⊎ (checkpoint_at given ≡ None)
 
 -- why the formula wasn't read: its file, the first to be opened, was refused, or its reading failed, or it holds no formula, which is told
--- where the words don't ask for both
+-- if the words don't ask for both
 abbrev pub IsReadCause : (files : FilesView) → CommandLine → CommandFault → files.its.State → Type 0
 IsReadCause files given (faults.Refused fault) after =
     (fault ≢ formulas.Memory)
