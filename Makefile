@@ -8,11 +8,19 @@ PROGRAM := crates/lrupd/out/lrupd
 SOLVER := examples/solver/out/solver
 EXACT := tools/exact/out/exact
 TRIM := tools/trim/out/lrup-trim
+EXPLAIN := tools/explain/out/lrup-explain
 SOLVE := tools/solve/out/lrup-solve
 ENGINES = $(dir $(SOLVE))lrup-engines
-SOLVE_FLAGS ?= -O2
-# What of the filter is part of lrup-solve, and of lrup-trim.
+# Of whoever builds, as CPPFLAGS, LDFLAGS and LDLIBS are; what the sources want stands with the rules.
+CFLAGS ?= -O2
+CXXFLAGS ?= -O2
+WARNINGS := -Wall -Wextra -Wshadow -Wconversion
+# Where C and C++ are compiled to; lrup-solve has a place of its own, since tests build it in several ways.
+OBJECTS := out/objects
+SOLVE_OBJECTS = $(SOLVE).objects
+# What of the filter is part of lrup-solve, lrup-trim and lrup-explain; and of the solver of the demo.
 FILTER := $(filter-out tools/exact/main.c tools/exact/chain.c,$(wildcard tools/exact/*.c))
+SHARED_WITH_SOLVER := $(addprefix tools/exact/,errors.c formula.c lists.c literals.c)
 # Of one process.
 ALONE := $(filter-out $(wildcard tools/solve/mpi*.cpp),$(wildcard tools/solve/*.cpp))
 # What the tests of programs wait for: 'make examples BUILT= PROGRAM=path' takes another program.
@@ -21,9 +29,9 @@ FORMULA ?= examples/bmc.cnf
 STREAMS ?= $(addprefix examples/bmc-four.,1 2 3 4)
 OPTIONS ?= --tries 1000000
 
-.PHONY: run build install examples live checkpoints rounds demo solver exact trim solve solver-test filter-test trim-test solve-test
-.PHONY: neighbours sweep leaks instructions audit tables pages test toolchain c-and-python libcadical solve-objects mpicxx
-.PHONY: help try deb dist quick edits packages
+.PHONY: run build install examples live checkpoints rounds demo solver exact trim explain solve solver-test filter-test trim-test
+.PHONY: explain-test solve-test neighbours sweep leaks instructions audit tables pages test toolchain c-and-python libcadical beside-it
+.PHONY: mpicxx help try deb dist quick edits packages warnings builds
 
 help:
 	@awk -f gate/help.awk $(firstword $(MAKEFILE_LIST))
@@ -50,13 +58,13 @@ build: toolchain ## build: prove the program, 7 to 30 minutes the first time, an
 
 # The filter's name is lrup-exact; lrup-solve is installed where CaDiCaL's library is there. The manual pages have the version at their
 # feet.
-install: build exact trim ## use: install lrupd, lrup-chain, lrup-exact, lrup-trim, lrup-solve, with manual pages, below PREFIX=/usr/local
+install: build exact trim explain ## use: install all programs, with manual pages, below PREFIX=/usr/local
 	install -d "$(DESTDIR)$(PREFIX)/bin" "$(DESTDIR)$(PREFIX)/share/man/man1"
 	install -m 755 $(PROGRAM) "$(DESTDIR)$(PREFIX)/bin/lrupd"
 	install -m 755 tools/lrup-chain "$(DESTDIR)$(PREFIX)/bin"
 	install -m 755 $(EXACT) "$(DESTDIR)$(PREFIX)/bin/lrup-exact"
-	install -m 755 $(TRIM) "$(DESTDIR)$(PREFIX)/bin"
-	install -m 644 docs/lrupd.1 docs/lrup-chain.1 docs/lrup-exact.1 docs/lrup-trim.1 "$(DESTDIR)$(PREFIX)/share/man/man1"
+	install -m 755 $(TRIM) $(EXPLAIN) "$(DESTDIR)$(PREFIX)/bin"
+	install -m 644 $(addprefix docs/,lrupd.1 lrup-chain.1 lrup-exact.1 lrup-trim.1 lrup-explain.1) "$(DESTDIR)$(PREFIX)/share/man/man1"
 	@if $(MAKE) -s solve; then \
 	install -d "$(DESTDIR)$(PREFIX)/libexec/lrupd" && install -m 755 $(SOLVE) "$(DESTDIR)$(PREFIX)/bin/lrup-solve" && \
 	install -m 755 $(ENGINES) "$(DESTDIR)$(PREFIX)/libexec/lrupd/lrup-engines" && \
@@ -85,36 +93,82 @@ demo: build solver ## try: four solvers that share their clauses, and the progra
 	@python3 examples/solver/demo.py $(PROGRAM) $(SOLVER)
 
 # An example, and not verified.
-solver: c-and-python ## build: the solver of the demo, at examples/solver/out/solver
-	@mkdir -p $(dir $(SOLVER))
-	@$(CC) -std=c11 -O2 -Wall -Wextra -pthread -I tools/exact -o $(SOLVER) examples/solver/*.c tools/exact/formula.c
+solver: $(SOLVER) ## build: the solver of the demo, at examples/solver/out/solver
+	@:
 
 # Not verified, and not trusted.
-exact: c-and-python ## build: the filter that makes streams of other solvers' proofs, at tools/exact/out/exact
-	@mkdir -p $(dir $(EXACT))
-	@$(CC) -std=c11 -O2 -Wall -Wextra -o $(EXACT).new tools/exact/*.c && mv $(EXACT).new $(EXACT)
+exact: $(EXACT) ## build: the filter that makes streams of other solvers' proofs, at tools/exact/out/exact
+	@:
 
 # Not verified, and not trusted.
-trim: c-and-python ## build: lrup-trim, cores and smaller proofs of recorded streams, at tools/trim/out
-	@mkdir -p $(dir $(TRIM))
-	@$(CC) -std=c11 -O2 -Wall -Wextra -o $(TRIM).new tools/trim/*.c $(FILTER) && mv $(TRIM).new $(TRIM)
+trim: $(TRIM) ## build: lrup-trim, cores and smaller proofs of recorded streams, at tools/trim/out
+	@:
+
+# Not verified, and not trusted.
+explain: $(EXPLAIN) ## build: lrup-explain, why a line is bad, and what would be right, at tools/explain/out
+	@:
 
 # Not verified. The front, which starts lrupd and prints the answer, is believed; lrup-engines isn't.
-solve: solve-objects ## build: lrup-solve, from a formula to a proved verdict, at tools/solve/out; wants CaDiCaL's library
-	@$(CXX) -std=c++17 $(SOLVE_FLAGS) -Wall -Wextra -DVERSION='"$(VERSION)"' -o $(ENGINES).new $(ALONE) $(SOLVE).objects/*.o -lcadical && \
-	mv $(ENGINES).new $(ENGINES)
-
-# And the front, with what it looks for beside it, lrupd.
-solve-objects: c-and-python libcadical
-	@mkdir -p $(SOLVE).objects
-	@cd $(SOLVE).objects && $(CC) -std=c11 -D_GNU_SOURCE $(SOLVE_FLAGS) -Wall -Wextra -c $(abspath $(wildcard tools/solve/*.c) $(FILTER))
-	@ln -sfr $(PROGRAM) $(dir $(SOLVE))lrupd
-	@$(CC) -std=c11 $(SOLVE_FLAGS) -Wall -Wextra -o $(SOLVE).new tools/solve/front/front.c && mv $(SOLVE).new $(SOLVE)
+solve: $(SOLVE) $(ENGINES) beside-it ## build: lrup-solve, from a formula to a proved verdict, at tools/solve/out; wants CaDiCaL's library
 
 # It isn't installed: it goes with the MPI of where it was built.
-solve-mpi: solve-objects mpicxx ## build: lrup-solve-mpi, the same in several processes on one host or more; wants MPI, too
-	@OMPI_CXX="$(CXX)" mpicxx -std=c++17 $(SOLVE_FLAGS) -Wall -Wextra -DVERSION='"$(VERSION)"' -o $(SOLVE)-mpi.new \
-	$(filter-out tools/solve/alone.cpp,$(wildcard tools/solve/*.cpp)) $(SOLVE).objects/*.o -lcadical && mv $(SOLVE)-mpi.new $(SOLVE)-mpi
+solve-mpi: $(ENGINES)-mpi $(SOLVE) beside-it ## build: lrup-engines-mpi, for lrup-solve --mpi: engines on several hosts; wants MPI, too
+
+# What the front looks for beside it.
+beside-it: $(EXACT) $(TRIM) $(EXPLAIN)
+	@mkdir -p $(dir $(SOLVE)) && ln -sfr $(PROGRAM) $(dir $(SOLVE))lrupd && ln -sfr $(EXACT) $(dir $(SOLVE))lrup-exact && \
+	ln -sfr $(TRIM) $(EXPLAIN) $(dir $(SOLVE))
+
+# One source after the other, each once it has changed, or a header that it includes, or how it is compiled. A program that runs is
+# replaced, and not written over.
+in_order = $(patsubst %,$(1)/%.o,$(basename $(2)))
+COMPILE_C = $(CC) -std=c11 $(WARNINGS) $(CPPFLAGS) $(CFLAGS)
+COMPILE_CXX = -std=c++17 $(WARNINGS) -DVERSION='"$(VERSION)"' $(CPPFLAGS) $(CXXFLAGS)
+LINK = mkdir -p $(dir $@) && $(1) $(2) $(LDFLAGS) -o $@.new $(filter %.o,$^) $(3) $(LDLIBS) && mv $@.new $@
+
+$(SOLVER): $(call in_order,$(OBJECTS),$(wildcard examples/solver/*.c) $(SHARED_WITH_SOLVER))
+	@$(call LINK,$(CC),$(CFLAGS) -pthread)
+$(EXACT): $(call in_order,$(OBJECTS),$(wildcard tools/exact/*.c))
+	@$(call LINK,$(CC),$(CFLAGS))
+$(TRIM): $(call in_order,$(OBJECTS),$(wildcard tools/trim/*.c) $(FILTER))
+	@$(call LINK,$(CC),$(CFLAGS))
+$(EXPLAIN): $(call in_order,$(OBJECTS),$(wildcard tools/explain/*.c) tools/trim/lines.c $(FILTER))
+	@$(call LINK,$(CC),$(CFLAGS))
+$(SOLVE): $(call in_order,$(SOLVE_OBJECTS),tools/solve/front/front.c)
+	@$(call LINK,$(CC),$(CFLAGS))
+$(ENGINES): $(call in_order,$(SOLVE_OBJECTS),$(ALONE) $(wildcard tools/solve/*.c) $(FILTER))
+	@$(call LINK,$(CXX),$(CXXFLAGS),-lcadical)
+$(ENGINES)-mpi: $(call in_order,$(SOLVE_OBJECTS),$(filter-out tools/solve/alone.cpp,$(wildcard tools/solve/*.cpp tools/solve/*.c)) $(FILTER))
+	@$(call LINK,OMPI_CXX="$(CXX)" mpicxx,$(CXXFLAGS),-lcadical)
+
+$(OBJECTS)/%.o: %.c $(OBJECTS)/flags
+	@mkdir -p $(dir $@) && $(COMPILE_C) -I tools/exact -MMD -MP -c -o $@ $<
+$(SOLVE_OBJECTS)/%.o: %.c $(SOLVE_OBJECTS)/flags
+	@mkdir -p $(dir $@) && $(COMPILE_C) -MMD -MP -c -o $@ $<
+$(SOLVE_OBJECTS)/tools/solve/mpi_%.o: tools/solve/mpi_%.cpp $(SOLVE_OBJECTS)/flags | mpicxx libcadical
+	@mkdir -p $(dir $@) && OMPI_CXX="$(CXX)" mpicxx $(COMPILE_CXX) -MMD -MP -c -o $@ $<
+$(SOLVE_OBJECTS)/%.o: %.cpp $(SOLVE_OBJECTS)/flags | libcadical
+	@mkdir -p $(dir $@) && $(CXX) $(COMPILE_CXX) -MMD -MP -c -o $@ $<
+
+# How all is compiled, written where that isn't what it was.
+$(OBJECTS)/flags $(SOLVE_OBJECTS)/flags: FORCE | c-and-python
+	@mkdir -p $(dir $@) && echo '$(subst ','\'',$(COMPILE_C) $(CXX) $(COMPILE_CXX) $(LDFLAGS) $(LDLIBS))' > $@.new && \
+	{ cmp -s $@.new $@ && rm $@.new || mv $@.new $@; }
+FORCE:
+-include $(wildcard $(OBJECTS)/*/*/*.d $(SOLVE_OBJECTS)/*/*/*.d $(SOLVE_OBJECTS)/*/*/*/*.d)
+
+# With clang, too, where it is there.
+C_SOURCES := $(wildcard $(addsuffix /*.c,tools/exact tools/trim tools/explain tools/solve tools/solve/front examples/solver tests))
+C_HEADERS := $(wildcard $(addsuffix /*.h,tools/exact tools/trim tools/explain examples/solver)) tools/solve/shared.h \
+	tools/solve/test_hooks.h
+STRICT = -std=c11 $(WARNINGS) -Werror -O2 -fsyntax-only -I tools/exact -x c
+warnings: c-and-python ## check: that C compiles without a warning, and each header by itself
+	@for compiler in $(firstword $(CC)) clang; do command -v $$compiler > /dev/null || continue; \
+	$$compiler $(STRICT) $(C_SOURCES) || exit 1; \
+	for file in $(C_HEADERS); do $$compiler $(STRICT) -include $$file /dev/null || exit 1; done; done
+
+builds: c-and-python ## check: that C and C++ are compiled with the flags that are said, and again what has changed
+	@python3 tests/builds.py
 
 solver-test: $(BUILT) solver ## check: the example solver's streams, of one to eight solvers, and of some that are killed
 	@python3 tests/example_solver.py $(PROGRAM) $(SOLVER)
@@ -129,14 +183,18 @@ $(FILTER_TESTS): $(BUILT) exact
 trim-test: $(BUILT) solver exact trim ## check: lrup-trim, on 300 random runs in rounds, and on garbled streams
 	@python3 tests/trim.py $(PROGRAM)
 
-# Without CaDiCaL's library nothing is run, and without MPI nothing of lrup-solve-mpi. With MPI= only what takes seconds there, as in
+explain-test: $(BUILT) solver explain ## check: lrup-explain, on 2,000 faulty streams and 1,000 mutated proofs, beside what lrupd says
+	@python3 tests/explain.py $(PROGRAM)
+
+# Without CaDiCaL's library nothing is run, and without MPI nothing of --mpi. With MPI= only what takes seconds there, as in
 # the gate.
 MPI ?= yes
-SOLVE_TESTS := lrup_solve_rounds lrup_solve lrup_solve_inputs lrup_solve_solvers lrup_solve_front lrup_solve_mpi
+SOLVE_TESTS := lrup_solve_rounds lrup_solve lrup_solve_inputs lrup_solve_solvers lrup_solve_kept lrup_solve_front lrup_solve_kills \
+	lrup_solve_mpi
 .PHONY: $(SOLVE_TESTS)
 solve-test: $(SOLVE_TESTS) ## check: lrup-solve, and what may happen to it, with 300 random formulas
 
-$(SOLVE_TESTS): $(BUILT) c-and-python
+$(SOLVE_TESTS): $(BUILT) exact c-and-python
 	@python3 tests/$@.py $(PROGRAM) $(if $(MPI),,$(if $(filter %_mpi,$@),-O2 small))
 
 neighbours: $(BUILT) c-and-python ## check: what is said of a good proof beside hostile streams, which never changes
@@ -157,7 +215,7 @@ audit: ## check: write docs/AUDIT.md and docs/AUDIT-RUNS.md anew from the source
 	@python3 gate/audit.py
 
 # Of docs/interface.txt, and of what --help says.
-tables: ## check: write the tables of options, statuses and faults in README, USING and lrupd.1 anew
+tables: ## check: write the tables of USING and lrupd.1 anew
 	@python3 gate/tables.py
 
 # Fails unless the two pages and the tables are what the sources give, and DEFINITIONS has their counts; docs/interface.txt has the
@@ -167,9 +225,10 @@ pages: c-and-python ## check: the documents, against the sources and each other;
 	@python3 gate/audit.py --check
 	@python3 gate/tables.py --check
 	@python3 gate/style.py
+	@python3 gate/prose.py
 
 # With dpkg-deb and dpkg-dev.
-deb: ## use: a Debian package of what make install installs, with README, USING and the examples, in out/
+deb: ## use: a Debian package of what make install installs, with the pages for users and the examples, in out/
 	@rm -rf out/deb && $(MAKE) --no-print-directory install DESTDIR="$(abspath out/deb)" PREFIX=/usr
 	@sh tools/deb.sh out/deb $(VERSION)
 
@@ -192,16 +251,17 @@ packages: ## check: install, as root, Debian's packages that the tests want
 
 # The whole gate: the pages; every proof from nothing, each edit that must be refused, each test, and the program as two compilers
 # build it; then, with the program that was built there, the examples, the live run, checkpoints, runs in rounds and chains, the
-# solver's streams and the filter's, mutated proofs, trimmed ones, lrup-solve, a proof beside hostile streams, each call of the system
-# refused in turn, of the program and of tests, memory given back, and the instructions that lines take. The last line is rt's own,
-# 'N passed, M failed'.
+# solver's streams and the filter's, mutated proofs, faulty streams, trimmed ones, lrup-solve, a proof beside hostile streams, each call
+# of the system refused in turn, of the program and of tests, memory given back, and the instructions that lines take. The last line is
+# rt's own, 'N passed, M failed'.
 # Side by side, those that take longest first, and two more than there are cores, since most of them wait now and then; what each
 # one prints comes when it has ended.
-TESTS := lrup_solve_rounds sweep filter_mutants lrup_solve lrup_solve_solvers filter_rounds trim-test lrup_solve_front lrup_solve_mpi \
-	lrup_solve_inputs leaks filter_chains filter_streams filter_solvers checkpoints rounds examples solver-test instructions neighbours live
+TESTS := lrup_solve_rounds sweep filter_mutants lrup_solve lrup_solve_solvers filter_rounds explain-test trim-test lrup_solve_front \
+	lrup_solve_mpi lrup_solve_inputs lrup_solve_kept lrup_solve_kills leaks filter_chains filter_streams filter_solvers checkpoints rounds \
+	examples solver-test instructions neighbours live warnings builds shown
 SIDE_BY_SIDE := --output-sync=target -j $(shell expr $$(nproc) + 2)
 test: SHELL := /bin/bash
-test: toolchain pages solver exact trim ## check: the gate, 25 to 100 minutes: every proof, edit and test; has to pass before a push
+test: toolchain pages solver exact trim explain ## check: the gate, 25 to 100 minutes: every proof, edit and test; has to pass before a push
 	@rm -f $(dir $(SOLVE))lrupd; set -o pipefail; log=$$(mktemp); trap 'rm -f "$$log"' EXIT; SECONDS=0; \
 	$(RT) ci | tee "$$log" && proved=$$SECONDS && $(MAKE) --no-print-directory $(SIDE_BY_SIDE) BUILT= MPI= $(TESTS) && \
 	echo "rt ci took $$proved seconds, and the tests of programs $$((SECONDS - proved))" && tail -n 1 "$$log"

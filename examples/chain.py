@@ -17,7 +17,13 @@ from collections import Counter
 from pathlib import Path
 from typing import Dict, List, NamedTuple, Set
 
+USAGE = "usage: chain.py ROUNDS FORMULA FOLDER STREAM..., with 1 round or more"
+MOST_CLAUSES = 16777215
 NOWHERE = 10 ** 18 - 1  # the identity of no clause: cited for one that no stream derived, or that a checkpoint doesn't have
+
+
+class Fault(Exception):
+    pass
 
 
 class Line(NamedTuple):
@@ -36,6 +42,25 @@ def read_line(stream: int, text: str) -> Line:
         return Line(stream, "i", 0, words[1:-1], [int(identity)])
     end = words.index("0")
     return Line(stream, "a", int(identity), words[:end], list(map(int, words[end + 1:-1])))
+
+
+def read_stream(stream: int, name: str) -> List[Line]:
+    lines = []
+    with open(name, errors="replace") as file:
+        for number, text in enumerate(file, 1):
+            try:
+                lines.append(read_line(stream, text))
+            except (ValueError, IndexError):
+                raise Fault(f"{name}: line {number} isn't one of a stream") from None
+    return lines
+
+
+def clauses_of(formula: Path) -> int:
+    with formula.open(errors="replace") as file:
+        header = next((text.split() for text in file if text.startswith("p")), [])
+    if len(header) != 4 or not header[3].isdecimal() or len(header[3]) > 8 or int(header[3]) > MOST_CLAUSES:
+        raise Fault(f"{formula}: no header 'p cnf VARIABLES CLAUSES' with at most {MOST_CLAUSES} clauses")
+    return int(header[3])
 
 
 def in_order(streams: List[List[Line]]) -> List[Line]:
@@ -97,14 +122,14 @@ def live(streams: List[List[Line]], count: int) -> List[int]:
 
 
 def main() -> int:
-    if len(sys.argv) < 5 or not sys.argv[1].isdigit() or int(sys.argv[1]) < 1:
-        sys.exit(__doc__)
+    if len(sys.argv) < 5 or not sys.argv[1].isdecimal() or len(sys.argv[1]) > 9 or int(sys.argv[1]) < 1:
+        sys.exit(USAGE)
     rounds, formula, folder, names = int(sys.argv[1]), Path(sys.argv[2]), Path(sys.argv[3]), sys.argv[4:]
     try:
-        count = int(next(text for text in formula.open() if text.startswith("p")).split()[3])
-        order = in_order([[read_line(number, text) for text in Path(name).open()] for number, name in enumerate(names)])
+        count = clauses_of(formula)
+        order = in_order([read_stream(number, name) for number, name in enumerate(names)])
         folder.mkdir()
-    except OSError as error:
+    except (OSError, Fault) as error:
         sys.exit(f"chain.py: {error}")
     now = {identity: identity for identity in range(1, count + 1)}
     for number in range(1, rounds + 1):

@@ -22,7 +22,7 @@ UNSEEN = {"DimacsFault", "OpenFault", "ReadFault", "Sink", "WriteFault"}
 # What the page on status 0 and 8 links to in the sources: who believes checkpoints needs no more of it than is quoted.
 LINKED = ("IsCommandLineOf", "IsSaidBy", "CommandLine", "assumed_at", "AreOpened")
 
-MOST_WORDS = 6000       # of the page on status 0 and 8, and on checkpoints
+MOST_WORDS = 6000       # of the page on status 0 and 8, and on checkpoints; but for the front, which one reads as a program
 
 MADE = "Made from the sources by `make audit`; the gate fails where this page isn't what they give."
 
@@ -40,13 +40,13 @@ No clause says that something is answered: 'out of memory' may always come.
 ## Status 0"""
 
 SIGNATURE = """This is the [[fn command.sound]], the whole program but for the machine; what `main` calls has the same clause of its arguments
-([below](#what-one-has-to-trust)). `words` are those of the command line
+([below](#what-one-has-to-trust)). `words` are those
 after the program's name. `out` and `err` take bytes, and haven't failed before. Threads and clock promise nothing; `Global` is
 where memory is from."""
 
 STATUS_0_PHRASES: Rows = [
-    ("with status 0", "[[fn command.sound: result ≡ 0 →]]."),
-    ("the bytes that were read", """they are the `bytes` of [[NameUnsatisfiable: Read first formula_path bytes after]], and `Read` is
+    ("ends with status 0", "[[fn command.sound: result ≡ 0 →]]."),
+    ("the bytes that it read", """they are the `bytes` of [[NameUnsatisfiable: Read first formula_path bytes after]], and `Read` is
      [[fn command.sound: WasRead F.opens F.Input.Source.reads (F.tells files.old)]]: the first opening, of `files.old`, was the
      file's, and its reads gave these bytes, up to one that gave none ([[WasRead]], [[GaveAll]])."""),
     ("from the formula's file", """[[NameUnsatisfiable: AskFor words formula_path assume]]: the words have no fault, and their FORMULA
@@ -149,8 +149,17 @@ TRUST = """## What one has to trust
   _ read files.old (words_after_name given))]]. `exit_status` is the status; `IsOkAnd`: they were given, and of them it holds;
   `words_after_name`: those after the first.
 - **The machine's files**: that reads give what the file holds, and it is the one you mean.
-- **Of `lrup-solve` its [front](../tools/solve/front/front.c)**, unverified: that it starts `lrupd` on your formula, and prints
+- **Of `lrup-solve` its [front](#the-front)**, unverified: that it starts `lrupd` on your formula, and prints
   what its status says. Nothing else of it is believed."""
+
+FRONT_FILES = ("front.c", "inputs.h")        # of tools/solve/front
+
+FRONT_TOP = """## The front
+
+This is all of `lrup-solve` that is believed: two files of C. Ask: is the formula that `lrupd` gets the one that was named, does a line
+that begins with `s UNSATISFIABLE` come from its status alone, and does each clause have a literal of the assignment that is printed?
+Whatever else `lrup-engines` does, an answer may be missing, or be `s UNKNOWN`. `tests/lrup_solve_front.py` runs programs in its place
+that lie and die."""
 
 GLOSSES = """
 `AllByRecursion P xs` P of each element
@@ -384,7 +393,7 @@ The three theorems above say what holds of the reports that came. These laws say
 other."""
 
 RIGHT_PHRASES: Rows = [
-    ("[USING](USING.md#streams) says which lines are right", """[[IsRightLine]], by the [[Database]] that the lines before it left,
+    ("A line is right if [FORMAT](FORMAT.md) allows it", """[[IsRightLine]], by the [[Database]] that the lines before it left,
      from the formula's clauses on: [[AreRight: IsRightLine layout s base line × AreRight layout s (after_line base line) lines]],
      [[first_database]]. An addition: [[IsRightAddition: owns : Owns layout s id]], [[IsRightAddition: above : base.last < id]],
      [[IsRightAddition: literals : AllByRecursion (λ l. nat_abs l ≤ layout.vars) lits]], [[IsRightAddition: room : length (distinct lits)

@@ -6,7 +6,7 @@
 It lists names in backticks, in the documents, that don't exist; lines of clauses and of definitions beyond 100 columns, and of
 proofs beyond 140; lemmas that are stated twice; names that mean one thing in one crate and another in another; where the picture of
 the crates isn't what crates.txt says; targets of the Makefile that CONTRIBUTING doesn't list as `make help` does; links in the
-documents that lead nowhere; edits that the gate leaves out, and that don't fit their sources; whether README is longer than it may be; whether the logic of README is the one of the `rt` on the
+documents that lead nowhere; edits that the gate leaves out, and that don't fit their sources; whether the logic of README is the one of the `rt` on the
 PATH, if there is one; and whether `lrupd --version` says what the file VERSION does. The last line has the counts, and the status
 is 1 where one of them isn't 0.
 
@@ -29,12 +29,13 @@ from audit import slug_of
 ROOT = Path(__file__).resolve().parent.parent
 COLUMNS = 100  # of clauses and definitions
 PROOF_COLUMNS = 140
-MOST_WORDS = 900  # of README
 # What stands in backticks and isn't of this repository: the toolchain's, the system's, other programs', and what a text makes up.
 FOREIGN = set("""
 ANTT.md CONTRACTS.md SHORTER_PROOFS.md BUILD.bazel start_lib start_io proves untested --only
 cadical libcadical-dev yosys -j -v -q --plain --no-binary pv socat ssh madvise
 veth docker0 btl_tcp_if_include --host oob_tcp_keepalive_time oob_tcp_keepalive_intvl oob_tcp_keepalive_probes plm_rsh_agent
+%formula %proof :init :goal formula.cnf ten.cnf proof.lrat core.cnf kept/command
+GLIBC_TUNABLES=glibc.malloc.hugetlb=1
 group1 group2 my_lemma run_ serial_ worker_ XValue OPTIONS=--serial LIMIT=900
 """.split())
 
@@ -214,7 +215,7 @@ def wrong_arrows():
 
 # The Makefile's lines in CONTRIBUTING.
 
-UNLISTED = {"help", "toolchain", "c-and-python", "libcadical", "mpicxx", "solve-objects"}
+UNLISTED = {"help", "toolchain", "c-and-python", "libcadical", "mpicxx", "beside-it"}
 
 
 def unlisted_targets():
@@ -267,18 +268,6 @@ def without_code(path):
     blank = lambda block: re.sub(r"[^\n]", " ", block[0])
     text = re.sub(r"^```.*?^```$", blank, path.read_text(), flags=re.M | re.S)
     return re.sub(r"(?<=\n\n)(?:    .*\n)+", blank, text)
-
-
-def words_of_readme():
-    """How many have a letter or a digit, but for code and for tables that `make tables` writes."""
-    page = without_code(ROOT / "README.md")
-    text = re.sub(r"^<!-- (\w+): made by .*?^<!-- end of \1 -->$", "", page, flags=re.M | re.S)
-    return sum(re.search(r"\w", word) is not None for word in text.split())
-
-
-def long_readme():
-    if words_of_readme() > MOST_WORDS:
-        yield f"README.md: {words_of_readme()} words, and it may have {MOST_WORDS}"
 
 
 @functools.lru_cache(maxsize=None)
@@ -439,7 +428,7 @@ def main():
               ("statements of lemmas more than once", repeated_statements), ("names with two meanings", names_with_two_meanings),
               ("arrows that are wrong", wrong_arrows),
               ("targets and lines of make help that differ", unlisted_targets), ("links that lead nowhere", dead_links),
-              ("edits that don't fit", misfits), ("pages too long", long_readme),
+              ("edits that don't fit", misfits),
               ("other logics", other_logics), ("other versions", other_versions)]
     counts = []
     for what, check in checks:
@@ -447,7 +436,6 @@ def main():
         counts.append(f"{len(found)} {what}")
         for line in found:
             print(line)
-    print(f"README.md: {words_of_readme()} of {MOST_WORDS} words")
     print("; ".join(counts))
     sys.exit(0 if all(count.startswith("0 ") for count in counts) else 1)
 

@@ -1,12 +1,12 @@
 #!/usr/bin/env python3
-"""Writes the tables of options, statuses and faults in README, USING and the manual page lrupd.1.
+"""Writes the tables of faults and causes in USING, and those of options, statuses and faults in the manual page lrupd.1.
 
     python3 gate/tables.py            writes them
     python3 gate/tables.py --check    fails where one isn't what the sources give
 
 The sources are docs/interface.txt, and of the options the program's own texts, crates/command_line/src/help.rt. Each table stands
-between a comment that has its name and says what it is made from, and one that says where it ends. It fails where a text of an
-option in docs/interface.txt isn't in the program's, or where faults and causes have other texts there than in the definitions.
+between a comment that has its name and says what it is made from, and one that says where it ends. It fails if docs/interface.txt
+and the program have other options, or the definitions other texts of faults and causes.
 """
 import re
 import sys
@@ -20,20 +20,16 @@ HELP = ROOT / "crates" / "command_line" / "src" / "help.rt"
 FAULTS = ROOT / "crates" / "stream_check" / "specs" / "Faults.antt"
 CAUSES = [ROOT / "crates" / "command" / "specs" / "Faults.antt", ROOT / "crates" / "lrup_model" / "specs" / "Layout.antt"]
 COLUMNS = 79  # of the manual page
-FIELDS = {"option": ["brief"], "status": ["meaning", "says"], "fault": ["meaning", "cause"]}  # all but the first may be missing
+FIELDS: Dict[str, List[str]] = {"option": [], "status": ["meaning", "says"], "fault": ["meaning", "cause"]}
+MAY_BE_MISSING = ["says", "cause"]
 
 Entry = Dict[str, str]
 
 
 class Option(NamedTuple):
-    """An option with its placeholder, `--tries N`, what stands in tables, and all that the program says of it."""
+    """An option with its placeholder, `--tries N`, and what the program says of it."""
     head: str
-    brief: str
     text: str
-
-    def default(self) -> str:
-        found = re.search(r", default ([\d,]+)\. ", self.text)
-        return found[1] if found else ""
 
 
 # The sources.
@@ -47,8 +43,8 @@ def entries(kind: str) -> List[Entry]:
         pairs = [line.partition(": ") for line in re.sub(r"\n +", " ", block).split("\n")]
         entry = {key: value for key, _, value in pairs}
         first = pairs[0][0]
-        fields = FIELDS.get(first, [])
-        if not fields or fields[0] not in entry or len(entry) != len(pairs) or not entry.keys() <= {first, *fields}:
+        fields = {first, *FIELDS.get(first, [])}
+        if first not in FIELDS or len(entry) != len(pairs) or not fields.difference(MAY_BE_MISSING) <= entry.keys() <= fields:
             sys.exit(f"tables: docs/interface.txt: not an entry:\n{block}")
         if first == kind:
             found.append(entry)
@@ -64,13 +60,9 @@ def program_texts() -> Dict[str, str]:
 def options() -> List[Option]:
     """The options in the order of docs/interface.txt."""
     texts = program_texts()
-    found = [Option(entry["option"], entry["brief"], texts.get(constant_of(entry["option"]), "")) for entry in entries("option")]
+    found = [Option(entry["option"], texts.get(constant_of(entry["option"]), "")) for entry in entries("option")]
     if {constant_of(option.head) for option in found} != texts.keys() - {"VERSION", "PROGRAM", "FORMULA", "STREAM", "EXAMPLE"}:
         sys.exit("tables: docs/interface.txt and help.rt have other options")
-    for option in found:
-        for sentence in option.brief.replace("`", "'").split(". "):
-            if not re.search(rf"(^|\. ){re.escape(sentence)}[.,:] ", option.text + " "):
-                sys.exit(f"tables: {option.head}: help.rt doesn't say '{sentence}'")
     return found
 
 
@@ -128,15 +120,6 @@ def sizes() -> str:
 def table(titles: Sequence[str], rows: Sequence[Sequence[str]]) -> str:
     shown = ["|" + "".join(f" {cell} |" if cell else " |" for cell in row) for row in [titles, *rows]]
     return "\n".join([shown[0], "|" + "---|" * len(titles), *shown[1:]])
-
-
-def option_table() -> str:
-    rows = [[f"`{option.head}`", option.default(), option.brief] for option in options()]
-    return table(["Option", "Default", ""], rows) + "\n\n" + textwrap.fill(sizes(), 128)
-
-
-def status_table() -> str:
-    return table(["Status", "Meaning"], [[entry["status"], entry["meaning"]] for entry in entries("status")])
 
 
 def cause_table() -> str:
@@ -202,7 +185,6 @@ def synopsis() -> str:
 
 Part = Callable[[], str]
 PARTS: Dict[str, Dict[str, Part]] = {
-    "README.md": {"options": option_table, "statuses": status_table},
     "docs/USING.md": {"faults": fault_table, "causes": cause_table},
     "docs/lrupd.1": {
         "synopsis": synopsis,

@@ -18,7 +18,7 @@ sys.dont_write_bytecode = True
 from harness import (EXAMPLES, LRUP_CHAIN, ROOT, VERDICTS, Ran, Row, added, example, generated, run, run_all, unwatched, want,
                      watched_ends, words_given, written)
 
-CHAIN, USING = EXAMPLES / "chain.py", ROOT / "docs" / "USING.md"
+CHAIN = EXAMPLES / "chain.py"
 TRIES = ["--tries", "1000000"]
 FOUR_SOLVERS = [f"bmc-four.{number}" for number in range(1, 5)]
 TWO_GROUPS = [f"two-groups.{number}" for number in range(1, 5)]
@@ -92,6 +92,33 @@ def wrong_step(program: str, at: int, bad: int, work: Path) -> None:
     want(found and int(found[1]), at - before[-1] + 1, f"{chained.report}: the bad line")
 
 
+FORMULA, STREAM = "p cnf 2 4\n1 2 0\n-1 2 0\n1 -2 0\n-1 -2 0\n", "5 2 0 1 2 0\n6 0 5 3 4 0\n"
+USAGE = "usage: chain.py ROUNDS FORMULA FOLDER STREAM..., with 1 round or more\n"
+HEADER = "chain.py: formula: no header 'p cnf VARIABLES CLAUSES' with at most 16777215 clauses\n"
+STEP = "chain.py: stream: line {} isn't one of a stream\n"
+GIVEN = ["2", "formula", "d", "stream"]
+# The words, the formula, the stream, and what is said, by one line.
+REFUSED = {
+    "no words": ([], FORMULA, STREAM, USAGE), "no stream": (GIVEN[:3], FORMULA, STREAM, USAGE),
+    "no round": (["0", *GIVEN[1:]], FORMULA, STREAM, USAGE), "no number": (["\u00b2", *GIVEN[1:]], FORMULA, STREAM, USAGE),
+    "a long number": (["1" * 5000, *GIVEN[1:]], FORMULA, STREAM, USAGE), "help": (["--help"], FORMULA, STREAM, USAGE),
+    "no header": (GIVEN, "1 2 0\n", STREAM, HEADER), "half a header": (GIVEN, "p cnf 2\n", STREAM, HEADER),
+    "no number of clauses": (GIVEN, "p cnf 2 x\n", STREAM, HEADER), "too many": (GIVEN, "p cnf 2 16777216\n", STREAM, HEADER),
+    "an empty formula": (GIVEN, "", STREAM, HEADER), "bytes": (GIVEN, "\udcff\n", STREAM, HEADER),
+    "an empty line": (GIVEN, FORMULA, STREAM[:13] + "\n", STEP.format(2)), "one word": (GIVEN, FORMULA, "5\n", STEP.format(1)),
+    "no end": (GIVEN, FORMULA, "5 2 1 2\n", STEP.format(1)), "a letter": (GIVEN, FORMULA, "x 2 0 1 2 0\n", STEP.format(1)),
+    "a long identity": (GIVEN, FORMULA, "1" * 5000 + " 2 0 1 2 0\n", STEP.format(1)),
+    "bytes in a stream": (GIVEN, FORMULA, STREAM + "\udcff\n", STEP.format(3)),
+    "the folder is there": (["1", "formula", ".", "stream"], FORMULA, STREAM, "chain.py: [Errno 17] File exists: '.'\n"),
+    "no such file": ([*GIVEN, "none"], FORMULA, STREAM, "chain.py: [Errno 2] No such file or directory: 'none'\n")}
+
+
+def refused(words: List[str], formula: str, stream: str, said: str, work: Path) -> None:
+    for name, text in (("formula", formula), ("stream", stream)):
+        (work / name).write_text(text, errors="surrogateescape")
+    want((run([sys.executable, CHAIN, *words], cwd=work), (work / "d").exists()), (Ran("", said, 1), False), "what chain.py says")
+
+
 def under_assumptions(program: str, work: Path) -> None:
     """The last round has status 8."""
     options = ["--assume", str(example("assumed.cube"))]
@@ -103,12 +130,6 @@ def never_derived(program: str, work: Path) -> None:
     """Streams that cite a clause of a stream that isn't there."""
     chained = chain(program, 3, example("bmc.cnf"), [example("bmc-four.1"), Path("/dev/null")], ["--tries", "10"], work)
     want((chained.rounds, chained.status, "missing" in chained.report[0]), (1, 3, True), f"{chained.report}: the end")
-
-
-def in_using(program: str, work: Path) -> None:
-    """USING's example has the report of what its streams come to in two rounds."""
-    chained = chain(program, 2, example("pigeonhole.cnf"), list(map(example, TWO)), TRIES, work)
-    want("".join(f"    {line}\n" for line in chained.report) in USING.read_text(), True, f"{chained.report}: whether USING has it")
 
 
 def rows(program: str, solver: str) -> List[Row]:
@@ -123,8 +144,8 @@ def rows(program: str, solver: str) -> List[Row]:
         found.append((f"{fault} in {count} rounds", too_much_for_one_run, program, place, fault, count))
     for at, bad in (200, 1), (2000, 2), (3000, 3):
         found.append((f"hints left out after {at} lines", wrong_step, program, at, bad))
-    return [*found, ("assumptions", under_assumptions, program), ("a clause that nobody derives", never_derived, program),
-            ("USING", in_using, program)]
+    found += [(f"refused: {name}", refused, *row) for name, row in REFUSED.items()]
+    return [*found, ("assumptions", under_assumptions, program), ("a clause that nobody derives", never_derived, program)]
 
 
 def main() -> int:

@@ -1,4 +1,4 @@
-// What lrup-solve-mpi sends of what engines gave away, and what it places elsewhere, without MPI and without engines. It shows what
+// What lrup-engines-mpi sends of what engines gave away, and what it places elsewhere, without MPI and without engines. It shows what
 // is off, and ends with status 1 then.
 #include <cstdio>
 #include <memory>

@@ -17,11 +17,11 @@ import re
 import subprocess
 import sys
 from pathlib import Path
-from typing import List, Sequence, Union
+from typing import Iterable, List, Sequence, Tuple, Union
 
 sys.dont_write_bytecode = True
-from harness import (EXACT, FILTER, ROOT, SANITIZE, SANITIZING, TESTS, Failure, Missing, Row, compiled, dimacs, example, is_sanitizing,
-                     needs, random_clauses, run, run_all, started, unwatched, want, watched_ends, written)
+from harness import (EXACT, FILTER, ROOT, SANITIZING, TESTS, Failure, Missing, Row, dimacs, example, for_tests, needs, random_clauses, run,
+                     run_all, started, unwatched, want, watched_ends, written)
 from lrat import lrat_fault
 from proof_forms import FORMS, read_formula, read_steps
 from solving import PROGRAM, SOLVE, build, want_answer, solve
@@ -132,6 +132,44 @@ def units_needed(steps: int, order: str, work: Path) -> None:
     check(formula, text, work)
 
 
+def circuit(gates: Iterable[Tuple[int, int]], given: Sequence[int], first: int) -> List[List[int]]:
+    """Exclusive ors, which get the variables from `first` on. Once the given ones hold the last one has a value that leads to a clash."""
+    clauses, value, variable = [], dict.fromkeys(given, True), first
+    for variable, (one, other) in enumerate(gates, first):
+        value[variable] = value[one] != value[other]
+        clauses += [[-variable, one, other], [-variable, -one, -other], [variable, -one, other], [variable, one, -other]]
+    last = -variable if value[variable] else variable
+    return [*clauses, [last, variable + 1], [last, -variable - 1]]
+
+
+def clause_of_many(count: int, gates: int, work: Path) -> None:
+    """A clause that all gates, each over the one before and any other one, are needed for. Each of them rests on most of its literals."""
+    numbers, inputs = random.Random(count), range(1, count + 1)
+    clauses = circuit(((last, numbers.randrange(1, last)) for last in range(count, count + gates)), inputs, count + 1)
+    free = count + gates + 2
+    clauses += [[variable, literal] for variable in inputs for literal in (free, -free)]
+    formula = written(dimacs(free, clauses), work)
+    text = filtered(["--format", "drat", formula], " ".join(f"-{variable}" for variable in inputs) + f" 0\n{free} 0\n0\n")
+    want_linear(text, formula, 3, gates)
+    want(len(text) < 16 * gates, True, f"{len(text)} bytes, of a chain of {gates} hints")
+    check(formula, text, work)
+
+
+def many_at_once(count: int, work: Path) -> None:
+    """One literal implies so many, of which a tree of gates over two each makes one: more are needed at once than a line may have."""
+    inputs = range(2, count + 2)
+    first, leaves = count + 2, 2 * count + 1
+    gates = [(variable, variable + 1) for variable in inputs[:-1]] + [(inputs[-1], inputs[0])]
+    gates += [(first + 2 * node, first + 2 * node + 1) for node in range(count - 1)]
+    clauses = circuit(gates, inputs, first)
+    free = leaves + count + 1
+    clauses += [[-1, variable] for variable in inputs] + [[1, free], [1, -free]]
+    formula = written(dimacs(free, clauses), work)
+    text = filtered(["--format", "drat", formula], "-1 0\n0\n")
+    want(len(text) < formula.stat().st_size, True, f"{len(text)} bytes")
+    check(formula, text, work)
+
+
 def wide(count: int, refuted: bool, work: Path) -> None:
     """A clause whose literals are all false. Beyond what two lines can take there is no chain."""
     units = "".join(f"{variable} 0\n" for variable in range(1, count + 1))
@@ -156,8 +194,7 @@ def without_identities(work: Path) -> None:
 
 
 def short_lines() -> None:
-    flags = SANITIZE if is_sanitizing() else ["-std=c11", "-O1"]
-    compiled(SHORT, sorted(EXACT.glob("*.c")), *flags, f"-DIDENTITIES_OF_A_LINE={FEW}")
+    for_tests(SHORT, EXACT.glob("*.c"), f"-DIDENTITIES_OF_A_LINE={FEW}")
 
 
 def check_short(formula: Path, text: str, work: Path) -> None:
@@ -252,6 +289,7 @@ def rows() -> List[Row]:
     found = rows_of_chains() + rows_of_short_lines()
     found += [(f"units that are needed {order}", units_needed, 20000, order) for order in ("alone", "backwards", "every third")]
     found += [(f"a clause of {count} literals", wide, count, count <= MOST + 65535 - 1) for count in (65535, 65536, 131070, 131071)]
+    found += [("a clause of 200 literals over exclusive ors", clause_of_many, 200, 66000), ("70,000 literals at once", many_at_once, 70000)]
     return [*found, ("LRAT of two streams", without_identities)]
 
 

@@ -4,13 +4,13 @@
     filter_mutants.py PROGRAM [COUNT [FIRST]]
 
 COUNT is 10,000, and the mutants are those from number FIRST on, 0: a number always gives the same one. Small proofs in each form
-have bytes flipped, cut off, put in and taken out, steps doubled, swapped and left out, numbers made huge and words made letters;
-some formulas, and other streams, do too. The filter is built with $CC or cc and -fsanitize=address,undefined, and has to end
-soon with status 0 and no word, or with status 1 and one line on standard error. What comes out has to be lines of a stream, by
-their spelling here; and the program, which reads each stream that isn't empty, has to take it to its end, but for identities
-beyond --lines and clauses of streams that aren't there. A mutant that fails is kept in tools/exact/out/mutants. It shows what is
-off; the last line is 'N passed, M failed', and the status is 1 where a run failed. Where the compiler builds no such program the
-mutants are skipped, and that is said.
+have bytes flipped, cut off, put in and taken out, steps doubled, swapped and left out, numbers made huge and words made letters; some
+formulas, and other streams, do too, and the filter refuses just the formulas that the program refuses. The filter is built with
+-fsanitize=address,undefined, by clang, $CC or cc, so that it looks at what always holds; it has to end soon with status 0 and no word,
+or with status 1 and one line on standard error. What comes out has to be lines of a stream, by their spelling here; and the program,
+which reads each stream that isn't empty, has to take it to its end, but for identities beyond --lines and clauses of streams that
+aren't there. A mutant that fails is kept in tools/exact/out/mutants. It shows what is off; the last line is 'N passed, M failed', and
+the status is 1 where a run failed. Where the compiler builds no such program the mutants are left out, and that is said.
 """
 import multiprocessing
 import os
@@ -24,8 +24,9 @@ from pathlib import Path
 from typing import Callable, List, Optional, Tuple
 
 sys.dont_write_bytecode = True
-from harness import FILTER, SANITIZE, SANITIZED, SANITIZING, closing, example, is_sanitizing, run, sanitized_filter, words_given, written
-from proof_forms import FORMS, Clause, Step, read_formula, read_steps, varint
+from harness import (FILTER, SANITIZE, SANITIZED, SANITIZING, closing, example, left_out, run, sanitized_filter, sanitizer, words_given,
+                     written)
+from proof_forms import FORMS, Clause, Step, frat, read_formula, read_steps, varint
 
 KEPT = FILTER.parent / "mutants"
 SECONDS = 120
@@ -37,6 +38,7 @@ BASES = [("four-clause.cnf", "four-clause.lrup", 2), ("pigeonhole.cnf", "pigeonh
          ("pigeonhole.cnf", "pigeonhole.lrup", 60), ("bmc.cnf", "bmc.lrup", 20)]
 LONG = 9000             # the clauses of a long proof, enough for the filter to give memory back
 LONG_ONES = 0.02        # of the mutants
+FAR = 10 ** 12          # between one name of FRAT and another, mostly
 WORDS = ["lrat", "drat", "frat", "binary-lrat", "binary-drat"]
 HUGE = [1 << 31, (1 << 31) - 1, 1 << 32, (1 << 63) - 1, 1 << 63, 1 << 64, 10 ** 17, 10 ** 18 - 1, 10 ** 18, 10 ** 40,
         16777215, 16777216, 65536, (1 << 57) - 1]
@@ -64,11 +66,20 @@ def copies(formula: List[Clause]) -> List[Step]:
     return steps
 
 
+def backwards(step: Step) -> Step:
+    """Its hints come in the wrong order."""
+    return step._replace(hints=step.hints[::-1])
+
+
 def make_proofs() -> Tuple[List[Base], List[Base]]:
     """Short ones and long ones."""
     short: List[Base] = []
     for formula, name, count in BASES:
         short += in_each_form(formula, lambda _: read_steps(example(name))[:count])
+    steps = read_steps(example("pigeonhole.lrup"))
+    short += in_each_form("pigeonhole.cnf", lambda _: list(map(backwards, steps[:60])))
+    short += [("frat", example("pigeonhole.cnf").read_bytes(), frat(read_formula(example("pigeonhole.cnf")), steps, seed, 1, FAR))
+              for seed in range(3)]
     return short, in_each_form("pigeonhole.cnf", copies)
 
 
@@ -141,7 +152,8 @@ class Mutant:
         if self.streams > 1 and numbers.random() < 0.3:
             other = mutated_bytes(mutated_steps(numbers.choice(short)[2], numbers), False, numbers)
             self.words += ["--other", f"{self.stream % self.streams + 1}={written(other, work, 'other')}"]
-        if numbers.random() < 0.1:
+        self.spoiled = numbers.random() < 0.1
+        if self.spoiled:
             formula = mutated_bytes(formula, False, numbers)
         self.formula = written(formula, work)
         self.piped = numbers.random() < 0.5
@@ -171,12 +183,18 @@ def report_of(program: str, mutant: Mutant, text: bytes, work: Path) -> Optional
     path = written(text, work, "stream")
     streams = [path if number == mutant.stream else "/dev/null" for number in range(1, mutant.streams + 1)]
     done = run([program, "--tries", "0", "--lines", "20000", "--room", "100000", mutant.formula, *streams], limit=SECONDS)
-    if done.status == 4 and "formula" in done.err:
-        return None     # the program is stricter with formulas
     lines = done.out.splitlines()
     if len(lines) <= mutant.streams or not ENDS.fullmatch(lines[mutant.stream - 1]):
         return f"status {done.status}, {done.out}{done.err}"
     return None
+
+
+def formula_fault(program: str, mutant: Mutant, said: str) -> Optional[str]:
+    """The filter refuses just the formulas that the program refuses."""
+    done = run([program, mutant.formula, "/dev/null"], limit=SECONDS)
+    if said.startswith(f"exact: {mutant.formula}") == (done.status == 4):
+        return None
+    return f"of the formula the program says {done.err or done.out}, and the filter {said}"
 
 
 def fault_of(program: str, mutant: Mutant, work: Path) -> Optional[str]:
@@ -189,7 +207,8 @@ def fault_of(program: str, mutant: Mutant, work: Path) -> Optional[str]:
     if status not in (0, 1) or (not one_line if status == 1 else err):
         return f"status {status}\n{err[:3000]}"
     text = out.encode(errors="surrogateescape")
-    return spelling(text) or (report_of(program, mutant, text, work) if text else None)
+    fault = spelling(text) or (formula_fault(program, mutant, err) if mutant.spoiled else None)
+    return fault or (report_of(program, mutant, text, work) if text else None)
 
 
 def attempt(job: Tuple[str, int]) -> Optional[str]:
@@ -216,9 +235,8 @@ PROOFS = make_proofs()
 def main() -> int:
     program, *words = words_given(__doc__, most=3)
     count, first = [*map(int, words), *(10000, 0)[len(words):]]
-    if not is_sanitizing():
-        print(f"mutants: skipped, the C compiler doesn't build with {SANITIZE[3]}")
-        return closing(0, 0, count)
+    if not sanitizer():
+        return left_out(f"mutants: the C compiler doesn't build with {SANITIZE[3]}")
     sanitized_filter()
     failed = 0
     with multiprocessing.Pool() as workers:

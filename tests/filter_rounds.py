@@ -6,7 +6,8 @@
 Recorded proofs in each form, and those of CaDiCaL and CryptoMiniSat where they are on the PATH: each run has to end with status 0,
 with as many additions as the proof has, and leave nothing but an empty file. Then proofs that are cut, that have a wrong line, or go
 on behind the empty clause; formulas without clauses, or with no room in a row; folders that aren't empty; and either side killed at
-any time. Neither may wait for the other for ever. The filter is also built with -fsanitize=address,undefined, where the compiler can.
+any time. Neither may wait for the other for ever. The filter is also built for tests, with -fsanitize=address,undefined where the compiler
+can.
 It shows what is off; the last line is 'N passed, M failed', and ', K skipped' where something isn't there. The status is 1 where a
 run failed.
 """
@@ -24,8 +25,8 @@ from pathlib import Path
 from typing import IO, Dict, Iterator, List, NamedTuple, Optional, Sequence, Set, Tuple, Union
 
 sys.dont_write_bytecode = True
-from harness import (FILTER, FOUR, LIMIT, LRUP_CHAIN, SANITIZE, SANITIZED, SANITIZING, Failure, Row, Skipped, added, dimacs, example,
-                     generated, is_sanitizing, needs, piped, report, run, run_all, sanitized_filter, started, until, unwatched, waiting,
+from harness import (FILTER, FOUR, LIMIT, LRUP_CHAIN, SANITIZE, SANITIZED, SANITIZING, Failure, Row, added, dimacs, example, generated,
+                     missing, needs, piped, report, run, run_all, sanitized_filter, sanitizer, started, until, unwatched, waiting,
                      want, watched_ends, words_given, written)
 from proof_forms import FORMS, Step, read_formula, read_steps
 from rounds import last
@@ -316,6 +317,15 @@ def put_in_place(how: str, work: Path) -> None:
     want(mine.read_text(), "mine", "what the file has")
 
 
+def without_errors(closing: str, work: Path) -> None:
+    """What the filter would say isn't in the stream."""
+    formula, proof = written(FOUR, work), written("2 0\n3 0\n", work, "proof")
+    with started(["sh", "-c", f'exec "$@" {closing}', "sh", FILTER, "--rounds", "d", formula, proof], cwd=work,
+                 stdin=subprocess.DEVNULL, stdout=subprocess.PIPE, stderr=subprocess.PIPE, bufsize=0) as running:
+        checked = check_beside(running, formula, work)
+    want((checked.ends(), checked.added(), checked.status, checked.filter_status), ({"ended"}, 1, 3, 1), "the ends")
+
+
 def locked(work: Path) -> None:
     """Another run has the folder, until it ends, however it does; between rounds, too, and by another name."""
     os.symlink("d", work / "link")
@@ -507,17 +517,13 @@ def rows_of_recorded() -> Iterator[Row]:
 
 
 def rows_sanitized() -> Iterator[Row]:
-    if not is_sanitizing():
-        yield "the filter, sanitized", skipped, f"the C compiler doesn't build with {SANITIZE[3]}"
+    if not sanitizer():
+        yield "the filter, sanitized", missing, f"the C compiler doesn't build with {SANITIZE[3]}"
         return
     sanitized_filter()
     for form in FORMS:
         yield f"{form}, sanitized", recorded, "pigeonhole.cnf", "pigeonhole.lrup", "3K", 5, 15, form, True, SANITIZED
     yield "bmc.lrup, sanitized", recorded, "bmc.cnf", "bmc.lrup", "48K", 10, 50, "binary DRAT", True, SANITIZED
-
-
-def skipped(why: str, work: Path) -> None:
-    raise Skipped(why)
 
 
 EMPTY = "p cnf 2 2\n1 2 0\n0\n"
@@ -539,6 +545,7 @@ def rows() -> List[Row]:
     found += [("rows grow", rows_grow), ("behind the empty clause", behind), ("no room", no_room),
               ("no room for one clause", no_room_for_one), ("an import", imported), ("other files", beside_others),
               ("no folder", no_folder), ("a folder of another run", locked),
+              *((f"files that are closed: {closing}", without_errors, closing) for closing in ("2>&-", "<&- 2>&-")),
               ("a folder that is made", made_where_all_may_write)]
     found += [(f"a folder of mode {mode:o}", others_write, mode, taken)
               for mode, taken in ((0o777, False), (0o757, False), (0o1777, True), (0o775, True), (0o700, True))]

@@ -1,5 +1,5 @@
 #!/usr/bin/env python3
-"""Runs the solvers that people have beside the filter and the program, by the commands that USING has.
+"""Runs the solvers that people have beside the filter and the program.
 
     filter_solvers.py PROGRAM
 
@@ -20,7 +20,6 @@ sys.dont_write_bytecode = True
 from harness import (FILTER, LIMIT, ROOT, Failure, Ran, Row, example, generated, needs, piped, read_line, run_all, started, want,
                      with_memory, words_given)
 
-USING = ROOT / "docs" / "USING.md"
 SIZES = "--lines 4000000 --room 60000000 "
 CADICAL = f"""\
 cadical -q formula.cnf proof > answer &
@@ -105,7 +104,7 @@ def beside(program: str, commands: str, words: str, work: Path) -> None:
 
 
 def in_rounds(program: str, memory: str, rounds: int, work: Path) -> None:
-    """USING's command, in this number of rounds or more."""
+    """In this number of rounds or more."""
     wanted_on_path(IN_ROUNDS)
     make_formula("random 180 3", work)
     out, said, status = in_bash(program, IN_ROUNDS.replace("exact --rounds live", f"exact --rounds live --memory {memory}"), work)
@@ -113,12 +112,6 @@ def in_rounds(program: str, memory: str, rounds: int, work: Path) -> None:
     number = int((found and found[1]) or 1)
     want((bool(found), number >= rounds, said, status), (True, True, "", 0), f"{out}: the report, the rounds, and the status")
     want(os.listdir(work / "live"), [f"round-{number + 1}.cnf"], "what is left")
-
-
-def in_using(commands: str, work: Path) -> None:
-    """These are the commands that USING has."""
-    if "".join("    " + line for line in commands.splitlines(True)) not in USING.read_text():
-        raise Failure(f"docs/USING.md doesn't have\n{commands}")
 
 
 def while_it_runs(commands: str, words: str, work: Path) -> None:
@@ -139,8 +132,6 @@ def solvers(program: str) -> List[Row]:
     runs: List[Row] = [(f"{name}, {words}", beside, program, commands.replace(SIZES, ""), words)
                        for name, commands in COMMANDS for words in formulas]
     runs += [("CaDiCaL, more than the default sizes hold", with_memory, beside, program, CADICAL, "pigeons 9")]
-    runs += [(f"USING, {name}", in_using, commands) for name, commands in COMMANDS]
-    runs += [("USING, in rounds", in_using, IN_ROUNDS)]
     runs += [(f"in rounds with {memory}", in_rounds, program, memory, rounds) for memory, rounds in (("500K", 3), ("512M", 1))]
     return runs + [("CaDiCaL writes while it runs", while_it_runs, CADICAL, "random 200 3"),
                    ("CryptoMiniSat writes while it runs", while_it_runs, CRYPTOMINISAT, "random 200 3")]

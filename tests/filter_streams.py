@@ -19,7 +19,7 @@ from pathlib import Path
 from typing import Any, Callable, Dict, Iterable, List, Sequence, Tuple, Union
 
 sys.dont_write_bytecode = True
-from harness import (COMPRESSED, FILTER, FOUR, LIMIT, TESTS, Failure, Ran, Row, Skipped, example, read_line, report, run, run_all,
+from harness import (COMPRESSED, FILTER, FOUR, LIMIT, TESTS, Failure, Ran, Row, Skipped, dimacs, example, read_line, report, run, run_all,
                      started, want, words_given, written)
 from lrat import lrat_fault
 from proof_forms import FORMS, Step, code, codes, read_formula, read_steps, varint
@@ -27,6 +27,7 @@ from proof_forms import FORMS, Step, code, codes, read_formula, read_steps, vari
 Text = Union[str, bytes]
 UNITS = "p cnf 3 4\n1 0\n-1 2 0\n-2 3 0\n-3 -2 0\n"
 LATER = "p cnf 5 7\n1 0\n-1 2 0\n-2 3 0\n-3 4 5 0\n-3 4 -5 0\n-3 -4 5 0\n-3 -4 -5 0\n"
+FALSE_FOR_GOOD = "p cnf 7 8\n1 0\n7 0\n2 3 4 0\n2 3 -4 0\n-2 5 0\n-2 -5 0\n-3 6 0\n-3 -6 0\n"
 FIRST = "5 2 0 1 2 0\n"
 
 
@@ -216,6 +217,37 @@ def told_twice(work: Path) -> None:
     want((text, said, status), (f"1 d {deletion} 0\n6 2 0 {addition} 2 0\n", "", 0), "what came out")
 
 
+def far_names(program: str, count: int, work: Path) -> None:
+    """FRAT's names that are large for their number, given and deleted in any order: each clause is found under its own."""
+    formula, numbers, names, proof = written(FOUR, work), random.Random(count), [], TOLD
+    for name in numbers.sample(range(10 ** 9, 10 ** 12), count):
+        proof += f"a {name} 1 2 0 l 20 0\n"
+        names.append(name)
+        while names and numbers.randrange(2):
+            proof += f"d {names.pop(numbers.randrange(len(names)))} 1 2 0\n"
+    numbers.shuffle(names)
+    proof += "".join(f"d {name} 1 2 0\n" for name in names)
+    text, said, status = exact([formula], proof)
+    want((text.count(" d "), said, status), (count, "", 0), "deletions, and what is said")
+    check_report(program, formula, text, f"{count} added, {count} deleted, ended", work)
+
+
+def held_hints(program: str, count: int, work: Path) -> None:
+    """Hints that come before what makes them unit, of one step after another over the same literals: nothing is left of the one before."""
+    numbers, proof = random.Random(count), ""
+    clauses = [[-variable, -variable - 1, -variable - 2, variable + 3] for variable in range(1, count + 1)]
+    formula = written(dimacs(count + 3, clauses), work)
+    for identity in range(count + 1, 2 * count + 1):
+        first = numbers.randrange(1, count + 1)
+        hints = list(range(first, numbers.randrange(first, count + 1) + 1))
+        last = hints[-1] + 3
+        numbers.shuffle(hints)
+        proof += f"{identity} -{first} -{first + 1} -{first + 2} {last} 0 {' '.join(map(str, hints))} 0\n"
+    text, said, status = exact([formula], proof)
+    want((said, status), ("", 0), "what is said")
+    check_report(program, formula, text, f"{count} added, 0 deleted, ended", work)
+
+
 def compressed(name: str, words: List[str], work: Path) -> None:
     """A formula or a proof that is compressed: what unpacks it is told."""
     formula, packed = written(FOUR, work), written(COMPRESSED[name] + b"\0" * 100, work, "packed")
@@ -227,6 +259,13 @@ def bad_other(line: str, work: Path) -> None:
     """Where it is read it isn't LRAT text with rising identities of the formula's literals."""
     other = written(f"{line}\n8 2 0 1 2 0\n", work, "other")
     stops(FOUR, FIRST + "7 1 -2 0 8 0\n", "line 2: in ", FIRST, ONE_OF_TWO + ["--other", f"2={other}"], work)
+
+
+def closed_input(work: Path) -> None:
+    """Another stream isn't read as the proof."""
+    formula, other = written(FOUR, work), written("8 2 0 1 2 0\n", work, "other")
+    words = [FILTER, "--format", "lrat", *ONE_OF_TWO, "--other", f"2={other}", formula]
+    want(run(["sh", "-c", 'exec "$@" <&-', "sh", *words]), Ran("", "", 0), "what comes out")
 
 
 def another(program: str, work: Path) -> None:
@@ -363,6 +402,8 @@ def in_another_order() -> List[Row]:
          "8 2 0 1 2 0\n9 3 0 8 3 0\n10 4 0 9 4 5 0\n10 d 2 0\n11 0 9 10 6 7 0\n", []),
         ("units that hold before the proof has them", LATER, "4 0\n3 0\n",
          "8 2 0 1 2 0\n9 3 0 8 3 0\n10 4 0 9 4 5 0\n11 0 9 10 6 7 0\n", []),
+        ("clauses with literals that are false for good", FALSE_FOR_GOOD, "-1 -7 2 3 0\n-1 -7 -2 0\n0\n",
+         "9 -1 -7 2 3 0 3 4 0\n10 -1 -7 -2 0 5 6 0\n11 0 1 2 10 9 7 8 0\n", []),
         ("lines that LRAT doesn't have, and its numbers after them", LATER, "8 4 0 0\n9 5 1 0 1 0\n20 -4 5 0 8 6 0\n",
          "8 2 0 1 2 0\n9 3 0 8 3 0\n10 4 0 9 4 5 0\n11 5 1 0 1 0\n12 0 9 10 6 7 0\n", []),
         ("LRAT of two streams, which has no numbers to spare", LATER, "8 4 0 0\n10 0 0\n",
@@ -405,6 +446,8 @@ def what_comes_out(program: str) -> List[Row]:
         ("comments in the formula", comes_out, "c p cnf\nc\n" + FOUR.replace("\n-1 2", "\nc 1 0\n-1 2"), FIRST, FIRST, []),
         ("binary LRAT, by a number that is no literal", comes_out, FOUR, five, FIRST, []),
         ("a last line of LRAT without LF", comes_out, FOUR, "5 2 0 1 2 0\n6 0 5 3 4 0", FIRST + "6 0 5 3 4 0\n", []),
+        ("names far from each other", far_names, program, 1000),
+        ("hints that are held", held_hints, program, 100),
         ("a summary", summary),
         ("another's stream", another, program),
     ] + [(f"compressed, {name} {words}", compressed, name, words) for name in COMPRESSED for words in ([], ["--format", "drat"])
@@ -621,7 +664,7 @@ def pipes_and_files() -> List[Row]:
         if not form.startswith("binary"):
             runs.append((f"{form}, a pipe, the form found out", live, form, []))
     runs += [("a full output", full, "2 0\n0\n"), ("a full output, soon", full, "2 0\n" * 100000),
-             ("a reader that goes away", left)]
+             ("a reader that goes away", left), ("standard input closed", closed_input)]
     for words in ("{work}/none", "{work}", "{formula} {work}/none", "{formula} {work}", "--other 2={work}/none {formula}"):
         runs.append((words, unreadable, words.split()))
     for words in ("", "--help-me {formula}", "--format dimacs {formula}", "{formula} - -", "--stream", "--stream x {formula}",

@@ -4,6 +4,8 @@ A test is a row: a name, a function and its arguments. The function gets a folde
 """
 import contextlib
 import fcntl
+import functools
+import multiprocessing
 import os
 import random
 import re
@@ -31,6 +33,8 @@ EXACT = ROOT / "tools" / "exact"
 FILTER, SANITIZED = EXACT / "out" / "exact", EXACT / "out" / "exact-sanitized"
 TRIM = ROOT / "tools" / "trim" / "out" / "lrup-trim"
 SANITIZED_TRIM = TRIM.with_name("lrup-trim-sanitized")
+EXPLAIN = ROOT / "tools" / "explain" / "out" / "lrup-explain"
+SANITIZED_EXPLAIN = EXPLAIN.with_name("lrup-explain-sanitized")
 LIMIT = 300  # seconds, after which a run hangs, also on a slow machine that does other work
 FOUR = "p cnf 2 4\n1 2 0\n-1 2 0\n1 -2 0\n-1 -2 0\n"
 # How files begin that these unpack.
@@ -234,36 +238,51 @@ def compiler(*flags: str) -> List[str]:
     return [*shlex.split(os.environ.get("CC", "cc")), *flags]
 
 
-def compiled(program: Path, sources: Sequence[Path], *flags: str) -> Path:
+def compiled(program: Path, sources: Sequence[Path], *flags: str, by: Sequence[str] = ()) -> Path:
     """The program, which is there whole or not at all: other scripts may build it too, and run it, at the same time."""
     new = program.with_name(f"{program.name}-{os.getpid()}")
-    subprocess.run([*compiler(*flags), "-o", str(new), *map(str, sources)], check=True)
+    subprocess.run([*(by or compiler()), *flags, "-o", str(new), *map(str, sources)], check=True)
     new.replace(program)
     return program
 
 
-SANITIZE = ["-std=c11", "-O1", "-g", "-fsanitize=address,undefined", "-fno-sanitize-recover=all"]
+SANITIZE = ["-std=c11", "-O1", "-g", "-fsanitize=address,undefined,pointer-overflow", "-fno-sanitize-recover=all"]
 SANITIZING = {"ASAN_OPTIONS": "exitcode=99", "UBSAN_OPTIONS": "exitcode=99:print_stacktrace=1"}     # for the environment
 
 
-def is_sanitizing() -> bool:
-    """Whether the compiler has the sanitizers."""
+@functools.lru_cache(maxsize=None)
+def sanitizer() -> List[str]:
+    """A compiler that has the sanitizers: clang, where it is there, since it finds more, as an offset to a null pointer. None: an empty
+    list, but not in CI, which has clang."""
     with tempfile.TemporaryDirectory() as work:
         source, one = written("int main(void) { return 0; }\n", Path(work), "one.c"), Path(work) / "one"
-        return run([*compiler(*SANITIZE), "-o", one, source]).status == 0 and run([one]).status == 0
+        for found in (["clang"], *[compiler()] * (not has_packages())):
+            if shutil.which(found[0]) and run([*found, *SANITIZE, "-o", one, source]).status == 0 and run([one]).status == 0:
+                return found
+    return []
+
+
+def for_tests(program: Path, sources: Iterable[Path], *flags: str) -> Path:
+    """A program that looks at what always holds in it, and reports undefined behaviour where the compiler can."""
+    program.parent.mkdir(exist_ok=True)
+    return compiled(program, sorted(sources), "-DCHECKED", *(SANITIZE if sanitizer() else ["-std=c11", "-O1"]), *flags, by=sanitizer())
 
 
 def sanitized_filter() -> None:
-    """The filter, built so that it reports undefined behaviour."""
-    SANITIZED.parent.mkdir(exist_ok=True)
-    compiled(SANITIZED, sorted(EXACT.glob("*.c")), *SANITIZE)
+    for_tests(SANITIZED, EXACT.glob("*.c"))
+
+
+def sources_of(tool: str) -> List[Path]:
+    """Those of the tool, and what of the filter it has as a part of its own."""
+    return [*(ROOT / "tools" / tool).glob("*.c"), *(path for path in EXACT.glob("*.c") if path.name not in ("main.c", "chain.c"))]
 
 
 def sanitized_trim() -> None:
-    """lrup-trim, likewise."""
-    sources = [*(ROOT / "tools" / "trim").glob("*.c"), *(path for path in EXACT.glob("*.c") if path.name not in ("main.c", "chain.c"))]
-    SANITIZED_TRIM.parent.mkdir(exist_ok=True)
-    compiled(SANITIZED_TRIM, sources, *SANITIZE)
+    for_tests(SANITIZED_TRIM, sources_of("trim"))
+
+
+def sanitized_explain() -> None:
+    for_tests(SANITIZED_EXPLAIN, [*sources_of("explain"), ROOT / "tools" / "trim" / "lines.c"])
 
 
 def words_given(usage: Optional[str], least: int = 1, most: int = 1) -> List[str]:
@@ -347,6 +366,11 @@ def needs(command: str) -> None:
         raise Missing(f"there is no {command} on the PATH")
 
 
+def missing(why: str, work: Path) -> None:
+    """In the place of a row that a package is wanted for."""
+    raise Missing(why)
+
+
 def is_skipped(found: Optional[Exception]) -> bool:
     return isinstance(found, Skipped) and not (has_packages() and isinstance(found, Missing))
 
@@ -372,6 +396,22 @@ def closing(passed: int, failed: int, skipped: int = 0, title: str = "") -> int:
     """Prints the last line; the status is 1 where something failed."""
     print(f"{title}{passed} passed, {failed} failed" + f", {skipped} skipped" * (skipped > 0))
     return 1 if failed else 0
+
+
+def run_side_by_side(rows: Sequence[Row]) -> int:
+    """As run_all, on all cores; rows and their arguments have to be such that processes can be given them."""
+    failed = skipped = 0
+    with multiprocessing.Pool() as workers:
+        for name, found in workers.imap_unordered(named_outcome, rows, chunksize=4):
+            failed += found is not None and not is_skipped(found)
+            skipped += is_skipped(found)
+            if found:
+                print(f"{name}: {'skipped, ' * is_skipped(found)}{found}", flush=True)
+    return closing(len(rows) - failed - skipped, failed, skipped)
+
+
+def named_outcome(row: Row) -> Tuple[str, Optional[Exception]]:
+    return row[0], outcome(row)
 
 
 def run_all(rows: Sequence[Row], title: str = "", tries: int = 1) -> int:

@@ -122,7 +122,7 @@ def in_the_way() -> Iterator[Named]:
     yield "a formula that isn't there", Wanted(["absent", "d"], 5, err="lrupd: cannot read formula\n", files=files(ROUNDS),
                                                left=left())
     yield chain("a full disk", 9, ROUNDS, report([FOUND], 3), "lrupd: checkpoint not written\n", {2: ""},
-                shell='trap "" XFSZ; ulimit -f 0; exec "$@"')
+                shell='ulimit -f 0; exec "$@"')
 
 
 def unwritten(how: str, shell: str, script: Path, work: Path) -> None:
@@ -328,6 +328,7 @@ WRONG = [("exec \"$lrupd\" \"$@\"", 'exec "$lrupd" "$@" 2> /dev/null', "another 
          ('exit "$status"', "exit 0", "another lrupd"),
          ("|| exit 7", "", "no report, > /dev/full"), ("exit 1 ;;", ";;", "no verdict: echo s UNKNOWN"),
          ("printf '%s\\n' \"$report\"", 'echo $report', "one round"),
+         ("trap '' XFSZ", ":", "a full disk"),
          ('--rounds="$folder" ', "", "three rounds"),
          ('--rounds="$folder"', '--rounds "$folder"', "names"),
          ('-- "$formula"', '"$formula"', "names"),

@@ -19,7 +19,7 @@ from pathlib import Path
 from typing import Any, List, Sequence
 
 sys.dont_write_bytecode = True
-from harness import FOUR, LIMIT, Row, run, started, until, want, words_given, written
+from harness import FOUR, LIMIT, Ran, Row, Skipped, run, started, until, want, words_given, written
 from proof_forms import read_formula
 from solving import PROGRAM, SOLVE, Answer, before_lrupd, marked, none_left, run_built
 
@@ -30,9 +30,10 @@ SOON = 6        # seconds, after a run has come to its end
 
 # What the programs have in common. `say` is a line for the front.
 BEGINS = f"""#!{sys.executable}
-import os, signal, socket, subprocess, sys, time
+import os, signal, subprocess, sys, time
 folder, lrupd, formula, assumptions = sys.argv[2:6]
-FRONT = socket.socket(fileno=os.dup(1))
+FRONT = os.open(folder + "/told", os.O_RDONLY)
+os.dup2(os.open(folder + "/heard", os.O_WRONLY), 1)
 
 def say(line):
     os.write(1, (line + "\\n").encode())
@@ -43,7 +44,7 @@ def stream(number, text):
 def told(name):
     text = ""
     while True:
-        more = FRONT.recv(1 << 16).decode()
+        more = os.read(FRONT, 1 << 16).decode()
         text += more
         if not more or any(line.startswith(name + " ") for line in text.splitlines()):
             return text
@@ -100,12 +101,15 @@ def hostile(body: str, wanted: str, words: List[str], text: str, work: Path) -> 
 
 def by_pipe(work: Path) -> None:
     """It can't write to the copy of a formula, from which it could be refuted then."""
-    body = """for name in os.listdir("/proc/self/fd"):
+    body = """files = f"/proc/{os.getppid()}/fd/"
+for path in [formula, *(files + name for name in os.listdir(files) if "memfd:lrup-solve" in os.readlink(files + name))]:
     try:
-        if "memfd" in os.readlink("/proc/self/fd/" + name):
-            for file in (int(name), os.open("/proc/self/fd/" + name, os.O_RDWR)):
-                os.pwrite(file, b"p cnf 1 2\\n1 0\\n-1 0\\n", 0)
-                os.ftruncate(file, 19)
+        file = os.open(path, os.O_RDWR)
+        os.pwrite(file, b"p cnf 1 2\\n1 0\\n-1 0\\n", 0)
+    except OSError:
+        pass
+    try:
+        os.truncate(path, 19)
     except OSError:
         pass
 open("%s", "a").write(open(formula).read())
@@ -167,17 +171,18 @@ def refused_formula(work: Path) -> None:
         folder = work / str(len(text))
         folder.mkdir()
         answer = run_with(f"say('v {values} 0')\ntime.sleep(1)", [], text, folder)
-        want((answer.answers, answer.status, answer.said), ([], 1, "lrup-solve: lrupd refuses the formula\n"), "the answer")
+        want((answer.answers, answer.status, answer.said), ([], 1, "lrup-solve: lrupd took no formula\n"), "the answer")
 
 
-def signalled(number: int, body: str, work: Path) -> None:
-    """It doesn't heed what it is told, and the run ends all the same."""
+def signalled(number: int, body: str, whole_group: bool, work: Path) -> None:
+    """It doesn't heed what it is told, and the run ends all the same. The front, or its process group, gets the signal."""
     formula, files, mark = written(FOUR, work), work / "temporary", marked(work)
     files.mkdir()
     with started([SOLVE, "--lrupd", PROGRAM, "--engines", program(f"open({str(work / 'begun')!r}, 'w')\n" + body, work), formula],
-                 env={**os.environ, "TMPDIR": str(files)}, stdout=subprocess.PIPE, stderr=subprocess.DEVNULL, text=True) as running:
+                 env={**os.environ, "TMPDIR": str(files)}, stdout=subprocess.PIPE, stderr=subprocess.DEVNULL, text=True,
+                 start_new_session=True) as running:
         until("it has begun", lambda: (work / "begun").exists())
-        running.send_signal(number)
+        (os.killpg if whole_group else os.kill)(running.pid, number)
         out = running.communicate(timeout=LIMIT)[0]
     want((out.splitlines()[-1:] if number != signal.SIGKILL else [], running.returncode),
          (["s UNKNOWN"] if number != signal.SIGKILL else [], -number), "the end")
@@ -191,11 +196,20 @@ def missing(work: Path) -> None:
          "what is said")
 
 
+def endless(work: Path) -> None:
+    """What has no end is copied no further than a formula may go."""
+    free = re.search(r"MemAvailable:\s+(\d+)", Path("/proc/meminfo").read_text())
+    if not free or int(free[1]) < 5000000:
+        raise Skipped("less than 5 GB of memory are free")
+    said = "lrup-solve: /dev/zero: more than 2684354560 bytes, and lrupd takes no formula of so many\n"
+    want(run([SOLVE, "--lrupd", PROGRAM, "/dev/zero"]), Ran("", said, 1), "the answer")
+
+
 def length(work: Path) -> None:
     """What one has to read."""
     files = sorted((Path(__file__).parent.parent / "tools" / "solve" / "front").iterdir())
     lines = [line for file in files for line in file.read_text().splitlines()]
-    want((len(files), len(lines) <= 340), (2, True), f"files and lines of the front, {len(lines)}")
+    want((len(files), len(lines) <= 313), (2, True), f"files and lines of the front, {len(lines)}")
 
 
 def rows() -> List[Row]:
@@ -250,7 +264,8 @@ def rows() -> List[Row]:
                        ("lrupd waits", "os.mkfifo(folder + '/round-1.stream-1')\nsay('check 1 10 10 0')\ntime.sleep(1000)")):
         listed.append((name, hostile, body, unknown, ["-q", *lasting], SATISFIABLE))
     listed += [("status 1", hostile, "os._exit(1)", "1", [], FOUR), ("by a pipe", by_pipe), ("comments", without_lines),
-               ("a formula that lrupd refuses", refused_formula), ("no program", missing), ("length", length)]
+               ("a formula that lrupd refuses", refused_formula), ("no program", missing), ("length", length),
+               ("a formula without end", endless)]
     listed += [(f"dies after {number}", dies_at_each_moment, number) for number in range(7)]
     under = "stream(1, '5 1 0 1 2 0\\n')\nsay('check 1 10 10 0')\ntold('lrupd')"
     listed += [("under assumptions", assuming, "-2 0\n", "stream(1, '5 2 0 1 2 0\\n')\nsay('check 1 10 10 0')\ntold('lrupd')",
@@ -260,7 +275,8 @@ def rows() -> List[Row]:
     listed += [(f"lrupd ends with {status}, {words}", impostor, status, words, wanted) for status, words, wanted in (
         (3, [], unknown), (8, [], unknown), (8, ["--assume", "{cube}"], "s UNSATISFIABLE UNDER ASSUMPTIONS"), (20, [], unknown),
         (10, [], unknown), (1, [], unknown), (0, [], proved))]
-    listed += [(f"signal {number}, {name}", signalled, number, body) for number in (signal.SIGTERM, signal.SIGINT, signal.SIGKILL)
+    listed += [(f"signal {number}, {name}" + ", all of its group" * whole_group, signalled, number, body, whole_group)
+               for number in (signal.SIGTERM, signal.SIGINT, signal.SIGQUIT, signal.SIGKILL) for whole_group in (False, True)
                for name, body in (("it sleeps", "time.sleep(1000)"), ("it writes", "while True: say('c x')"))]
     return listed
 

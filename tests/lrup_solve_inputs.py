@@ -12,11 +12,11 @@ import subprocess
 import sys
 import time
 from pathlib import Path
-from typing import Dict, List, Optional, Sequence
+from typing import Dict, List, Optional, Sequence, Tuple, Union
 
 sys.dont_write_bytecode = True
-from harness import (COMPRESSED, FOUR, LIMIT, ROOT, Failure, Row, dimacs, example, generated, in_shell, piped, run, started, until, want,
-                     words_given, written)
+from harness import (COMPRESSED, FILTER, FOUR, LIMIT, ROOT, Failure, Ran, Row, dimacs, example, generated, in_shell, piped, run, started,
+                     until, want, words_given, written)
 from lrat import lrat_fault
 from proof_forms import read_formula
 from solving import (OUT, PROGRAM, SOLVE, Answer, before_lrupd, check_again, children_of, command, in_environment, in_place_of_lrupd,
@@ -24,6 +24,7 @@ from solving import (OUT, PROGRAM, SOLVE, Answer, before_lrupd, check_again, chi
 
 words_given(__doc__, most=2)
 CUBE = os.fsdecode(b"cube\xe9")
+Text = Union[str, bytes]
 
 
 # What is kept and read.
@@ -39,7 +40,7 @@ def keeps_lrat(words: str, work: Path) -> None:
     """The stream of an engine alone, in one round, is LRAT, for any checker of that."""
     kept, formula = work / "kept", generated(words, work)
     want_answer(solve(["-j", "1", "--memory", "256M", "--proofs", kept, formula], tested={"FIRST_WORDS": 1 << 24}), 20)
-    want(sorted(os.listdir(kept)), ["command", "report", "round-1.sizes", "round-1.stream-1"], "what is kept")
+    want(sorted(os.listdir(kept)), ["command", "formula.sha256", "report", "round-1.sizes", "round-1.stream-1"], "what is kept")
     want(lrat_fault(read_formula(formula), (kept / "round-1.stream-1").read_text()), "", "as LRAT")
 
 
@@ -102,12 +103,13 @@ def earlier_run(work: Path) -> None:
     kept = work / "kept"
     rounds = [f"round-{k}.{name}" for k in (1, 2, 9, 10, 123) for name in ("sizes", "cnf", "stream-1", "stream-2", "stream-64")]
     others = ["another", "round-0.sizes", "round-1.stream-", "round-1.stream-x", "round-2.cnf.old", "round.cnf", "stream1"]
-    for name in ["report", "command", "assumptions", *rounds, *others]:
+    for name in ["report", "command", "formula.sha256", "assumptions", *rounds, *others]:
         written("of an earlier run\n", kept, name)
     shutil.copy(example("bmc.cnf"), kept / "formula.cnf")
     in_shell('cat "$2"/formula.cnf | "$0" --lrupd "$1" -j 2 --proofs "$2" -', SOLVE, PROGRAM, kept)
     one = ["round-1.sizes", "round-1.stream-1"]
-    want(sorted(os.listdir(kept)), sorted([*others, "command", "formula.cnf", "report", *one, "round-1.stream-2"]), "what is there")
+    found = [*others, "command", "formula.cnf", "formula.sha256", "report", *one, "round-1.stream-2"]
+    want(sorted(os.listdir(kept)), sorted(found), "what is there")
     want((kept / "formula.cnf").read_text(), example("bmc.cnf").read_text(), "the formula")
     check_again(kept)
     one_round = {"FIRST_WORDS": 1 << 24}      # no machine fills its row before it is ended
@@ -117,7 +119,7 @@ def earlier_run(work: Path) -> None:
         running.terminate()
         out = running.communicate(timeout=LIMIT)[0]
     want((out.splitlines()[-1], running.returncode), ("s UNKNOWN", -signal.SIGTERM), "the answer of a run that was ended")
-    want(sorted(os.listdir(kept)), sorted([*others, *one]), "what is there after 's UNKNOWN'")
+    want(sorted(os.listdir(kept)), sorted([*others, "formula.sha256", *one]), "what is there after 's UNKNOWN'")
 
 
 def others_write(mode: int, taken: bool, work: Path) -> None:
@@ -170,7 +172,7 @@ def unkept(work: Path) -> None:
     answer = solve(["--lrupd", path, "--proofs", kept, example("bmc.cnf")])
     want((answer.answers, answer.status, answer.said), (["s UNSATISFIABLE"], 1,
          f"lrup-solve: cannot write {kept}/report: Is a directory\n"), "the answer")
-    want([name for name in os.listdir(kept) if not name.startswith("round-1.")], ["report"], "what is there")
+    want(sorted(name for name in os.listdir(kept) if not name.startswith("round-1.")), ["formula.sha256", "report"], "what is there")
 
 
 def another_name(words: List[str], work: Path) -> None:
@@ -271,7 +273,7 @@ def refused(words: Sequence[object], cause: str, work: Path) -> None:
         raise Failure(f"wanted a word on '{cause}', and not\n{answer.said}")
 
 
-def refused_by_lrupd(text: str, words: List[str], known: str, work: Path) -> None:
+def refused_by_lrupd(text: Text, words: List[str], known: str, work: Path) -> None:
     """In lrupd's words, and with what is known of the file, by its name; also where it came by a pipe."""
     formula = written(text, work, "a formula")
     words = [word.format(work=work) for word in words]
@@ -285,6 +287,25 @@ def refused_by_lrupd(text: str, words: List[str], known: str, work: Path) -> Non
         told = f"{said} ({known.format(name=name, work=work)})\n"
         if given is None or given:
             want((answer.out, answer.said, answer.status), ("", told, 1), "what is said")
+
+
+def refused_by_all(text: Text, fault: str, line: int, known: str, work: Path) -> None:
+    """A formula that lrupd refuses, and so do the filter and lrup-solve, which know more of it."""
+    formula = written(text, work, "a formula")
+    want(run([PROGRAM, formula, "/dev/null"]), Ran("", f"lrupd: formula refused: {fault}\n", 4), "lrupd's answer")
+    want(run([FILTER, "--format", "drat", formula, "/dev/null"]), Ran("", f"exact: {formula}, line {line}: {known}\n", 1), "the filter's")
+    refused_by_lrupd(text, [], f"{{name}}, line {line}: {known}", work)
+
+
+def taken_by_all(text: Text, status: int, work: Path) -> None:
+    """The filter shows the empty clause, which follows by unit propagation, if the formula isn't satisfiable."""
+    formula = written(text, work, "a formula")
+    stream, said, ended = run([FILTER, "--format", "drat", formula], "0\n" if status == 20 else "")
+    want((stream.count("\n"), said, ended), (int(status == 20), "", 0), "what the filter says")
+    wanted, verdict = (0, "s UNSATISFIABLE") if status == 20 else (3, "s UNKNOWN")
+    done = run([PROGRAM, formula, written(stream, work, "stream")])
+    want((done.out.splitlines()[-1:], done.err, done.status), ([verdict], "", wanted), "lrupd's answer")
+    want_answer(solve([formula]), status, formula)
 
 
 def refused_folder(work: Path) -> None:
@@ -341,12 +362,60 @@ def words_and_files() -> List[Row]:
     runs += [("a folder that is made", made_where_all_may_write)]
     runs += [(f"a folder of mode {mode:o}", others_write, mode, taken)
              for mode, taken in ((0o777, False), (0o757, False), (0o1777, True), (0o775, True), (0o700, True))]
-    runs += [(f"an own {name}", own_files, name) for name in ("formula.cnf", "assumptions", "report", "command")]
+    runs += [(f"an own {name}", own_files, name) for name in ("formula.cnf", "formula.sha256", "assumptions", "report", "command")]
     runs += [(" ".join(["over", *words]), writes_over, words) for words in
              (["formula.cnf"], ["formula.cnf", "{path}"], ["round-1.stream-1", "{path}"], ["round-12.stream-64", "{path}"],
               ["report", "{work}/link"], ["command", "{work}/other"], ["round-1.stream-2", "/dev/stdin"],
               ["round-3.sizes", "{path}"], ["x", "--assume", "{cube}", "{path}"])]
     return runs
+
+
+def refused_texts() -> List[Tuple[Text, str, int, str]]:
+    """Formulas, with lrupd's answer, and the line and the words of the filter's, and of lrup-solve's."""
+    header, more = "no header 'p cnf VARIABLES CLAUSES', with which a formula in DIMACS CNF begins", "more clauses than the 1 of the header"
+    no_number = [(f"p cnf 2 1\n{text}\n", f"bad number in line {line}", line, f"a word that is no number: {word}") for text, line, word in (
+        ("1 x 0", 2, "x"), ("1 -0", 2, "-0"), ("c 0\n1 -0", 3, "-0"), ("-", 2, "-"), ("+1 0", 2, "+1"), ("01 0", 2, "01"),
+        ("-01 0", 2, "-01"), ("1 00", 2, "00"), ("1 0\n%\n0", 3, "%"), ("1 0 c", 2, "c"), (" c x\n1 0", 2, "c"), ("1\v2 0", 2, "1?2"), ("1 2\f0", 2, "2?0"),
+        ("1\0 0", 2, "1?"), ("1 0\0", 2, "0?"), ("1 0\n\x1a", 3, "?"), ("1,2 0", 2, "1,2"), ("1 2.0 0", 2, "2.0"), ("1 0x2 0", 2, "0x2"))]
+    no_header = [(text, "no header", line, header) for text, line in (
+        ("", 1), ("c x\n", 2), ("1 2 0\n", 1), ("pcnf 1 1\n1 0\n", 1), ("P CNF 1 1\n1 0\n", 1), (" c x\np cnf 1 1\n1 0\n", 1),
+        ("\ufeffp cnf 1 1\n1 0\n", 1), ("p\vcnf 1 1\n1 0\n", 1), ("p\0 cnf 1 1\n1 0\n", 1), ("%\np cnf 1 1\n1 0\n", 1))]
+    bad_header = [(text, "bad header", line, header) for text, line in (
+        ("c x\np cnf 2\n", 2), ("p cnf 02 1\n1 0\n", 1), ("p cnf 1 01\n1 0\n", 1), ("p cnf 00 0\n", 1), ("p cnf +1 1\n1 0\n", 1),
+        ("p cnf 1 -1\n1 0\n", 1), ("p cnf -0 0\n", 1), ("p cnf 1 x\n1 0\n", 1), ("p cnf\n1 1\n1 0\n", 1), ("p\ncnf 1 1\n1 0\n", 1),
+        ("p cnf 1 1\v\n1 0\n", 1), ("p cnf 1\f1\n1 0\n", 1), ("p CNF 1 1\n1 0\n", 1), ("p sat 1\n", 1))]
+    bad_header += [(text, "bad header", 1, "more in the line than the header 'p cnf VARIABLES CLAUSES'") for text in
+                   ("p cnf 2 1 1 2 0\n", "p cnf 1 1 c x\n1 0\n", "p cnf 1 1\r1 0\r", "p cnf 1 1 \v\n1 0\n", "p cnf 1 1 1\n1 0\n")]
+    return [*no_number, *no_header, *bad_header,
+            ("p cnf 2 2\n1 0\n", "too few clauses", 3,
+             "the end, after 1 of the 2 clauses of the header: is the file cut? Else it has to be 'p cnf 2 1'"),
+            ("p cnf 2 1\n1 0\n2 0\n", "too many clauses in line 3", 3, f"{more}, which has to be 'p cnf 2 2'"),
+            ("p cnf 2 1\n1 0\n0\nc\n-2 1\n0 -1 0", "too many clauses in line 3", 3, f"{more}, which has to be 'p cnf 2 4'"),
+            ("p cnf 2 1\n1 0\n2 0\n1 7 0", "too many clauses in line 3", 3, f"{more}, which has to be 'p cnf 7 3'"),
+            ("p cnf 2 1\n1 0\n2 0\n1 x 0", "too many clauses in line 3", 3, more),
+            ("p cnf 2 1\n1 0\n2 0\n1", "too many clauses in line 3", 3, more),
+            ("p cnf 2 1\n1 -3 0\n", "variable out of range in line 2", 2,
+             "variable 3, above the 2 of the header, which has to be 'p cnf 3 1'"),
+            ("p cnf 2 1\n1 0 3 0\n", "variable out of range in line 2", 2,
+             "variable 3, above the 2 of the header, which has to be 'p cnf 3 2'"),
+            ("p cnf 2 1\n1 3\n-16777215 0\n9 0\n", "variable out of range in line 2", 2,
+             "variable 3, above the 2 of the header, which has to be 'p cnf 16777215 2'"),
+            ("p cnf 2 1\n1 3 16777216 0\n", "variable out of range in line 2", 2, "variable 3, above the 2 of the header"),
+            ("p cnf 2 1\n1 99999999999999999999 0\n", "variable out of range in line 2", 2,
+             "variable 99999999999999999999, above the 2 of the header"),
+            ("p cnf 2 1\n1 2", "open clause", 2, "the last clause has no 0 at its end"),
+            ("p cnf 99999999 1\n1 0\n", "limit", 1, "99999999 variables, and lrupd takes at most 16777215"),
+            ("p cnf 1 16777216\n1 0\n", "limit", 1, "16777216 clauses, and lrupd takes at most 16777215"),
+            ("p cnf 1 1\n" + "1 " * 1048576 + "0\n", "limit", 2, "more than 1048575 literals in a clause, which lrupd doesn't take")]
+
+
+def taken_texts() -> List[Row]:
+    """Formulas that are spelled oddly, and taken; and whether they are satisfiable."""
+    texts = [("p cnf 1 2\n1 0\n-1 0", 20), ("p cnf 1 2\r\n1 0\r\n-1 0\r\n", 20), ("\n \t\r\nc x\n\t p  cnf\t1 2 \t\n1\t0 -1 \r 0\n", 20),
+             ("p cnf 2 2\n1\nc 0 2 -2 x\n2 0\n-1 0\n", 10), ("p cnf 2 3\n1 2\n0 -1 0 -2\n\n0", 20), ("p cnf 1 2\n1 0\n-1 0\nc no LF", 20),
+             (b"c \0\xff\nc\ncnf 1 1\np cnf 1 2\nc\0\n1 0 -1 0\n", 20), ("p cnf 0 1\n0\n", 20), ("p cnf 0 0", 10), ("p cnf 3 0\n\n", 10),
+             ("p cnf 1 2\n1 1 1 0\n-1 -1 0\n", 20), ("p cnf 1 2\n1 -1 0\n-1 0\n", 10)]
+    return [(f"taken {text!r}", taken_by_all, text, status) for text, status in texts]
 
 
 def refusals() -> List[Row]:
@@ -375,27 +444,7 @@ def refusals() -> List[Row]:
                          (["--proofs", "{work}/new", "{work}/none"], "none: No such file or directory"),
                          *((["{work}/" + name], f"{name}: compressed: {name} it") for name in COMPRESSED)):
         runs.append((" ".join(["lrup-solve", *words]), refused, words, cause))
-    header = "no header 'p cnf VARIABLES CLAUSES', with which a formula in DIMACS CNF begins"
-    for text, line, known in (
-            ("", 1, header), ("c x\np cnf 2\n", 2, header), ("1 2 0\n", 1, header), ("p cnf 02 1\n1 0\n", 1, header),
-            ("p cnf 2 1 1 2 0\n", 1, "more in the line than the header 'p cnf VARIABLES CLAUSES'"),
-            ("p cnf 2 1\n1 x 0\n", 2, "a word that is no number: x"), ("p cnf 2 1\n1\v2 0\n", 2, "a word that is no number: 1?2"),
-            ("p cnf 2 1\nc 0\n1 -0\n", 3, "a word that is no number: -0"),
-            ("p cnf 2 2\n1 0\n", 3, "the end, after 1 of the 2 clauses of the header: is the file cut? Else it has to be 'p cnf 2 1'"),
-            ("p cnf 2 1\n1 0\n2 0\n", 3, "more clauses than the 1 of the header, which has to be 'p cnf 2 2'"),
-            ("p cnf 2 1\n1 0\n0\nc\n-2 1\n0 -1 0", 3, "more clauses than the 1 of the header, which has to be 'p cnf 2 4'"),
-            ("p cnf 2 1\n1 0\n2 0\n1 7 0", 3, "more clauses than the 1 of the header, which has to be 'p cnf 7 3'"),
-            ("p cnf 2 1\n1 0\n2 0\n1 x 0", 3, "more clauses than the 1 of the header"),
-            ("p cnf 2 1\n1 0\n2 0\n1", 3, "more clauses than the 1 of the header"),
-            ("p cnf 2 1\n1 -3 0\n", 2, "variable 3, above the 2 of the header, which has to be 'p cnf 3 1'"),
-            ("p cnf 2 1\n1 3\n-16777215 0\n9 0\n", 2, "variable 3, above the 2 of the header, which has to be 'p cnf 16777215 2'"),
-            ("p cnf 2 1\n1 3 16777216 0\n", 2, "variable 3, above the 2 of the header"),
-            ("p cnf 2 1\n1 99999999999999999999 0\n", 2, "variable 99999999999999999999, above the 2 of the header"),
-            ("p cnf 2 1\n1 2", 2, "the last clause has no 0 at its end"),
-            ("p cnf 99999999 1\n1 0\n", 1, "99999999 variables, and lrupd takes at most 16777215"),
-            ("p cnf 1 16777216\n1 0\n", 1, "16777216 clauses, and lrupd takes at most 16777215"),
-            ("p cnf 1 1\n" + "1 " * 1048576 + "0\n", 2, "more than 1048575 literals in a clause, which lrupd doesn't take")):
-        runs.append((f"refused {text[:20]!r}", refused_by_lrupd, text, [], f"{{name}}, line {line}: {known}"))
+    runs += [(f"refused {text[:20]!r}", refused_by_all, text, *rest) for text, *rest in refused_texts()]
     beyond = "the literal {}, and the formula has the variables 1 to 2"
     for name, known in (("bad", ": a word that is no number: x"), ("beyond", ": " + beyond.format(-7)), ("spaces", ""),
                         ("open", ": no line of literals that ends with 0"), ("least", ": " + beyond.format(-(1 << 63))),
@@ -408,7 +457,7 @@ def refusals() -> List[Row]:
 
 
 def main() -> int:
-    return run_built(words_and_files() + refusals())
+    return run_built(words_and_files() + taken_texts() + refusals())
 
 
 sys.exit(main())

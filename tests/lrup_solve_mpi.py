@@ -1,10 +1,10 @@
 #!/usr/bin/env python3
-"""Runs lrup-solve-mpi in two to eight processes of one host, and breaks what may break between them.
+"""Runs lrup-solve --mpi in two to eight processes of one host, and breaks what may break between them.
 
     lrup_solve_mpi.py PROGRAM [FLAGS [small]]
 
 Each answer, with and without sharing, rows so small that a run goes on for many rounds, the record; what is refused; each kind of
-process killed or stopped, in process 0 and in another one, and mpirun ended. The flags, and what is shown, are as of lrup_solve.py;
+process killed or stopped, in process 0 and in another one, and mpirun, and the front. The flags, and what is shown, are as of lrup_solve.py;
 with `small` only what takes seconds is run, and it says what is left out. Without MPI, or mpirun, nothing is run.
 """
 import os
@@ -22,13 +22,13 @@ from typing import Dict, List, Mapping, Optional, Sequence, Tuple
 sys.dont_write_bytecode = True
 from harness import (FOUR, LIMIT, ROOT, TESTS, Failure, Ran, Row, compiled, dimacs, example, generated, left_out, random_clauses, run,
                      until, want, words_given, written)
-from solving import PROGRAM, SOLVE, TESTED, Answer, check_again, children_of, is_alive, of_process, run_built, want_answer
+from solving import Answer, check_again, children_of, command, in_environment, is_alive, of_process, run_built, want_answer
 
 words_given(__doc__, most=3 if sys.argv[3:] == ["small"] else 2)
 ONLY_SMALL = sys.argv[3:] == ["small"]
 SMALL_FORMULAS = (("bmc.cnf", 20), ("pigeonhole.cnf", 20), ("random 200 22 4.2", 10))
-SMALL = {"SAME_WORDS": 1, "SLICE": 100, "EXCHANGING": 0.05}     # rows that don't grow, and much that is exchanged
-PATIENCE = 3    # seconds that mpirun gives to those that it ends, where their words count
+SMALL = {"SAME_WORDS": 1, "SLICE": 100, "EXCHANGING": 50}     # rows that don't grow, and much that is exchanged
+PATIENCE = ["--mca", "odls_base_sigkill_timeout", "3"]      # seconds that mpirun gives to those that it ends, to say why
 ENDED = 30      # seconds, in which a run has to end that can't go on; in ten where nothing else runs
 LATE = ["sh", "-c", 'test "$OMPI_COMM_WORLD_RANK" != 0 || sleep 2; exec "$@"', "sh"]    # process 0
 BROKEN = "bad line|hasn't taken|hasn't saved"
@@ -37,19 +37,15 @@ GROWING = 16_000_000    # bytes: two streams with 4 MB on the way, 2 MB that wai
 
 
 def launched(processes: int, words: Sequence[object], tested: Optional[Mapping[str, object]] = None,
-             before: Sequence[str] = (), patience: int = 0) -> List[str]:
-    """What starts so many on this host, whoever one is. mpirun's own lines are left out. As soon as one ends with another status
-    than 0, as process 0 with most answers, it ends the others, and waits for its patience's end, twice."""
-    program = f"{SOLVE if tested is None else TESTED}-mpi"
+             before: Sequence[str] = (), more: Sequence[str] = ()) -> List[str]:
+    """What starts so many on this host, whoever one is. mpirun's own lines are left out."""
     as_root = ["--allow-run-as-root"] * (os.getuid() == 0)
-    exported = [word for name, value in (tested or {}).items() for word in ("-x", f"LRUP_SOLVE_{name}={value}")]
-    patient = ["--mca", "odls_base_sigkill_timeout", patience]
-    launcher = ["mpirun", "-q", *as_root, "--oversubscribe", "--bind-to", "none", *patient, *exported]
-    return [str(word) for word in [*launcher, "-n", processes, *before, program, "--lrupd", PROGRAM, *words]]
+    launcher = ["mpirun", "-q", *as_root, "--oversubscribe", "--bind-to", "none", *more, "-n", str(processes), *before]
+    return command(["--mpi", shlex.join(launcher), *words], tested)
 
 
 def solve(processes: int, words: Sequence[object], tested: Optional[Mapping[str, object]] = None) -> Answer:
-    return Answer(run(launched(processes, words, tested)))
+    return Answer(run(launched(processes, words, tested), env=in_environment(tested)))
 
 
 def named(words: str, work: Path) -> Path:
@@ -99,7 +95,7 @@ def cubes(status: int, words: str, work: Path) -> None:
 def exchanges(work: Path) -> None:
     """What goes out comes in or is late; some of it is used. Without sharing nothing goes out."""
     for options, share in ([], True), (["--no-share"], False):
-        answer = solve(3, ["-v", "-j", "1", *options, generated("pigeons 8", work)], {"EXCHANGING": 0.05})
+        answer = solve(3, ["-v", "-j", "1", *options, generated("pigeons 8", work)], {"EXCHANGING": 50})
         want_answer(answer, 20)
         sent, came = of_processes(answer, "sent"), of_processes(answer, "came")
         citing = of_processes(answer, "% of lines cite another process")
@@ -150,7 +146,7 @@ def rests_on(what: str, late: str, work: Path) -> None:
     broken = 0
     for seed in range(3):
         words = ["-v", "-j", "1", generated(f"random 250 {seed} 5", work)]
-        tested = {**SMALL, "FIRST_WORDS": 150000, "EXCHANGING": 0.01, "LATE": late}
+        tested = {**SMALL, "FIRST_WORDS": 150000, "EXCHANGING": 10, "LATE": late}
         answer = solve(3, words, tested)
         want_answer(answer, 20)
         want((breaks(answer), sum(of_processes(answer, "late")) > 0), (False, True), f"a break, and what came late\n{answer.out}")
@@ -162,7 +158,7 @@ def lines_first(work: Path) -> None:
     """The lines of streams come piece by piece once these are whole, and then what follows from them: in a run of one round engine 1
     gets no gift. Without what holds gifts back it does."""
     for left_out in ({}, {"WITHOUT": "clearing"}):
-        tested = {**SMALL, "FIRST_WORDS": 8000000, "EXCHANGING": 0.01, "LATE": "lines"}
+        tested = {**SMALL, "FIRST_WORDS": 8000000, "EXCHANGING": 10, "LATE": "lines"}
         answer = solve(3, ["-v", "-j", "1", generated("random 220 0 5", work)], {**tested, **left_out})
         want_answer(answer, 20)
         taken = re.search("^c engine 1: .* clauses: ([0-9,]+) taken over", answer.out, re.M)
@@ -174,14 +170,14 @@ def lines_first(work: Path) -> None:
 
 def refused(processes: int, words: List[str], said: str, before: Sequence[str], work: Path) -> None:
     """One line, of process 0, also where it begins after the others. The formula is the last word, if none is given."""
-    formula = written(FOUR, work)
-    answer = Answer(run(launched(processes, [*(word.format(work=work) for word in words), formula], before=before)))
+    words = launched(processes, [*(word.format(work=work) for word in words), written(FOUR, work)], before=before)
+    answer = Answer(run(words))
     want((answer.out, answer.status), ("", 1), f"the answer, which says {answer.said}")
     want(re.sub(r"/\S*/", "", answer.said), said, "what is said")
 
 
 def shows(word: str, beginning: str, work: Path) -> None:
-    """Once."""
+    """Once, by the program of MPI's processes."""
     out, said, status = run(launched(3, [word]))
     want((out.count(beginning), out.startswith(beginning), said, status), (1, True, "", 0), f"what is shown: {out}")
 
@@ -190,7 +186,7 @@ def bad_formula(work: Path) -> None:
     """lrupd's words, and what is known of the file."""
     formula = written("p cnf 2 1\n1 3 0\n", work)
     known = f"({formula}, line 2: variable 3, above the 2 of the header, which has to be 'p cnf 3 1')"
-    said = f"{run([PROGRAM, formula, '/dev/null']).err.rstrip()} {known}\n"
+    said = f"lrupd: formula refused: variable out of range in line 2 {known}\n"
     answer = solve(2, ["-j", "1", formula])
     want((answer.out, answer.said, answer.status), ("", said, 1), "what is said")
 
@@ -201,9 +197,12 @@ def bad_formula(work: Path) -> None:
 class Running:
     """A run that takes long, with the ids of what belongs to it: by process, by name."""
 
-    def __init__(self, formula: Path, processes: int, tested: Optional[Mapping[str, object]] = None, patience: int = 0) -> None:
-        words = launched(processes, ["-v", "-j", "1", formula], tested, patience=patience)
-        self.main = subprocess.Popen(words, stdout=subprocess.PIPE, stderr=subprocess.PIPE, text=True)
+    def __init__(self, formula: Path, processes: int, tested: Optional[Mapping[str, object]] = None, more: Sequence[str] = ()) -> None:
+        words = launched(processes, ["-v", "-j", "1", formula], tested, more=more)
+        self.folder = formula.parent / "temporary"
+        self.folder.mkdir()
+        self.main = subprocess.Popen(words, stdout=subprocess.PIPE, stderr=subprocess.PIPE, text=True,
+                                     env=in_environment(tested, {"TMPDIR": str(self.folder)}))
         self.ids: List[Dict[str, int]] = []
         try:
             until("processes at work", lambda: self.is_at_work(processes))
@@ -212,18 +211,18 @@ class Running:
             raise
 
     def is_at_work(self, processes: int) -> bool:
-        want(self.main.poll(), None, "mpirun's status")
-        found = {}
-        for pid in children_of_all(self.main.pid):
+        want(self.main.poll(), None, "the front's status")
+        found, fronts = {}, {"front": self.main.pid, **children_of(self.main.pid)}
+        for pid in children_of_all(fronts.get("mpirun", 0)):
             rank = re.search(r"\0OMPI_COMM_WORLD_RANK=(\d+)\0", of_process(pid, "environ"))
             if rank:
-                found[int(rank[1])] = {"run": pid, **children_of(pid)}
+                found[int(rank[1])] = {"run": pid, **children_of(pid), **(fronts if rank[1] == "0" else {})}
         self.ids = [found[rank] for rank in sorted(found)]
         names = [{"carrier", f"engine {number}", f"filter {number}"} for number in range(1, processes + 1)]
         return len(self.ids) == processes and all(map(set.issubset, names, self.ids)) and "lrupd" in self.ids[0]
 
     def end(self) -> Ran:
-        """No process is left."""
+        """No process is left, and no folder of the front."""
         began = time.monotonic()
         try:
             out, said = self.main.communicate(timeout=LIMIT)
@@ -232,6 +231,7 @@ class Running:
         self.seconds = time.monotonic() - began
         pids = [pid for one in self.ids for pid in one.values()]
         until("all have ended", lambda: not any(map(is_alive, pids)))
+        until("its folder is removed", lambda: not list(self.folder.glob("lrup-solve-*")))
         return Ran(out, said, self.main.returncode)
 
 
@@ -240,12 +240,14 @@ def children_of_all(pid: int) -> List[int]:
 
 
 def ends(process: int, name: str, number: int, cause: str, work: Path) -> None:
-    """Without an answer, and soon; 'mpirun' is the one that started them."""
-    running = Running(generated("pigeons 11", work), 2, patience=PATIENCE)
-    os.kill(running.main.pid if name == "mpirun" else running.ids[process][name], number)
+    """Without an answer, and soon. Of those that process 0 has none, the front has started them."""
+    running = Running(generated("pigeons 11", work), 2, more=PATIENCE)
+    os.kill(running.ids[process][name], number)
     answer = Answer(running.end())
     want(running.seconds < ENDED, True, f"{running.seconds} seconds to the end")
-    want(answer.answers, ["s UNKNOWN"], f"the answer of\n{answer.out}{answer.said}")
+    if (name, number) == ("front", signal.SIGKILL):
+        return want((answer.answers, answer.status), ([], -number), "the answer")
+    want((answer.answers, answer.status), (["s UNKNOWN"], -number if name == "front" else 0), f"the end of\n{answer.out}{answer.said}")
     want(any(re.search(cause, line) for line in answer.comments), True, f"the cause in\n{answer.out}")
 
 
@@ -316,14 +318,14 @@ def rounds() -> List[Row]:
 
 
 def refusals() -> List[Row]:
-    program = "lrup-solve-mpi: "
+    program = "lrup-solve: "
     return [("65 engines", refused, 5, ["-j", "13"], program + "65 engines in all processes: at most 64\n", []),
             ("no engine", refused, 3, ["-j", "0"], program + "-j takes 1 to 64, not 0\n", []),
             ("no engine, process 0 is late", refused, 3, ["-j", "0"], program + "-j takes 1 to 64, not 0\n", LATE),
             ("no formula", refused, 3, ["-j", "1", "--", "{work}/none"], program + "one word too many: formula.cnf\n", []),
             ("a solver", refused, 2, ["--solver", "cadical %formula %proof"],
-             program + "--solver: lrup-solve has it, and this program hasn't\n", []),
-            ("help", shows, "--help", "usage: mpirun -n P lrup-solve-mpi "), ("version", shows, "--version", "lrup-solve-mpi "),
+             program + "--solver and --mpi: a solver shares nothing with engines elsewhere\n", []),
+            ("help", shows, "--help", "usage: lrup-solve "), ("version", shows, "--version", "lrup-solve "),
             ("a formula that lrupd refuses", bad_formula)]
 
 
@@ -339,7 +341,8 @@ def deaths() -> List[Row]:
         (1, "run", "stopped", signal.SIGSTOP, "process 1 has said nothing for 8 seconds"),
         (1, "carrier", "stopped", signal.SIGSTOP, "process 1 has said nothing for 8 seconds"),
         (0, "mpirun", "interrupted", signal.SIGINT, "Terminated"),
-        (0, "mpirun", "terminated", signal.SIGTERM, "Terminated"))]
+        (0, "mpirun", "terminated", signal.SIGTERM, "Terminated"),
+        (0, "front", "interrupted", signal.SIGINT, "ended by a signal: Interrupt"))]
     rows.append(("a checker that stands still", slow_checker))
     return rows + [(f"{name} of process {process} of {processes} killed", goes_on, processes, process, name, lost)
                    for processes, process, name, lost in (
@@ -354,16 +357,19 @@ def small_rows() -> List[Row]:
     return [("an exchange without MPI", alone), *refusals(),
             *(row for processes in (1, 2, 4) for row in answering(processes, 1, SMALL_FORMULAS)),
             ending(0, "lrupd", "killed", signal.SIGKILL, "lrupd ended by a signal: Killed"),
-            ending(1, "run", "killed", signal.SIGKILL, "Terminated")]
+            ending(1, "run", "killed", signal.SIGKILL, "Terminated"),
+            ending(0, "run", "killed", signal.SIGKILL, "lrup-engines ended with status "),
+            ending(0, "mpirun", "killed", signal.SIGKILL, "lrup-engines ended by a signal: Killed"),
+            ending(0, "front", "killed", signal.SIGKILL, "")]
 
 
 def main() -> int:
     rows, more = small_rows(), {"answers": known(), "rounds": rounds(), "deaths": deaths()}
     if not shutil.which("mpirun") or "Open MPI" not in run(["mpirun", "--version"]).out:
-        return left_out("all of lrup-solve-mpi: no mpirun of Open MPI is on the PATH: in Debian the package openmpi-bin")
+        return left_out("all of lrup-solve --mpi: no mpirun of Open MPI is on the PATH: in Debian the package openmpi-bin")
     if ONLY_SMALL:
         left_out = ", ".join(f"{len(found)} rows of {kind}" for kind, found in more.items())
-        print(f"lrup-solve-mpi: left out are {left_out}", flush=True)
+        print(f"lrup-solve --mpi: left out are {left_out}", flush=True)
         return run_built(rows, target="solve-mpi", for_tests=False)
     return run_built([*rows, *(row for found in more.values() for row in found)], target="solve-mpi")
 

@@ -24,7 +24,7 @@ sys.dont_write_bytecode = True
 from harness import (LIMIT, LRUP_CHAIN, Failure, Ran, Row, dimacs, example, generated, random_clauses, run, until, want, words_given,
                      written)
 from solving import (EARLY, PROGRAM, Answer, check_again, children_of, command, end_group, in_environment, in_place_of_lrupd,
-                     is_alive, kill_children, of_process, random_formula, run_built, solve, want_answer)
+                     is_alive, kill_children, of_process, random_formula, run_built, sleep, solve, want_answer)
 
 words_given(__doc__, most=2)
 SMALL = {"SAME_WORDS": 1, "SLICE": 40}      # rows that don't grow
@@ -127,6 +127,13 @@ def one_clause(work: Path) -> None:
     clauses = [[-k for k in range(1, 400)], *([k, 1000 + k] for k in range(1, 400)), *([k, -1000 - k] for k in range(1, 400))]
     answer = solve(["-j", "1", written(dimacs(1400, clauses), work)], tested={**SMALL, "FIRST_WORDS": 64})
     want_answer(answer, 20)
+
+
+def doubled_literals(work: Path) -> None:
+    """A row has each literal of a clause once: of these four there is room in 1,500 words."""
+    formula = written(dimacs(2, [[one] * 300 + [other] * 300 for one in (1, -1) for other in (2, -2)]), work)
+    for engines in ("1", "3"):
+        want_answer(solve(["-j", engines, "--memory", "12K", formula]), 20)
 
 
 def no_room_for_one_clause(work: Path) -> None:
@@ -251,6 +258,13 @@ def ended_by(number: int, round_number: int, pause: bool, work: Path) -> None:
         want(answer.answers, ["s UNKNOWN"], "the answer")
 
 
+def nobody_looks(pause: bool, work: Path) -> None:
+    """While lrupd stands still filters wait, in the pause for what it saves, and in a round since their streams are far ahead."""
+    with Running(["-j", "2", generated("pigeons 11", work)], 1, work, pause, FIRST_WORDS=150000 if pause else 1 << 24, AHEAD=1000) as running:
+        running.stop_lrupd()
+        sleep([running.children[name] for name in ("filter 1", "filter 2")])
+
+
 def folder_removed(work: Path) -> None:
     """Nothing can be created there any more."""
     with Running(["-j", "2", generated("pigeons 11", work)], 2, work, FIRST_WORDS=50000) as running:
@@ -287,6 +301,24 @@ def forged(work: Path) -> None:
     want_answer(answer, 0)
     lost = [re.search(r"lrupd hasn't saved the clause \d+, which the solver has$", line) is not None for line in answer.lost()]
     want(lost, [True, True], f"why engines are lost in\n{answer.out}")
+
+
+def put_in_place(how: str, work: Path) -> None:
+    """A file in the place of a stream of the next round, which a filter is about to open, isn't written to."""
+    mine, kept = written("mine", work, "mine"), work / "kept"
+    with Running(["--proofs", kept, "-j", "2", generated("pigeons 11", work)], 1, work, True, FIRST_WORDS=150000) as running:
+        os.kill(running.children["filter 1"], signal.SIGSTOP)
+        running.go_on()
+        number, = running.rounds("sizes")
+        place = kept / f"round-{number}.stream-1"
+        until("it is made", place.exists)
+        place.unlink()
+        {"link": lambda: place.symlink_to(mine), "file": lambda: os.link(mine, place)}[how]()
+        os.kill(running.children["filter 1"], signal.SIGCONT)
+        answer = running.end()
+    want((answer.answers, answer.said, answer.status), ([], f"lrup-solve: cannot write {place}: somebody has put another file there\n", 1),
+         "the end")
+    want(mine.read_text(), "mine", "what the file has")
 
 
 def no_folder(work: Path) -> None:
@@ -391,7 +423,7 @@ def known() -> List[Row]:
                  ("no record" + title, plainly, options)]
     rows += [(f"under assumptions, {engines}", assuming, engines) for engines in (1, 2, 4)]
     return rows + [("rows that grow", rows_grow), ("rows that stay large", rows_stay_large),
-                   ("a row without room for one clause", one_clause),
+                   ("a row without room for one clause", one_clause), ("doubled literals", doubled_literals),
                    ("no row with room for one clause", no_room_for_one_clause)]
 
 
@@ -404,8 +436,10 @@ def what_happens() -> List[Row]:
                        ("a filter killed in a pause", killed_in_a_pause, ["filter 2"], 20, "engine 2 is lost"),
                        ("all filters killed in a pause", killed_in_a_pause, [f"filter {k}" for k in (1, 2, 3)], 0,
                         "no engine is left"),
+                       ("nobody looks in a round", nobody_looks, False), ("nobody looks in a pause", nobody_looks, True),
                        ("the folder removed", folder_removed), ("a forged formula", forged), ("no folder", no_folder), ("a full disk", full),
                        ("nothing grows", stays_small)]
+    rows += [(f"a {how} in the place of a stream", put_in_place, how) for how in ("link", "file")]
     rows += [(f"signal {number} in round {at}, pause {pause}", ended_by, number, at, pause) for number in
              (signal.SIGINT, signal.SIGTERM, signal.SIGHUP, signal.SIGKILL) for at, pause in ((3, False), (1, True), (2, True))]
     untaken, waits = "^lrupd hasn't taken the proof$", "exec sleep 1000 < $next.sizes"

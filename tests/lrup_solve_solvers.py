@@ -51,9 +51,9 @@ def by(commands: Sequence[str]) -> List[str]:
 
 def example_solver(work: Path) -> str:
     """LRUP text, with hints."""
-    solver = EXAMPLES / "solver"
-    sources = [*sorted(solver.glob("*.c")), solver.parent.parent / "tools" / "exact" / "formula.c"]
-    program = compiled(work / "example solver", sources, "-std=c11", "-O2", "-pthread", "-I", str(sources[-1].parent))
+    exact = EXAMPLES.parent / "tools" / "exact"
+    sources = [*sorted((EXAMPLES / "solver").glob("*.c")), *(exact / f"{name}.c" for name in ("errors", "formula", "lists", "literals"))]
+    program = compiled(work / "example solver", sources, "-std=c11", "-O2", "-pthread", "-I", str(exact))
     return f"{shlex.quote(str(program))} %formula %proof"
 
 
@@ -119,12 +119,13 @@ def gaps(work: Path) -> None:
 
 
 def goes_on_sharing(work: Path) -> None:
-    """Engines beside a solver, which reads no outbox: more goes through a small one than it holds, three words or more each."""
-    answer = solve(["-v", "-j", "2", *by(["sleep 1000 # %formula %proof"]), given("random 200 3", work)],
-                   tested={"OUTBOX": 1000, "SLICE": 100})
+    """Engines beside a solver, which reads no outbox: more goes through a small one than it holds, three words or more each. The
+    proof is longer than a pipe, so that engines don't leave their filters behind, which are slow in a build for tests."""
+    answer = solve(["-v", "-j", "2", *by(["sleep 1000 # %formula %proof"]), given("random 235 3", work)],
+                   tested={"OUTBOX": 240, "SLICE": 100})
     want_answer(answer, 20)
     given_away = [int(found.replace(",", "")) for found in re.findall(r"([\d,]+) given away", answer.out)]
-    want(min(given_away[:2]) > 1000 // 3, True, f"clauses given away, in\n{answer.out[-3000:]}: whether of each are more than 333")
+    want(min(given_away[:2]) > 240 // 3, True, f"clauses given away, in\n{answer.out[-3000:]}: whether of each are more than 80")
 
 
 def renamed(words: List[str], names: Mapping[str, str]) -> List[str]:
@@ -307,9 +308,7 @@ def refused(words: List[str], cause: str, work: Path) -> None:
 
 
 def told(work: Path) -> None:
-    """-v tells the command; the summary counts engines and solvers. USING has a line that is tried here."""
-    line = f"      lrup-solve --solver '{CADICAL}' --solver '{CRYPTOMINISAT}' formula.cnf\n"
-    want(line in (ROOT / "docs" / "USING.md").read_text(), True, f"whether USING has\n{line}")
+    """-v tells the command; the summary counts engines and solvers."""
     answer = solve(["-v", "-j", "2", *by([CADICAL]), example("bmc.cnf")])
     want_answer(answer, 20)
     commands = [line for line in answer.comments if line.startswith("engine 3: cadical -q ") and "/dev/fd/" in line]

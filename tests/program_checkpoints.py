@@ -162,6 +162,9 @@ def watched() -> Iterator[Named]:
         yield f"watched {way}", Wanted(["--watch", "--checkpoint", "saved", *way.split(), "formula", "dropping"], 3,
                                        report(["1 added, 1 deleted, ended"], 3), "lrupd: stream 1: 1 added, 1 deleted, ended\n",
                                        files=FILES, left={"saved": SAVED_DROPPING})
+        yield f"watched, with no input and no standard error {way}", Wanted(
+            ["--watch", "--checkpoint", "saved", *way.split(), "formula", "dropping"], 3, report(["1 added, 1 deleted, ended"], 3),
+            files=FILES, shell='exec "$@" <&- 2>&-', left={"saved": SAVED_DROPPING})
 
 
 def full() -> Iterator[Named]:

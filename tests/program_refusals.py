@@ -201,6 +201,7 @@ def kinds(given: Input) -> Iterator[Tuple[str, str]]:
     saves = given.checkpoint or isinstance(given, InRounds)
     for how in ERRORS_OF_OPENINGS if isinstance(given, InRounds) else ERRORS_OF_OPENINGS[:1]:
         yield "open", how
+    yield "hold", "EMFILE"
     for how in ERRORS_OF_CREATIONS if saves else ERRORS_OF_CREATIONS[:1]:
         yield "create", how
     for how in ERRORS_OF_FLUSHES if saves else ERRORS_OF_FLUSHES[:1]:

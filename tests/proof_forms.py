@@ -104,13 +104,13 @@ def binary_drat(formula: List[Clause], steps: List[Step]) -> List[bytes]:
 
 
 class Frat:
-    """Identities of its own, in no order; the clauses of the formula come in another order, and so do their literals."""
+    """Identities of its own, in no order and with gaps; the clauses of the formula come in another order, and so do their literals."""
 
-    def __init__(self, formula: List[Clause], steps: List[Step], seed: int, hinted: float) -> None:
+    def __init__(self, formula: List[Clause], steps: List[Step], seed: int, hinted: float, gap: int = 3) -> None:
         self.numbers = random.Random(seed)
         self.hinted = hinted
         names = [*range(1, len(formula) + 1), *(step.identity for step in steps if step.kind == "a")]
-        self.names = dict(zip(names, self.numbers.sample(range(1, 3 * len(names)), len(names))))
+        self.names = dict(zip(names, self.numbers.sample(range(1, gap * len(names)), len(names))))
         self.clauses = dict(enumerate(formula, 1))
         self.lines = [self.clause("o", identity) for identity in self.clauses]
         self.numbers.shuffle(self.lines)
@@ -135,9 +135,9 @@ class Frat:
         self.lines.append(line("a", self.names[step.identity], *step.literals, 0, *words))
 
 
-def frat(formula: List[Clause], steps: List[Step], seed: int, hinted: float) -> List[bytes]:
-    """`hinted` is the part of the additions that have hints."""
-    return Frat(formula, steps, seed, hinted).lines
+def frat(formula: List[Clause], steps: List[Step], seed: int, hinted: float, gap: int = 3) -> List[bytes]:
+    """`hinted` is the part of the additions that have hints; of so many numbers one is a name."""
+    return Frat(formula, steps, seed, hinted, gap).lines
 
 
 # The forms, with the word that --format has for each.

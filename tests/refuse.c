@@ -8,6 +8,7 @@
      write:N:HOW    write; HOW is EIO, ENOSPC, EPIPE, or short or half
      open:N:HOW     an open without O_CREAT; HOW is EACCES, EMFILE, ENOENT or ELOOP
      create:N:HOW   an open with O_EXCL; HOW is EACCES, EMFILE or ENOSPC
+     hold:N:HOW     one of the openings of /dev/null that come before all others; HOW is EMFILE
      sync:N:HOW     fsync and fdatasync; HOW is EIO or ENOSPC
    A test's tool, and no part of the program. */
 #define _GNU_SOURCE
@@ -27,7 +28,7 @@
 extern void *__libc_malloc(size_t), *__libc_calloc(size_t, size_t), *__libc_realloc(void *, size_t), *__libc_memalign(size_t, size_t);
 extern ssize_t __read(int, void *, size_t), __write(int, const void *, size_t);
 
-enum kind { NONE, ALLOCATE, THREAD, READ, WRITE, OPEN, CREATE, SYNC };
+enum kind { NONE, ALLOCATE, THREAD, READ, WRITE, OPEN, CREATE, HOLD, SYNC };
 static enum kind refused = NONE;
 static long number, late;
 static const char *how = "", *mark = "";
@@ -35,7 +36,7 @@ static atomic_long calls, started, begun, ended;
 static atomic_int to_be_told;
 
 __attribute__((constructor)) static void begin(void) {
-    static const char *const names[] = {"", "allocate", "thread", "read", "write", "open", "create", "sync"};
+    static const char *const names[] = {"", "allocate", "thread", "read", "write", "open", "create", "hold", "sync"};
     const char *refuse = getenv("REFUSE");
     mark = getenv("MARK");
     if (refuse == NULL || mark == NULL) return;
@@ -46,7 +47,7 @@ __attribute__((constructor)) static void begin(void) {
             char *rest;
             number = strtol(refuse + length + 1, &rest, 10);
             how = *rest == ':' ? rest + 1 : "";
-            refused = kind;
+            refused = (enum kind)kind;
         }
     }
 }
@@ -119,7 +120,7 @@ static void tell_threads(void) {
     char text[64];
     int length = snprintf(text, sizeof text, "%ld %ld %ld\n", atomic_load(&started), had_begun, atomic_load(&ended));
     int file = open(mark, O_WRONLY | O_CLOEXEC);
-    if (file < 0 || __write(file, text, length) != length) abort();
+    if (file < 0 || __write(file, text, (size_t)length) != length) abort();
     close(file);
 }
 
@@ -133,25 +134,31 @@ static ssize_t allowed(size_t size) {
             errno = errors[i].error;
             return -1;
         }
-    if (strcmp(how, "half") == 0) return size / 2 > 0 ? size / 2 : size;
+    if (strcmp(how, "half") == 0) return (ssize_t)(size / 2 > 0 ? size / 2 : size);
     return size > 0 ? 1 : 0;
 }
 
 ssize_t read(int file, void *bytes, size_t size) {
     ssize_t most = is_refused(READ) ? allowed(size) : (ssize_t)size;
-    return most < 0 ? -1 : __read(file, bytes, most);
+    return most < 0 ? -1 : __read(file, bytes, (size_t)most);
 }
 
 ssize_t write(int file, const void *bytes, size_t size) {
     tell_threads();
     ssize_t most = is_refused(WRITE) ? allowed(size) : (ssize_t)size;
-    return most < 0 ? -1 : __write(file, bytes, most);
+    return most < 0 ? -1 : __write(file, bytes, (size_t)most);
+}
+
+/* True while nothing but /dev/null was opened. */
+static int is_before_all(const char *path) {
+    static atomic_int others;
+    return strcmp(path, "/dev/null") == 0 && atomic_load(&others) == 0 ? 1 : (atomic_store(&others, 1), 0);
 }
 
 static int open_at(int folder, const char *path, int flags, va_list more) {
     int mode = flags & (O_CREAT | O_TMPFILE) ? va_arg(more, int) : 0;
     if ((flags & O_EXCL) && is_refused(CREATE)) return (int)allowed(0);
-    if (!(flags & O_CREAT) && is_refused(OPEN)) return (int)allowed(0);
+    if (!(flags & O_CREAT) && is_refused(is_before_all(path) ? HOLD : OPEN)) return (int)allowed(0);
     return (int)syscall(SYS_openat, folder, path, flags, mode);
 }
 

@@ -34,7 +34,8 @@ NOT_WRITTEN = "lrupd: checkpoint not written\n"
 NO_MEMORY_TO_SAVE = "lrupd: checkpoint not written: out of memory\n"
 ERRORS_OF_READS = ["EIO", "EINTR"]
 SHORT = ["short", "half"]
-EACH = ["thread", "open", "create", "sync"]  # kinds of which each call has an answer of its own
+EACH = ["thread", "open", "create", "hold", "sync"]  # kinds of which each call has an answer of its own
+HELD = 3  # openings of /dev/null, for standard streams that are closed
 SECONDS = 20  # within which a run ends whose thread isn't started, and not a minute later, when the others' tries are over
 HANGS = 300  # seconds, after which a run hangs
 LATE = 50  # milliseconds that a thread takes to begin, where one isn't started
@@ -229,8 +230,10 @@ def is_unstarted(answer: Answer, given: Input) -> bool:
 
 def calls(kind: str, ample: Answer, given: Input) -> int:
     """How many threads a run starts: the checking thread of each stream in turn, and then the reading threads likewise; how many
-    files it opens; how many checkpoints it creates; and how often it flushes one."""
+    files it opens; how often it opens /dev/null before them; how many checkpoints it creates; and how often it flushes one."""
     goes_on = ample.status in [0, 3, 7, 8]
+    if kind == "hold":
+        return HELD
     if kind == "open":
         files_opened = [answer.err for answer in openings(given)]
         return 0 if ample.status == 2 else files_opened.index(ample.err) + 1 if ample.err in files_opened else (
@@ -284,6 +287,8 @@ def is_right(kind: str, how: str, number: int, answer: Answer, ample: Answer, gi
     if kind == "thread":
         return (answer == not_started((number - 1) % given.streams + 1, given.created) and seconds < SECONDS
                 and machine.has_waited_for(number - 1))
+    if kind == "hold":
+        return answer == ample
     if kind == "create":
         return answer == NOT_CREATED
     if kind == "sync":
@@ -313,6 +318,8 @@ def in_turn(kind: str, how: str, given: InRounds) -> List[Answer]:
     if kind == "thread":
         started = [] if "--serial" in given.words else [*streams, *streams]
         return [given.stopped(number, f"worker {stream} not started", 6, "") for number in numbers for stream in started]
+    if kind == "hold":
+        return [given.ended(given.count)] * HELD
     if kind == "create":
         return [given.stopped(number, "cannot create checkpoint", 5) for number in numbers]
     if kind == "sync":

@@ -13,6 +13,7 @@ import signal
 import stat
 import subprocess
 import sys
+import time
 from pathlib import Path
 from typing import Any, Dict, List, Mapping, Optional, Sequence, Tuple
 
@@ -24,7 +25,7 @@ FLAGS = sys.argv[2] if len(sys.argv) > 2 else "-O2"
 COMPILERS = [os.environ.get(name, "") for name in ("CC", "CXX")]
 OUT = ROOT / "tools" / "solve" / "out" / re.sub(r"\W+", "", "".join(["tested", *COMPILERS, FLAGS]))
 SOLVE, TESTED = OUT / "lrup-solve", OUT / "tested" / "lrup-solve"
-EARLY = "elimint=10 probeint=10 subsumeint=10 compactint=10 reduceint=20 rephaseint=20"
+EARLY = "elimint=10 probeint=10 subsumeint=10 compactint=10 reduceint=20 rephase=1 rephaseint=20"
 ELIMINATING = "elimint=1 compact=0"
 ANSWERS = {0: VERDICTS[3], 10: "s SATISFIABLE", 20: VERDICTS[0]}
 
@@ -48,10 +49,17 @@ def command(words: Sequence[object], tested: Optional[Mapping[str, object]] = No
     return [str(word) for word in (TESTED if tested is not None else SOLVE, "--lrupd", PROGRAM, *words)]
 
 
+def hooks(tested: Mapping[str, object]) -> str:
+    """As `tools/solve/test_hooks.h` has them; of WITHOUT and LATE the word is a part of the name."""
+    named = {f"{name}_{word}" if name in ("WITHOUT", "LATE") else name: 1 if name in ("WITHOUT", "LATE") else word
+             for name, word in tested.items()}
+    return ";".join(f"{name.lower()}={word}" for name, word in named.items())
+
+
 def in_environment(tested: Optional[Mapping[str, object]] = None, more: Optional[Mapping[str, str]] = None) -> Dict[str, str]:
-    """Of a build for tests all engines start at once, if it isn't said."""
-    words = {} if tested is None else {"MOMENT": 0, **tested}
-    return {**os.environ, **(more or {}), **{f"LRUP_SOLVE_{name}": str(word) for name, word in words.items()}}
+    """Of a build for tests all engines start at once."""
+    given = {} if tested is None else {"LRUP_SOLVE_HOOKS": hooks({"AT_ONCE": 1, **tested})}
+    return {**os.environ, **(more or {}), **given}
 
 
 def solve(words: Sequence[object], tested: Optional[Mapping[str, object]] = None, env_more: Optional[Mapping[str, str]] = None,
@@ -119,7 +127,7 @@ def children_of(pid: int) -> Dict[str, int]:
         title = of_process(child, "comm").strip()
         if title and (title != "lrupd" or "--rounds" in of_process(child, "cmdline")):
             found[title] = child
-        if title in ("lrup-engines", "lrup-solve-mpi"):
+        if title == "lrup-engines":
             found.update(children_of(child))
     return found
 
@@ -135,6 +143,15 @@ def waits_of(pid: int) -> int:
     """How often it has waited for something."""
     found = re.search(r"^voluntary_ctxt_switches:\s+(\d+)", of_process(pid, "status"), re.M)
     return int(found[1]) if found else 0
+
+
+def sleep(pids: Sequence[int]) -> None:
+    """None of them wakes for a second, as soon as nothing is left to do. The system counts each of their waits."""
+    def all_slept() -> bool:
+        before = [waits_of(pid) for pid in pids]
+        time.sleep(1)
+        return before == [waits_of(pid) for pid in pids]
+    until("they sleep", all_slept, 20)
 
 
 def goes_on(process: "subprocess.Popen[Any]") -> None:
@@ -193,14 +210,14 @@ def build(target: str, for_tests: bool) -> Optional[str]:
     TESTED.parent.mkdir(parents=True, exist_ok=True)
     with (OUT / "lock").open("w") as lock:
         fcntl.flock(lock, fcntl.LOCK_EX)
-        for path, flags in ((SOLVE, FLAGS), (TESTED, FLAGS + " -DSOLVE_TESTS"))[:1 + for_tests]:
-            if is_built(path.with_name("lrup-engines" if target == "solve" else "lrup-solve-mpi")):
+        for path, flags in ((SOLVE, FLAGS), (TESTED, FLAGS + " -DSOLVE_TESTS -DCHECKED"))[:1 + for_tests]:
+            if is_built(path.with_name("lrup-engines" if target == "solve" else "lrup-engines-mpi")):
                 continue
-            out, err, status = run(["make", "-s", "-C", ROOT, target, f"SOLVE={path.relative_to(ROOT)}", f"SOLVE_FLAGS={flags}"],
-                                   limit=600)
+            out, err, status = run(["make", "-s", "-C", ROOT, target, f"SOLVE={path.relative_to(ROOT)}", f"CFLAGS={flags}",
+                                    f"CXXFLAGS={flags}"], limit=600)
             if status and re.search("libcadical-dev|libopenmpi-dev", out + err):
                 return (out + err).splitlines()[0]
-            if status:
+            if status or re.search(r"warning: .*\[-W", err):
                 sys.exit(out + err)
     return None
 

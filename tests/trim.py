@@ -7,9 +7,10 @@ COUNT is 300: random runs of one to five solvers, with and without imports, in o
 other hints; and as many garbled records. The core has to be clauses of the formula, lines have to be numbered densely, each has to be
 cited, and deleted right after that. lrupd has to take the lines over the core and over the formula, by the words that are told; where
 streams are garbled, either both or none, as the checker of LRAT does; and none where the formula is satisfiable. Records of lrup-solve
-are trimmed where CaDiCaL's library is there. lrup-trim is built with -fsanitize=address,undefined, where the compiler can. It shows
-what is off; the last line is 'N passed, M failed', and ', K skipped' where something isn't there. The status is 1 where a run failed.
+are trimmed where CaDiCaL's library is there. lrup-trim is built for tests, with -fsanitize=address,undefined where the compiler can. It
+shows what is off; the last line is 'N passed, M failed', and ', K skipped' where something isn't there. The status is 1 where a run failed.
 """
+import hashlib
 import mmap
 import os
 import random
@@ -19,25 +20,25 @@ import subprocess
 import sys
 import time
 from pathlib import Path
-from typing import Callable, Dict, List, NamedTuple, Optional, Sequence, Tuple
+from typing import Dict, List, NamedTuple, Optional, Sequence, Tuple
 
 PROGRAM = os.path.abspath(sys.argv[1]) if len(sys.argv) > 1 else ""
 COUNT = int(sys.argv.pop(2)) if len(sys.argv) > 2 else 300      # the next word would be flags for lrup-solve
 
 sys.dont_write_bytecode = True
 from harness import (COMPRESSED, EXAMPLES, FILTER, FOUR, GENERATOR, LIMIT, ROOT, SANITIZED_TRIM, SANITIZING, TRIM, VERDICTS, Failure,
-                     Ran, Row, Skipped, dimacs, example, is_sanitizing, piped, random_clauses, run, run_all, sanitized_trim, started,
+                     Ran, Row, dimacs, example, missing, piped, random_clauses, run, run_all, sanitized_trim, sanitizer, started,
                      want, within, words_given, written)
+from faulty import garbled_text, refuted, solved
 from lrat import lrat_fault
 from proof_forms import Clause, Step, read_formula, read_steps
 from rounds import ONE, TWO, Proof, round_files
 from solving import build, solve
 
 words_given(__doc__)
-SOLVER, CHAIN, USING = EXAMPLES / "solver" / "out" / "solver", EXAMPLES / "chain.py", ROOT / "docs" / "USING.md"
+CHAIN = EXAMPLES / "chain.py"
 OUTPUTS = ["core", "stream", "lrat"]
-IS_SANITIZED = is_sanitizing()
-UNSATISFIABLE, SATISFIABLE = 20, 10
+IS_SANITIZED = sanitizer()
 
 
 def trim(words: Sequence[object], work: Path, program: Optional[Path] = None, **how: object) -> Ran:
@@ -131,29 +132,6 @@ def proof_in_rounds(formula: Path, streams: List[Path], rounds: int, work: Path)
         return streams
     want(run([sys.executable, CHAIN, rounds, formula, work / "rounds", *streams]), Ran("", "", 0), "what chain.py says")
     return [work / "rounds"]
-
-
-def solved(formula: Path, count: int, options: Sequence[object], work: Path) -> Optional[List[Path]]:
-    """The streams of so many solvers; None where the formula is satisfiable."""
-    streams = [work / f"stream{number}" for number in range(1, count + 1)]
-    status = run([SOLVER, *options, formula, *streams]).status
-    want(status in (UNSATISFIABLE, SATISFIABLE), True, f"the solver's status {status}")
-    return streams if status == UNSATISFIABLE else None
-
-
-def random_formula(numbers: random.Random) -> Tuple[int, List[Clause]]:
-    variables = numbers.randrange(15, 70)
-    lengths: Sequence[int] = numbers.choice(((3,), (3,), (2, 3, 3, 3, 4), (1, 2, 3, 4, 5, 6)))
-    return variables, random_clauses(numbers, variables, round(numbers.uniform(4.5, 7) * variables), lengths)
-
-
-def refuted(numbers: random.Random, count: int, options: Sequence[object], work: Path) -> Tuple[Path, List[Path]]:
-    """A random formula, and the streams of so many solvers."""
-    while True:
-        formula = written(dimacs(*random_formula(numbers)), work)
-        streams = solved(formula, count, options, work)
-        if streams:
-            return formula, streams
 
 
 def selected(path: Path, literal: int) -> None:
@@ -298,31 +276,6 @@ class Garbled(NamedTuple):
     files: Dict[str, str]
 
 
-def garbled_text(text: str, numbers: random.Random) -> str:
-    lines = text.splitlines(True) or ["\n"]
-    at, other, place = numbers.randrange(len(lines)), numbers.randrange(len(lines)), numbers.randrange(len(text) + 1)
-    words = lines[at].split(" ")
-    word = numbers.randrange(len(words))
-    number = int(re.sub(r"[^-0-9]", "", words[word]) or 0) if words[word].strip("-\n").isdigit() else 0
-    kinds: List[Callable[[], str]] = [
-        lambda: text[:place] + chr(numbers.randrange(256)) + text[place + 1:],
-        lambda: text[:place] + text[place + numbers.randrange(40):],
-        lambda: text[:place],
-        lambda: "".join(lines[:at] + lines[at + 1:]),
-        lambda: "".join(lines[:at] + [lines[other]] + lines[at:]),
-        lambda: "".join([*lines[:at], lines[other], *lines[at + 1:]]),
-        lambda: "".join([*lines[:at], " ".join(words[:word] + words[word + 1:]), *lines[at + 1:]]),
-        lambda: "".join([*lines[:at], " ".join([*words[:word], numbers.choice(wrong_numbers(number, numbers)), *words[word + 1:]]),
-                         *lines[at + 1:]]),
-        lambda: text[:place] + numbers.choice((" ", "\n", "-", "0 ", "d ", "i ", "\0", "\r\n", "00", "c x\n")) + text[place:]]
-    return numbers.choice(kinds)()
-
-
-def wrong_numbers(number: int, numbers: random.Random) -> List[str]:
-    near = [number + 1, number - 1, -number, number + numbers.randrange(-20, 20), numbers.randrange(1, 300)]
-    return [str(found) for found in [*near, *near, 1 << 20, 1 << 32, 10 ** 17, 10 ** 18, 10 ** 30]]
-
-
 BASES = [("four-clause.cnf", ["four-clause.lrup"], 0), ("pigeonhole.cnf", ["pigeonhole.lrup"], 0),
          ("pigeonhole.cnf", ["pigeonhole-two.1", "pigeonhole-two.2"], 0), ("four-clause.cnf", ["four-clause.lrup"], 2),
          ("pigeonhole.cnf", ["pigeonhole-two.1", "pigeonhole-two.2"], 3), ("pigeonhole.cnf", ["pigeonhole.lrup"], 4),
@@ -453,6 +406,22 @@ BAD_ROUNDS += [(f"sizes '{text[:9]}'", {**ROUND, "round-2.sizes": text}, "d/roun
                for text in ("", "1 2", "1 2\n", "1 2 3 4\n", "0 2 3\n", "65 2 3\n", "x 2 3\n", "1 2 3\n\n", "-1 2 3\n", "1  2 3\n")]
 
 
+def digests(work: Path) -> None:
+    """Of a formula of each length up to some blocks, beside what it has to be; another one isn't taken."""
+    for name, text in ROUND.items():
+        written(text, work, f"d/{name}")
+    for length in [*range(9, 75), 140, 65535, 65536, 65537]:
+        formula = written("c" + "x" * (length - 2) + "\n" + FOUR, work)
+        digest = hashlib.sha256(formula.read_bytes()).hexdigest()
+        for kept, said in ((digest, ""), ("\\" + digest, ""), (digest[:-1] + f"{15 - int(digest[-1], 16):x}", CHANGED), ("", CHANGED)):
+            written(f"{kept}  {formula}\n", work, "d/formula.sha256")
+            done = trim([formula, "d"], work)
+            want((done.err, done.status), (said.format(formula), 1 if said else 0), f"what is said of {kept}, with {length} bytes")
+
+
+CHANGED = "lrup-trim: {} isn't the formula of d, or was changed since: its digest isn't that of d/formula.sha256\n"
+
+
 # Files, and the command line.
 
 
@@ -524,22 +493,6 @@ def help_of(work: Path) -> None:
 
 # What users do.
 
-SHOWN = """$ lrup-trim --core core.cnf --stream core.lrup --lrat proof.lrat examples/two-groups.cnf examples/two-groups.?
-{}$ {}
-{}"""
-
-
-def in_using(work: Path) -> None:
-    """USING's example, as the words there are run."""
-    os.symlink(EXAMPLES, work / "examples")
-    words = shlex.split(SHOWN.splitlines()[0])[2:-1] + [f"examples/two-groups.{number}" for number in range(1, 5)]
-    done = trim(words, work)
-    command = re.findall(r": (lrupd .*)$", done.out, re.M)[0]
-    checked = run([PROGRAM, *command.split()[1:]], cwd=work)
-    want((done.err, checked.err, checked.status), ("", "", 0), "what is said")
-    text = "".join(f"    {line}\n" for line in SHOWN.format(done.out, command, checked.out).splitlines())
-    want(text in USING.read_text(), True, f"whether USING has\n{text}")
-
 
 def of_lrup_solve(words: Sequence[str], tested: Dict[str, object], generated: str, assumed: bool, work: Path) -> None:
     """A record that lrup-solve --proofs keeps, in one round or in several."""
@@ -564,18 +517,14 @@ RECORDS = [("one engine", ["-j", "1"], {}, "random 150 1", False), ("two engines
            ("two in rounds, assuming", ["-j", "2"], SMALL, "random 170 4", True)]
 
 
-def skipped(why: str, work: Path) -> None:
-    raise Skipped(why)
-
-
 def rows_of_records() -> List[Row]:
     cause = build("solve", True)
-    return [(f"lrup-solve, {name}", *((skipped, cause) if cause else (of_lrup_solve, *rest))) for name, *rest in RECORDS]
+    return [(f"lrup-solve, {name}", *((missing, cause) if cause else (of_lrup_solve, *rest))) for name, *rest in RECORDS]
 
 
 def rows() -> List[Row]:
     four, two = [f"bmc-four.{number}" for number in range(1, 5)], ["pigeonhole-two.1", "pigeonhole-two.2"]
-    found: List[Row] = [] if IS_SANITIZED else [("lrup-trim, sanitized", skipped, "the C compiler doesn't build so")]
+    found: List[Row] = [] if IS_SANITIZED else [("lrup-trim, sanitized", missing, "the C compiler doesn't build so")]
     for formula, streams in (("bmc.cnf", ["bmc.lrup"]), ("bmc.cnf", four), ("pigeonhole.cnf", two)):
         found += [(f"{streams[0]} in {count} rounds", recorded, formula, streams, count) for count in (0, 1, 2, 9)]
     found += [(f"few lines: {name}", few, *rest) for name, *rest in FEW]
@@ -586,7 +535,7 @@ def rows() -> List[Row]:
     found += [(f"{output} in rows", longer_than_a_row, output, name) for output, name in (("stream", "core"), ("lrat", "bmc.cnf"))]
     found += [(f"fault: {name}", fault, streams, said) for name, streams, said in FAULTS]
     found += [("beside a fault", goes_on_beside_a_fault), ("no place", no_place), ("a file that is cut", cut_while_read)]
-    found += [("help", help_of), ("USING", in_using)]
+    found += [("help", help_of), ("digests", digests)]
     found += [(f"bad rounds: {name}", bad_round, files, said) for name, files, said in BAD_ROUNDS]
     found += [(f"lrup-trim {words}", refuses, words, status, said) for words, status, said in REFUSED]
     for limit in (0, 20000, 200000):

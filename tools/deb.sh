@@ -18,7 +18,7 @@ trap 'rm -rf "$work"' EXIT
 
 documents=$root/usr/share/doc/lrupd
 mkdir -p "$documents/examples" "$root/DEBIAN"
-cp "$top/README.md" "$top/docs/USING.md" "$documents"
+cp "$top/README.md" "$top"/docs/USING.md "$top"/docs/FORMAT.md "$top"/docs/EMITTING.md "$top"/docs/TRUST.md "$documents"
 cp "$top"/examples/README.md "$top"/examples/*.cnf "$top"/examples/*.cube "$top"/examples/*.lrup "$top"/examples/*.[1-4] \
     "$top"/examples/*.out "$top"/examples/chain.py "$documents/examples"
 gzip -9nc "$top/CHANGELOG.md" > "$documents/changelog.gz"
@@ -62,7 +62,7 @@ Description: proved checker of the proofs of SAT solvers that share clauses
  formula, which is proved of it. lrup-exact, a filter that nobody has to trust,
  makes such streams of DRUP, DRAT, LRAT and FRAT proofs. lrup-chain has proofs
  of any length checked in rounds. lrup-trim makes unsatisfiable cores, smaller
- proofs and LRAT of recorded streams. lrup-solve, where it was built, solves a
- formula and has the answer checked.
+ proofs and LRAT of recorded streams, and lrup-explain says why a line of one is
+ bad. lrup-solve, where it was built, solves a formula and has the answer checked.
 END
 dpkg-deb --root-owner-group --build "$root" "$root/../lrupd_${version}_$(dpkg --print-architecture).deb"

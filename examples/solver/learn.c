@@ -106,11 +106,7 @@ static void find_hints(Solver *solver, const Clause *conflict) {
     }
     for (size_t k = 0; k < level_zero.length; k++) PUSH(hints, level_zero.items[k]);
     grow(level_zero.items, 0);
-    for (size_t low = 0, high = hints->length - 1; low < high; low++, high--) {
-        uint64_t identity = hints->items[low];
-        hints->items[low] = hints->items[high];
-        hints->items[high] = identity;
-    }
+    identities_reverse(hints);
     clear_marks(solver);
 }
 

@@ -14,27 +14,12 @@
 #include <threads.h>
 #include <time.h>
 
+#include "errors.h"
 #include "solver.h"
 
-_Noreturn void fail(const char *cause, const char *object) {
-    fprintf(stderr, "solver: %s %s\n", cause, object);
+static void end(const char *cause) {
+    fprintf(stderr, "solver: %s\n", cause);
     exit(1);
-}
-
-void *grow(void *memory, size_t bytes) {
-    if (bytes == 0) {
-        free(memory);
-        return NULL;
-    }
-    memory = realloc(memory, bytes);
-    if (memory == NULL) fail("out of", "memory");
-    return memory;
-}
-
-void *zeroed(size_t count, size_t bytes) {
-    void *memory = calloc(count > 0 ? count : 1, bytes);
-    if (memory == NULL) fail("out of", "memory");
-    return memory;
 }
 
 static double seconds(void) {
@@ -135,6 +120,7 @@ static void tell(const Portfolio *portfolio, double time) {
 int main(int count, char **words) {
     static Portfolio portfolio = { .share = 4, .first = 1 };
     bool progress = false;
+    errors_handle(end);
     char **paths = read_options(&portfolio, words + 1, &progress);
     portfolio.solvers = count - (int)(paths - words) - 1;
     if (portfolio.streams == 0) portfolio.streams = portfolio.solvers;

@@ -4,9 +4,9 @@
 #include <string.h>
 #include <unistd.h>
 
+#include "errors.h"
 #include "solver.h"
-
-enum { LITERALS_OF_A_LINE = 65535, IDENTITIES_OF_A_LINE = 65536 };  // lrupd takes no more
+#include "stream.h"
 
 // With m clauses in the formula and n streams, line k of stream s, from 0, has the identity m + s + k n. So each solver counts
 // for itself, and an identity says whose it is.

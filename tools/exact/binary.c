@@ -9,9 +9,11 @@
 //     i engine position literals     it took over the clause that this engine gave away there
 //     r engine position              it takes over none that was given away before
 //     x                              a mark before the addition of a clause that may be given away
-#include "exact.h"
+#include "errors.h"
+#include "readers.h"
+#include "stream.h"
 
-enum { MOST_SHIFT = 56 };
+enum { MOST_SHIFT = 56, MOST_NUMBERS = 1 << 25 };     // of a step: no proof has more
 
 // An identity of LRAT is written as a literal by some, and as it is by others.
 typedef enum { UNDECIDED, PLAIN, DOUBLED } Coding;

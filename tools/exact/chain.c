@@ -14,7 +14,11 @@
 #include <sys/stat.h>
 #include <unistd.h>
 
-#include "exact.h"
+#include "chain.h"
+#include "errors.h"
+#include "rounds.h"
+#include "row.h"
+#include "write.h"
 
 enum { LONGEST_PATH = 4096, LONGEST_NAME = 64, PAUSE = 5 };     // milliseconds
 enum { USUAL_LINES = 65536 };       // lrupd's without words; a first row's room is never above lrupd's

@@ -1,5 +1,6 @@
 // Unverified, as all of this filter. Finds out the form of a proof by its first bytes, and reads no further than it needs.
-#include "exact.h"
+#include "detect.h"
+#include "errors.h"
 
 static bool is_space(int byte) { return byte == ' ' || (byte >= '\t' && byte <= '\r'); }
 static bool is_blank(int byte) { return is_space(byte) && byte != '\n'; }

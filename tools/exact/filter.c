@@ -1,7 +1,12 @@
 // Unverified, as all of this filter. What each step of a proof comes to: a line of the stream, none, or the end.
-#include "exact.h"
+#include "errors.h"
+#include "filter.h"
+#include "lemmas.h"
+#include "stream.h"
+#include "write.h"
 
 enum { DEAD_WORDS = 1 << 15 };      // so many at least are given back
+enum { WORDS_OF_A_STEP = 1 << 11 };  // that filter_check goes through
 
 // One that is a tautology is never unit.
 static void make_known(Filter *filter, Place place) {
@@ -124,6 +129,7 @@ static bool has_identities(const Filter *filter, const Addition *addition) {
 }
 
 static Place add_clause(Filter *filter, uint64_t identity) {
+    assert(identity > filter->last && identity > filter->formula.clauses && owner(filter, identity) == filter->stream);
     filter->last = identity;
     return clauses_add(&filter->clauses, identity, filter->literals.items, filter->literals.length, false);
 }
@@ -168,6 +174,7 @@ static void look_for_chain(Filter *filter, bool has_lemmas) {
         conflict = lemmas_for(filter, conflict);
         if (filter->hooks) filter->hooks->derives(filter);
         propagation_trace(propagation, &filter->literals, conflict, &filter->chain);
+        assert(propagation->missing.length == 0 && filter->chain.length <= IDENTITIES_OF_A_LINE);
         filter->busy = false;
     }
     propagation_take_back(propagation);
@@ -217,6 +224,7 @@ void filter_add(Filter *filter, const Addition *addition) {
     if (!tautology && !filter->refuted) derive(filter, addition);
     filter->marked = false;
     release(filter);
+    CHECK(filter_check(filter));
 }
 
 // The literals that are marked are those of the clause.
@@ -373,3 +381,33 @@ void filter_rename(Filter *filter, const int64_t *pairs, size_t length) {
         if (given->items[k] != 0) clauses_name(&filter->clauses, (uint64_t)name, given->items[k]);
     }
 }
+
+#ifdef CHECKED
+// What always holds.
+
+// An identity that the proof names is the stream's, as long as it gave no other one.
+static void identities_check(const Filter *filter) {
+    const Clauses *clauses = &filter->clauses;
+    for (Place place = 0; (place = clauses_after(clauses, place)) != 0;) {
+        uint64_t identity = clause_at(clauses, place)->identity;
+        assert(identity > 0);
+        assert(identity <= filter->formula.clauses || owner(filter, identity) != filter->stream || identity <= filter->last);
+    }
+    for (size_t name = 0; name < clauses->near_length && !filter->frat && !filter->renumbered; name++)
+        assert(clauses->near[name] == 0 || clause_at(clauses, clauses->near[name])->identity == name);
+}
+
+void filter_check(const Filter *filter) {
+    static size_t taken;        // by the steps since the last time
+    if ((taken += WORDS_OF_A_STEP) < filter->clauses.used + (size_t)filter->formula.variables || filter->refuted) return;
+    taken = 0;
+    assert(filter->literals.length == 0 && filter->lemmas.length == 0 && filter->left.length == 0 && !filter->busy);
+    for (int k = 0; filter->weights && k < filter->formula.variables; k++)
+        assert(filter->weights[k].uses == 0 && filter->weights[k].hints == 0);
+    clauses_check(&filter->clauses);
+    for (size_t k = 0; k < filter->others.length; k++) clauses_check(&filter->others.items[k].clauses);
+    hints_check(&filter->hints, filter->formula.variables);
+    propagation_check(&filter->propagation);
+    identities_check(filter);
+}
+#endif

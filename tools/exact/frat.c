@@ -5,7 +5,9 @@
 //     d id literals 0                 a deletion
 //     f id literals 0                 a clause that is left at the end
 //     r id id .. 0                    new identities for old ones
-#include "exact.h"
+#include "errors.h"
+#include "readers.h"
+#include "words.h"
 
 // The place after the list that begins there, which ends with 0.
 static size_t end_of(const Words *words, size_t start) {

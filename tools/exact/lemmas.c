@@ -1,11 +1,20 @@
 // Unverified, as all of this filter. Lines that the proof doesn't have. A literal that holds for good gets a unit clause once a chain
-// needs it, so that no chain goes along the trail again. A chain that is longer than a line may be is split: of a literal on its way
-// a lemma says that it holds, or one of the clause's own literals does.
-#include "exact.h"
+// needs it, so that no chain goes along the trail again. A chain that is longer than a line may be is cut, from its end on: a lemma
+// says that the literals which are needed there don't all hold, and takes the part of the conflict. If these are too many for a clause,
+// the chain is split by literals: a lemma says that one of them holds, or one of the clause's own literals does.
+#include "errors.h"
+#include "lemmas.h"
+#include "stream.h"
 
 enum { MOST_NEEDED = IDENTITIES_OF_A_LINE - 1 };        // of one clause's literals, each by a hint
 enum { WORTH_A_LEMMA = 16 };                            // hints, and as many more as the clause has literals
 enum { NONE = -1 };
+
+_Static_assert((int)MOST_NEEDED <= (int)LITERALS_OF_A_LINE, "a lemma has as many literals as a clause may need");
+
+// Of a conflict's chain, from its end back to a position on the trail: hints, and the literals that are needed before it, which a lemma
+// would have. Those of the clause itself are met, and the others open. How many variables were marked so far.
+typedef struct { size_t position, hints, open, met, marked; } Cut;
 
 // What follows from the clause and all that it rests on, but for what is assumed: in a line of its own.
 static Place write_lemma(Filter *filter, Place place) {
@@ -38,6 +47,17 @@ static void give_lemma(Filter *filter, int variable) {
     if (propagation->positions[variable] >= propagation->root) PUSH(&filter->lemmas, lemma);
 }
 
+// What follows from the clause where some literals are left to it, as the lemma's own.
+static Place write_shorter(Filter *filter, Place place) {
+    Literals *left = &filter->left;
+    propagation_see(&filter->propagation, left, ASSUMED);
+    Place shorter = write_lemma(filter, place);
+    propagation_see(&filter->propagation, left, UNSEEN);
+    left->length = 0;
+    PUSH(&filter->lemmas, shorter);
+    return shorter;
+}
+
 // The clause without as many of its false literals as a line has hints for. Each of them has a lemma; its own literal is true.
 static Place shorten(Filter *filter, Place place, int own) {
     Propagation *propagation = &filter->propagation;
@@ -48,13 +68,90 @@ static Place shorten(Filter *filter, Place place, int own) {
         int variable = variable_of(clause->literals[k]);
         if (propagation->seen[variable] == UNSEEN && (variable == own || ++found > MOST_NEEDED)) PUSH(left, clause->literals[k]);
     }
-    propagation_see(propagation, left, ASSUMED);
-    Place shorter = write_lemma(filter, place);
-    propagation_see(propagation, left, UNSEEN);
-    left->length = 0;
-    PUSH(&filter->lemmas, shorter);
-    return shorter;
+    return write_shorter(filter, place);
 }
+
+// Cuts.
+
+static bool has_unit(const Filter *filter, int variable) {
+    return clause_at(&filter->clauses, filter->propagation.reasons[variable])->length == 1;
+}
+
+// One more clause: what it needs that nothing behind it did. A unit clause is a hint in each line that needs it.
+static void extend(Filter *filter, Place place, Cut *cut) {
+    Propagation *propagation = &filter->propagation;
+    const Clause *clause = clause_at(&filter->clauses, place);
+    cut->hints++;
+    for (unsigned k = 0; k < clause->length; k++) {
+        int variable = variable_of(clause->literals[k]);
+        unsigned char *seen = &propagation->seen[variable];
+        if (*seen == NEEDED || *seen == MET) continue;
+        if (*seen == ASSUMED) cut->met++;
+        else if (has_unit(filter, variable)) cut->hints++;
+        else cut->open++;
+        *seen = *seen == ASSUMED ? MET : NEEDED;
+        PUSH(&propagation->marked, variable);
+    }
+    cut->marked = propagation->marked.length;
+}
+
+// The best has fewest literals for a hint. It has half of a line's hints, and not more literals than these may be: so a chain's lemmas
+// have at most twice as many literals as it has hints, and few clauses are gone through twice.
+static bool is_better(const Cut *cut, const Cut *best) {
+    size_t literals = cut->open + cut->met;
+    if (cut->hints <= IDENTITIES_OF_A_LINE / 2 || literals > MOST_NEEDED) return false;
+    return literals * best->hints <= (best->open + best->met) * cut->hints;
+}
+
+// From there back along the trail. True where all fits into one line, and else there is a best cut, or none, without hints.
+static bool find_cut(Filter *filter, Place conflict, size_t position, Cut *best) {
+    const Propagation *propagation = &filter->propagation;
+    Cut cut = { .position = position };
+    *best = (Cut){0};
+    extend(filter, conflict, &cut);
+    while (cut.open > 0 && cut.hints <= IDENTITIES_OF_A_LINE) {
+        int variable = variable_of(propagation->trail.items[cut.position - 1]);
+        if (propagation->seen[variable] == NEEDED && !has_unit(filter, variable)) {
+            if (is_better(&cut, best)) *best = cut;
+            cut.open--;
+            extend(filter, propagation->reasons[variable], &cut);
+        }
+        cut.position--;
+    }
+    return cut.hints <= IDENTITIES_OF_A_LINE;
+}
+
+static void leave_open(Filter *filter, const Cut *cut) {
+    const Propagation *propagation = &filter->propagation;
+    for (size_t k = 0; k < cut->marked; k++) {
+        int variable = propagation->marked.items[k];
+        if (propagation->seen[variable] != NEEDED || propagation->positions[variable] >= cut->position) continue;
+        if (!has_unit(filter, variable)) PUSH(&filter->left, propagation->trail.items[propagation->positions[variable]]);
+    }
+    assert(filter->left.length == cut->open);
+}
+
+static void forget_marks(Propagation *propagation) {
+    for (size_t k = 0; k < propagation->marked.length; k++) {
+        unsigned char *seen = &propagation->seen[propagation->marked.items[k]];
+        *seen = *seen == MET ? ASSUMED : UNSEEN;
+    }
+    propagation->marked.length = 0;
+}
+
+// The conflict, or a shorter one. False where what is left of the chain doesn't fit into a line.
+static bool cut_chain(Filter *filter, Place *conflict) {
+    Cut best = { .position = filter->propagation.trail.length };
+    for (;;) {
+        bool fits = find_cut(filter, *conflict, best.position, &best);
+        if (!fits && best.hints > 0) leave_open(filter, &best);
+        forget_marks(&filter->propagation);
+        if (fits || best.hints == 0) return fits;
+        *conflict = write_shorter(filter, *conflict);
+    }
+}
+
+// Lemmas of literals.
 
 // On how many literals the clause rests, and how many hints show all of them, and the clause.
 static uint64_t hints_for(const Filter *filter, Place place, int own, size_t floor, size_t *needed) {
@@ -102,18 +199,14 @@ static void use(Filter *filter, Place place, int own, size_t floor) {
     }
 }
 
-// Of all that the conflict needs on the trail from the floor on: how much that is.
-static size_t count_uses(Filter *filter, Place conflict, size_t floor) {
+// Of all that the conflict needs on the trail from the floor on.
+static void count_uses(Filter *filter, Place conflict, size_t floor) {
     const Propagation *propagation = &filter->propagation;
-    size_t count = 0;
     use(filter, conflict, NONE, floor);
     for (size_t position = propagation->trail.length; position-- > floor;) {
         int variable = variable_of(propagation->trail.items[position]);
-        if (filter->weights[variable].uses == 0) continue;
-        use(filter, propagation->reasons[variable], variable, floor);
-        count++;
+        if (filter->weights[variable].uses > 0) use(filter, propagation->reasons[variable], variable, floor);
     }
-    return count;
 }
 
 // Along the trail. What several clauses need gets a lemma, unless it is shown as quickly again: so few hints are written twice.
@@ -134,11 +227,11 @@ static void weigh(Filter *filter, size_t floor, size_t worth) {
 static Place split(Filter *filter, Place conflict, size_t floor, size_t worth) {
     const Propagation *propagation = &filter->propagation;
     uint32_t hints;
+    if (cut_chain(filter, &conflict)) return conflict;
     if (filter->weights == NULL) filter->weights = zeroed((size_t)propagation->variables, sizeof *filter->weights);
-    if (count_uses(filter, conflict, floor) > MOST_NEEDED || floor > 0) {
-        weigh(filter, floor, worth);
-        conflict = fit(filter, conflict, NONE, floor, &hints);
-    }
+    count_uses(filter, conflict, floor);
+    weigh(filter, floor, worth);
+    conflict = fit(filter, conflict, NONE, floor, &hints);
     for (size_t position = floor; position < propagation->trail.length; position++)
         filter->weights[variable_of(propagation->trail.items[position])] = (Weight){0};
     return conflict;

@@ -9,56 +9,27 @@
 // looked for by unit propagation among all clauses that the proof has at that point. A clause of another stream has an import in
 // the proof, or is read where it is cited, as --other 2=proof2. With --rounds there is a stream for each round of lrupd.
 #include <errno.h>
+#include <fcntl.h>
 #include <signal.h>
-#include <stdarg.h>
 #include <stdio.h>
 #include <stdlib.h>
 #include <string.h>
 #include <unistd.h>
 
-#include "exact.h"
-
-static const char *position_unit;
-static uint64_t position_number;
-
-void position_set(const char *unit, uint64_t number) {
-    position_unit = unit;
-    position_number = number;
-}
+#include "chain.h"
+#include "detect.h"
+#include "errors.h"
+#include "filter.h"
+#include "lists.h"
+#include "readers.h"
+#include "row.h"
+#include "write.h"
 
 // What was written before goes out first.
-_Noreturn void stop(const char *cause, ...) {
-    char text[256];
-    va_list rest;
-    va_start(rest, cause);
-    vsnprintf(text, sizeof text, cause, rest);
-    va_end(rest);
+static void end(const char *cause) {
     write_flush();
-    if (position_unit) fprintf(stderr, "exact: %s %llu: %s\n", position_unit, (unsigned long long)position_number, text);
-    else fprintf(stderr, "exact: %s\n", text);
+    fprintf(stderr, "exact: %s\n", cause);
     exit(1);
-}
-
-_Noreturn void fail(const char *cause, const char *object) {
-    write_flush();
-    fprintf(stderr, "exact: %s %s\n", cause, object);
-    exit(1);
-}
-
-void *grow(void *memory, size_t bytes) {
-    if (bytes == 0) {
-        free(memory);
-        return NULL;
-    }
-    memory = realloc(memory, bytes);
-    if (memory == NULL) fail("out of", "memory");
-    return memory;
-}
-
-void *zeroed(size_t count, size_t bytes) {
-    void *memory = calloc(count > 0 ? count : 1, bytes);
-    if (memory == NULL) fail("out of", "memory");
-    return memory;
 }
 
 // The command line.
@@ -157,10 +128,18 @@ static void run(Filter *filter, Input *input, Form form) {
     write_flush();
 }
 
+// Where the caller has closed one of the first three files, no other one takes its place.
+static void hold_first_files(void) {
+    for (int file = 0; file <= 2; file++)
+        if (fcntl(file, F_GETFD) < 0 && open("/dev/null", O_RDONLY) != file) _exit(1);
+}
+
 int main(int count, char **words) {
+    hold_first_files();
     static Filter filter;
     static Input input;
     CommandLine given = { .stream = 1, .streams = 1, .form = UNKNOWN_FORM };
+    errors_handle(end);
     given.others = zeroed((size_t)count + 1, sizeof *given.others);
     for (char **word = words + 1; word < words + count; word++) read_word(&given, &word);
     check(&given);

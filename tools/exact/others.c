@@ -1,7 +1,8 @@
 // Unverified, as all of this filter. Other solvers' streams, LRAT text, read as far as their clauses are cited.
 #include <stdlib.h>
 
-#include "exact.h"
+#include "errors.h"
+#include "others.h"
 
 enum { DEAD_WORDS = 1 << 15, MOST_DIGITS = 9 };
 

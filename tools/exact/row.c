@@ -3,7 +3,7 @@
 #include <string.h>
 #include <unistd.h>
 
-#include "proof.h"
+#include "row.h"
 
 #define USUAL_MEMORY (UINT64_C(1) << 29)
 #define LEAST_MEMORY (UINT64_C(1) << 26)

@@ -1,6 +1,8 @@
 // Unverified, as all of this filter. LRAT text, whose hints may be in any order, too many or too few, and DRUP or DRAT text, which
 // has none. A step is a line; both may have comments, empty lines and loose spaces, and a first line that begins with %.
-#include "exact.h"
+#include "errors.h"
+#include "readers.h"
+#include "words.h"
 
 static const char *name_of(Form form) { return form == LRAT ? "LRAT" : "DRUP or DRAT"; }
 

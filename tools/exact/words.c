@@ -1,7 +1,10 @@
 // Unverified, as all of this filter. The words of a line of text.
 #include <string.h>
 
-#include "exact.h"
+#include "checks.h"
+#include "errors.h"
+#include "stream.h"
+#include "words.h"
 
 static inline bool is_space(unsigned char byte) { return byte == ' ' || (byte >= '\t' && byte <= '\r'); }
 static inline bool is_digit(unsigned char byte) { return (unsigned char)(byte - '0') < 10; }
@@ -75,6 +78,7 @@ static bool read_plain(Words *words, Line line) {
         if (*at != ' ') break;
     }
     words->numbers.length = (size_t)(next - words->numbers.items);
+    assert(words->numbers.length <= words->numbers.capacity && at <= line.end);
     words->strange = words->garbled = false;
     return at == line.end;
 }

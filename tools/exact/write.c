@@ -4,7 +4,10 @@
 #include <string.h>
 #include <unistd.h>
 
-#include "exact.h"
+#include "checks.h"
+#include "errors.h"
+#include "lists.h"
+#include "write.h"
 
 enum { LONGEST = 24, PIECE = 1 << 16 };     // of a number, with what stands beside it; bytes
 
@@ -32,6 +35,7 @@ void write_to(void (*place)(const char *bytes, size_t length)) { out = place; }
 // The lines that are whole go out; of one that isn't the beginning stays.
 void write_flush(void) {
     size_t length = whole;
+    assert(whole <= used && used <= capacity);
     whole = 0;              // also where this is the end
     if (length > 0) out(buffer, length);
     used -= length;

@@ -6,17 +6,16 @@
 
 #include <fcntl.h>
 #include <sys/ioctl.h>
-#include <sys/socket.h>
 #include <sys/stat.h>
 #include <unistd.h>
 
-#include "solve.h"
+#include "checker.h"
 
 namespace {
 
 const int STREAM_PIPE = 1 << 20, PIECE = 1 << 16;
 const uint64_t DROPPED = UINT64_C(1) << 22, PAGE = 4096;    // bytes that are given back at once
-const char TRIES[] = "1000000";     // a stream waits for another one's line up to a minute
+const uint64_t TRIES = 1000000;     // a stream waits for another one's line up to a minute
 const int FRONTS_WORDS = 5;
 
 void append(int &file, const std::string &path, std::string &text) {
@@ -24,6 +23,10 @@ void append(int &file, const std::string &path, std::string &text) {
     if (file < 0 && (file = open(path.c_str(), O_RDONLY | O_CLOEXEC)) >= 0) kept_open(file);
     for (ssize_t count; (count = read(file, bytes, sizeof bytes)) > 0;) text.append(bytes, size_t(count));
 }
+
+}
+
+Front front;
 
 bool is_program(const std::string &path) {
     struct stat found;
@@ -40,17 +43,6 @@ std::string on_the_path(const std::string &name) {
         rest = end == std::string::npos ? "" : rest.substr(end + 1);
     }
     return "";
-}
-
-}
-
-Front front;
-
-std::string folder_of_this() {
-    std::vector<char> path(4096);
-    ssize_t length = readlink("/proc/self/exe", path.data(), path.size());
-    std::string whole(path.data(), length > 0 ? size_t(length) : 0);
-    return whole.substr(0, whole.rfind('/') + 1);
 }
 
 // Which one the front starts.
@@ -71,31 +63,49 @@ void Front::read_words(int &count, char **&words) {
     words += FRONTS_WORDS;
 }
 
+// By the names that its pipes have in its folder, which is on this host.
+void Front::open() {
+    int out = open_pipe(folder + "/heard", 0);
+    file = ::open((folder + "/told").c_str(), O_RDONLY | O_NONBLOCK | O_NOFOLLOW | O_CLOEXEC);
+    if (out < 0 || file < 0 || fcntl(out, F_SETFL, 0) != 0 || dup2(out, STDOUT_FILENO) < 0)
+        refuse("cannot find lrup-solve, which has to be on the host of process 0: " + error_text());
+    close_file(out);
+    kept_open(file);
+}
+
 void Front::say(const std::string &line) const {
     puts(line.c_str());
     fflush(stdout);
 }
 
-void Front::read_on(Checker &probe, Checker &checker) {
+// Where it has ended this process is ended, too, within a moment.
+void Front::read_on(Checker *checker) {
     char bytes[4096];
-    for (ssize_t count; (count = recv(STDOUT_FILENO, bytes, sizeof bytes, MSG_DONTWAIT)) > 0;) unread.append(bytes, size_t(count));
+    ssize_t count;
+    while (file >= 0 && (count = read(file, bytes, sizeof bytes)) > 0) unread.append(bytes, size_t(count));
+    if (file >= 0 && count == 0) end_children(), _exit(1);      // it is gone
     for (size_t end; (end = unread.find('\n')) != std::string::npos; unread.erase(0, end + 1)) {
         std::string line = unread.substr(0, end), name = line.substr(0, line.find(' ')), rest = line.substr(line.find(' ') + 1);
         if (name == "probe") probe.take_end(rest);
-        if (name == "lrupd") checker.take_end(rest);
-        if (name == "stop" || name == "signal") stopped = rest;
-        by_signal |= name == "signal";
+        if (name == "lrupd" && checker) checker->take_end(rest);
+        if (name == "signal") stopped = rest;
     }
+}
+
+std::string Front::await_refusal() {
+    while (probe.child.running && stopped.empty()) {
+        pollfd list = says();
+        poll(&list, 1, -1);
+        read_on(nullptr);
+    }
+    return has_refused() ? probe.last_line() : "";
 }
 
 std::string sizes_text(size_t streams, Row row) {
     return std::to_string(streams) + " " + std::to_string(row.lines) + " " + std::to_string(row.room) + "\n";
 }
 
-std::string tries() {
-    const char *given = test_word("LRUP_SOLVE_TRIES");
-    return given ? given : TRIES;
-}
+std::string tries() { return std::to_string(hooked(test_hooks.tries, TRIES)); }
 
 void Checker::expect(const std::string &path) {
     output = path;
@@ -108,6 +118,7 @@ void Checker::take_end(const std::string &words) {
     child.status = int(strtol(words.c_str(), &rest, 10));
     child.seconds = 1e-6 * strtod(rest, nullptr);
     child.running = false;
+    read_on();
 }
 
 void Checker::open_streams(const std::vector<int> &files) {
@@ -116,13 +127,14 @@ void Checker::open_streams(const std::vector<int> &files) {
         streams.push_back({ file, -1, next + ".stream-" + std::to_string(streams.size() + 1) });
         create_pipe(streams.back().path);
     }
+    for (const Stream &stream : streams) opener.ask(stream.path);
 }
 
 void Checker::start(Row row, const std::vector<int> &files) {
     next = front.folder + "/round-1";
     open_streams(files);
-    std::string sizes = sizes_text(files.size(), row);
-    front.say("check " + sizes.substr(0, sizes.size() - 1) + " " + tries());
+    std::string text = sizes_text(files.size(), row);
+    front.say("check " + text.substr(0, text.size() - 1) + " " + tries());
     expect(front.folder + "/2");
 }
 
@@ -130,11 +142,24 @@ void Checker::start(Row row, const std::vector<int> &files) {
 void Checker::expect_round(const std::string &path) {
     next = path;
     create_pipe(next + ".sizes");
+    opener.ask(next + ".sizes");
 }
 
-bool Checker::awaits_sizes() {
-    sizes = open_pipe(next + ".sizes", 0);
-    return sizes >= 0;
+// A pipe that it has closed again isn't fed.
+void Checker::look() {
+    for (std::string path; opener.has_opened(path); opener.go_on()) {
+        int pipe = open_pipe(path, path == next + ".sizes" ? 0 : STREAM_PIPE);
+        if (path == next + ".sizes") sizes = pipe;
+        for (Stream &stream : streams)
+            if (stream.path == path) stream.path.clear(), stream.pipe = pipe;
+    }
+}
+
+std::vector<pollfd> Checker::full_pipes() const {
+    std::vector<pollfd> list;
+    for (const Stream &stream : streams)
+        if (stream.is_full) list.push_back({ stream.pipe, POLLOUT, 0 });
+    return list;
 }
 
 // Where lrupd has ended meanwhile that is seen soon.
@@ -149,17 +174,15 @@ void Checker::begin_round(Row row, const std::vector<int> &files) {
 bool Checker::feed(size_t number, uint64_t bytes, bool drop) {
     Stream &stream = streams[number];
     static std::vector<char> piece(PIECE);
-    if (!stream.path.empty()) {
-        stream.pipe = open_pipe(stream.path, STREAM_PIPE);
-        if (stream.pipe < 0) return false;
-        stream.path.clear();
-    }
+    if (!stream.path.empty()) return false;
+    stream.is_full = false;
     while (stream.pipe >= 0 && stream.fed < bytes) {
         size_t wanted = size_t(std::min<uint64_t>(piece.size(), bytes - stream.fed));
         ssize_t got = pread(stream.file, piece.data(), wanted, off_t(stream.fed));
         if (got <= 0) refuse("cannot read a stream again: " + (got < 0 ? error_text() : "it is cut"));
         ssize_t count = write(stream.pipe, piece.data(), size_t(got));
-        if (count < 0 && errno == EAGAIN) break;
+        if (count < 0 && errno == EAGAIN) stream.is_full = true;
+        if (stream.is_full) break;
         if (count < 0 && errno != EINTR) close_file(stream.pipe);       // lrupd has ended
         if (count > 0) stream.fed += uint64_t(count);
     }

@@ -38,10 +38,11 @@ void Cubes::count_conflict() { bump *= BUMP; }
 
 void Cubes::look(const std::vector<unsigned char> &gone) {
     if (!takes) return;
-    if (looks() && (part.conflicts >= LEARNING || test_word("LRUP_SOLVE_SLICE"))) tell_variables(gone);
+    if (looks() && (part.conflicts >= LEARNING || test_hooks.slice)) tell_variables(gone);
     if (LOAD(engine.shared->variable_count) == 0) return;
     if (!part.ready) get_ready(gone);
     tell_usable();
+    events_advance(&engine.shared->events);
     if (!is_first()) take();
 }
 
@@ -95,6 +96,7 @@ void Cubes::tell_refuted() {
     idle = 2;
     STORE(part.refuted_cubes, part.refuted_cubes + 1);
     STORE(part.refuted_cube, number);
+    events_advance(&engine.shared->events);
 }
 
 // The first process's part.

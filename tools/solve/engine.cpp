@@ -20,6 +20,7 @@
 
 #include <unistd.h>
 
+#include "../exact/hash.h"
 #include "cubes.h"
 
 namespace {
@@ -34,7 +35,7 @@ enum { OUT_OF_MEMORY = 3, NO_PROOF = 4 };       // statuses of the process
 
 class Worker : CaDiCaL::Learner, CaDiCaL::WitnessIterator {
 public:
-    explicit Worker(const Engine &engine) : engine(engine), part(engine.shared->parts[engine.number - 1]), cubes(engine, solver) {}
+    explicit Worker(const Engine &given) : engine(given), part(given.shared->parts[given.number - 1]), cubes(given, solver) {}
 
     int run() {
         open();
@@ -43,6 +44,7 @@ public:
         if (status == 20) write_end();
         if (fflush(proof) != 0 || ferror(proof)) return NO_PROOF;
         STORE(part.answer, status);
+        events_advance(&engine.shared->events);
         return status;
     }
 
@@ -106,14 +108,16 @@ private:
         }
     }
 
-    // One that is alone has CaDiCaL's own options.
+    // One that is alone has CaDiCaL's own options. With each call of `solve` CaDiCaL rephases from the start: it inverts all phases, and
+    // hardly ever comes to better ones. Two engines are sooner without that; with cubes a pipeline took longer.
     void configure() {
         solver.set("quiet", 1);
         solver.set("seed", engine.options->seed + engine.number - 1);
         if (engine.number > 1) solver.set("lucky", 0);
+        if (shares() && !has_cubes(*engine.shared, *engine.options)) solver.set("rephase", 0);
         if (size_t(engine.options->engines) > engine.options->solvers.size() + 1) differ();
-        if (const char *words = test_word("LRUP_SOLVE_SET")) {
-            std::istringstream list(words);
+        if (test_hooks.set) {
+            std::istringstream list(test_hooks.set);
             bool any = false;       // not every CaDiCaL has all
             for (std::string word; list >> word;) any |= solver.set_long_option(("--" + word).c_str());
             if (!any) abort();
@@ -166,12 +170,11 @@ private:
     }
 
     int solve() {
-        const char *slice = test_word("LRUP_SOLVE_SLICE");
         double conflicts = FIRST_CONFLICTS;
         for (;;) {
             assume();
-            bool is_whole = !cubes.is_idle() && !slice;
-            if (shares()) solver.limit("conflicts", is_whole ? int(conflicts) : slice ? atoi(slice) : LEAST_CONFLICTS);
+            bool is_whole = !cubes.is_idle() && !test_hooks.slice;
+            if (shares()) solver.limit("conflicts", is_whole ? int(conflicts) : int(hooked(test_hooks.slice, LEAST_CONFLICTS)));
             double begin = now();
             int status = solver.solve();
             if ((status != 0 && !(status == 20 && refutes_cube())) || !shares()) return status;
@@ -186,20 +189,9 @@ private:
 
     // Taking over.
 
-    static uint64_t sum_of(const Literal *literals, size_t length) {
-        uint64_t sum = length;
-        for (size_t k = 0; k < length; k++) {
-            uint64_t number = uint64_t(literals[k]) + 1;
-            number = (number ^ number >> 31) * 0x9E3779B97F4A7C15u;
-            number = (number ^ number >> 29) * 0xBF58476D1CE4E5B9u;
-            sum += number ^ number >> 32;
-        }
-        return sum;
-    }
-
     // The older half is forgotten as the other one gets full: a clause may come twice.
     bool is_new(const Literal *literals, size_t length) {
-        uint64_t sum = sum_of(literals, length);
+        uint64_t sum = hash_literals(literals, length);
         if (known.size() >= MOST_KNOWN) known_before = std::move(known), known.clear();
         return known_before.count(sum) == 0 && known.insert(sum).second;
     }
@@ -232,7 +224,7 @@ private:
         clause.clear();
         for (size_t k = 0; k < length; k++) {
             int literal = as_written(literals[k]);
-            if (gone[size_t(std::abs(literal))] && !without("guard")) {
+            if (gone[size_t(std::abs(literal))] && !test_hooks.without_guard) {
                 STORE(part.refused, part.refused + 1);
                 return;
             }
@@ -243,10 +235,10 @@ private:
             clause.push_back(literal);
         }
         STORE(part.taken, part.taken + 1);
-        if (without("order")) add_clause();
+        if (test_hooks.without_order) add_clause();
         put_step('i', other, position);
         put_clause();
-        if (!without("order")) add_clause();
+        if (!test_hooks.without_order) add_clause();
     }
 
     // Units and binary clauses all; of longer ones at most MOST_TAKEN at once, and those beyond never. Then the proof says that

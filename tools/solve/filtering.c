@@ -1,19 +1,25 @@
 // Unverified, as all of this solver. A filter's process: tools/exact from an engine's proof to its streams, one for each round, and
 // the clauses that it gives away.
+#define _GNU_SOURCE
 #include <errno.h>
 #include <fcntl.h>
-#include <stdarg.h>
 #include <stdio.h>
 #include <sys/ioctl.h>
+#include <sys/stat.h>
 #include <unistd.h>
 
-#include "../exact/exact.h"
+#include "../exact/detect.h"
+#include "../exact/errors.h"
+#include "../exact/filter.h"
+#include "../exact/lists.h"
+#include "../exact/readers.h"
+#include "../exact/rounds.h"
+#include "../exact/write.h"
 #include "shared.h"
 
-enum { PAUSE = 500 };               // microseconds after which a filter that waits looks again
 enum { MOST_AHEAD = 1 << 25 };      // bytes of a stream that lrupd hasn't got
 
-static const Filtering *own;        // NULL in the first process
+static const Filtering *own;
 static Part *part;
 static Filter filter;
 static Input input;
@@ -22,8 +28,6 @@ static uint64_t round_number;       // from 1
 static uint64_t staged;             // the end of the outbox; others read up to `outbox_used`
 static Identities kept;             // what it gave away in this round
 static bool refuted;
-static const char *position_unit;
-static uint64_t position_number;
 
 // The ends: the first process says why, once this one has ended.
 
@@ -33,43 +37,25 @@ static _Noreturn void leave(const char *cause) {
     _exit(cause && !over);
 }
 
-void position_set(const char *unit, uint64_t number) {
-    position_unit = unit;
-    position_number = number;
-}
-
-_Noreturn void stop(const char *cause, ...) {
-    char text[LONGEST_CAUSE], whole[2 * LONGEST_CAUSE];
-    va_list rest;
-    va_start(rest, cause);
-    vsnprintf(text, sizeof text, cause, rest);
-    va_end(rest);
+// What was written before goes out first.
+static void end(const char *cause) {
     write_flush();
-    snprintf(whole, sizeof whole, "%s %llu: %s", position_unit, (unsigned long long)position_number, text);
-    leave(whole);
+    leave(cause);
 }
 
-_Noreturn void fail(const char *cause, const char *object) {
-    char text[LONGEST_CAUSE];
-    snprintf(text, sizeof text, "%s %s", cause, object);
-    if (!own) formula_refused(text);
-    leave(text);
+// The first process is told.
+static void tell(uint64_t *field, uint64_t value) {
+    STORE(*field, value);
+    events_advance(&own->shared->events);
 }
 
-void *grow(void *memory, size_t bytes) {
-    if (bytes == 0) {
-        free(memory);
-        return NULL;
+// Until the first process has written as much there, or wants no more.
+static void await(const uint64_t *field, uint64_t wanted) {
+    for (;;) {
+        uint64_t seen = events_so_far(&part->events);
+        if (LOAD(*field) >= wanted || LOAD(own->shared->over)) return;
+        events_await(&part->events, seen, -1);
     }
-    memory = realloc(memory, bytes);
-    if (memory == NULL) fail("out of", "memory");
-    return memory;
-}
-
-void *zeroed(size_t count, size_t bytes) {
-    void *memory = calloc(count > 0 ? count : 1, bytes);
-    if (memory == NULL) fail("out of", "memory");
-    return memory;
 }
 
 // The stream.
@@ -79,23 +65,22 @@ static uint64_t waiting(int file) {
     return ioctl(file, FIONREAD, &bytes) == 0 ? (uint64_t)bytes : 0;
 }
 
-static _Noreturn void leave_unwritten(void) {
-    int error = errno;
+static _Noreturn void leave_unwritten(const char *cause) {
     STORE(part->unwritten, 1);
-    leave(strerror(error));
+    leave(cause);
 }
 
 // Whole lines go to the stream's file, which outlives this process, and only then the others hear of the clauses that they
 // derive: a filter that dies with lines in its buffer would leave clauses that others cite and lrupd never gets. They were
 // missing, after a minute of waiting. A slow lrupd slows filters, and they the engines: of a stream there is never much in memory.
 static void out(const char *bytes, size_t length) {
-    if (!write_whole(own->stream, bytes, length)) leave_unwritten();
+    if (!write_whole(own->stream, bytes, length)) leave_unwritten(strerror(errno));
     STORE(part->bytes, part->bytes + length);
     STORE(part->outbox_used, staged);
     STORE(part->behind, waiting(own->proof) + (input.length - input.at));
-    const char *most = test_word("LRUP_SOLVE_AHEAD");
-    uint64_t ahead = most ? strtoull(most, NULL, 10) : MOST_AHEAD;
-    while (part->bytes > LOAD(part->fed) + ahead && !LOAD(own->shared->over)) usleep(PAUSE);
+    events_advance(&own->shared->events);
+    uint64_t ahead = hooked(test_hooks.ahead, MOST_AHEAD);
+    if (part->bytes > ahead) await(&part->fed, part->bytes - ahead);
 }
 
 // Rounds.
@@ -105,7 +90,7 @@ static void keep_for_imports(void) {
     uint64_t formula = filter.formula.clauses;
     for (int k = 0; k < own->shared->engines; k++) {
         uint64_t at = part->floors[k], end = LOAD(own->shared->parts[k].outbox_used);
-        if (k == own->engine - 1 || without("floor")) continue;
+        if (k == own->engine - 1 || test_hooks.without_floor) continue;
         for (uint32_t *gift; (gift = next_gift(own->shared, own->outboxes[k], &at, end)) != NULL;) {
             uint64_t identity = gift_identity(gift);
             if (identity > 0 && identity <= formula) PUSH(&kept, identity);
@@ -113,12 +98,15 @@ static void keep_for_imports(void) {
     }
 }
 
-// Until the first process says so, unless it wants no more.
-static void await(const uint64_t *field, uint64_t wanted) {
-    while (LOAD(*field) < wanted) {
-        if (LOAD(own->shared->over)) leave(NULL);
-        usleep(PAUSE);
-    }
+static void await_round(const uint64_t *field, uint64_t wanted) {
+    await(field, wanted);
+    if (LOAD(*field) < wanted) leave(NULL);
+}
+
+// As the first process has made it for the round.
+static bool is_as_made(int stream) {
+    struct stat found;
+    return fstat(stream, &found) == 0 && S_ISREG(found.st_mode) && found.st_nlink == 1 && found.st_size == 0;
 }
 
 static void open_stream(void) {
@@ -129,8 +117,9 @@ static void open_stream(void) {
     }
     snprintf(path, sizeof path, "%sround-%llu.stream-%llu", own->shared->record, (unsigned long long)round_number,
              (unsigned long long)filter.stream);
-    int file = open(path, O_WRONLY | O_CLOEXEC);
-    if (file < 0 || dup2(file, own->stream) < 0) leave_unwritten();
+    int file = open(path, O_WRONLY | O_NOFOLLOW | O_NONBLOCK | O_CLOEXEC);
+    if (file < 0 ? errno == ELOOP : !is_as_made(file)) leave_unwritten("somebody has put another file there");
+    if (file < 0 || dup2(file, own->stream) < 0) leave_unwritten(strerror(errno));
     close(file);
 }
 
@@ -141,29 +130,36 @@ static void next_round(void) {
     keep_for_imports();
     round_delete(&filter, &kept);
     write_flush();
-    STORE(part->ended_round, round_number);
-    await(&own->shared->saved_round, round_number);
+    tell(&part->ended_round, round_number);
+    await_round(&own->shared->saved_round, round_number);
     checkpoint_read(&checkpoint, own->shared->checkpoint);
     round_begin(&filter, &checkpoint, part->stream, own->shared->streams);
-    if (!without("renewal")) outbox_renew(own->shared, own->outboxes[own->engine - 1], own->engine, &checkpoint);
+    if (!test_hooks.without_renewal) outbox_renew(own->shared, own->outboxes[own->engine - 1], own->engine, &checkpoint);
     checkpoint_free(&checkpoint);
     kept.length = 0;
     STORE(part->bytes, 0);
     STORE(part->round_lines, 0);
     STORE(part->round_literals, 0);
-    STORE(part->mapped_round, round_number);
-    await(&own->shared->round, ++round_number);
+    tell(&part->mapped_round, round_number);
+    await_round(&own->shared->round, ++round_number);
     open_stream();
 }
 
-// Where the first process ends the round this one does, too, also while it waits for the engine.
-static void look_at_round(void) {
-    if (!refuted && LOAD(own->shared->ending_round) == round_number) next_round();
-}
+// Where the first process ends the round this one does, too.
+static bool is_ending(void) { return !refuted && LOAD(own->shared->ending_round) == round_number; }
 
 static bool ends(void) {
-    look_at_round();
+    if (is_ending()) next_round();
     return refuted || LOAD(own->shared->over);
+}
+
+// Until the engine has written more, or has ended. Meanwhile rounds may end.
+static void await_proof(int file) {
+    for (bool is_readable = false; !is_readable;) {
+        uint64_t seen = events_so_far(&part->events);
+        if (is_ending()) next_round();
+        else is_readable = events_await(&part->events, seen, file);
+    }
 }
 
 static bool has_room(uint64_t literals) {
@@ -185,9 +181,8 @@ static void give(void) {
     if (!outbox_put(own->shared, own->outboxes[own->engine - 1], own->engine, &staged, filter.last, &filter.literals)) return;
     PUSH(&kept, filter.last);
     STORE(part->given, part->given + 1);
-    if (without("flush")) STORE(part->outbox_used, staged);
-    const char *last = test_word("LRUP_SOLVE_LAST_GIFT");       // the filter of engine 1 dies at it, its line in the buffer
-    if (last && own->engine == 1 && part->given == strtoull(last, NULL, 10)) _exit(1);
+    if (test_hooks.without_flush) STORE(part->outbox_used, staged);
+    if (test_hooks.last_gift && own->engine == 1 && part->given == test_hooks.last_gift) _exit(1);
 }
 
 // Streams of one host follow each other, as its engines do.
@@ -276,16 +271,17 @@ static void end_proof(void) {
 void filter_process(const Filtering *filtering, const void *formula) {
     static const Hooks hooks = { .ends = ends, .derives = derives, .derived = derived, .gift = gift, .passed = passed };
     own = filtering;
+    errors_handle(end);
     part = &own->shared->parts[own->engine - 1];
     round_number = 1;
     input_open(&input, NULL);
     input.file = own->proof;
-    input.idle = look_at_round;
+    input.await = await_proof;
     write_to(out);
     filter.formula = *(const Formula *)formula;
     filter.stream = (uint64_t)own->engine;
     filter.streams = (uint64_t)own->shared->engines;
-    filter.keeps_clauses = !without("keeping");
+    filter.keeps_clauses = !test_hooks.without_keeping;
     filter.hooks = &hooks;
     assumed = zeroed(2 * (size_t)filter.formula.variables, 1);
     for (size_t k = 0; k < own->assumed_length; k++) assumed[own->assumed[k]] = 1;

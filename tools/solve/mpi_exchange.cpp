@@ -38,7 +38,7 @@ std::string Exchange::collect() {
     std::vector<Found> all;
     Message message;
     if (LOAD(shared->round) != round) begin_round();
-    if (LOAD(shared->saved_round) >= round && !without("passing")) pass_over();
+    if (LOAD(shared->saved_round) >= round && !test_hooks.without_passing) pass_over();
     for (size_t k = size_t(first); k < size_t(end); k++)
         while (const uint32_t *gift = next_gift(shared, outboxes[k], &read[k], cleared[k])) all.push_back({ int(k), gift });
     std::stable_sort(all.begin(), all.end(), [](const Found &one, const Found &other) { return one.gift[0] < other.gift[0]; });
@@ -70,7 +70,7 @@ void Exchange::place(Message &message) {
         for (Literal &literal : literals) message.take(literal);
         Literals list = { literals.data(), literals.size(), literals.size() };
         uint64_t &place = staged[sent.engine];
-        bool placed = (!late || without("lateness")) &&
+        bool placed = (!late || test_hooks.without_lateness) &&
                       outbox_put(shared, outboxes[sent.engine], int(sent.engine) + 1, &place, sent.identity, &list);
         ++(placed ? traffic.in : traffic.dropped);
         STORE(shared->parts[sent.engine].outbox_used, place);

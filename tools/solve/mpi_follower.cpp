@@ -2,6 +2,7 @@
 // nothing on standard output.
 #include <algorithm>
 #include <cerrno>
+#include <cmath>
 #include <csignal>
 #include <cstdio>
 #include <tuple>
@@ -14,55 +15,84 @@
 
 namespace {
 
+const double LATE = 0.002;              // seconds, after which the next piece of lines is sent that come late
 const double LEAVING = 10, ENDING = 10, STARTING = 600;     // seconds
 const uint64_t DROPPED = UINT64_C(1) << 22, PAGE = 4096;    // bytes that are given back at once
 
-class Follower : public Linked {
+class Follower {
 public:
-    using Linked::Linked;
+    Follower(const Options &options, Link &connected)
+        : inputs(options), teams(inputs), peer(inputs.options, teams, connected), link(connected) {
+        inputs.options.proofs = inputs.options.assume = nullptr;
+        peer.told = [this](Message &message) { look_at(message); };
+    }
 
-    int run() override {
-        prepare_here();
+    int solve() {
+        prepare();
         while (!ended) {
-            wait();
-            look_at_link();
+            std::vector<pollfd> files = link.files();
+            loop.wait(teams.shared->events, files, next_look(), children());
+            peer.look();
             look_here();
-            for (int k = first; k < first + here; k++) say(size_t(k));
+            for (size_t k = 0; k < teams.size(); k++)
+                if (teams.is_here(k)) say(k);
             if (now() - traffic_at >= PULSE) say_traffic();
         }
-        for (Child *child : Run::children()) child->signal(SIGKILL), wait_for(*child);
-        for (int k = first; k < first + here; k++) say_facts(size_t(k), facts_of(size_t(k)));
+        for (Child *child : teams.children()) child->signal(SIGKILL), wait_for(*child);
+        for (size_t k = 0; k < teams.size(); k++)
+            if (teams.is_here(k)) say_facts(k, facts_of(k));
         say_traffic();
-        leave(LEAVING);
+        peer.leave(LEAVING);
         end_children();
         return 0;
     }
 
 private:
+    enum State { SOLVING, BETWEEN_ROUNDS, OVER };
     struct Told { uint64_t sent = 0, dropped = 0; bool has_model = false; double at = 0; Facts facts = {}; };
 
+    Inputs inputs;
+    Teams teams;
+    Peer peer;
+    Link &link;
+    Loop loop;
+    State state = SOLVING;
     bool ended = false;
     std::vector<Told> told;
+    Checkpoint saved = {};
     std::string saved_bytes;
     int saved_file = -1;
-    double traffic_at = 0;
+    double traffic_at = 0, ending = INFINITY;
+
+    std::vector<Child *> children() {
+        std::vector<Child *> list = teams.children();
+        list.push_back(&link.carrier);
+        return list;
+    }
+
+    double next_look() const {
+        double time = std::min({ traffic_at + PULSE, ending, peer.next_look() });
+        if (state == SOLVING) time = std::min(time, teams.next_start());
+        for (size_t k = 0; k < teams.size(); k++)
+            if (teams.is_here(k)) time = std::min(time, told[k].at + PULSE);
+        return test_hooks.late_lines ? std::min(time, now() + LATE) : time;
+    }
 
     // Before anything is solved.
 
-    void prepare_here() {
-        options.proofs = options.assume = nullptr;
+    void prepare() {
         receive_inputs();
-        read_formula();
-        open_teams();
+        inputs.read_formula();
+        teams.open();
         told.resize(teams.size());
-        for (int k = first; k < first + here; k++) teams[size_t(k)].model = shared_memory<signed char>(size_t(formula.variables));
-        open_exchange();
-        take_signals();
+        teams.open_models();
+        peer.open();
+        loop.begin();
         Message message;
-        while (LOAD(shared->most_lines) == 0)
+        while (LOAD(teams.shared->most_lines) == 0)
             if (link.wait(message, STARTING)) look_at(message);
             else refuse("process 0 says nothing");
-        for (size_t k = 0; k < teams.size(); k++) start_team(k);
+        teams.start(false);
     }
 
     static void keep(int file, const char *bytes, size_t length) {
@@ -80,40 +110,37 @@ private:
             if (message.head.word != INPUT || message.bytes.empty()) break;
             char kind = 0;
             message.take(kind);
-            for (Literal literal; kind == 'a' && message.take(literal);) assumed.push_back(literal);
+            for (Literal literal; kind == 'a' && message.take(literal);) inputs.assumed.push_back(literal);
             if (kind == 'f') keep(file, message.rest(), message.left());
         }
-        formula_path = "/dev/fd/" + std::to_string(file);
+        inputs.formula_path = OPEN_FILES + std::to_string(file);
     }
 
     // What process 0 says.
 
     void take_control(const Control &control) {
+        Shared *shared = teams.shared;
         STORE(shared->streams, control.streams);
         STORE(shared->most_lines, control.most_lines);
         STORE(shared->most_literals, control.most_literals);
         for (size_t k = 0; k < teams.size(); k++) {
-            STORE(shared->parts[k].stream, control.parts[k].stream);
-            STORE(shared->parts[k].fed, control.parts[k].fed);
+            STORE(teams.part(k).stream, control.parts[k].stream);
+            STORE(teams.part(k).fed, control.parts[k].fed);
         }
-        if (control.ending_round > LOAD(shared->ending_round)) end_own_round(control.ending_round);
+        if (control.ending_round > LOAD(shared->ending_round)) end_round(control.ending_round);
         if (control.saved_round > LOAD(shared->saved_round)) take_saved(control.saved_round);
-        if (control.round > LOAD(shared->round)) begin_own_round(control.round);
-        if (control.over) {
-            if (phase != ENDING_STREAMS) ending = now() + ENDING;
-            phase = ENDING_STREAMS;
-            STORE(shared->over, 1);
+        if (control.round > LOAD(shared->round)) begin_round(control.round);
+        if (control.over && state != OVER) {
+            ending = now() + ENDING;
+            state = OVER;
         }
+        teams.tell_filters();
     }
 
-    void end_own_round(uint64_t number) {
-        STORE(shared->ending_round, number);
-        phase = ENDING_ROUND;
-        for (int k = first; k < first + here; k++) {
-            Team &team = teams[size_t(k)];
-            for (Child *child : { &team.engine, &team.filter }) child->signal(SIGCONT);
-            team.paused = false;
-        }
+    void end_round(uint64_t number) {
+        STORE(teams.shared->ending_round, number);
+        state = BETWEEN_ROUNDS;
+        teams.go_on();
     }
 
     // As a file that filters read as they read lrupd's: it has no literals.
@@ -121,7 +148,8 @@ private:
         std::string text;
         uint64_t identity = 0, value = 0, count = 0;
         unsigned shift = 0;
-        for (unsigned char byte : saved_bytes) {
+        for (char letter : saved_bytes) {
+            auto byte = static_cast<unsigned char>(letter);
             value |= uint64_t(byte & 127) << shift;
             shift = byte & 128 ? shift + 7 : 0;
             if (byte & 128) continue;
@@ -136,27 +164,25 @@ private:
         std::string path = "/proc/" + std::to_string(getpid()) + "/fd/" + std::to_string(saved_file);
         saved_bytes.clear();
         checkpoint_read(&saved, path.c_str());
-        for (int k = first; k < first + here; k++) {
-            if (ftruncate(teams[size_t(k)].stream, 0) != 0) refuse("cannot empty a stream: " + error_text());
-            told[size_t(k)].dropped = 0;
+        for (size_t k = 0; k < teams.size(); k++) {
+            if (!teams.is_here(k)) continue;
+            if (ftruncate(teams[k].stream, 0) != 0) refuse("cannot empty a stream: " + error_text());
+            told[k].dropped = 0;
         }
-        copy_name(shared->checkpoint, path);
-        STORE(shared->saved_round, number);
-        phase = MAPPING;
+        copy_name(teams.shared->checkpoint, path);
+        STORE(teams.shared->saved_round, number);
     }
 
-    void begin_own_round(uint64_t number) {
-        for (size_t k = 0; k < teams.size(); k++) {
-            told[k].sent = 0;
-            if (!is_here(k) || teams[k].filter.ended()) outbox_renew(shared, outboxes[k], int(k) + 1, &saved);
-        }
+    void begin_round(uint64_t number) {
+        for (Told &one : told) one.sent = 0;
+        teams.renew_outboxes(saved, number);
         checkpoint_free(&saved);
         close_file(saved_file);
-        phase = SOLVING;
-        STORE(shared->round, number);
+        state = SOLVING;
+        STORE(teams.shared->round, number);
     }
 
-    void look_at(Message &message) override {
+    void look_at(Message &message) {
         Control control;
         if (message.head.word == CONTROL && message.take(control)) take_control(control);
         if (message.head.word == SAVED) saved_bytes += message.bytes;
@@ -166,30 +192,31 @@ private:
     // What is here.
 
     void look_here() {
-        if (ended_by || link.carrier.ended()) end_children(), _exit(1);     // mpirun ends all, or has
-        if (silent_process() >= 0) refuse("process 0 has said nothing for some seconds");
-        for (int k = first; k < first + here; k++) {
-            Team &team = teams[size_t(k)];
-            if (team.filter.ended()) STORE(shared->parts[k].gone, 1);
-            bool is_over = phase == ENDING_STREAMS, is_told = told[size_t(k)].facts.of_filter.ended;
-            if (is_over || (is_told && LOAD(shared->parts[k].answer) == 0)) team.engine.signal(SIGKILL);
-            if (is_over) team.filter.signal(now() > ending ? SIGKILL : SIGCONT);
+        if (loop.ended_by || link.carrier.ended()) end_children(), _exit(1);        // mpirun ends all, or has
+        if (peer.silent_process() >= 0) refuse("process 0 has said nothing for some seconds");
+        for (size_t k = 0; k < teams.size(); k++) {
+            if (!teams.is_here(k)) continue;
+            Team &team = teams[k];
+            if (team.filter.ended()) STORE(teams.part(k).gone, 1);
+            if (told[k].facts.of_filter.ended && LOAD(teams.part(k).answer) == 0) team.engine.signal(SIGKILL);
         }
-        if (phase == SOLVING) dealer.deal(*shared, options);
-        if (phase == SOLVING) pause_others();
+        bool is_late = now() >= ending;
+        if (is_late) ending = INFINITY;
+        if (state == OVER) teams.end_streams(is_late);
+        if (state == SOLVING) teams.look();
     }
 
     // What it says. Of what follows from a stream others hear when all of it is sent.
 
     bool send_stream(size_t k) {
-        Part &part = shared->parts[k];
+        Part &part = teams.part(k);
         Told &one = told[k];
-        uint64_t round_on = LOAD(shared->round);
-        if (LOAD(part.mapped_round) + 1 != round_on || LOAD(shared->saved_round) >= round_on) return true;
+        uint64_t round_on = LOAD(teams.shared->round);
+        if (LOAD(part.mapped_round) + 1 != round_on || LOAD(teams.shared->saved_round) >= round_on) return true;
         uint64_t used = LOAD(part.outbox_used), bytes = LOAD(part.bytes);
         static std::vector<char> piece(PIECE_OF_A_STREAM);
         bool is_whole = teams[k].filter.ended() || LOAD(part.ended_round) == round_on;
-        uint64_t pieces = comes_late("lines") ? is_whole : UINT64_MAX;
+        uint64_t pieces = test_hooks.late_lines ? is_whole : UINT64_MAX;
         for (; pieces > 0 && one.sent < bytes && one.sent < LOAD(part.fed) + WINDOW && !link.is_full(); pieces--) {
             size_t wanted = std::min<uint64_t>(piece.size(), bytes - one.sent);
             ssize_t count = pread(teams[k].stream, piece.data(), wanted, off_t(one.sent));
@@ -199,18 +226,18 @@ private:
             message.bytes.append(piece.data(), size_t(count));
             link.send(STREAM, 0, message.bytes);
             one.sent += uint64_t(count);
-            exchange.traffic.bytes_of_streams += uint64_t(count);
+            peer.exchange.traffic.bytes_of_streams += uint64_t(count);
         }
         if (one.sent - one.dropped > DROPPED) {
             fallocate(teams[k].stream, FALLOC_FL_PUNCH_HOLE | FALLOC_FL_KEEP_SIZE, 0, off_t(one.sent / PAGE * PAGE));
             one.dropped = one.sent;
         }
-        if (one.sent == bytes || without("clearing")) exchange.clear(int(k), used);
+        if (one.sent == bytes || test_hooks.without_clearing) peer.exchange.clear(int(k), used);
         return one.sent == bytes;
     }
 
     void send_model(size_t k) {
-        size_t all = size_t(formula.variables);
+        size_t all = size_t(inputs.formula.variables);
         for (size_t from = 0; from < all; from += PIECE_OF_INPUT) {
             Message message;
             message.put(int32_t(k));
@@ -223,7 +250,7 @@ private:
 
     void say_traffic() {
         Message message;
-        message.put(exchange.traffic);
+        message.put(peer.exchange.traffic);
         link.send(TRAFFIC, 0, message.bytes);
         traffic_at = now();
     }
@@ -232,7 +259,7 @@ private:
 
     // Rounds first: what a filter writes before it ends one is there then.
     Facts facts_of(size_t k) const {
-        const Part &part = shared->parts[k];
+        const Part &part = teams.part(k);
         Facts facts = {};
         facts.engine = int32_t(k);
         facts.of_engine = end_of(teams[k].engine);
@@ -279,4 +306,4 @@ private:
 
 }
 
-Run *make_follower(const Options &options, Link &link) { return new Follower(options, link); }
+int follow(const Options &options, Link &link) { return Follower(options, link).solve(); }

@@ -11,11 +11,26 @@ namespace {
 
 const double LEAVING = 3;               // seconds
 
-class Leader : public Linked {
+class Leader {
 public:
-    using Linked::Linked;
+    Leader(const Options &options, Link &connected) : run(options), peer(run.inputs.options, run.teams, connected), link(connected) {
+        peer.told = [this](Message &message) { look_at(message); };
+        elsewhere.begin = [this] { begin(); };
+        elsewhere.look = [this] { return look(); };
+        elsewhere.next_look = [this] { return is_news(control(), told) ? 0 : std::min(told_at + PULSE, peer.next_look()); };
+        elsewhere.files = [this] { return link.files(); };
+        elsewhere.details = [this] { details(); };
+        elsewhere.end = [this](bool at_once) { end(at_once); };
+        elsewhere.carrier = &link.carrier;
+    }
+
+    int solve() { return run.solve(&elsewhere); }
 
 private:
+    Run run;
+    Peer peer;
+    Link &link;
+    Elsewhere elsewhere;
     std::vector<Traffic> traffic;       // by process
     Control told = {};
     double told_at = 0;
@@ -32,20 +47,20 @@ private:
         std::string text(1, kind);
         text.append(static_cast<const char *>(bytes), length);
         link.send(INPUT, 0, text);
-        while (link.is_full() && !link.carrier.ended()) {
+        while (link.is_full() && link.is_open()) {
             std::vector<pollfd> list = link.files();
-            poll(list.data(), list.size(), 20);
+            poll(list.data(), list.size(), -1);
             link.step();
-            reap(children());
         }
     }
 
-    void begin_elsewhere() override {
-        open_exchange();
+    void begin() {
+        const Inputs &inputs = run.inputs;
+        peer.open();
         traffic.resize(link.engines.size());
         std::vector<char> piece(PIECE_OF_INPUT);
-        broadcast('a', assumed.data(), assumed.size() * sizeof(Literal));
-        int file = open_input(formula_path);
+        broadcast('a', inputs.assumed.data(), inputs.assumed.size() * sizeof(Literal));
+        int file = open_input(inputs.formula_path);
         for (ssize_t count; (count = read(file, piece.data(), piece.size())) != 0;) {
             if (count < 0 && errno != EINTR) refuse("cannot read the formula again: " + error_text());
             if (count > 0) broadcast('f', piece.data(), size_t(count));
@@ -56,7 +71,7 @@ private:
 
     // What the others say.
 
-    bool is_elsewhere(int k) const { return k >= 0 && size_t(k) < teams.size() && !is_here(size_t(k)); }
+    bool is_elsewhere(int k) const { return k >= 0 && size_t(k) < run.teams.size() && !run.teams.is_here(size_t(k)); }
 
     void take_end(Child &child, const Ended &end) {
         child.seconds = end.seconds;
@@ -66,7 +81,7 @@ private:
 
     void take_facts(const Facts &facts) {
         if (!is_elsewhere(facts.engine)) return;
-        Part &part = shared->parts[facts.engine];
+        Part &part = run.teams.part(size_t(facts.engine));
         uint64_t mapped = LOAD(part.mapped_round);
         for (size_t k = 0; k < COUNTS; k++) STORE(part.*COUNTED[k], facts.counts[k]);
         if (LOAD(part.mapped_round) > mapped) STORE(part.bytes, 0);
@@ -75,18 +90,18 @@ private:
         STORE(part.unwritten, facts.unwritten);
         STORE(part.answer, facts.answer);
         STORE(part.refuted, facts.refuted);
-        take_end(teams[size_t(facts.engine)].engine, facts.of_engine);
-        take_end(teams[size_t(facts.engine)].filter, facts.of_filter);
+        take_end(run.teams[size_t(facts.engine)].engine, facts.of_engine);
+        take_end(run.teams[size_t(facts.engine)].filter, facts.of_filter);
     }
 
     void take_stream(Message &message) {
         int32_t k = -1;
         if (!message.take(k) || !is_elsewhere(k)) return;
-        Part &part = shared->parts[k];
+        Part &part = run.teams.part(size_t(k));
         const char *bytes = message.rest();
         for (size_t left = message.left(); left > 0;) {
-            ssize_t count = pwrite(teams[size_t(k)].stream, bytes, left, off_t(part.bytes));
-            if (count < 0 && errno != EINTR) refuse("cannot write " + stream_path(size_t(k)) + ": " + error_text());
+            ssize_t count = pwrite(run.teams[size_t(k)].stream, bytes, left, off_t(part.bytes));
+            if (count < 0 && errno != EINTR) refuse("cannot write " + run.teams.stream_path(size_t(k), run.rounds.number) + ": " + error_text());
             if (count <= 0) continue;
             bytes += count;
             left -= size_t(count);
@@ -96,12 +111,12 @@ private:
 
     void take_model(Message &message) {
         int32_t k = -1;
-        uint64_t from = 0, variables = uint64_t(formula.variables);
+        uint64_t from = 0, variables = uint64_t(run.inputs.formula.variables);
         if (!message.take(k) || !message.take(from) || !is_elsewhere(k) || from > variables) return;
-        memcpy(teams[size_t(k)].model + from, message.rest(), std::min<size_t>(message.left(), variables - from));
+        memcpy(run.teams[size_t(k)].model + from, message.rest(), std::min<size_t>(message.left(), variables - from));
     }
 
-    void look_at(Message &message) override {
+    void look_at(Message &message) {
         Facts facts;
         if (message.head.word == FACTS && message.take(facts)) take_facts(facts);
         if (message.head.word == STREAM) take_stream(message);
@@ -115,9 +130,10 @@ private:
     void say_saved() {
         std::string text;
         uint64_t last = 0;
-        for (size_t k = 0; k < saved.old.length; k++) {
-            uint64_t number = saved.old.items[k] - last;
-            last = saved.old.items[k];
+        const Identities &saved = run.rounds.saved.old;
+        for (size_t k = 0; k < saved.length; k++) {
+            uint64_t number = saved.items[k] - last;
+            last = saved.items[k];
             for (; number > 127; number >>= 7) text += char((number & 127) | 128);
             text += char(number);
             if (text.size() < PIECE_OF_INPUT) continue;
@@ -129,6 +145,7 @@ private:
 
     Control control() const {
         Control words = {};
+        const Shared *shared = run.teams.shared;
         words.over = uint64_t(LOAD(shared->over));
         words.round = LOAD(shared->round);
         words.ending_round = LOAD(shared->ending_round);
@@ -136,7 +153,7 @@ private:
         words.streams = LOAD(shared->streams);
         words.most_lines = LOAD(shared->most_lines);
         words.most_literals = LOAD(shared->most_literals);
-        for (size_t k = 0; k < teams.size(); k++) {
+        for (size_t k = 0; k < run.teams.size(); k++) {
             words.parts[k].stream = LOAD(shared->parts[k].stream);
             words.parts[k].fed = LOAD(shared->parts[k].fed);
         }
@@ -161,27 +178,27 @@ private:
         told_at = now();
     }
 
-    void look_elsewhere() override {
-        look_at_link();
-        for (int k = first; k < first + here; k++) exchange.clear(k, LOAD(shared->parts[k].outbox_used));
-        if (link.carrier.ended()) return finish(UNKNOWN_ANSWER, "MPI's process here " + link.carrier.end());
-        if (silent_process() >= 0)
-            return finish(UNKNOWN_ANSWER, format("process %d has said nothing for %.0f seconds", silent_process(), SILENCE));
+    std::string look() {
+        peer.look();
+        for (size_t k = 0; k < run.teams.size(); k++)
+            if (run.teams.is_here(k)) peer.exchange.clear(int(k), LOAD(run.teams.part(k).outbox_used));
+        if (link.carrier.ended()) return "MPI's process here " + link.carrier.end();
+        if (peer.silent_process() >= 0) return format("process %d has said nothing for %.0f seconds", peer.silent_process(), SILENCE);
         say();
+        return "";
     }
 
     // Of lines that cite a clause of another process some would have been derived without it, too.
-    void details() const override {
-        Run::details();
+    void details() const {
         for (size_t process = 0, k = 0; process < traffic.size(); process++) {
-            const Traffic &one = process == 0 ? exchange.traffic : traffic[process];
+            const Traffic &one = process == 0 ? peer.exchange.traffic : traffic[process];
             uint64_t lines = 0, citing = 0;
             double each = one.exchanges ? 1e-6 * double(one.nanoseconds) / double(one.exchanges) : 0;
             for (size_t end = k + size_t(link.engines[process]); k < end; k++) {
-                lines += LOAD(shared->parts[k].lines);
-                citing += LOAD(shared->parts[k].citing_elsewhere);
+                lines += LOAD(run.teams.part(k).lines);
+                citing += LOAD(run.teams.part(k).citing_elsewhere);
             }
-            tell(format("process %zu: %s; clauses: %s sent, %s came, %s beyond the budget, %s late; %s out, %s in; %.1f ms each; "
+            run.display.tell(format("process %zu: %s; clauses: %s sent, %s came, %s beyond the budget, %s late; %s out, %s in; %.1f ms each; "
                         "%.0f %% of lines cite another process; %s of streams",
                         process, counted(one.exchanges, "exchange").c_str(), grouped(one.out).c_str(), grouped(one.in).c_str(),
                         grouped(one.left_out).c_str(), grouped(one.dropped).c_str(), counted(one.bytes_out, "byte").c_str(),
@@ -190,12 +207,12 @@ private:
         }
     }
 
-    void end_elsewhere() override {
+    void end(bool at_once) {
         to_all(END, "");
-        leave(ended_by || front.by_signal || silent_process() >= 0 ? 0 : LEAVING);
+        peer.leave(at_once || peer.silent_process() >= 0 ? 0 : LEAVING);
     }
 };
 
 }
 
-Run *make_leader(const Options &options, Link &link) { return new Leader(options, link); }
+int lead(const Options &options, Link &link) { return Leader(options, link).solve(); }

@@ -87,7 +87,7 @@ bool Link::wait(Message &message, double seconds) {
         if (receive(message)) return true;
         if (in.read < 0 || now() > end) return false;
         std::vector<pollfd> list = files();
-        poll(list.data(), list.size(), 100);
+        poll(list.data(), list.size(), milliseconds_to(end));
     }
 }
 

@@ -1,4 +1,4 @@
-// Unverified, as all of this solver. lrup-solve-mpi: the engines of one run in several processes of MPI, on several hosts.
+// Unverified, as all of this solver. lrup-engines-mpi: the engines of one run in several processes of MPI, on several hosts.
 //
 //     process 0: front --> Run <--pipes--> carrier <--MPI--> carrier <--pipes--> Run :process 1
 //
@@ -142,15 +142,23 @@ struct Control {
     struct { uint64_t stream, fed; } parts[MOST_ENGINES];
 };
 
-// Both have a link; mpi_run.cpp.
-class Linked : public Run {
+// What a process has in common with the others, whether it leads or follows: mpi_run.cpp.
+class Peer {
 public:
-    Linked(const Options &given, Link &connected);
-
-protected:
     Link &link;
     Exchange exchange;
-    int first, here;                    // engines, from 0
+    std::function<void(Message &)> told;        // by another process, but for what is exchanged
+
+    Peer(const Options &given, Teams &its_teams, Link &connected);
+    void open();                        // once there is shared memory
+    void look();                        // at what has come; and exchanges
+    double next_look() const;
+    int silent_process() const;         // for too long, or -1
+    void leave(double seconds);         // with what the others have left to say
+
+private:
+    const Options &options;
+    Teams &teams;
     double exchanged = 0;
     bool exchanging = false;
     std::deque<Message> kept;           // for tests: what comes late, and behind how many gifts of process 0
@@ -158,25 +166,16 @@ protected:
     std::vector<double> silent;         // by process, seconds
     double looked = now();
 
-    bool is_here(size_t k) const override { return int(k) >= first && int(k) < first + here; }
-    bool starts_late() const override { return false; }     // those elsewhere don't wait for a word
-    void start_team(size_t k) override;
-    std::vector<pollfd> more_files() const override { return link.files(); }
-    std::vector<Child *> children() override;
-    void open_exchange();
-    void exchange_gifts();
-    void look_at_link();
+    int first_of(int process) const;    // of its engines, from 0
+    double next_exchange() const;
     void take(Message &message);
     bool keeps(const Message &message);
     bool is_due(const Message &message) const;
     bool holds_back() const;
-    int silent_process() const;         // for too long, or -1
-    void leave(double seconds);         // with what the others have left to say
-    virtual void look_at(Message &message) = 0;
 };
 
-Run *make_leader(const Options &options, Link &link);       // mpi_leader.cpp
-Run *make_follower(const Options &options, Link &link);     // mpi_follower.cpp
+int lead(const Options &options, Link &link);       // mpi_leader.cpp
+int follow(const Options &options, Link &link);     // mpi_follower.cpp
 
 extern uint64_t Part::*const COUNTED[COUNTS];
 

@@ -10,12 +10,15 @@
 namespace {
 
 const char summary[] =
+    "usage: lrup-solve [OPTIONS] [FORMULA]\n"
     "\n"
     "Solves a formula in DIMACS CNF, standard input where none or - is named, with several engines of CaDiCaL that\n"
     "share clauses, and has lrupd check their proofs while they are written. 's UNSATISFIABLE' is proved by lrupd;\n"
     "'s SATISFIABLE' comes with an assignment that was evaluated.\n"
     "\n"
     "  -j N               engines, 1 to 64; each has a filter that works as hard. Half of the cores if not said\n"
+    "  --mpi COMMAND      engines in the processes that this starts, on one host or several, as 'mpirun -q --bind-to none\n"
+    "                     --host one,two'; each has the engines of -j\n"
     "  --solver COMMAND   a solver of yours, as 'cadical -q %formula %proof', that shares nothing; more than once for\n"
     "                     several. Then there are no engines beside them but those of -j\n"
     "  --time SECONDS     by the clock; then the answer is 's UNKNOWN'\n"
@@ -27,6 +30,9 @@ const char summary[] =
     "  --seed N           other runs of the engines\n"
     "  --proofs DIR       keep the streams of all rounds there, the report, and the command that checks them again:\n"
     "                     sh DIR/command. Those of an earlier run are removed\n"
+    "  --core FILE        write an unsatisfiable core, and have lrupd check it\n"
+    "  --lrat FILE        write the proof as LRAT text, without what isn't needed, and have lrupd check it\n"
+    "  --re-hint          find hints anew for both, which are smaller then; it takes longer\n"
     "  --assume FILE      literals that are assumed, in one line that ends with 0, as for lrupd\n"
     "  --lrupd PATH       the checker; if not said it is looked for beside this program, and then on the PATH\n"
     "  --engines PATH     the program that solves, of which nothing is believed; lrup-engines beside this one if not said\n"
@@ -82,14 +88,15 @@ uint64_t number(const char *name, const char *value, uint64_t least, uint64_t mo
     return found;
 }
 
-// The front takes it.
-void seconds(const char *name, const char *value) {
+// The front ends the run some seconds behind it.
+double seconds(const char *name, const char *value) {
     char *end;
     errno = 0;
     double found = strtod(value, &end);
     bool digits = strspn(value, "0123456789.") == strlen(value);
     if (!digits || end == value || *end != 0 || errno != 0 || !(found > 0) || !std::isfinite(found))
         bad_value(name, "seconds above 0", value);
+    return found;
 }
 
 uint64_t bytes(const char *name, const char *value) {
@@ -118,12 +125,15 @@ const char *solver_of(const char *value) {
 bool read_valued(Options &options, Words &words, const char *word) {
     const char *value;
     if (words.option(word, "-j", value)) options.engines = int(number("-j", value, 1, MOST_ENGINES));
+    else if (words.option(word, "--mpi", value)) options.mpi = name_of_file("--mpi", "a command", value);
     else if (words.option(word, "--solver", value)) options.solvers.push_back(solver_of(value));
-    else if (words.option(word, "--time", value)) seconds("--time", value);
+    else if (words.option(word, "--time", value)) options.seconds = seconds("--time", value);
     else if (words.option(word, "--memory", value)) options.memory = bytes("--memory", value);
     else if (words.option(word, "--share-size", value)) options.share_size = int(number("--share-size", value, 0, 1000));
     else if (words.option(word, "--seed", value)) options.seed = int(number("--seed", value, 0, 1000000000));
     else if (words.option(word, "--proofs", value)) options.proofs = name_of_file("--proofs", "a folder", value);
+    else if (words.option(word, "--core", value)) options.core = name_of_file("--core", "a file", value);
+    else if (words.option(word, "--lrat", value)) options.lrat = name_of_file("--lrat", "a file", value);
     else if (words.option(word, "--assume", value)) options.assume = name_of_file("--assume", "a file", value);
     else if (words.option(word, "--lrupd", value)) options.lrupd = name_of_file("--lrupd", "a program", value);
     else if (words.option(word, "--engines", value)) name_of_file("--engines", "a program", value);
@@ -151,10 +161,11 @@ Options read_words(int count, char **list) {
             take_formula(options, word);
             continue;
         }
-        if (strcmp(word, "--help") == 0 || strcmp(word, "-h") == 0) show((std::string(program_usage) + summary + program_words).c_str());
+        if (strcmp(word, "--help") == 0 || strcmp(word, "-h") == 0) show(summary);
         if (strcmp(word, "--version") == 0) show(version().c_str());
         if (strcmp(word, "--") == 0) only_words = true;
         else if (strcmp(word, "--no-share") == 0) options.share = false;
+        else if (strcmp(word, "--re-hint") == 0) options.rehint = true;
         else if (strcmp(word, "--verbose") == 0) options.verbose = true;
         else if (strcmp(word, "--quiet") == 0) options.quiet = true;
         else if (is_of_letters(word)) {
@@ -166,7 +177,9 @@ Options read_words(int count, char **list) {
         else take_formula(options, word);
     }
     if (!options.formula) options.formula = "-";
+    if (options.rehint && !options.core && !options.lrat) refuse("--re-hint without --core or --lrat");
     if (options.solvers.size() + size_t(options.engines) > MOST_ENGINES) refuse("more than 64 engines, with those of --solver");
+    if (!options.solvers.empty() && options.mpi) refuse("--solver and --mpi: a solver shares nothing with engines elsewhere");
     if (!options.solvers.empty() && options.assume) refuse("--assume and --solver: a solver isn't told of assumptions");
     return options;
 }

@@ -1,4 +1,5 @@
 // Unverified, as all of this solver. Outboxes: what goes in, and new identities from round to round.
+#include "../exact/checks.h"
 #include "shared.h"
 
 #define OF_AN_ODD_ROUND (UINT32_C(1) << 31)     // of an identity; all are far below
@@ -24,9 +25,10 @@ bool outbox_put(const Shared *shared, uint32_t *outbox, int engine, uint64_t *st
     uint64_t size = shared->outbox_words, words = HEAD_OF_A_GIFT + literals->length, begin = *staged;
     if (begin % size + words > size) begin += size - begin % size;
     uint64_t end = begin + words, floor = least_floor(shared, engine, *staged, true);
-    if (words > size || (end - floor > size && !without("floor"))) return false;
+    if (words > size || (end - floor > size && !test_hooks.without_floor)) return false;
     if (begin > *staged) outbox[*staged % size] = TO_THE_BEGINNING;
     uint32_t *gift = outbox + begin % size;
+    assert(begin % size + words <= size && begin >= floor);
     gift[0] = (uint32_t)literals->length;
     STORE(gift[1], with_round(identity, LOAD(shared->round)));
     memcpy(gift + HEAD_OF_A_GIFT, literals->items, literals->length * sizeof *literals->items);

@@ -1,12 +1,14 @@
 // Unverified, as all of this solver. Children, pipes and files.
 #include <algorithm>
 #include <cerrno>
+#include <cmath>
 #include <csignal>
 #include <cstdio>
 #include <cstdlib>
 #include <cstring>
 
 #include <fcntl.h>
+#include <sys/eventfd.h>
 #include <sys/mman.h>
 #include <sys/prctl.h>
 #include <sys/resource.h>
@@ -61,6 +63,10 @@ double now() {
     timespec time;
     clock_gettime(CLOCK_MONOTONIC, &time);
     return double(time.tv_sec) + 1e-9 * double(time.tv_nsec);
+}
+
+int milliseconds_to(double time) {
+    return time == INFINITY ? -1 : int(std::ceil(1000 * std::min(3600.0, std::max(0.0, time - now()))));
 }
 
 // Files.
@@ -119,6 +125,12 @@ int file_in_memory() {
     int file = memfd_create("lrup-solve", MFD_CLOEXEC);
     if (file < 0) refuse("cannot make a file in memory: " + error_text());
     return kept_open(file);
+}
+
+int event_file() {
+    int file = eventfd(0, EFD_CLOEXEC | EFD_NONBLOCK);
+    if (file < 0) refuse("cannot make an eventfd: " + error_text());
+    return file;
 }
 
 void copy_file(int file, const std::string &name, int copy) {

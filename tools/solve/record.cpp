@@ -10,6 +10,7 @@
 #include <sys/stat.h>
 #include <unistd.h>
 
+#include "../exact/digest.h"
 #include "solve.h"
 
 namespace {
@@ -27,13 +28,8 @@ bool is_standard_input(const std::string &path) {
     return path == "-" || (find(path, found) && find("-", standard) && is_same(found, standard));
 }
 
-bool is_there(const std::string &path) {
-    struct stat found;
-    return lstat(path.c_str(), &found) == 0;
-}
-
 // Beside what rounds leave.
-const char *const NAMES[] = { "formula.cnf", "assumptions", "report", "command" };
+const char *const NAMES[] = { "formula.cnf", "formula.sha256", "assumptions", "report", "command" };
 const char FIRST_STREAM[] = "/round-1.stream-1";
 
 // round-R.stream-K, round-R.sizes, or round-R.cnf, which is there while the command checks.
@@ -60,6 +56,11 @@ std::vector<std::string> files_of(const std::string &folder) {
     return paths;
 }
 
+}
+
+bool is_there(const std::string &path) {
+    struct stat found;
+    return lstat(path.c_str(), &found) == 0;
 }
 
 // To a shell it is one word as it stands.
@@ -164,6 +165,18 @@ void open_record(const std::string &folder, const std::vector<std::string> &inpu
     for (const std::string name : NAMES)
         if (!is_there(folder + FIRST_STREAM) && is_there(folder + "/" + name))
             refuse(folder + "/" + name + " is there, and isn't of an earlier run: another --proofs");
+}
+
+// As sha256sum writes it: it marks a name that has such bytes in it.
+std::string digest_line(const std::string &path) {
+    char digest[DIGEST_DIGITS + 1];
+    int file = open_input(path);
+    digest_file(file, path.c_str(), digest);
+    close(file);
+    std::string name, whole = absolute(path);
+    for (char letter : whole)
+        name += letter == '\\' ? "\\\\" : letter == '\n' ? "\\n" : letter == '\r' ? "\\r" : std::string(1, letter);
+    return (name == whole ? "" : "\\") + std::string(digest) + "  " + name + "\n";
 }
 
 void clear_record(const std::string &folder, const std::vector<std::string> &kept) {

@@ -9,10 +9,22 @@
 #include <stdlib.h>
 #include <string.h>
 
-#include "../exact/proof.h"
+#include "../exact/checkpoint.h"
+#include "../exact/errors.h"
+#include "../exact/form.h"
+#include "../exact/literals.h"
+#include "../exact/row.h"
+#include "test_hooks.h"
 
 enum { MOST_ENGINES = 64, LONGEST_CAUSE = 160, LONGEST_PATH = 4096 };
 enum { VARIABLES_OF_CUBES = 64, MOST_OF_A_CUBE = 20 };      // variables by which cubes are made; literals of one
+
+// event_count.c: of one process that waits, and of others that tell it that they have stored something.
+typedef struct {
+    int file;                   // an eventfd
+    int waits;
+    uint64_t count;             // of what was told
+} EventCount;
 
 // Of an engine and its filter. Each field has one writer, and is read by others at any time: only by LOAD and STORE. A round is
 // one run of lrupd.
@@ -44,6 +56,7 @@ typedef struct {
     uint64_t stream;            // its number in the round that comes next, or is on; 0: it has none
     uint64_t fed;               // bytes of its stream that lrupd has got
     int gone;                   // the filter has ended
+    EventCount events;          // for the filter, of what the first process writes here and below
     uint64_t cube_number;       // that it has, or has had; 0: none, or another one is being written
     int cube_length, cube[MOST_OF_A_CUBE];
 } Part;
@@ -63,6 +76,7 @@ typedef struct {
     int variables[VARIABLES_OF_CUBES];
     char checkpoint[LONGEST_PATH];
     char record[LONGEST_PATH];          // the folder of the streams, with a slash, where they are kept
+    EventCount events;                  // for the first process, of what engines and filters write
     Part parts[MOST_ENGINES];
 } Shared;
 
@@ -99,27 +113,18 @@ typedef struct {
     size_t assumed_length;
 } Filtering;
 
-// Builds for the tests alone leave out what sharing rests on, one thing at a time, to see that it breaks; and have messages come late.
-#ifdef SOLVE_TESTS
-static inline const char *test_word(const char *name) { return getenv(name); }
-static inline bool test_says(const char *name, const char *what) {
-    const char *word = test_word(name);
-    return word && strcmp(word, what) == 0;
-}
-static inline bool without(const char *what) { return test_says("LRUP_SOLVE_WITHOUT", what); }
-static inline bool comes_late(const char *what) { return test_says("LRUP_SOLVE_LATE", what); }
-#else
-#define test_word(name) ((const char *)0)
-#define without(what) false
-#define comes_late(what) false
-#endif
-
 #ifdef __cplusplus
 extern "C" {
 #endif
 
-_Noreturn void formula_refused(const char *cause);      // main.cpp
 _Noreturn void filter_process(const Filtering *filtering, const void *formula);     // filtering.c
+
+// event_count.c
+uint64_t events_so_far(const EventCount *events);
+void events_advance(EventCount *events);                        // once it is stored
+bool events_begin_wait(EventCount *events, uint64_t seen);      // false where something came since then
+void events_end_wait(EventCount *events, bool is_readable);     // its file
+bool events_await(EventCount *events, uint64_t seen, int file); // until something has come, or the file can be read: then true. -1: none
 
 // outbox.c: of the engine that is counted from 1.
 bool outbox_put(const Shared *shared, uint32_t *outbox, int engine, uint64_t *staged, uint64_t identity, const Literals *literals);

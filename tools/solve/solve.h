@@ -7,24 +7,25 @@
 #include <string>
 #include <vector>
 
-#include <poll.h>
 #include <sys/types.h>
 
 #include "../exact/formula.h"
 #include "shared.h"
 
-// alone.cpp, or mpi_run.cpp: what --help begins with, and ends with.
-extern const char program_name[], program_usage[], program_words[];
+const char program_name[] = "lrup-solve";
 
 // options.cpp: the command line.
 struct Options {
     int engines = 0;            // 0: half of the cores; once it is known, with the solvers
     std::vector<const char *> solvers;      // commands; they are the last engines, and share nothing
+    double seconds = 0;         // for all; 0: as many as it takes
     uint64_t memory = 0;        // bytes of lrupd's row; 0: by the machine's
     int share_size = 4;         // literals of a clause that is given away; units always are
     bool share = true;
     int seed = 0;
-    const char *proofs = nullptr, *assume = nullptr, *lrupd = nullptr, *formula = nullptr;
+    const char *proofs = nullptr, *assume = nullptr, *lrupd = nullptr, *mpi = nullptr, *formula = nullptr;
+    const char *core = nullptr, *lrat = nullptr;     // to be written
+    bool rehint = false;        // for both
     bool verbose = false, quiet = false;
 
     bool shares() const { return share && size_t(engines) > solvers.size() + 1; }
@@ -37,6 +38,7 @@ Options read_words(int count, char **words);
 extern bool another_refuses;                            // a process that says the same, and whose end ends this one
 std::string error_text();                               // of errno
 double now();                                           // seconds
+int milliseconds_to(double time);                       // as poll takes them; of INFINITY for ever
 
 struct Pipe { int read = -1, write = -1; };
 
@@ -45,9 +47,10 @@ Pipe make_pipe(int bytes);                              // so many, if the syste
 void close_file(int &file);
 int create_file(const std::string &path);               // a new one, whatever had the name
 void create_pipe(const std::string &path);
-int open_pipe(const std::string &path, int bytes);      // to write to it, without a name from then on; -1 where nobody reads yet
+int open_pipe(const std::string &path, int bytes);      // to write to it, without a name from then on; -1 where nobody reads
 std::string write_file(const std::string &path, const std::string &text);   // the cause, where it can't be written
 int file_in_memory();
+int event_file();                                       // an eventfd that all children have
 const char OPEN_FILES[] = "/dev/fd/";
 void *shared_bytes(size_t bytes);                       // with the children that come later
 
@@ -91,6 +94,8 @@ int open_input(const std::string &path);
 void check_plain(const std::string &path, const std::string &name);     // refuses where it is compressed
 void open_record(const std::string &folder, const std::vector<std::string> &inputs);    // refuses to write over these
 void clear_record(const std::string &folder, const std::vector<std::string> &kept);     // of an earlier run
+bool is_there(const std::string &path);
+std::string digest_line(const std::string &path);       // of the file, for a record
 
 // engine.cpp: an engine's process. Doesn't return.
 struct Engine {
@@ -109,64 +114,5 @@ const char *engine_version();
 // solver.cpp: the same of a solver that the user has, which opens these files.
 std::string solver_command(const std::string &command, const std::string &formula, const std::string &proof);
 [[noreturn]] void solver_process(const Engine &engine, const std::string &command, const std::vector<int> &files);
-
-// checker.cpp: an lrupd, which the front starts: what is known of it, and what it reads.
-class Checker {
-public:
-    Child child;
-    std::string report, said;           // standard output, and standard error
-
-    void expect(const std::string &path);   // it is at work; so the name of its output begins
-    void start(Row row, const std::vector<int> &files);     // asks for one; the streams of round 1 are fed from these files
-
-    // Before a round's streams end: its files' names in the folder of lrupd's rounds begin so. Then, once it has saved what the round
-    // came to, the sizes of the next one, whose streams are fed from these files.
-    void expect_round(const std::string &path);
-    bool awaits_sizes();
-    void begin_round(Row row, const std::vector<int> &files);
-
-    bool feed(size_t stream, uint64_t bytes, bool drop);    // from the file, which has so many by now; true where all are fed
-    void end_stream(size_t stream) { close_file(streams[stream].pipe); }
-    uint64_t fed(size_t stream) const { return streams[stream].fed; }
-    uint64_t read_of(size_t stream) const;                  // bytes that it has read
-    void read_on();                                         // what it says
-    bool next_line(std::string &line);                      // of standard error, each once
-    std::string last_line() const;                          // of standard error
-    void take_end(const std::string &words);                // of the front: the status as wait gives it, and microseconds
-
-private:
-    struct Stream {
-        int file, pipe;
-        std::string path;               // of a pipe that lrupd hasn't opened yet
-        uint64_t fed = 0, dropped = 0;
-    };
-
-    std::vector<Stream> streams;
-    std::string next;                   // how the names of the next round's files begin
-    std::string output;                 // how those of its output begin
-    int sizes = -1, out = -1, err = -1;
-    size_t told = 0;
-
-    void open_streams(const std::vector<int> &files);
-};
-
-// The front, which believes nothing that it is told here (front/front.c). Its socket is standard output.
-struct Front {
-    std::string folder, lrupd, formula, assumptions;    // names that it has given; none where it hasn't started this
-    std::string stopped;                // why this is to end
-    bool by_signal = false;             // and so without waiting
-    std::string unread;
-
-    void read_words(int &count, char **&words);         // takes its own away
-    bool is_there() const { return !folder.empty(); }
-    void say(const std::string &line) const;
-    void read_on(Checker &probe, Checker &checker);     // what it says
-};
-
-extern Front front;
-std::string find_checker(const char *given);            // refuses where there is none
-std::string folder_of_this();                           // with a slash
-std::string sizes_text(size_t streams, Row row);                // as lrupd reads it from a file
-std::string tries();
 
 #endif

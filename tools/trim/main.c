@@ -7,58 +7,22 @@
 // filter finds other hints first.
 #define _POSIX_C_SOURCE 200809L
 #include <signal.h>
-#include <stdarg.h>
 #include <stdio.h>
 #include <stdlib.h>
 #include <string.h>
 #include <sys/stat.h>
 #include <unistd.h>
 
+#include "../exact/errors.h"
+#include "../exact/row.h"
 #include "trim.h"
 
 // The end.
 
-static _Noreturn void end(void) {
+static void end(const char *cause) {
+    fprintf(stderr, "lrup-trim: %s\n", cause);
     outputs_remove();
     exit(1);
-}
-
-static const char *position_unit;
-static uint64_t position_number;
-
-// Of what the filter says.
-void position_set(const char *unit, uint64_t number) {
-    position_unit = unit;
-    position_number = number;
-}
-
-_Noreturn void stop(const char *cause, ...) {
-    va_list rest;
-    va_start(rest, cause);
-    fputs("lrup-trim: ", stderr);
-    if (position_unit) fprintf(stderr, "%s %llu: ", position_unit, (unsigned long long)position_number);
-    vfprintf(stderr, cause, rest);
-    va_end(rest);
-    fputc('\n', stderr);
-    end();
-}
-
-_Noreturn void fail(const char *cause, const char *object) { stop("%s %s", cause, object); }
-
-void *grow(void *memory, size_t bytes) {
-    if (bytes == 0) {
-        free(memory);
-        return NULL;
-    }
-    memory = realloc(memory, bytes);
-    if (memory == NULL) stop("out of memory");
-    return memory;
-}
-
-void *zeroed(size_t count, size_t bytes) {
-    void *memory = calloc(count > 0 ? count : 1, bytes);
-    if (memory == NULL) stop("out of memory");
-    return memory;
 }
 
 // A file that is cut while it is mapped gives SIGBUS.
@@ -191,6 +155,7 @@ static void tell(const Proof *proof, const CommandLine *given, const Output *out
 }
 
 static void run(Proof *proof, CommandLine *given) {
+    if (is_folder(given->streams[0])) record_check(given->streams[0], given->formula);
     formula_read(&proof->formula, given->formula);
     proof->clauses = proof->formula.clauses;
     proof->literals = proof->formula.literals.length;
@@ -207,6 +172,7 @@ static void run(Proof *proof, CommandLine *given) {
 int main(int count, char **words) {
     static Proof proof;
     static CommandLine given;
+    errors_handle(end);
     given.streams = zeroed((size_t)count, sizeof *given.streams);
     read_words(&given, words + 1);
     if (given.rehints) name_rehinted(&given);

@@ -1,4 +1,5 @@
 // Unverified, as all of this tool. What is needed: backwards the first line that cites a clause is the last one that does.
+#include "../exact/checks.h"
 #include "trim.h"
 
 // Streams have their numbers in their order.
@@ -19,6 +20,7 @@ static void mark_line(Proof *proof, const Stream *stream, Number number) {
     proof->kept++;
     for (size_t k = 0; k < count; k++) {
         Number cited = number_of(proof, round, (uint64_t)hints[k]);
+        assert(cited > 0 && cited < proof->numbers && cited != number);
         if (proof->last_use[cited] == 0) proof->last_use[cited] = number;
     }
 }

@@ -2,11 +2,12 @@
 #include <stdio.h>
 #include <stdlib.h>
 #include <string.h>
-#include <unistd.h>
 
+#include "../exact/checks.h"
+#include "../exact/errors.h"
+#include "../exact/row.h"
 #include "trim.h"
 
-enum { LONGEST_PATH = 4096 };
 typedef enum { TAKEN, STOPPED, WAITS } Outcome;
 
 static Outcome stopped(Stream *stream, const char *fault, uint64_t object) {
@@ -27,6 +28,7 @@ static bool is_over(Stream *stream) {
 static void take(Proof *proof, Stream *stream, const Reading *reading, uint64_t slot) {
     Number number = stream->first + (Number)slot;
     Run *last = proof->runs.length > 0 ? &proof->runs.items[proof->runs.length - 1] : NULL;
+    assert(slot >= stream->seen && slot < stream->slots);
     stream->seen = slot + 1;
     hints_keep(stream, slot, (unsigned char *)strstr((char *)stream->at, " 0 ") + 3);
     if (last && last->from >= stream->first && last->to <= number) last->to = number + 1;
@@ -65,7 +67,7 @@ static void delete(const Proof *proof, const Round *round, const Stream *stream,
     const Stream *streams = &proof->streams.items[round->first];
     for (size_t k = 0; k < reading->count; k++) {
         uint64_t identity = (uint64_t)reading->cited[k];
-        if (identity <= round->formula) dropped[identity - 1] += dropped[identity - 1] < STREAMS;
+        if (identity <= round->formula) dropped[identity - 1] = (unsigned char)(dropped[identity - 1] + (dropped[identity - 1] < STREAMS));
         else if (&streams[owner_of(round, identity)] == stream && slot_of(round, identity) < stream->seen)
             stream->deleted[slot_of(round, identity)] = 1;
     }
@@ -114,36 +116,10 @@ static void merge(Proof *proof, const Round *round, unsigned char *dropped) {
 
 // Rounds.
 
-static const char *file_of(const Proof *proof, const char *kind, uint32_t number) {
-    static char path[LONGEST_PATH];
-    int length = snprintf(path, sizeof path, "%s/round-%zu.%s", proof->folder, proof->rounds.length + 1, kind);
-    if (number > 0 && length < LONGEST_PATH) length += snprintf(path + length, sizeof path - (size_t)length, "%u", number);
-    if (length >= LONGEST_PATH) stop("too long a name: %s", proof->folder);
-    return path;
-}
-
-static bool is_there(const char *path) { return access(path, F_OK) == 0; }
-
-// In round 1 the streams that are there; then as many as the sizes say, or as there were before. 0: there is no round more.
-static uint32_t streams_of(const Proof *proof) {
-    if (!is_there(file_of(proof, "stream-", 1))) return 0;
-    if (proof->rounds.length == 0) {
-        uint32_t count = 1;
-        while (count < STREAMS && is_there(file_of(proof, "stream-", count + 1))) count++;
-        return count;
-    }
-    const char *path = file_of(proof, "sizes", 0);
-    if (!is_there(path)) return proof->rounds.items[proof->rounds.length - 1].count;
-    size_t length;
-    const int64_t *sizes = numbers_read(path, &length);
-    if (!sizes || length != 3 || sizes[0] < 1 || sizes[0] > STREAMS) stop("%s: not STREAMS LINES ROOM", path);
-    return (uint32_t)sizes[0];
-}
-
 void round_add(Proof *proof, char **paths, uint32_t count) {
     Round round = { .first = (uint32_t)proof->streams.length, .count = count };
     for (uint32_t k = 0; k < count; k++) {
-        const char *path = paths ? paths[k] : file_of(proof, "stream-", k + 1);
+        const char *path = paths ? paths[k] : record_file(proof->folder, proof->rounds.length + 1, "stream-", k + 1);
         Stream stream = { .path = zeroed(strlen(path) + 1, 1), .round = (uint32_t)proof->rounds.length };
         strcpy(stream.path, path);
         PUSH(&proof->streams, stream);
@@ -180,7 +156,8 @@ static void round_end(Proof *proof, const Round *round) {
 
 // Whether a round comes after the last one.
 static bool goes_on(Proof *proof, const unsigned char *dropped) {
-    uint32_t index = (uint32_t)proof->rounds.length - 1, count = proof->target || !proof->folder ? 0 : streams_of(proof);
+    uint32_t index = (uint32_t)proof->rounds.length - 1, before = proof->rounds.items[index].count;
+    uint32_t count = proof->target || !proof->folder ? 0 : record_streams(proof->folder, index + 2, before, NULL);
     if (count == 0) return false;
     for (uint32_t k = 0; k < proof->rounds.items[index].count; k++)
         if (proof->streams.items[proof->rounds.items[index].first + k].stopped) stop("the run ends in round %u, with that line", index + 1);
@@ -191,8 +168,8 @@ static bool goes_on(Proof *proof, const unsigned char *dropped) {
 
 void order(Proof *proof) {
     if (proof->folder) {
-        uint32_t count = streams_of(proof);
-        if (count == 0) stop("%s isn't there", file_of(proof, "stream-", 1));
+        uint32_t count = record_streams(proof->folder, 1, 0, NULL);
+        if (count == 0) stop("%s isn't there", record_file(proof->folder, 1, "stream-", 1));
         round_add(proof, NULL, count);
     }
     proof->rounds.items[0].formula = proof->formula.clauses;

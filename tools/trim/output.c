@@ -6,6 +6,10 @@
 #include <string.h>
 #include <unistd.h>
 
+#include "../exact/checks.h"
+#include "../exact/errors.h"
+#include "../exact/stream.h"
+#include "../exact/write.h"
 #include "trim.h"
 
 enum { OUTPUTS = 4 };
@@ -101,7 +105,9 @@ static struct { Kept *items; size_t length, capacity; } lines;
 static struct { Number *items; size_t length, capacity; } cited;
 static Identities list;
 
+// What a line cites comes before it.
 static uint64_t identity_of(const Proof *proof, Number number) {
+    assert(proof->place[number] > 0);
     if (number > proof->formula.clauses) return output->below + proof->place[number];
     return output->whole ? name_of(proof, number) : proof->place[number];
 }

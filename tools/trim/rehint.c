@@ -1,5 +1,7 @@
 // Unverified, as all of this tool. --re-hint: the lines that are needed go through the filter, without their hints and without
 // deletions, over the core. It finds hints by unit propagation, which need fewer lines in all.
+#include "../exact/errors.h"
+#include "../exact/filter.h"
 #include "trim.h"
 
 // The core, and the numbers of its clauses.

@@ -7,19 +7,13 @@
 #ifndef TRIM_H
 #define TRIM_H
 
-#include "../exact/exact.h"
+#include "../exact/formula.h"
+#include "lines.h"
 
 // Of a clause, over all rounds: FORMULA's are 1, 2 and so on, and each stream's identities follow those of the streams before it.
 typedef uint32_t Number;
 
-// streams.c: files, which are mapped, and the lines of streams.
-typedef struct {
-    char kind;                          // a: addition, d: deletion, i: import
-    uint64_t identity;                  // of an addition
-    const int64_t *literals, *cited;    // cited by an addition: its hints; by a deletion, what it deletes
-    size_t length, count;
-} Reading;
-
+// streams.c: where lines are.
 typedef struct {
     char *path;
     unsigned char *start, *at, *end;    // at: the next line
@@ -57,16 +51,11 @@ typedef struct {
     uint64_t core, kept, room;          // what is needed: clauses of FORMULA, lines, literals of these
 } Proof;
 
-unsigned char *file_map(const char *path, size_t *length);      // zeros follow
-void file_check(const char *path);                              // that it can be read more than once
-const int64_t *numbers_read(const char *path, size_t *count);
 Line line_at(const Stream *stream, unsigned char *start);
-const char *line_read(Line line, Reading *reading);             // NULL, or the fault; what was read before is gone
 unsigned char *hints_of(const Stream *stream, Number number);  // their place
 unsigned char *line_start(const Stream *stream, Number number);
 const int64_t *hints_read(const Stream *stream, Number number, size_t *count);
 void hints_keep(Stream *stream, uint64_t slot, unsigned char *place);
-void words_free(void);                  // which are as many as a line had that was read
 void stream_open(Proof *proof, Stream *stream, const Round *round, uint64_t number);
 
 static inline uint64_t owner_of(const Round *round, uint64_t identity) { return (identity - round->formula - 1) % round->count; }
@@ -80,8 +69,6 @@ static inline Number number_of(const Proof *proof, const Round *round, uint64_t 
 static inline Number name_of(const Proof *proof, Number clause) { return proof->names ? proof->names[clause - 1] : clause; }
 
 // order.c
-enum { STREAMS = 64 };                  // lrupd takes no more
-
 void round_add(Proof *proof, char **paths, uint32_t count);     // NULL: those of the record
 void order(Proof *proof);
 

@@ -64,7 +64,14 @@ impl Machine for MachineFiles<'_> {
     }
 }
 
+/// `None` if there is no such file, or the system opens no more.
+fn hold(rt: &HostRuntime) -> Option<File> {
+    File::open(rt, "/dev/null").ok()
+}
+
 fn main(rt: HostRuntime) -> ExitCode {
+    // No file takes the place of a standard stream that is closed.
+    let _held = [hold(&rt), hold(&rt), hold(&rt)];
     let mut files = MachineFiles { rt: &rt };
     let mut out = Writing::new(rt.stdout());
     let mut err = Writing::new(rt.stderr());

@@ -2,19 +2,16 @@
 
 static const char *value['z'];      // of the option with that letter; of 'f' the formula
 static const struct option options[] = {
-    { "assume", 1, NULL, 'a' }, { "engines", 1, NULL, 'e' }, { "help", 0, NULL, 'h' }, { "lrupd", 1, NULL, 'l' },
-    { "memory", 1, NULL, 'o' }, { "no-share", 0, NULL, 'o' }, { "proofs", 1, NULL, 'o' }, { "quiet", 0, NULL, 'q' },
+    { "assume", 1, NULL, 'a' }, { "core", 1, NULL, 'k' }, { "engines", 1, NULL, 'e' }, { "help", 0, NULL, 'h' }, { "lrat", 1, NULL, 'k' },
+    { "lrupd", 1, NULL, 'l' }, { "memory", 1, NULL, 'o' }, { "mpi", 1, NULL, 'm' }, { "no-share", 0, NULL, 'o' },
+    { "proofs", 1, NULL, 'o' }, { "quiet", 0, NULL, 'q' }, { "re-hint", 0, NULL, 'o' },
     { "seed", 1, NULL, 'o' }, { "share-size", 1, NULL, 'o' }, { "solver", 1, NULL, 'o' }, { "time", 1, NULL, 't' },
     { "verbose", 0, NULL, 'v' }, { "version", 0, NULL, 'h' }, { NULL, 0, NULL, 0 } };
 
-static char *text(const char *format, ...) {
-    char *found;
-    va_list rest;
-    va_start(rest, format);
-    if (vasprintf(&found, format, rest) < 0) err(1, "no memory");
-    va_end(rest);
-    return found;
-}
+#define text(...) ({ char *made; if (asprintf(&made, __VA_ARGS__) < 0) err(1, "no memory"); made; })
+
+// Of a file of this process, for all that it has started, also through others.
+static const char *name_of(int file) { return text("/proc/%d/fd/%d", getpid(), file); }
 
 // False where something is wrong with them, which lrup-engines says.
 static bool read_words(int count, char **list) {
@@ -27,30 +24,28 @@ static bool read_words(int count, char **list) {
     return optind == count;
 }
 
-// Where it isn't beside this program it may be elsewhere.
-static const char *beside_this(const char *name, const char *elsewhere) {
-    char path[4096];
-    ssize_t length = readlink("/proc/self/exe", path, sizeof path);
-    while (length > 0 && path[length - 1] != '/') length--;
-    const char *found = text("%.*s%s", length > 0 ? (int)length : 0, path, name);
-    return access(found, X_OK) == 0 || !elsewhere ? found : elsewhere;
+static const char *beside_this(const char *name) {
+    char *path = realpath("/proc/self/exe", NULL), *found = text("%s/%s", path ? dirname(path) : ".", name);
+    return access(found, X_OK) == 0 ? found : NULL;
 }
 
-// The file's name for all who have it open. What can't be read twice is copied, to memory that nobody writes to from then on. Of a path
+// The file's name. What can't be read twice is copied, to memory that nobody writes to from then on. Of a path
 // that can't be read lrup-engines says so.
 static const char *open_input(const char *path) {
     struct stat found;
     char bytes[1 << 16];
     bool is_standard = strcmp(path, "-") == 0;
-    int file = is_standard ? dup(STDIN_FILENO) : open(path, O_RDONLY);
+    int file = is_standard ? dup(STDIN_FILENO) : open(path, O_RDONLY | O_CLOEXEC);
     if (file < 0 || fstat(file, &found) != 0) return path;
-    if (!is_standard && (S_ISREG(found.st_mode) || S_ISDIR(found.st_mode))) return text("/dev/fd/%d", file);
-    int copy = memfd_create("lrup-solve", MFD_ALLOW_SEALING);
+    if (!is_standard && (S_ISREG(found.st_mode) || S_ISDIR(found.st_mode))) return name_of(file);
+    int copy = memfd_create("lrup-solve", MFD_ALLOW_SEALING | MFD_CLOEXEC);
+    long left = 10L << 28;      // lrupd takes 2^28 literals and clauses at most: eight digits, a sign and a blank each
     for (ssize_t count; (count = read(file, bytes, sizeof bytes)) != 0;)
-        if (count < 0 ? errno != EINTR : write(copy, bytes, (size_t)count) != count) err(1, "cannot copy %s", path);
+        if (count < 0 || write(copy, bytes, (size_t)count) != count) err(1, "cannot copy %s", path);
+        else if ((left -= count) < 0) errx(1, "%s: more than 2684354560 bytes, and lrupd takes no formula of so many", path);
     if (fcntl(copy, F_ADD_SEALS, F_SEAL_WRITE | F_SEAL_GROW | F_SEAL_SHRINK | F_SEAL_SEAL) != 0) err(1, "cannot seal %s", path);
     close(file);
-    return text("/dev/fd/%d", copy);
+    return name_of(copy);
 }
 
 enum { MOST_VARIABLES = 16777215 };

@@ -1,0 +1,110 @@
+#!/usr/bin/env python3
+"""Looks at how make compiles C and C++: with the flags that are said, and again what has changed.
+
+    builds.py
+
+Of the filter, lrup-trim, lrup-solve, lrup-solve-mpi and the solver of the demo the commands are printed, with flags of the command line
+and of the environment. The filter is compiled in a copy, and again after a change of a source, of a header, and of flags. It shows what
+is off; the last line is 'N passed, M failed', and the status is 1 where a row failed.
+"""
+import os
+import re
+import shutil
+import sys
+from pathlib import Path
+from typing import Dict, List, Sequence, Set
+
+sys.dont_write_bytecode = True
+from harness import ROOT, Row, run, run_all, want
+
+C = {"CC": "one-cc", "CFLAGS": "-DFLAG_OF_C", "CPPFLAGS": "-DFLAG_OF_BOTH", "LDFLAGS": "-Lflag", "LDLIBS": "-lflag"}
+WORDS = {**C, "CXX": "one-cxx", "CXXFLAGS": "-DFLAG_OF_CXX"}
+# Targets, and what their C and C++ programs are compiled by, and linked.
+BUILDS = {"exact": ["one-cc"], "trim": ["one-cc"], "solver": ["one-cc"], "solve": ["one-cc", "one-cxx"],
+          "solve-mpi": ["one-cc", "one-cxx", "mpicxx"]}
+
+
+def clean(more: Dict[str, str]) -> Dict[str, str]:
+    """The environment, without the make that may have started this."""
+    return {**{name: value for name, value in os.environ.items() if name not in (*WORDS, "MAKEFLAGS", "MAKELEVEL", "MFLAGS")}, **more}
+
+
+def commands(target: str, words: Sequence[str], env: Dict[str, str]) -> List[List[str]]:
+    """Of compilers, all of which make would run; nothing is there so far."""
+    places = ["OBJECTS=out/none", "SOLVER=out/none/solver", "EXACT=out/none/exact", "TRIM=out/none/trim", "SOLVE=out/none/solve"]
+    done = run(["make", "-n", "-C", ROOT, target, *places, *words], env=clean(env))
+    want((done.err, done.status), ("", 0), "what make says")
+    found = [re.split(r" && |; ", line) for line in done.out.splitlines()]
+    return [words for line in found for part in line for words in [part.split()] if " -o " in part and words]
+
+
+def with_flags(target: str, by_environment: bool, work: Path) -> None:
+    """Each command has the flags of its language, and none of another one's, nor -O2."""
+    words, env = [f"{name}={value}" for name, value in WORDS.items()], {}
+    found = commands(target, *(([], WORDS) if by_environment else (words, env)))
+    compilers = {word for line in found for word in line[:2] if "=" not in word and not word.startswith("-")}
+    want(compilers, set(BUILDS[target]), "what it is compiled by")
+    for line in found:
+        is_c, links = line[0] == "one-cc", "-c" not in line
+        flags = {word for word in line if word in WORDS.values()} - {"one-cc", "one-cxx"}
+        wanted = {WORDS["CFLAGS" if is_c else "CXXFLAGS"], *([C["LDFLAGS"], C["LDLIBS"]] if links else [C["CPPFLAGS"]])}
+        want((flags, "-O2" in line), (wanted, False), f"flags of {line}")
+
+
+def usual(target: str, work: Path) -> None:
+    """Without a word -O2."""
+    for line in commands(target, [], {}):
+        want("-O2" in line, True, f"-O2 in {line}")
+
+
+# What is compiled again.
+
+
+def compiled(work: Path, words: Sequence[str] = ()) -> Set[str]:
+    """The sources that make has compiled, and the program where it was linked."""
+    files = lambda: {path: path.stat().st_mtime_ns for path in [*work.rglob("*.o"), *work.rglob("exact/out/exact")]}
+    before = files()
+    done = run(["make", "-s", "-j2", "exact", "CFLAGS=-O0", *words], cwd=work, env=clean({}))
+    want((done.out, done.err, done.status), ("", "", 0), "what make says")
+    return {path.stem for path, time in files().items() if before.get(path) != time}
+
+
+def including(header: str, folder: Path) -> Set[str]:
+    """The sources that include it, directly or not."""
+    found = {header}
+    while True:
+        more = {path.name for path in folder.glob("*.[ch]") if any(f'"{name}"' in path.read_text() for name in found)} - found
+        if not more:
+            return {name[:-2] for name in found if name.endswith(".c")}
+        found |= more
+
+
+def again(work: Path) -> None:
+    folder = work / "tools" / "exact"
+    shutil.copytree(ROOT / "tools" / "exact", folder, ignore=shutil.ignore_patterns("out"))
+    for name in ("Makefile", "VERSION"):
+        shutil.copy(ROOT / name, work)
+    every = {path.stem for path in folder.glob("*.c")} | {"exact"}
+    want((compiled(work), compiled(work)), (every, set()), "what is compiled at first, and then")
+    for name in ("hints.h", "errors.h", "lemmas.h"):
+        (folder / name).touch()
+        want(compiled(work), including(name, folder) | {"exact"}, f"what a change of {name} renews")
+    (folder / "words.c").touch()
+    want(compiled(work), {"words", "exact"}, "what a change of a source renews")
+    (folder / "lemmas.h").rename(folder / "other.h")
+    for path in folder.glob("*.c"):
+        path.write_text(path.read_text().replace('"lemmas.h"', '"other.h"'))
+    want(compiled(work), every, "what is compiled where a header has another name")
+    want((compiled(work, ["CPPFLAGS=-DOTHER"]), compiled(work, ["CPPFLAGS=-DOTHER"])), (every, set()), "what other flags renew")
+    want(compiled(work, ["CPPFLAGS=-DOTHER", "LDLIBS=-lm"]) >= {"exact"}, True, "whether other libraries are linked")
+
+
+def rows() -> List[Row]:
+    found: List[Row] = [("compiled again", again)]
+    for target in BUILDS:
+        found += [(f"{target}, flags of the {'environment' if by else 'command line'}", with_flags, target, by) for by in (True, False)]
+        found += [(f"{target}, no flags", usual, target)]
+    return found
+
+
+sys.exit(run_all(rows()))

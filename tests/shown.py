@@ -1,0 +1,122 @@
+#!/usr/bin/env python3
+"""Runs the commands that pages show, each page's from its first to its last one, in one shell and one folder.
+
+    shown.py PROGRAM [FLAGS]
+
+A command stands behind '$ ' in a block that is indented by four spaces or more. If its line ends with a backslash, a bar or '&&', it
+goes on in the next one. What stands below is what it has to write, standard error too: a line '..' stands for any lines, and in a line
+with the time that lrup-solve took each number for any other. If nothing stands below, it may write what it likes. Some commands aren't
+run, since they'd prove the program: NOT_RUN has them. It shows what is off; the last line is 'N passed, M failed'.
+"""
+import os
+import re
+import shutil
+import subprocess
+import sys
+from pathlib import Path
+from typing import Iterator, List, NamedTuple, Sequence, Tuple
+
+sys.dont_write_bytecode = True
+from harness import EXAMPLES, EXPLAIN, FILTER, LRUP_CHAIN, ROOT, TRIM, Failure, Row, generated, needs, run
+from solving import PROGRAM, SOLVE, run_built
+
+LIMIT = 120  # seconds, for all of a page
+NOT_RUN = ["make try", "make install PREFIX=$HOME/.local", "sudo make packages && make test"]
+# What a page's commands find in their folder, beside examples: copies, and formulas of the generator's. And what packages they want.
+PAGES: List[Tuple[str, Sequence[str], Sequence[str]]] = [
+    ("README.md", ["random 150 1 > formula.cnf"], ["cadical"]),
+    ("docs/USING.md", ["random 150 1 > formula.cnf"], ["cadical", "cryptominisat5"]),
+    ("docs/EMITTING.md", ["examples/bmc.cnf > formula.cnf", "examples/bmc.lrup > proof"], []),
+    ("docs/TRUST.md", ["random 150 1 > formula.cnf"], []),
+    ("examples/planning/README.md", [], []),
+    ("examples/lemma/README.md", [], []),
+    ("examples/fifo/README.md", [], ["yosys"]),
+]
+
+
+class Command(NamedTuple):
+    line: int
+    text: str
+    wanted: List[str]
+
+
+def commands_of(page: Path) -> Iterator[Command]:
+    """Each with its first line's number."""
+    lines = [*page.read_text().splitlines(), ""]
+    at = 0
+    while at < len(lines):
+        begun = re.match(r"( {4,})\$ (.*?)( {2,}#.*)?$", lines[at])
+        if not begun:
+            at += 1
+            continue
+        first, indent, text = at, begun[1], begun[2]
+        while re.search(r"(\\|\||&&)$", lines[at]):
+            at += 1
+            text += "\n" + lines[at].strip()
+        at += 1
+        begin = at
+        while lines[at].startswith(indent) and not lines[at].startswith(indent + "$ "):
+            at += 1
+        yield Command(first + 1, text, [line[len(indent):] for line in lines[begin:at]])
+
+
+def pattern(wanted: Sequence[str]) -> str:
+    """What is written has to match this."""
+    return "".join(r"(.*\n)*" if line == ".." else (timed(line) if is_timed(line) else re.escape(line)) + "\n" for line in wanted)
+
+
+def timed(line: str) -> str:
+    """With other numbers, and of one engine, too."""
+    return re.sub(r"\b(engine|clause)s\b", r"\1s?", re.sub(r"\d(\\?[.,\d])*", r"[\\d.,]+", re.escape(line)))
+
+
+def is_timed(line: str) -> bool:
+    return re.match(r"c [\d,.]+ s, .* of processor time", line) is not None
+
+
+def shown(name: str, files: Sequence[str], packages: Sequence[str], work: Path) -> None:
+    """The page's commands write what stands there."""
+    for package in packages:
+        needs(package)
+    for file in files:
+        words, _, place = file.partition(" > ")
+        if words.startswith("examples/"):
+            shutil.copy(ROOT / words, work / place)
+        else:
+            generated(words, work, place)
+    os.symlink(EXAMPLES, work / "examples")
+    (work / "bin").mkdir()
+    for title, path in PROGRAMS.items():
+        os.symlink(path, work / "bin" / title)
+    commands = [command for command in commands_of(ROOT / name) if command.text not in NOT_RUN]
+    script = "exec 2>&1\n" + "".join(f"{command.text}\nprintf '\\n-- %s\\n' {number}\n" for number, command in enumerate(commands))
+    surroundings = {**os.environ, "PATH": f"{work / 'bin'}:{os.environ['PATH']}"}
+    done = run(["bash", "-c", script], limit=LIMIT, cwd=work, env=surroundings, stderr=subprocess.STDOUT)
+    pieces = re.split(r"\n-- \d+\n", done.out)
+    if len(pieces) != len(commands) + 1:
+        raise Failure(f"{len(pieces) - 1} commands of {len(commands)} ended:\n{done.out[-2000:]}")
+    for command, said in zip(commands, pieces):
+        if command.wanted and not re.fullmatch(pattern(command.wanted), said + "\n" * (said != "" and not said.endswith("\n"))):
+            wanted = "\n".join(command.wanted)
+            raise Failure(f"line {command.line}, $ {command.text}: wanted\n{wanted}\nand not\n{said[:2000]}")
+
+
+PROGRAMS = {"lrupd": Path(PROGRAM), "lrup-solve": SOLVE, "lrup-exact": FILTER, "lrup-trim": TRIM,
+            "lrup-explain": EXPLAIN, "lrup-chain": LRUP_CHAIN}
+
+
+def all_known() -> List[Row]:
+    """Each command that isn't run stands on a page."""
+    texts = {command.text for name, *_ in PAGES for command in commands_of(ROOT / name)}
+    return [(f"not run: {text}", unknown, text) for text in NOT_RUN if text not in texts]
+
+
+def unknown(text: str, work: Path) -> None:
+    raise Failure(f"no page shows {text}")
+
+
+def rows() -> List[Row]:
+    return [(name, shown, name, files, packages) for name, files, packages in PAGES] + all_known()
+
+
+sys.exit(run_built(rows(), for_tests=False))

@@ -1,0 +1,15 @@
+// Unverified: what always holds, looked at in builds for tests (-DCHECKED), and in no others: by `assert`, or, where it goes through a
+// whole structure, by a function that CHECK calls.
+#ifndef CHECKS_H
+#define CHECKS_H
+
+#undef NDEBUG
+#ifdef CHECKED
+#define CHECK(call) call
+#else
+#define CHECK(call) ((void)0)
+#define NDEBUG
+#endif
+#include <assert.h>
+
+#endif

@@ -1,0 +1,42 @@
+// Unverified: lists that grow, and memory.
+#ifndef LISTS_H
+#define LISTS_H
+
+#include <stddef.h>
+#include <stdint.h>
+
+#ifdef __cplusplus
+extern "C" {
+#endif
+
+// Each is a structure with `items`, `length` and `capacity`.
+typedef struct { uint64_t *items; size_t length, capacity; } Identities;
+typedef struct { int64_t *items; size_t length, capacity; } Numbers;
+
+#define PUSH(list, item)                                                                    \
+    do {                                                                                    \
+        if ((list)->length == (list)->capacity) {                                           \
+            (list)->capacity = (list)->capacity ? 2 * (list)->capacity : 8;                 \
+            (list)->items = grow((list)->items, (list)->capacity * sizeof *(list)->items);  \
+        }                                                                                   \
+        (list)->items[(list)->length++] = (item);                                           \
+    } while (0)
+
+// Room for so many items of a list.
+#define RESERVE(list, count)                                                                \
+    do {                                                                                    \
+        if ((list)->capacity < (count)) {                                                   \
+            (list)->capacity = 2 * (count);                                                 \
+            (list)->items = grow((list)->items, (list)->capacity * sizeof *(list)->items);  \
+        }                                                                                   \
+    } while (0)
+
+void *grow(void *memory, size_t bytes);         // realloc, or the end; nothing is kept of no bytes
+void *zeroed(size_t count, size_t bytes);       // calloc, or the end
+void identities_reverse(Identities *list);
+
+#ifdef __cplusplus
+}
+#endif
+
+#endif

@@ -1,0 +1,32 @@
+// Unverified: literals, and what one clause has of them.
+#ifndef LITERALS_H
+#define LITERALS_H
+
+#include <stdbool.h>
+#include <stddef.h>
+
+#include "lists.h"
+
+#ifdef __cplusplus
+extern "C" {
+#endif
+
+// 2 v is the literal of the variable v, counted from 0, and 2 v + 1 its complement.
+typedef int Literal;
+
+static inline Literal complement_of(Literal literal) { return literal ^ 1; }
+static inline int variable_of(Literal literal) { return literal >> 1; }
+static inline int as_written(Literal literal) {
+    return literal & 1 ? -(variable_of(literal) + 1) : variable_of(literal) + 1;
+}
+
+typedef struct { Literal *items; size_t length, capacity; } Literals;
+
+size_t literals_sort(Literal *literals, size_t length);         // each once: how many are left
+bool literals_clash(const Literal *literals, size_t length);    // one and its complement, where they are sorted
+
+#ifdef __cplusplus
+}
+#endif
+
+#endif

@@ -1,0 +1,27 @@
+// Unverified: other solvers' streams, read as far as they are cited.
+#ifndef OTHERS_H
+#define OTHERS_H
+
+#include <stddef.h>
+#include <stdint.h>
+
+#include "clauses.h"
+#include "input.h"
+#include "words.h"
+
+typedef struct {
+    uint64_t number, last;
+    int variables;
+    Input input;
+    Words words;
+    Literals literals;
+    Clauses clauses;
+} Other;
+
+typedef struct { Other *items; size_t length, capacity; } Others;
+
+void others_open(Others *others, const char *word, int variables);
+Other *others_find(const Others *others, uint64_t number);
+Place other_clause(Other *other, Clauses *clauses, uint64_t identity);
+
+#endif

@@ -1,0 +1,13 @@
+// Unverified: how long a line of a stream may be. lrupd takes no more; a build for tests takes fewer.
+#ifndef STREAM_H
+#define STREAM_H
+
+#include <stdint.h>
+
+#ifndef IDENTITIES_OF_A_LINE
+#define IDENTITIES_OF_A_LINE 65536
+#endif
+enum { LITERALS_OF_A_LINE = 65535, DIGITS = 18 };
+#define LAST_IDENTITY UINT64_C(999999999999999999)
+
+#endif

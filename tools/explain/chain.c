@@ -1,0 +1,196 @@
+// Unverified, as all of this tool. A right chain for the clause of a line, by unit propagation: of its hints first, and then of all clauses
+// that the line may cite.
+//
+// What the clause makes false stands at the beginning of the trail, by unit clauses without an identity. Each hint is then taken in its
+// place, as far as it does: before one whose literals aren't all false yet come the clauses that make them so. In the end what the conflict
+// doesn't need is left out.
+#include "../exact/propagation.h"
+#include "explain.h"
+
+typedef struct {
+    Propagation propagation;
+    Clauses clauses;
+    Places hints, chain;        // as they are given; what is taken so far
+    signed char *values;        // by literal, as the chain so far makes them
+    unsigned char *needed;      // by variable; all 0 but while clauses are brought
+    bool is_found;
+} Search;
+
+// One that comes first wherever there is a choice, as recent ones do, or not.
+static Place take(Search *search, uint64_t identity, const Literal *literals, size_t length, bool comes_first) {
+    Place place = clauses_add(&search->clauses, identity, literals, length, false);
+    if (!comes_first) clause_at(&search->clauses, place)->flags = length > MANY ? LONG : 0;
+    PUSH(&search->propagation.waiting, place);
+    return place;
+}
+
+static Place take_known(Search *search, const Replay *replay, uint64_t identity, bool comes_first) {
+    const Clause *clause = clause_at(&replay->store, clause_of(replay, identity));
+    return take(search, identity, clause->literals, clause->length, comes_first);
+}
+
+static void take_hints(Search *search, const Replay *replay, const Stream *stream, uint64_t also) {
+    for (size_t k = 0; k < replay->line.count; k++) {
+        uint64_t hint = (uint64_t)replay->line.cited[k];
+        if (hint <= replay->last && clause_of(replay, hint) != 0 && (hint == also || is_usable(replay, stream, hint)))
+            PUSH(&search->hints, take_known(search, replay, hint, true));
+    }
+    propagation_settle(&search->propagation);
+}
+
+static void take_others(Search *search, const Replay *replay, const Stream *stream) {
+    uint64_t last = last_derived(replay);
+    for (uint64_t identity = 1; identity <= last; identity++)
+        if (is_usable(replay, stream, identity)) take_known(search, replay, identity, false);
+    propagation_settle(&search->propagation);
+}
+
+static void open_search(Search *search, const Replay *replay, const Stream *stream, uint64_t also) {
+    *search = (Search){ .values = zeroed(2 * (size_t)replay->variables, 1), .needed = zeroed((size_t)replay->variables, 1) };
+    propagation_open(&search->propagation, &search->clauses, replay->variables);
+    for (size_t k = 0; k < replay->line.length; k++) {
+        Literal literal = complement_of(literal_of(replay->line.literals[k]));
+        if (search->values[literal] == 0) take(search, 0, &literal, 1, true);
+        search->values[literal] = 1;
+        search->values[complement_of(literal)] = -1;
+    }
+    propagation_settle(&search->propagation);
+    take_hints(search, replay, stream, also);
+    if (search->propagation.conflict == 0) take_others(search, replay, stream);
+}
+
+// The chain.
+
+// How many of its literals aren't false, and the last of these.
+static unsigned open_literals(const Search *search, Place place, Literal *open) {
+    const Clause *clause = clause_at(&search->clauses, place);
+    unsigned count = 0;
+    for (unsigned k = 0; k < clause->length; k++) {
+        if (search->values[clause->literals[k]] < 0) continue;
+        *open = clause->literals[k];
+        count++;
+    }
+    return count;
+}
+
+// Where it is unit, or the conflict, which ends the chain.
+static void put(Search *search, Place place) {
+    Literal open = 0;
+    unsigned count = open_literals(search, place, &open);
+    if (search->is_found || count > 1 || (count == 1 && search->values[open] > 0)) return;
+    PUSH(&search->chain, place);
+    search->is_found = count == 0;
+    if (count == 0) return;
+    search->values[open] = 1;
+    search->values[complement_of(open)] = -1;
+}
+
+// It is false by propagation, and not yet by the chain.
+static bool is_wanted(const Search *search, Literal literal) {
+    return search->propagation.values[literal] < 0 && search->values[literal] >= 0;
+}
+
+static size_t position_of(const Search *search, Literal literal) { return search->propagation.positions[variable_of(literal)]; }
+
+static void want(Search *search, Place place, Literal left, size_t *behind) {
+    const Clause *clause = clause_at(&search->clauses, place);
+    for (unsigned k = 0; k < clause->length; k++) {
+        if (!is_wanted(search, clause->literals[k]) || clause->literals[k] == left) continue;
+        search->needed[variable_of(clause->literals[k])] = 1;
+        if (position_of(search, clause->literals[k]) >= *behind) *behind = position_of(search, clause->literals[k]) + 1;
+    }
+}
+
+// All that makes its literals false, but for one that is left, as far as propagation does, in the order in which it does.
+static void bring(Search *search, Place place, Literal left) {
+    const Propagation *propagation = &search->propagation;
+    size_t behind = 0;          // the last position
+    want(search, place, left, &behind);
+    for (size_t position = behind; position-- > 0;)
+        if (search->needed[variable_of(propagation->trail.items[position])])
+            want(search, reason_at(propagation, position), CONFLICT, &behind);
+    for (size_t position = 0; position < behind; position++) {
+        int variable = variable_of(propagation->trail.items[position]);
+        if (search->needed[variable]) put(search, propagation->reasons[variable]);
+        search->needed[variable] = 0;
+    }
+}
+
+// For which literal a hint will be unit: the one that propagation doesn't make false, or else the last one that it does.
+static Literal left_by(const Search *search, Place place) {
+    const Clause *clause = clause_at(&search->clauses, place);
+    Literal open = CONFLICT, last = CONFLICT;
+    for (unsigned k = 0; k < clause->length; k++) {
+        Literal literal = clause->literals[k];
+        if (search->values[literal] > 0) return NEITHER;
+        if (search->values[literal] < 0) continue;
+        if (search->propagation.values[literal] < 0) {
+            if (last == CONFLICT || position_of(search, literal) > position_of(search, last)) last = literal;
+        } else if (open != CONFLICT) {
+            return NEITHER;
+        } else {
+            open = literal;
+        }
+    }
+    return open == CONFLICT ? last : open;
+}
+
+// Backwards, from the conflict.
+static void collect(Search *search, Identities *hints) {
+    Places *chain = &search->chain;
+    size_t first = chain->length;
+    for (size_t k = chain->length; k-- > 0;) {
+        const Clause *clause = clause_at(&search->clauses, chain->items[k]);
+        bool is_needed = k + 1 == chain->length;
+        for (unsigned at = 0; at < clause->length; at++)
+            is_needed |= search->values[clause->literals[at]] > 0 && search->needed[variable_of(clause->literals[at])];
+        for (unsigned at = 0; at < clause->length && is_needed; at++) search->needed[variable_of(clause->literals[at])] = 1;
+        if (is_needed) chain->items[--first] = chain->items[k];
+    }
+    hints->length = 0;
+    for (size_t k = first; k < chain->length; k++) PUSH(hints, clause_at(&search->clauses, chain->items[k])->identity);
+}
+
+// Of all clauses that the line may cite, those without a true literal. Hints stand there twice.
+static size_t count_open(const Search *search) {
+    size_t count = 0;
+    for (Place place = clauses_after(&search->clauses, 0); place != 0; place = clauses_after(&search->clauses, place)) {
+        const Clause *clause = clause_at(&search->clauses, place);
+        unsigned k = 0;
+        while (k < clause->length && search->propagation.values[clause->literals[k]] <= 0) k++;
+        count += k == clause->length && !(clause->flags & RECENT);
+    }
+    return count;
+}
+
+static void close_search(Search *search) {
+    propagation_close(&search->propagation);
+    grow(search->clauses.row, 0);
+    grow(search->hints.items, 0);
+    grow(search->chain.items, 0);
+    grow(search->values, 0);
+    grow(search->needed, 0);
+}
+
+Chain chain_find(const Replay *replay, const Stream *stream, uint64_t also) {
+    static Identities hints;
+    Search search;
+    open_search(&search, replay, stream, also);
+    for (size_t k = 0; k < search.hints.length && !search.is_found; k++) {
+        Place hint = search.hints.items[k];
+        Literal left = left_by(&search, hint);
+        if (left == NEITHER) continue;
+        bring(&search, hint, left);
+        put(&search, hint);
+    }
+    Place conflict = search.propagation.conflict;
+    if (conflict && !search.is_found) {
+        bring(&search, conflict, CONFLICT);
+        put(&search, conflict);
+    }
+    Chain chain = { .is_found = search.is_found, .true_literals = search.propagation.trail.length, .open_clauses = count_open(&search) };
+    if (search.is_found) collect(&search, &hints);
+    chain.hints = hints;
+    close_search(&search);
+    return chain;
+}

@@ -1,0 +1,100 @@
+// Unverified, as all of this solver. An lrupd: what is known of it, and what it reads; and the front, which starts it.
+#ifndef CHECKER_H
+#define CHECKER_H
+
+#include <deque>
+
+#include <poll.h>
+
+#include "solve.h"
+
+const int UNKNOWN_STATUS = 3;           // of lrupd
+
+// opener.cpp: waits for lrupd to open its pipes.
+class Opener {
+public:
+    Child child;
+
+    void ask(const std::string &path);
+    bool has_opened(std::string &path);     // the one that was asked for first; then it waits to go on
+    void go_on();
+    pollfd says() const { return { socket, POLLIN, 0 }; }   // where something is opened
+
+private:
+    int socket = -1;
+    std::deque<std::string> asked;
+
+    void start();
+    void say(const std::string &path) const;
+};
+
+// An lrupd.
+class Checker {
+public:
+    Child child;
+    Opener opener;
+    std::string report, said;           // standard output, and standard error
+
+    void expect(const std::string &path);   // it is at work; so the name of its output begins
+    void start(Row row, const std::vector<int> &files);     // asks for one; the streams of round 1 are fed from these files
+
+    // Before a round's streams end: its files' names in the folder of lrupd's rounds begin so. Then, once it has saved what the round
+    // came to, the sizes of the next one, whose streams are fed from these files.
+    void expect_round(const std::string &path);
+    bool awaits_sizes() const { return sizes >= 0; }
+    void begin_round(Row row, const std::vector<int> &files);
+
+    void look();                        // at what lrupd has opened
+    std::vector<pollfd> full_pipes() const;     // for when there is room
+    bool feed(size_t stream, uint64_t bytes, bool drop);    // from the file, which has so many by now; true where all are fed
+    void end_stream(size_t stream) { close_file(streams[stream].pipe); }
+    uint64_t fed(size_t stream) const { return streams[stream].fed; }
+    uint64_t read_of(size_t stream) const;                  // bytes that it has read
+    void read_on();                                         // what it says
+    bool next_line(std::string &line);                      // of standard error, each once
+    std::string last_line() const;                          // of standard error
+    void take_end(const std::string &words);                // of the front: the status as wait gives it, and microseconds
+
+private:
+    struct Stream {
+        int file, pipe;
+        std::string path;               // of a pipe that lrupd hasn't opened yet
+        bool is_full = false;           // the pipe
+        uint64_t fed = 0, dropped = 0;
+    };
+
+    std::vector<Stream> streams;
+    std::string next;                   // how the names of the next round's files begin
+    std::string output;                 // how those of its output begin
+    int sizes = -1, out = -1, err = -1;
+    size_t told = 0;
+
+    void open_streams(const std::vector<int> &files);
+};
+
+// The front, which believes nothing that it is told here (front/front.c), by a pipe that standard output becomes.
+struct Front {
+    std::string folder, lrupd, formula, assumptions;    // names that it has given; none where it hasn't started this
+    std::string stopped;                // by a signal, and so without waiting: the words for it
+    std::string unread;
+    int file = -1;                      // what it says
+    Checker probe;                      // an lrupd that reads the formula, and no stream
+
+    void read_words(int &count, char **&words);         // takes its own away
+    void open();                                        // by one process alone
+    pollfd says() const { return { file, POLLIN, 0 }; }
+    bool is_there() const { return !folder.empty(); }
+    void say(const std::string &line) const;
+    void read_on(Checker *checker);                     // what it says
+    bool has_refused() const { return probe.child.ended() && !probe.child.ended_with(UNKNOWN_STATUS); }     // its lrupd, the formula
+    std::string await_refusal();                        // the words for it; none where it doesn't come
+};
+
+extern Front front;
+bool is_program(const std::string &path);
+std::string on_the_path(const std::string &name);       // empty where it isn't there
+std::string find_checker(const char *given);            // refuses where there is none
+std::string sizes_text(size_t streams, Row row);        // as lrupd reads it from a file
+std::string tries();
+
+#endif

@@ -1,0 +1,155 @@
+// Unverified, as all of this solver. Everything that the first process says.
+#include <algorithm>
+#include <cmath>
+#include <cstdarg>
+#include <cstdio>
+
+#include <sys/ioctl.h>
+#include <unistd.h>
+
+#include "display.h"
+#include "rounds.h"
+
+namespace {
+
+const size_t COLUMNS = 78;
+const double SHOWING = 0.2;     // seconds, after which progress and lrupd's lines are shown
+
+size_t terminal_columns() {
+    winsize size = {};
+    return ioctl(STDERR_FILENO, TIOCGWINSZ, &size) == 0 && size.ws_col > 0 ? size.ws_col : 80;
+}
+
+}
+
+std::string format(const char *text, ...) {
+    char line[512];
+    va_list rest;
+    va_start(rest, text);
+    vsnprintf(line, sizeof line, text, rest);
+    va_end(rest);
+    return line;
+}
+
+std::string grouped(uint64_t number) {
+    std::string digits = std::to_string(number);
+    for (size_t at = digits.size(); at > 3; at -= 3) digits.insert(at - 3, ",");
+    return digits;
+}
+
+std::string counted(uint64_t number, const char *what) { return grouped(number) + " " + what + (number == 1 ? "" : "s"); }
+
+std::string title(const std::string &path) { return path == "-" ? "standard input" : quoted(path); }
+
+// While it runs.
+
+void Display::begin() { shows_progress = !inputs.options.quiet && isatty(STDERR_FILENO); }
+
+bool Display::shows_lines() const { return inputs.options.verbose && !inputs.options.quiet; }
+
+double Display::next_show() const { return shows_progress || shows_lines() ? shown + SHOWING : INFINITY; }
+
+void Display::show() {
+    if (now() < next_show()) return;
+    shown = now();
+    show_lines();
+    if (shows_progress) fprintf(stderr, "\r%s\33[K", progress().substr(0, terminal_columns() - 1).c_str());
+}
+
+void Display::show_lines() {
+    std::string line;
+    if (!shows_lines()) return;
+    checker.read_on();
+    while (checker.next_line(line)) tell(line);
+}
+
+void Display::hide() const {
+    if (shows_progress) fputs("\r\33[K", stderr);
+}
+
+void Display::tell(const std::string &line) const {
+    if (inputs.options.quiet) return;
+    hide();
+    printf("c %s\n", one_line(line).c_str());
+    fflush(stdout);
+}
+
+void Display::tell_more(const std::string &line) const {
+    if (inputs.options.verbose) tell(line);
+}
+
+// Of the row.
+double Display::fullness() const {
+    double fullest = 0;
+    for (size_t k = 0; k < teams.size(); k++) {
+        const Part &part = teams.part(k);
+        fullest = std::max(fullest, double(LOAD(part.round_lines)) / double(std::max<uint64_t>(1, rounds.rows.row.lines)));
+        fullest = std::max(fullest, double(LOAD(part.round_literals)) / double(std::max<uint64_t>(1, rounds.rows.row.room)));
+    }
+    return fullest;
+}
+
+std::string Display::progress() const {
+    double time = now() - started;
+    uint64_t bytes = teams.all(&Part::bytes), lines = teams.all(&Part::round_lines), read = 0;
+    for (size_t k = 0; k < teams.size() && checker.child.pid; k++)
+        if (uint64_t number = LOAD(teams.part(k).stream)) read += checker.read_of(number - 1);
+    double share = bytes > 0 ? std::min(1.0, double(read) / double(bytes)) : 0;
+    uint64_t checked = rounds.lines_before + uint64_t(share * double(lines));
+    return format("%.1f s, %s conflicts/s, %s checked, %s kB behind, round %llu at %.0f %%", time,
+                  grouped(uint64_t(double(teams.all(&Part::conflicts)) / time)).c_str(), grouped(checked).c_str(),
+                  grouped(teams.all(&Part::behind) / 1000).c_str(), (unsigned long long)rounds.number, 100 * fullness());
+}
+
+// In the end.
+
+void Display::details() const {
+    for (size_t k = 0; k < teams.size(); k++) {
+        const Part &part = teams.part(k);
+        uint64_t lines = LOAD(part.lines);
+        tell(format("engine %zu: %.2f s, its filter %.2f s; %s conflicts; clauses: %s taken over, %s refused, %s given away; "
+                    "%s, %.0f %% of them cite another stream",
+                    k + 1, teams[k].engine.seconds, teams[k].filter.seconds, grouped(LOAD(part.conflicts)).c_str(),
+                    grouped(LOAD(part.taken)).c_str(), grouped(LOAD(part.refused)).c_str(), grouped(LOAD(part.given)).c_str(),
+                    counted(lines, "line").c_str(), lines ? 100.0 * double(LOAD(part.citing_others)) / double(lines) : 0));
+    }
+    if (teams.dealer.dealt > 0)
+        tell(format("cubes: %s dealt out, %s refuted, %s of lost engines handed on", grouped(teams.dealer.dealt).c_str(),
+                    grouped(teams.all(&Part::refuted_cubes)).c_str(), grouped(teams.dealer.handed_on).c_str()));
+    if (teams.answered > 0) tell(format("the verdict came %.2f s after an engine's answer", now() - teams.answered));
+}
+
+void Display::causes(const std::string &cause) const {
+    bool verbose = inputs.options.verbose;
+    for (size_t k = 0; k < teams.size() && !verbose && inputs.contradiction().empty(); k++)
+        if (teams[k].told) tell(format("engine %zu is lost: %s%s", k + 1, teams[k].cause.c_str(),
+                                       teams.is_solver(k) ? "; -v shows its standard error" : ""));
+    if (!checker.last_line().empty() && !verbose) tell(checker.last_line());
+    const std::string &report = checker.report;
+    size_t begin = 0;
+    for (size_t end; (end = report.find('\n', begin)) != std::string::npos; begin = end + 1)
+        if (report.compare(begin, 2, "c ") == 0) tell("lrupd: " + report.substr(begin + 2, end - begin - 2));
+    tell(cause);
+}
+
+void Display::summary() const {
+    double engines = 0, filters = 0, lrupd = front.probe.child.seconds + checker.child.seconds, wall = now() - started;
+    for (size_t k = 0; k < teams.size(); k++) engines += teams[k].engine.seconds, filters += teams[k].filter.seconds;
+    std::string of_rounds = format("%llu rounds with %.1f %% of pauses, ", (unsigned long long)rounds.number, 100 * rounds.paused / wall);
+    tell(format("%.2f s, %s, %s%s checked; %.2f s of processor time: engines %.2f, filters %.2f, lrupd %.2f", wall,
+                counted(uint64_t(inputs.options.engines), "engine").c_str(), rounds.number > 1 ? of_rounds.c_str() : "",
+                counted(teams.all(&Part::lines), "clause").c_str(), engines + filters + lrupd, engines, filters, lrupd));
+}
+
+void print_model(const std::vector<signed char> &model) {
+    std::string line = "v";
+    for (size_t k = 0; k <= model.size(); k++) {
+        std::string word = k == model.size() ? " 0" : " " + std::to_string(model[k] > 0 ? long(k) + 1 : -long(k) - 1);
+        if (line.size() + word.size() > COLUMNS) {
+            puts(line.c_str());
+            line = "v";
+        }
+        line += word;
+    }
+    puts(line.c_str());
+}

@@ -1,0 +1,120 @@
+// Unverified, as all of this solver. The formula and the assumptions are read.
+#include <algorithm>
+#include <cstdio>
+#include <cstdlib>
+#include <cstring>
+#include <fstream>
+#include <iomanip>
+
+#include <unistd.h>
+
+#include "checker.h"
+#include "display.h"
+#include "inputs.h"
+
+namespace {
+
+const int LONGEST_NUMBER = 20;
+
+const Inputs *the_inputs;
+
+void refused(const char *cause) { the_inputs->refuse_formula(cause); }
+
+}
+
+Inputs::Inputs(const Options &given) : options(given) {
+    the_inputs = this;
+    errors_handle(refused);
+}
+
+// By which it can be read more than once: what is no file on a disk the front has copied, and that is kept where the record is.
+std::string Inputs::again(const std::string &path, const std::string &fronts, const char *kept_as) const {
+    if (is_read_again(path)) return path[0] == '-' ? "./" + path : path;
+    if (!options.proofs) return fronts;
+    std::string copied = std::string(options.proofs) + "/" + kept_as, begun = unfinished(copied);
+    int file = open_input(fronts), copy = create_file(begun);
+    copy_file(file, kept_as, copy);
+    close(file);
+    close_file(copy);
+    if (rename(begun.c_str(), copied.c_str()) != 0) refuse("cannot write " + copied + ": " + error_text());
+    return copied;
+}
+
+// Of an earlier run in the folder nothing is removed until they are read: they may come from there, by a pipe.
+void Inputs::find() {
+    std::vector<std::string> inputs = { options.formula };
+    if (options.assume) inputs.push_back(options.assume);
+    for (const std::string &path : inputs) check_input(path);
+    if (options.proofs) open_record(options.proofs, inputs);
+    formula_path = again(inputs[0], front.formula, "formula.cnf");
+    if (options.assume) assume_path = again(inputs[1], front.assumptions, "assumptions");
+    if (!options.proofs) return;
+    clear_record(options.proofs, { formula_path, assume_path });
+    std::string unwritten = write_file(std::string(options.proofs) + "/formula.sha256", digest_line(formula_path));
+    if (!unwritten.empty()) refuse(unwritten);
+}
+
+void Inputs::read() {
+    check_plain(formula_path, title(options.formula));
+    double begun = now();
+    read_formula();
+    reading = now() - begun;
+    if (options.assume) read_assumptions();
+}
+
+// By a name that is short: what is said of it isn't cut.
+void Inputs::read_formula() {
+    int file = open_input(formula_path);
+    formula_read(&formula, (OPEN_FILES + std::to_string(file)).c_str());
+    close(file);
+}
+
+// How they are separated is lrupd's to judge.
+void Inputs::read_assumptions() {
+    std::ifstream file(assume_path);
+    std::string word, name = title(options.assume);
+    int literal = 0;
+    while (file >> std::setw(LONGEST_NUMBER) >> word && word != "0") {
+        if (!number_read(word.c_str(), &literal)) refuse_formula(name + ": a word that is no number: " + word);
+        if (std::abs(literal) > formula.variables)
+            refuse_formula(name + ": the literal " + word + ", and the formula has the variables 1 to " + std::to_string(formula.variables));
+        assumed.push_back(literal > 0 ? 2 * (literal - 1) : 2 * (-literal - 1) + 1);
+    }
+    if (word != "0") refuse_formula(name + ": no line of literals that ends with 0");
+    if (assumed.empty()) return;
+    assumed.resize(literals_sort(assumed.data(), assumed.size()));
+}
+
+// No clause shows it, so no proof does.
+std::string Inputs::contradiction() const {
+    for (size_t k = 1; k < assumed.size(); k++)
+        if (assumed[k] == complement_of(assumed[k - 1]))
+            return format("assumptions %d and %d contradict each other, which no clause shows",
+                          as_written(assumed[k - 1]), as_written(assumed[k]));
+    return "";
+}
+
+bool Inputs::is_model(const signed char *values) const {
+    auto is_true = [&](Literal literal) { return values[variable_of(literal)] == (literal & 1 ? -1 : 1); };
+    if (!std::all_of(assumed.begin(), assumed.end(), is_true)) return false;
+    const Literal *all = formula.literals.items;
+    for (size_t k = 0; k < formula.clauses; k++)
+        if (!std::any_of(all + formula.starts.items[k], all + formula.starts.items[k + 1], is_true)) return false;
+    return true;
+}
+
+// Of the file that it was about.
+std::string Inputs::named(const std::string &cause) const {
+    size_t begin = strlen(OPEN_FILES);
+    if (cause.rfind(OPEN_FILES, 0) != 0) return cause;
+    return title(options.formula) + cause.substr(cause.find_first_not_of("0123456789", begin));
+}
+
+// What is known here is told, too.
+void Inputs::refuse_formula(const std::string &cause) const {
+    std::string said = front.await_refusal();
+    if (said.empty()) refuse(named(cause));
+    end_children();
+    fprintf(stderr, "%s (%s)\n", said.c_str(), one_line(named(cause)).c_str());
+    _exit(1);
+}

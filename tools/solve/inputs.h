@@ -1,0 +1,29 @@
+// Unverified, as all of this solver. What is to be solved: the words, the formula and the assumptions.
+#ifndef INPUTS_H
+#define INPUTS_H
+
+#include "solve.h"
+
+class Inputs {
+public:
+    Options options;
+    Formula formula = {};
+    std::vector<Literal> assumed;
+    std::string formula_path, assume_path;      // by which they are read again
+    double reading = 0;                         // seconds, of the formula
+
+    explicit Inputs(const Options &given);
+    void find();                                // their paths, and the folder of --proofs
+    void read();
+    void read_formula();
+    std::string contradiction() const;          // of the assumptions; none
+    bool is_model(const signed char *values) const;
+    [[noreturn]] void refuse_formula(const std::string &cause) const;   // in lrupd's words, where it refuses it, too
+
+private:
+    std::string again(const std::string &path, const std::string &fronts, const char *kept_as) const;
+    void read_assumptions();
+    std::string named(const std::string &cause) const;
+};
+
+#endif

@@ -1,0 +1,31 @@
+// Unverified, as all of this solver. What is made of a proof once it is there: an unsatisfiable core and LRAT text, by lrup-trim, which
+// lrupd then checks; and of a line that lrupd hasn't taken, why, by lrup-explain.
+#ifndef KEEPING_H
+#define KEEPING_H
+
+#include <functional>
+
+#include "display.h"
+#include "inputs.h"
+
+class Keeping {
+public:
+    using Wait = std::function<bool(Child &child)>;     // for its end; false where this run is ended meanwhile
+
+    Keeping(Inputs &its_inputs, const Display &its_display) : inputs(its_inputs), display(its_display) {}
+    void prepare(const std::string &program);           // before anything is solved; the one that is lrupd
+    std::string keep(bool is_proved, const Wait &wait) const;   // why it can't, where it can't
+    void explain(const std::string &report, const Wait &wait) const;
+
+private:
+    Inputs &inputs;
+    const Display &display;
+    std::string checker_program, folder;
+
+    bool is_wanted() const { return inputs.options.core || inputs.options.lrat; }
+    std::string keep_if_right(const char *path, const std::string &trimmed, const std::string &over, const std::string &stream,
+                              const Wait &wait) const;
+    std::string verdict_on(const std::string &trimmed, const std::string &over, const std::string &stream, const Wait &wait) const;
+};
+
+#endif

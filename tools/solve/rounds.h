@@ -1,0 +1,55 @@
+// Unverified, as all of this solver. Rounds: a row of lrupd's is made before it reads a line, and doesn't grow. Where it is full all
+// streams end after a whole line, and lrupd goes on in a new one, with the clauses that are there for its formula. It has saved them,
+// too: filters read there which identities they have from then on (filtering.c). tools/exact/row.c has the sizes of rows.
+#ifndef ROUNDS_H
+#define ROUNDS_H
+
+#include "checker.h"
+#include "display.h"
+#include "teams.h"
+
+class Rounds {
+public:
+    // Solving, until a filter finds the row full; then all streams end, lrupd saves what it has, and filters take its identities.
+    enum State { OPEN, ENDING, SAVING, MAPPING };
+
+    State state = OPEN;
+    uint64_t number = 1;
+    uint64_t lines_before = 0;          // of the rounds before
+    double paused = 0;                  // seconds in all
+    Rows rows = {};
+    Checkpoint saved = {};              // what the round before came to, while filters take its identities
+
+    Rounds(const Inputs &its_inputs, Teams &its_teams, Checker &its_checker, const Display &its_display)
+        : inputs(its_inputs), teams(its_teams), checker(its_checker), display(its_display) {}
+    void begin(const std::string &program);     // the one that lrupd's command names
+    std::string look();                         // goes on; why it can't, where it can't
+    void feed(bool is_last);                    // of the streams to lrupd
+    void end_streams();                         // of the last round; they are whole
+    std::string keep_report() const;            // why it can't, where it can't
+
+private:
+    const Inputs &inputs;
+    Teams &teams;
+    Checker &checker;
+    const Display &display;
+    std::string checker_program, command, said;
+    uint64_t literals_before = 0;
+    double pause_begun = 0;
+
+    bool size(uint64_t clauses, uint64_t literals);
+    std::string bytes_of_row() const;
+    Row needed_row() const;
+    void start_checker(Row wanted);
+    void end_round();
+    std::string map_round();
+    void begin_round();
+    void go_on();
+    std::string words() const;
+    std::vector<std::string> checker_words(Row sizes, const std::string &assume) const;
+    std::string command_of(Row sizes) const;
+    std::string command_again() const;
+    void keep_sizes() const;
+};
+
+#endif

@@ -1,0 +1,253 @@
+// Unverified, as all of this solver. The first process: what the end of one of the others means, and what it leads to.
+#include <algorithm>
+#include <cmath>
+#include <csignal>
+#include <cstdio>
+#include <cstring>
+
+#include "run.h"
+
+namespace {
+
+const double ENDING = 10;       // seconds that a filter has for the line that it is at
+
+}
+
+// Signals are taken from when there is something to end.
+void Run::prepare() {
+    Options &options = inputs.options;
+    std::string program = find_checker(options.lrupd);
+    front.probe.expect(front.folder + "/1");
+    if (options.engines == 0 && options.solvers.empty()) options.engines = half_of_the_cores();
+    options.engines += int(options.solvers.size());
+    keeping.prepare(program);
+    inputs.find();
+    teams.open();
+    inputs.read();
+    teams.open_models();
+    rounds.begin(program);
+    loop.begin();
+    if (others) others->begin();
+    teams.start(!others);
+    for (size_t k = 0; k < teams.size(); k++)
+        if (teams.is_solver(k)) display.tell_more(format("engine %zu: ", k + 1) + teams[k].command);
+    display.begin();
+}
+
+// Events.
+
+double Run::next_look() const {
+    if (phase == DONE) return INFINITY;
+    double time = display.next_show();
+    if (others) time = std::min(time, others->next_look());
+    if (inputs.options.seconds > 0) time = std::min(time, started + inputs.options.seconds);
+    if (phase == SOLVING && rounds.state == Rounds::OPEN) time = std::min(time, teams.next_start());
+    if (phase == ENDING_STREAMS) time = std::min(time, ending);
+    return time;
+}
+
+std::vector<Child *> Run::children() {
+    std::vector<Child *> list = teams.children();
+    list.push_back(&checker.opener.child);
+    if (others) list.push_back(others->carrier);
+    return list;
+}
+
+// Also until the front says something, or lrupd has opened a pipe, or has room in one.
+void Run::wait() {
+    std::vector<pollfd> files = { front.says(), checker.opener.says() };
+    for (const pollfd &file : checker.full_pipes()) files.push_back(file);
+    for (const pollfd &file : others ? others->files() : std::vector<pollfd>()) files.push_back(file);
+    loop.wait(teams.shared->events, files, next_look(), children());
+    if (files[0].revents != 0) front.read_on(&checker);
+    if (files[1].revents != 0) checker.look();
+}
+
+std::string Run::why_it_ends() {
+    const Child &opener = checker.opener.child;
+    std::string why = others ? others->look() : "";
+    if (!why.empty()) return why;
+    if (loop.ended_by) return std::string("ended by a signal: ") + strsignal(loop.ended_by);
+    if (!front.stopped.empty()) return front.stopped;
+    if (inputs.options.seconds > 0 && now() >= started + inputs.options.seconds) return "time is up";
+    return opener.ended() ? "the process that opens lrupd's pipes " + opener.end() : "";
+}
+
+void Run::look() {
+    Phase phase_before = phase;
+    Rounds::State state_before = rounds.state;
+    std::string why = why_it_ends();
+    if (!why.empty()) return finish(UNKNOWN_ANSWER, why);
+    look_at_reading();
+    if (phase == SOLVING) look_at_teams();
+    if (phase == SOLVING && rounds.state == Rounds::OPEN) look_at_solving();
+    if (phase == SOLVING) look_at_checker();
+    if (phase == ENDING_STREAMS) end_streams();
+    if (phase != DONE) rounds.feed(phase == CHECKING);
+    if (phase == CHECKING && checker.child.ended()) verdict();
+    loop.looks_again = phase != DONE && (phase != phase_before || rounds.state != state_before);
+}
+
+void Run::look_at_reading() {
+    if (!front.has_refused()) return;
+    const Checker &probe = front.probe;
+    bool is_of_assumptions = inputs.options.assume && probe.last_line().find("assumptions") != std::string::npos;
+    if (probe.last_line().empty()) inputs.refuse_formula("lrupd, which reads the formula, " + probe.child.end());
+    inputs.refuse_formula(title(is_of_assumptions ? inputs.options.assume : inputs.options.formula));
+}
+
+void Run::look_at_solving() {
+    bool is_first = teams.dealer.dealt == 0;
+    teams.look();
+    if (is_first && teams.dealer.dealt > 0) display.tell_more("engines take cubes");
+}
+
+void Run::look_at_teams() {
+    bool any_left = false;
+    for (size_t k = 0; k < teams.size() && phase == SOLVING; k++) {
+        look_at_team(k);
+        any_left |= !teams.is_lost(k);
+    }
+    if (phase != SOLVING || any_left) return;
+    std::string contradicting = inputs.contradiction();
+    finish(UNKNOWN_ANSWER, contradicting.empty() ? "no engine is left" : contradicting);
+}
+
+// The proof is written once the filter has written its last line; what the engine says counts for nothing.
+void Run::look_at_team(size_t k) {
+    Team &team = teams[k];
+    Part &facts = teams.part(k);
+    if (LOAD(facts.unwritten) && team.filter.ended()) refuse("cannot write " + teams.stream_path(k, rounds.number) + ": " + facts.cause);
+    if (LOAD(facts.refuted)) {
+        if (teams.answered == 0) teams.answered = now();
+        ending = now() + ENDING;
+        phase = ENDING_STREAMS;
+        return display.tell_more(format("engine %zu has the proof", k + 1));
+    }
+    int said = LOAD(facts.answer);
+    if (said == SATISFIABLE && !team.wrong) look_at_model(k);
+    if (team.filter.ended()) STORE(facts.gone, 1);
+    if (phase != SOLVING || team.told || said == SATISFIABLE) return;
+    bool both_ended = team.engine.ended() && team.filter.ended_with(0);
+    if (said == 0 && !facts.cause[0] && (both_ended || (team.engine.ended() && !team.engine.ended_with(0)))) {
+        bool unfounded = LOAD(facts.unfounded);
+        tell_lost(k, unfounded ? "it says 'satisfiable', and gives no assignment in lines v" : "the engine " + team.engine.end());
+        if (LOAD(facts.group)) kill(-LOAD(facts.group), SIGKILL);       // where not even its process could do that
+    } else if (team.filter.ended() && (both_ended || !team.filter.ended_with(0))) {
+        tell_lost(k, "its filter " + (facts.cause[0] ? std::string("stopped: ") + facts.cause : team.filter.end()));
+        team.engine.signal(SIGKILL);
+    }
+}
+
+void Run::tell_lost(size_t k, const std::string &why) {
+    teams[k].told = true;
+    teams[k].cause = why;
+    display.tell_more(format("engine %zu is lost: %s", k + 1, why.c_str()));
+}
+
+// The answer waits for lrupd's reading of the formula: it may refuse it.
+void Run::look_at_model(size_t k) {
+    if (!front.probe.child.ended()) return;
+    const signed char *values = teams[k].model;
+    if (inputs.is_model(values)) {
+        model.assign(values, values + inputs.formula.variables);
+        display.tell_more(format("engine %zu has an assignment", k + 1));
+        return finish(SATISFIABLE, "");
+    }
+    teams[k].wrong = true;
+    tell_lost(k, "its assignment doesn't satisfy the formula");
+}
+
+void Run::look_at_checker() {
+    if (checker.child.ended() && rounds.state == Rounds::SAVING) return verdict();
+    if (checker.child.ended()) return finish(UNKNOWN_ANSWER, "lrupd " + checker.child.end());
+    std::string why = rounds.look();
+    if (!why.empty()) finish(UNKNOWN_ANSWER, why);
+}
+
+void Run::end_streams() {
+    bool is_late = now() >= ending;
+    if (is_late) ending = INFINITY;
+    if (!teams.end_streams(is_late)) return;
+    rounds.end_streams();
+    phase = CHECKING;
+}
+
+// By lrupd's status alone. It is told even where it can't be kept.
+void Run::verdict() {
+    display.show_lines();
+    bool is_proved = checker.child.ended_with(0) || checker.child.ended_with(8);
+    bool is_unknown = checker.child.ended_with(UNKNOWN_STATUS);
+    if (is_proved || is_unknown) unkept = rounds.keep_report();
+    if (is_proved) return finish(UNSATISFIABLE, "");
+    finish(UNKNOWN_ANSWER, is_unknown ? "lrupd hasn't taken the proof" : "lrupd " + checker.child.end());
+}
+
+// The end.
+
+void Run::finish(Answer found, const std::string &why) {
+    if (phase == DONE) return;
+    answer = found;
+    cause = why;
+    phase = DONE;
+}
+
+// However early the solving has ended, a formula that lrupd refuses is told as that. A signal ends the waiting.
+void Run::await_reading() {
+    for (Child *child : children()) child->signal(SIGKILL);
+    while (answer == UNKNOWN_ANSWER && front.probe.child.running && !is_ended()) wait();
+    if (answer == UNKNOWN_ANSWER && !is_ended()) look_at_reading();
+}
+
+// Of a tool that is called in the end. False where the run is to end before.
+bool Run::await_end(Child &child) {
+    double time = inputs.options.seconds > 0 ? started + inputs.options.seconds : INFINITY;
+    bool goes_on = true;
+    while (child.running) {
+        std::vector<pollfd> files = { front.says() };
+        loop.wait(teams.shared->events, files, time, { &child });
+        if (files[0].revents != 0) front.read_on(&checker);
+        goes_on &= !is_ended() && now() < time;
+        if (!goes_on) child.signal(SIGTERM);
+    }
+    return goes_on;
+}
+
+void Run::end_all() {
+    for (Child *child : children()) child->signal(SIGKILL);
+    for (Child *child : children()) wait_for(*child);
+    Keeping::Wait wait_for_end = [this](Child &child) { return await_end(child); };
+    std::string why = keeping.keep(answer == UNSATISFIABLE, wait_for_end);
+    if (unkept.empty()) unkept = why;
+    if (checker.child.ended()) keeping.explain(checker.report, wait_for_end);
+    if (unkept.empty()) front.say("done");
+    while (checker.child.running) wait();
+    end_children();
+}
+
+// The front says which one it is.
+void Run::send_answer() {
+    display.hide();
+    if (inputs.options.verbose) display.details();
+    if (inputs.options.verbose && others) others->details();
+    if (answer == UNKNOWN_ANSWER) display.causes(cause);
+    display.summary();
+    if (answer == SATISFIABLE) print_model(model);
+    fflush(stdout);
+    if (!unkept.empty()) refuse(unkept);
+}
+
+int Run::solve(const Elsewhere *elsewhere) {
+    others = elsewhere;
+    prepare();
+    while (phase != DONE) {
+        wait();
+        look();
+        if (phase != DONE) display.show();
+    }
+    if (others) others->end(is_ended());
+    await_reading();
+    end_all();
+    send_answer();
+    return 0;
+}

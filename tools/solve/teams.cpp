@@ -1,0 +1,258 @@
+// Unverified, as all of this solver. Engines and filters are started, stopped and ended.
+#include <algorithm>
+#include <cmath>
+#include <csignal>
+#include <cstring>
+
+#include <fcntl.h>
+#include <sched.h>
+#include <unistd.h>
+
+#include "teams.h"
+
+namespace {
+
+const int PROOF_PIPE = 1 << 20, ALL_PROOF_PIPES = 1 << 24;     // the system gives a user no more than 1 << 26 for all pipes
+const double MOMENT = 0.1;      // seconds in which the first engine is alone, beside READINGS of the formula
+const int READINGS = 2;
+
+}
+
+int half_of_the_cores() {
+    cpu_set_t cores;
+    CPU_ZERO(&cores);
+    int count = sched_getaffinity(0, sizeof cores, &cores) == 0 ? CPU_COUNT(&cores) : int(sysconf(_SC_NPROCESSORS_ONLN));
+    return std::min(int(MOST_ENGINES), std::max(1, count / 2));
+}
+
+void copy_name(char (&place)[LONGEST_PATH], const std::string &name) {
+    if (name.size() >= sizeof place) refuse("too long a name: " + name);
+    memcpy(place, name.c_str(), name.size() + 1);
+}
+
+std::string name_of_round(uint64_t number) { return "round-" + std::to_string(number); }
+
+// What is known.
+
+bool Teams::is_lost(size_t k) const {
+    return list[k].wrong || (list[k].told && list[k].filter.ended() && LOAD(part(k).answer) != SATISFIABLE);
+}
+
+uint64_t Teams::all(uint64_t Part::*field) const {
+    uint64_t sum = 0;
+    for (size_t k = 0; k < list.size(); k++) sum += LOAD(part(k).*field);
+    return sum;
+}
+
+bool Teams::have_all(uint64_t Part::*field, uint64_t wanted) const {
+    for (size_t k = 0; k < list.size(); k++)
+        if (list[k].filter.running && LOAD(part(k).*field) != wanted) return false;
+    return true;
+}
+
+std::vector<Child *> Teams::children() {
+    std::vector<Child *> found;
+    for (Team &team : list) found.push_back(&team.engine), found.push_back(&team.filter);
+    return found;
+}
+
+// They begin.
+
+void Teams::open() {
+    const Options &options = inputs.options;
+    shared = shared_memory<Shared>(1);
+    shared->engines = shared->engines_here = options.engines;
+    shared->outbox_words = options.shares() ? hooked(test_hooks.outbox, OUTBOX_WORDS) : 1;
+    shared->round = 1;
+    shared->events.file = event_file();
+    if (options.proofs) copy_name(shared->record, absolute(options.proofs) + "/");
+    list.resize(size_t(options.engines));
+    for (size_t k = 0; k < list.size(); k++) {
+        STORE(part(k).stream, k + 1);
+        part(k).events.file = event_file();
+        if (is_solver(k)) std::fill_n(part(k).floors, MOST_ENGINES, UINT64_MAX);
+        list[k].stream = options.proofs ? create_file(stream_path(k, 1)) : file_in_memory();
+        outboxes.push_back(shared_memory<uint32_t>(shared->outbox_words));
+    }
+    STORE(shared->streams, list.size());
+}
+
+void Teams::open_models() {
+    for (size_t k = 0; k < list.size(); k++) list[k].model = shared_memory<signed char>(size_t(inputs.formula.variables));
+}
+
+void Teams::set_here(int first, int count) {
+    shared->first_here = first;
+    shared->engines_here = count;
+}
+
+// What is easy takes no more cores than it needs.
+void Teams::start(bool is_first_alone) {
+    is_first_alone &= !test_hooks.at_once && !list.empty() && !is_solver(0);
+    for (size_t k = 0; k < list.size(); k++)
+        if (k == 0 || !is_first_alone || is_solver(k)) start_team(k);
+    others_start = is_first_alone ? now() + MOMENT + READINGS * inputs.reading : 0;
+}
+
+void Teams::start_others() {
+    for (size_t k = 1; k < list.size() && others_start > 0; k++)
+        if (!is_solver(k)) start_team(k);
+    others_start = 0;
+}
+
+// Not while the filter of the first engine reads its answer.
+double Teams::next_start() const {
+    if (others_start == 0) return INFINITY;
+    return list[0].told ? 0 : LOAD(part(0).answer) == 0 ? others_start : INFINITY;
+}
+
+// No other child gets these pipes: one that is stopped as it starts would hold their ends. Those of other hosts start there.
+void Teams::start_team(size_t k) {
+    Team &team = list[k];
+    if (!is_here(k)) {
+        for (Child *child : { &team.engine, &team.filter }) child->pid = ELSEWHERE, child->running = true;
+        return;
+    }
+    team.proof = make_pipe(std::min(PROOF_PIPE, ALL_PROOF_PIPES / inputs.options.engines));
+    start_filter(k);
+    start_engine(k);
+    close_file(team.proof.read);
+    close_file(team.proof.write);
+}
+
+void Teams::start_filter(size_t k) {
+    Team &team = list[k];
+    int number = int(k) + 1;
+    if (!begin(team.filter, "filter " + std::to_string(number), { team.proof.read, team.stream })) return;
+    give_way();
+    Filtering filtering = { shared, outboxes.data(), number, team.proof.read, team.stream, is_solver(k) ? UNKNOWN_FORM : SHARING_DRAT,
+                            inputs.options.shares() && !is_solver(k), inputs.assumed.data(), inputs.assumed.size() };
+    filter_process(&filtering, &inputs.formula);
+}
+
+// The formula has a name that no shell takes for anything else.
+std::string Teams::solver_line(size_t k, int &renamed) const {
+    const std::vector<const char *> &solvers = inputs.options.solvers;
+    if (!is_plain(inputs.formula_path)) renamed = kept_open(open_input(inputs.formula_path));
+    return solver_command(solvers[k + solvers.size() - list.size()],
+                          renamed < 0 ? inputs.formula_path : OPEN_FILES + std::to_string(renamed),
+                          OPEN_FILES + std::to_string(list[k].proof.write));
+}
+
+void Teams::start_engine(size_t k) {
+    Team &team = list[k];
+    int number = int(k) + 1, renamed = -1;
+    Engine engine = { &inputs.options, &inputs.formula, &inputs.assumed, shared, outboxes.data(), team.model, number, team.proof.write };
+    std::vector<int> files = { team.proof.write };
+    if (is_solver(k)) team.command = solver_line(k, renamed);
+    if (renamed >= 0) files.push_back(renamed);
+    team.engine.hands_on = is_solver(k);
+    if (!begin(team.engine, "engine " + std::to_string(number), files)) return close_file(renamed);
+    give_way();
+    if (!inputs.options.verbose) dup2(::open("/dev/null", O_WRONLY), STDERR_FILENO);    // its last words
+    if (is_solver(k)) solver_process(engine, team.command, files);
+    engine_process(engine);
+}
+
+// They are at work.
+
+void Teams::look() {
+    if (now() >= next_start()) start_others();
+    dealer.deal(*shared, inputs.options);
+    pause_others();
+}
+
+bool Teams::has_refuted(size_t k) const { return LOAD(part(k).answer) == UNSATISFIABLE && list[k].filter.running; }
+
+// While the filter of an engine that has refuted the formula catches up, the others leave the cores to it. They go on where it
+// stops. Those on other hosts have cores of their own.
+void Teams::pause_others() {
+    bool wanted = false;
+    for (size_t k = 0; k < list.size(); k++) wanted |= is_here(k) && has_refuted(k);
+    if (wanted && answered == 0) answered = now();
+    if (!wanted) answered = 0;
+    for (size_t k = 0; k < list.size(); k++) {
+        bool stops = wanted && !has_refuted(k);
+        if (stops == list[k].paused || !is_here(k)) continue;
+        list[k].paused = stops;
+        for (Child *child : { &list[k].engine, &list[k].filter }) child->signal(stops ? SIGSTOP : SIGCONT);
+    }
+}
+
+void Teams::go_on() {
+    for (Team &team : list) {
+        if (!team.paused) continue;
+        team.engine.signal(SIGCONT);
+        team.filter.signal(SIGCONT);
+        team.paused = false;
+    }
+}
+
+// Engines have nothing to leave behind.
+bool Teams::end_streams(bool is_late) {
+    STORE(shared->over, 1);
+    tell_filters();
+    bool all_ended = true;
+    for (Team &team : list) {
+        team.engine.signal(SIGKILL);
+        team.filter.signal(is_late ? SIGKILL : SIGCONT);
+        all_ended &= !team.filter.running;
+    }
+    return all_ended;
+}
+
+void Teams::tell_filters() const {
+    for (size_t k = 0; k < list.size(); k++) events_advance(&part(k).events);
+}
+
+void Teams::tell_fed(size_t k, uint64_t bytes) const {
+    if (LOAD(part(k).fed) == bytes) return;
+    STORE(part(k).fed, bytes);
+    events_advance(&part(k).events);
+}
+
+// Streams.
+
+std::string Teams::stream_path(size_t k, uint64_t round) const {
+    return std::string(shared->record) + name_of_round(round) + ".stream-" + std::to_string(LOAD(part(k).stream));
+}
+
+std::vector<int> Teams::stream_files() const {
+    std::vector<int> files;
+    for (size_t k = 0; k < list.size(); k++)
+        if (LOAD(part(k).stream)) files.push_back(list[k].stream);
+    return files;
+}
+
+// Engines that were lost are left out.
+void Teams::number_streams() {
+    uint64_t count = 0;
+    for (size_t k = 0; k < list.size(); k++) STORE(part(k).stream, list[k].filter.running ? ++count : 0);
+    STORE(shared->streams, count);
+}
+
+void Teams::open_streams(uint64_t round) {
+    for (size_t k = 0; k < list.size(); k++) {
+        STORE(part(k).fed, 0);
+        if (!inputs.options.proofs) cut_stream(k, 0);
+        if (inputs.options.proofs) close_file(list[k].stream);
+        if (inputs.options.proofs && LOAD(part(k).stream)) list[k].stream = create_file(stream_path(k, round));
+    }
+}
+
+// A filter that died may have left lines in a record that lrupd wasn't fed, and part of one.
+void Teams::cut_streams() {
+    for (size_t k = 0; k < list.size() && inputs.options.proofs; k++) cut_stream(k, list[k].silent ? 0 : LOAD(part(k).bytes));
+}
+
+void Teams::cut_stream(size_t k, uint64_t bytes) {
+    if (list[k].stream >= 0 && ftruncate(list[k].stream, off_t(bytes)) != 0) refuse("cannot cut a stream: " + error_text());
+}
+
+// Clauses that a filter gave away which has died, or is on another host, may still be taken over.
+void Teams::renew_outboxes(const Checkpoint &saved, uint64_t round) {
+    for (size_t k = 0; k < list.size(); k++) {
+        list[k].silent = LOAD(part(k).mapped_round) != round - 1;
+        if (list[k].filter.ended() || !is_here(k)) outbox_renew(shared, outboxes[k], int(k) + 1, &saved);
+    }
+}

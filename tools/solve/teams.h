@@ -1,0 +1,77 @@
+// Unverified, as all of this solver. Engines and their filters: the processes, what they share, and the files of their streams.
+#ifndef TEAMS_H
+#define TEAMS_H
+
+#include "cubes.h"
+#include "inputs.h"
+
+enum Answer { UNKNOWN_ANSWER = 0, SATISFIABLE = 10, UNSATISFIABLE = 20 };
+
+struct Team {
+    Child engine, filter;
+    Pipe proof;
+    int stream = -1;
+    signed char *model = nullptr;
+    std::string command;    // of a solver
+    bool told = false, wrong = false, paused = false;
+    bool silent = false;    // its filter died before it came to this round
+    std::string cause;      // why it is lost
+};
+
+class Teams {
+public:
+    Shared *shared = nullptr;
+    std::vector<uint32_t *> outboxes;
+    Dealer dealer;                      // of cubes
+    double answered = 0;                // when an engine has refuted the formula, and not before its filter was ended; 0: none has
+
+    explicit Teams(const Inputs &given) : inputs(given) {}
+    size_t size() const { return list.size(); }
+    Team &operator[](size_t k) { return list[k]; }
+    const Team &operator[](size_t k) const { return list[k]; }
+    Part &part(size_t k) const { return shared->parts[k]; }
+    bool is_solver(size_t k) const { return k + inputs.options.solvers.size() >= list.size(); }
+    bool is_here(size_t k) const { return int(k) >= shared->first_here && int(k) < shared->first_here + shared->engines_here; }
+    bool is_lost(size_t k) const;       // it has no assignment, and nobody reads its proof; and it is known why
+    uint64_t all(uint64_t Part::*field) const;                      // the sum
+    bool have_all(uint64_t Part::*field, uint64_t wanted) const;    // all filters that are at work have come so far
+    std::vector<Child *> children();
+
+    void open();                        // before the formula is read
+    void open_models();                 // after it
+    void set_here(int first, int count);    // the others are on other hosts
+    void start(bool is_first_alone);    // the others a moment later
+    void start_others();
+    double next_start() const;          // INFINITY: of none
+    void look();                        // at what is to be done while they solve
+    void go_on();                       // those that stood still
+    bool end_streams(bool is_late);     // after a whole line; true once all filters have ended
+    void tell_filters() const;          // of what is stored by now
+    void tell_fed(size_t k, uint64_t bytes) const;
+
+    void number_streams();              // of the next round
+    void open_streams(uint64_t round);  // they are empty
+    void cut_streams();
+    std::string stream_path(size_t k, uint64_t round) const;
+    std::vector<int> stream_files() const;
+    void renew_outboxes(const Checkpoint &saved, uint64_t round);   // of filters that are not here any more
+
+private:
+    const Inputs &inputs;
+    std::vector<Team> list;
+    double others_start = 0;            // 0: they have
+
+    void start_team(size_t k);
+    void start_filter(size_t k);
+    void start_engine(size_t k);
+    std::string solver_line(size_t k, int &renamed) const;
+    bool has_refuted(size_t k) const;
+    void pause_others();
+    void cut_stream(size_t k, uint64_t bytes);
+};
+
+int half_of_the_cores();
+void copy_name(char (&place)[LONGEST_PATH], const std::string &name);   // to the shared memory
+std::string name_of_round(uint64_t number);
+
+#endif

@@ -1,0 +1,147 @@
+// Unverified, and nothing here is trusted. Files, which are mapped, the lines of streams, and the names of a record's files.
+#define _GNU_SOURCE
+#include <errno.h>
+#include <fcntl.h>
+#include <stdio.h>
+#include <string.h>
+#include <sys/mman.h>
+#include <sys/stat.h>
+#include <unistd.h>
+
+#include "../exact/digest.h"
+#include "../exact/errors.h"
+#include "../exact/stream.h"
+#include "../exact/words.h"
+#include "lines.h"
+
+enum { BEYOND = 8 };        // bytes that words.c looks at behind a line
+enum { LONGEST_PATH = 4096 };
+
+static Words words;
+
+// It stands for a stream that is left out.
+static bool is_null(const struct stat *found) {
+    struct stat null;
+    return S_ISCHR(found->st_mode) && stat("/dev/null", &null) == 0 && found->st_rdev == null.st_rdev;
+}
+
+static int file_open(const char *path, size_t *length) {
+    struct stat found;
+    int file = open(path, O_RDONLY | O_NONBLOCK | O_CLOEXEC);
+    if (file < 0 || fstat(file, &found) != 0) stop("cannot open %s: %s", path, strerror(errno));
+    if (!S_ISREG(found.st_mode) && !is_null(&found)) stop("%s: it is read more than once, so it has to be a file", path);
+    *length = (size_t)found.st_size;
+    return file;
+}
+
+void file_check(const char *path) {
+    size_t length;
+    close(file_open(path, &length));
+}
+
+// Over pages of zeros, of which one is left where the file fills its own.
+unsigned char *file_map(const char *path, size_t *length) {
+    int file = file_open(path, length);
+    unsigned char *start = mmap(NULL, *length + BEYOND, PROT_READ, MAP_PRIVATE | MAP_ANONYMOUS, -1, 0);
+    if (start != MAP_FAILED && *length > 0) start = mmap(start, *length, PROT_READ, MAP_PRIVATE | MAP_FIXED, file, 0);
+    if (start == MAP_FAILED) stop("cannot map %s: %s", path, strerror(errno));
+    close(file);
+    return start;
+}
+
+void file_unmap(unsigned char *start, size_t length) { munmap(start, length + BEYOND); }
+
+const int64_t *numbers_read(const char *path, size_t *count) {
+    size_t length;
+    unsigned char *start = file_map(path, &length);
+    if (length == 0 || memchr(start, '\n', length) != start + length - 1) return NULL;
+    words_read(&words, (Line){ start, start + length - 1, true });
+    *count = words.numbers.length;
+    return words.plain ? words.numbers.items : NULL;
+}
+
+// Lines.
+
+static bool is_positive(const int64_t *numbers, size_t count) {
+    int64_t signs = 0;
+    for (size_t k = 0; k < count; k++) signs |= numbers[k];
+    return signs >= 0;
+}
+
+// The sign of a deletion or an import, behind a number. Its place, or NULL.
+static unsigned char *mark_of(unsigned char *at, uint64_t *lead) {
+    unsigned char *start = at;
+    for (*lead = 0; *at >= '0' && *at <= '9' && at - start <= DIGITS; at++) *lead = 10 * *lead + (uint64_t)(*at - '0');
+    bool is_number = at > start && *start != '0' && at - start <= DIGITS;
+    return is_number && at[0] == ' ' && (at[1] == 'd' || at[1] == 'i') && at[2] == ' ' ? at + 1 : NULL;
+}
+
+const char *line_read(Line line, Reading *reading) {
+    unsigned char *mark = mark_of(line.start, &reading->identity);
+    reading->kind = mark ? (char)*mark : 'a';
+    if (mark) line.start = mark + 2;
+    words_read(&words, line);
+    const int64_t *numbers = words.numbers.items;
+    size_t length = words.numbers.length;
+    if (!words.plain || numbers[length - 1] != 0 || words.zeros != (mark ? 1 : 2)) return "spelling";
+    if (!mark && numbers[0] <= 0) return "spelling";
+    if (!mark) reading->identity = (uint64_t)numbers[0];
+    reading->literals = numbers + !mark;
+    reading->length = reading->kind == 'd' ? 0 : words.first_zero - !mark;
+    reading->cited = mark ? numbers : reading->literals + reading->length + 1;
+    reading->count = reading->kind == 'i' ? 0 : (size_t)(numbers + length - 1 - reading->cited);
+    if (!is_positive(reading->cited, reading->count)) return mark ? "spelling" : "rat hint";
+    return reading->length > LITERALS_OF_A_LINE || reading->count > IDENTITIES_OF_A_LINE ? "too long" : NULL;
+}
+
+const int64_t *line_numbers(Line line, size_t *count) {
+    words_read(&words, line);
+    *count = words.numbers.length - 1;
+    return words.numbers.items;
+}
+
+void words_free(void) { words.numbers = (Numbers){ .items = grow(words.numbers.items, 0) }; }
+
+// A record.
+
+const char *record_file(const char *folder, size_t round, const char *kind, uint32_t number) {
+    static char path[LONGEST_PATH];
+    int length = snprintf(path, sizeof path, "%s/round-%zu.%s", folder, round, kind);
+    if (number > 0 && length < LONGEST_PATH) length += snprintf(path + length, sizeof path - (size_t)length, "%u", number);
+    if (length >= LONGEST_PATH) stop("too long a name: %s", folder);
+    return path;
+}
+
+static bool is_there(const char *path) { return access(path, F_OK) == 0; }
+
+// As sha256sum writes it, which puts \ before what has a strange name behind it.
+void record_check(const char *folder, const char *formula) {
+    char path[LONGEST_PATH], kept[DIGEST_DIGITS + 2] = "", found[DIGEST_DIGITS + 1];
+    size_t length = (size_t)snprintf(path, sizeof path, "%s/formula.sha256", folder);
+    int file = length < sizeof path ? open(path, O_RDONLY | O_CLOEXEC) : -1;
+    if (file < 0) return;
+    if (read(file, kept, sizeof kept - 1) < 0) stop("cannot read %s: %s", path, strerror(errno));
+    close(file);
+    file = file_open(formula, &length);
+    digest_file(file, formula, found);
+    close(file);
+    if (strncmp(kept + (kept[0] == '\\'), found, DIGEST_DIGITS) != 0)
+        stop("%s isn't the formula of %s, or was changed since: its digest isn't that of %s", formula, folder, path);
+}
+
+// In round 1 the streams that are there; then as many as the sizes say, or as there were before. Nothing is said where nobody asks for
+// the row, and it stays as before where there are no sizes.
+uint32_t record_streams(const char *folder, size_t round, uint32_t before, Row *row) {
+    if (!is_there(record_file(folder, round, "stream-", 1))) return 0;
+    uint32_t count = round == 1 ? 1 : before;
+    while (round == 1 && count < STREAMS && is_there(record_file(folder, round, "stream-", count + 1))) count++;
+    const char *path = record_file(folder, round, "sizes", 0);
+    if ((round == 1 && !row) || !is_there(path)) return count;
+    size_t length;
+    const int64_t *sizes = numbers_read(path, &length);
+    bool are_sizes = sizes && length == 3 && sizes[0] >= 1 && sizes[0] <= STREAMS;
+    for (size_t k = 1; k < 3 && are_sizes; k++) are_sizes = sizes[k] >= 0 && sizes[k] <= (int64_t)MOST_WORDS;
+    if (!are_sizes) stop("%s: not STREAMS LINES ROOM", path);
+    if (row) *row = (Row){ (uint64_t)sizes[1], (uint64_t)sizes[2] };
+    return round == 1 ? count : (uint32_t)sizes[0];
+}

@@ -1,0 +1,30 @@
+// Unverified: files that are mapped, and the lines of streams in them; for lrup-trim and lrup-explain.
+#ifndef LINES_H
+#define LINES_H
+
+#include "../exact/input.h"
+#include "../exact/row.h"
+
+enum { STREAMS = 64 };                  // lrupd takes no more
+
+typedef struct {
+    char kind;                          // a: addition, d: deletion, i: import
+    uint64_t identity;                  // that it begins with
+    const int64_t *literals, *cited;    // cited by an addition: its hints; by a deletion, what it deletes
+    size_t length, count;
+} Reading;
+
+unsigned char *file_map(const char *path, size_t *length);      // zeros follow
+void file_unmap(unsigned char *start, size_t length);
+void file_check(const char *path);                              // that it can be read more than once
+const int64_t *numbers_read(const char *path, size_t *count);   // of a file of one line; NULL where it is anything else
+const char *line_read(Line line, Reading *reading);             // NULL, or a fault. What was read before is gone
+const int64_t *line_numbers(Line line, size_t *count);          // of a line, or of its end, that was read before, without the last one
+void words_free(void);                  // which are as many as a line had that was read
+
+// Of a record of rounds.
+void record_check(const char *folder, const char *formula);     // that it is of this formula, if its digest is there
+const char *record_file(const char *folder, size_t round, const char *kind, uint32_t number);   // until it is called again
+uint32_t record_streams(const char *folder, size_t round, uint32_t before, Row *row);   // 0: there is no such round
+
+#endif
