@@ -22,6 +22,7 @@ PAGES: Dict[str, int] = {
     "docs/EMITTING.md": 1500,
     "docs/TRUST.md": 1200,
     "docs/ARCHITECTURE.md": 3500,
+    "docs/PROVING.md": 2000,
     "examples/planning/README.md": 300,
     "examples/lemma/README.md": 300,
     "examples/fifo/README.md": 300,
