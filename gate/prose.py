@@ -23,6 +23,7 @@ PAGES: Dict[str, int] = {
     "docs/TRUST.md": 1200,
     "docs/ARCHITECTURE.md": 3500,
     "docs/PROVING.md": 2000,
+    "docs/PROMISES.md": 2200,
     "examples/planning/README.md": 300,
     "examples/lemma/README.md": 300,
     "examples/fifo/README.md": 300,
