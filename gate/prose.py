@@ -22,6 +22,7 @@ PAGES: Dict[str, int] = {
     "docs/FORMAT.md": 600,
     "docs/EMITTING.md": 1500,
     "docs/TRUST.md": 1200,
+    "docs/DECISIONS.md": 4500,
     "examples/planning/README.md": 300,
     "examples/lemma/README.md": 300,
     "examples/fifo/README.md": 300,
