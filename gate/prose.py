@@ -23,6 +23,7 @@ PAGES: Dict[str, int] = {
     "docs/EMITTING.md": 1500,
     "docs/TRUST.md": 1200,
     "docs/DECISIONS.md": 4500,
+    "bench/RESULTS.md": 900,
     "docs/lrupd.1": 550,
     "docs/lrup-chain.1": 250,
     "docs/lrup-exact.1": 800,
