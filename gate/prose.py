@@ -24,6 +24,8 @@ PAGES: Dict[str, int] = {
     "docs/TRUST.md": 1200,
     "docs/DECISIONS.md": 4500,
     "bench/RESULTS.md": 900,
+    **{f"bench/{name}/README.md": 160 for name in ("checkpoint", "filter", "program", "readers", "ring", "row")},
+    "bench/solve/README.md": 220,
     "docs/lrupd.1": 550,
     "docs/lrup-chain.1": 250,
     "docs/lrup-exact.1": 800,
