@@ -23,6 +23,7 @@ PAGES: Dict[str, int] = {
     "docs/EMITTING.md": 1500,
     "docs/TRUST.md": 1200,
     "docs/DECISIONS.md": 4500,
+    "docs/RELATED.md": 1000,
     "bench/RESULTS.md": 900,
     **{f"bench/{name}/README.md": 160 for name in ("checkpoint", "filter", "program", "readers", "ring", "row")},
     "bench/solve/README.md": 220,
