@@ -33,6 +33,7 @@ PAGES: Dict[str, int] = {
     "docs/lrup-explain.1": 500,
     "docs/lrup-solve.1": 1400,
     "docs/lrup-trim.1": 400,
+    "examples/README.md": 600,
     "examples/planning/README.md": 300,
     "examples/lemma/README.md": 300,
     "examples/fifo/README.md": 300,
