@@ -22,6 +22,7 @@ PAGES: Dict[str, int] = {
     "docs/FORMAT.md": 600,
     "docs/EMITTING.md": 1500,
     "docs/TRUST.md": 1200,
+    "CHANGELOG.md": 1500,
     "docs/DECISIONS.md": 4500,
     "docs/RELATED.md": 1000,
     "bench/RESULTS.md": 900,
