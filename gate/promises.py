@@ -40,7 +40,7 @@ def functions(lines: List[str]) -> Iterator[Function]:
         found = re.match(r"( *)(pub )?(?:pub\(\w+\) )?(?:const )?fn (\w+)", line)
         if found:
             end = next((k for k in range(at, len(lines)) if lines[k] in (found[1] + "}", found[1] + "{}") or lines[k].endswith("};")), at)
-            clauses = [match[1] or "" for match in map(re.compile(r" +ensures(?: (\w+))? \{").match, lines[at:end]) if match]
+            clauses = [match[1] or "" for match in map(re.compile(r" +ensures\*?(?: (\w+))? \{").match, lines[at:end + 1]) if match]
             yield Function(holder + found[3], found[2] is not None and lines[end] != "{}", at, end + 1, clauses)
 
 
