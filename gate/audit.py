@@ -10,7 +10,7 @@ It begins at clauses of contracts and follows the names, by the files that bring
 toolchain comes with. Each definition stands there word for word, with the comment above it, after the one that first uses it. It
 fails at a name of which it doesn't know what it stands for, so that no definition is left out; at a name of a library that
 GLOSSES lacks; where a definition or a clause hasn't the words that a text says it has; and where README's guarantee, or the
-theorem of PROOFS, lacks a phrase that is said to be one of it.
+theorem of theorems.txt, lacks a phrase that is said to be one of it.
 
 audit_sources.py reads the sources, and audit_texts.py has the English.
 """
@@ -152,7 +152,7 @@ def phrase_by_phrase(said: str, rows: Rows) -> Tuple[str, str]:
     """A sentence, and its phrases, each with what carries it."""
     for phrase, _ in rows:
         if phrase not in said:
-            sys.exit(f"audit: README and PROOFS don't say '{phrase}' in '{said}'")
+            sys.exit(f"audit: README and theorems.txt don't say '{phrase}' in '{said}'")
     quoted = f"> {said[0].upper()}{said[1:].removesuffix('.')}."
     return quoted, "\n".join(f"- **{phrase}**: {text}" for phrase, text in rows)
 
@@ -178,7 +178,7 @@ def audit_page() -> Tuple[Page, List[Definition]]:
     placed: Dict[Key, Thing] = {}
     first = top_down(by_mention(command.named_by(["sound"]) + [rust_type("command", "Files")], sound[1]), placed)
     more = top_down(by_mention(command.named_by(["sound_under"]), under[1]), placed)
-    chained = phrase_by_phrase(sentence("docs/PROOFS.md", "Runs can be chained."), english.CHECKPOINT_PHRASES)
+    chained = phrase_by_phrase(sentence("gate/theorems.txt", "Runs can be chained."), english.CHECKPOINT_PHRASES)
     kept = [rust_type("command", "Machine"), rust_type("lrup_text", "Sink")]
     laws = [Law(f"checkpoint/src/laws.rt: {name}") for name in "files_refute files_refute_under".split()]
     linked = [thing for thing in closure(command.named_by(["saved"])) if thing.name in english.LINKED]
@@ -218,7 +218,7 @@ class Runs:
         self.store_laws, self.group_laws = laws(english.STORE_LAWS), laws(english.GROUP_LAWS)
         self.right_laws, self.program_laws = laws(english.RIGHT_LAWS), laws(english.PROGRAM_LAWS)
         self.ends = Contract("command/src/program.rt: command", ["ends"], commented=False)
-        self.texts = [phrase_by_phrase(sentence("docs/PROOFS.md", mark), rows) for mark, rows in english.RUNS_PASSAGES]
+        self.texts = [phrase_by_phrase(sentence("gate/theorems.txt", mark), rows) for mark, rows in english.RUNS_PASSAGES]
 
     def linked(self, placed: Dict[Key, Thing]) -> List[Thing]:
         """The things of the program and its laws to which the page links in the sources."""

@@ -240,7 +240,7 @@ RUNS_TOP = f"""# What there is to believe: whole runs
 
 {MADE}
 
-Five passages of [PROOFS](PROOFS.md#what-is-proved) on whole runs: of each phrase the clause, the law and the definition that carry it;
+Five theorems on whole runs, of those that [TRUST](TRUST.md#the-five-theorems) has in plain words: of each phrase the clause, the law and the definition that carry it;
 then the contracts, the laws, and all definitions under them, each after one that uses it. What stands on [AUDIT](AUDIT.md) isn't
 repeated but for `Source`, which has more members here: formulas, assignments, clauses and literals, [how to read it](AUDIT.md#how-to-read-it), and
 [what one has to trust](AUDIT.md#what-one-has-to-trust).

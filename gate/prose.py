@@ -18,6 +18,7 @@ MOST_IN_SENTENCE, MOST_IN_PARAGRAPH = 30, 90
 # The most words of each page.
 PAGES: Dict[str, int] = {
     "README.md": 700,
+    "CONTRIBUTING.md": 1200,
     "docs/USING.md": 2500,
     "docs/FORMAT.md": 600,
     "docs/EMITTING.md": 1500,
@@ -35,6 +36,9 @@ PAGES: Dict[str, int] = {
     "docs/lrup-solve.1": 1300,
     "docs/lrup-trim.1": 380,
     "examples/README.md": 600,
+    "docs/ARCHITECTURE.md": 3500,
+    "docs/PROVING.md": 2000,
+    "docs/PROMISES.md": 2200,
     "examples/planning/README.md": 300,
     "examples/lemma/README.md": 300,
     "examples/fifo/README.md": 300,
