@@ -24,6 +24,7 @@ PAGES: Dict[str, int] = {
     "examples/planning/README.md": 300,
     "examples/lemma/README.md": 300,
     "examples/fifo/README.md": 300,
+    **{str(path.relative_to(ROOT)): 700 for path in sorted(ROOT.glob("crates/*/specs/README.md"))},
 }
 SIGNS = [r"(?:^|[.,;:(] )where\b", r"\bof (?:them|it|these|those|which)\b", r"\bbut for\b", r"\bby turns\b", r"\bmostly\b"]
 
