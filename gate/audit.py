@@ -1,6 +1,6 @@
 #!/usr/bin/env python3
-"""Writes docs/AUDIT.md, what you have to read to believe status 0 and 8 and checkpoints, and docs/THEOREMS.md, the theorems on whole
-runs, sentence by sentence.
+"""Writes docs/AUDIT.md, what you have to read to believe status 0 and 8 and checkpoints, and docs/THEOREMS.md, the theorems on
+whole runs, sentence by sentence.
 
     python3 gate/audit.py                  writes both pages
     python3 gate/audit.py --definitions    writes out/definitions.md, all definitions under the theorems
@@ -10,8 +10,8 @@ runs, sentence by sentence.
 It begins at clauses of contracts and follows the names, by the files that bring them in, down to the libraries that the
 toolchain comes with. Each definition stands there word for word, with the comment above it, after the one that first uses it. It
 fails at a name of which it doesn't know what it stands for, so that no definition is left out; at a name of a library that
-GLOSSES lacks; if a definition or a clause hasn't the words that a text says it has; if README's guarantee lacks a phrase that is said
-to be one of it; and if a page is longer than it may be.
+GLOSSES lacks; if a definition or a clause hasn't the words that a text says it has; if README's guarantee lacks a phrase, or TRUST a
+theorem, that a page has; and if a page is longer than it may be.
 
 audit_sources.py reads the sources, and audit_texts.py has the English.
 """
@@ -208,12 +208,14 @@ def audit_page() -> Tuple[Page, List[Definition]]:
     crates = ", ".join(f"{count} of `{crate}`" for crate, count in by_crate(definitions_of(first)))
     count = english.STATUS_0_COUNT.replace("{count}", str(len(definitions_of(first)))).replace("{crates}", crates)
     return Page("AUDIT.md", [
-        english.AUDIT_TOP, english.AUDIT_HOW.replace("{twins}", twins(things)), english.STATUS_0, sound[0], english.SIGNATURE, command,
-        sound[1], english.ACCOUNT, count, *first, english.STATUS_8_TOP, *under, *more,
+        english.AUDIT_TOP, english.AUDIT_HOW.replace("{twins}", twins(things)),
+        english.STATUS_0, sound[0], english.SIGNATURE, command, sound[1], english.ACCOUNT, count, *first,
+        english.STATUS_8_TOP, *under, *more,
         english.CHECKPOINTS_TOP, chained, english.CHECKPOINTS_ACCOUNT, *last,
         english.AUDIT_LIBRARIES, libraries(things, []), english.TRUST], cited=[
             arguments, check, Law("command_line/src/laws.rt: plain_words"), Law("dimacs/src/laws.rt: one_formula"),
-            Law("outcome_laws/src/laws.rt: outcomes_refute"), Law("outcome_laws/src/laws.rt: outcomes_refute_under"), *laws, *linked,
+            Law("outcome_laws/src/laws.rt: outcomes_refute"), Law("outcome_laws/src/laws.rt: outcomes_refute_under"),
+            *laws, *linked,
         ], last=front()), definitions_of(first)
 
 
@@ -275,7 +277,8 @@ def runs_pages(audit: Page) -> Tuple[Page, Page]:
     below = Contract("stream_threads/src/joining.rt: check_all", ["found"])
     cited = [below, specs("stream_threads", "Jobs").definitions["Finishes"], *linked]
     blocks = [
-        english.DEFINITIONS_TOP, english.RUNS_HOW.replace("{constructors}", constructors(things)).replace("{twins}", twins(things)).strip(),
+        english.DEFINITIONS_TOP,
+        english.RUNS_HOW.replace("{constructors}", constructors(things)).replace("{twins}", twins(things)).strip(),
         english.CONTRACTS, runs.run, runs.serial, english.CALLS, *runs.store, english.ASKED, *runs.traits, *runs.asked,
         english.LAWS, *bare_laws, english.PROGRAM, runs.ends, *runs.program_laws, *definitions,
         english.RUNS_LIBRARIES, libraries(things, [audit])]
@@ -430,8 +433,7 @@ def main(words: Sequence[str]) -> None:
         for page in kept if not words else [definitions]:
             page.path.parent.mkdir(exist_ok=True)
             page.path.write_text(texts[page])
-            each = ", ".join(f"{count} of {crate}" for crate, count in by_crate(definitions_of(page.things)))
-            print(f"{page.path.relative_to(ROOT)}: {len(texts[page].split())} words" + (f", {len(definitions_of(page.things))} definitions: {each}" if each else ""))
+            print(f"{page.path.relative_to(ROOT)}: {len(texts[page].split())} words, {len(definitions_of(page.things))} definitions")
 
 
 if __name__ == "__main__":

@@ -30,10 +30,11 @@ AUDIT_TOP = f"""# What you have to read to believe status 0 and 8
 
 {MADE}
 
-The prover shows that code keeps its contracts. Only a reader can judge whether contracts say the right thing. This page has all
-definitions under status 0, status 8 and checkpoints, down to names of libraries. At each one ask: does it mean what its
+The prover shows that code keeps its contracts. Only a reader can judge whether contracts say the right thing. This page has
+all definitions under status 0, status 8 and checkpoints, down to names of libraries. At each one ask: does it mean what its
 words say? Examples stand with [formulas](../crates/lrup_model/specs/README.md), [texts](../crates/dimacs/specs/README.md),
-[words](../crates/command_line/specs/README.md), [files](../crates/command/specs/README.md). [THEOREMS](THEOREMS.md) has whole runs.
+[words](../crates/command_line/specs/README.md), [files](../crates/command/specs/README.md). [THEOREMS](THEOREMS.md) has whole
+runs.
 
 No clause says that there is an answer: memory may always run out."""
 
@@ -51,7 +52,8 @@ AUDIT_HOW = """## How to read it
 - `List ℕ`; `[]`; `x ∷ xs`; `xs ++ ys`: bytes or numbers; none; x before xs; one list after the other.
 - `Option A`; `None`; `Some x`: an A or nothing.
 - `Bool`; `true`; `false`; `==`; `||`; `not`: tests.
-- `record`; `r.a`; `record { a = x; }`; `record r { a = x; }`: all members hold; the member a of r; just these members; r with another a.
+- `record`; `r.a`; `record { a = x; }`; `record r { a = x; }`: all members hold; the member a of r; just these members; r with
+  another a.
 - `requires`; `ensures`; `result`: what a caller sees to; what holds after the call; its answer.
 - `old`; `new`; `now`: what a reference had before the call; after it; has.
 - `ghost`; `impl`: a member of a trait for contracts alone; after `=` stands what it is if an `impl` gives none.
@@ -59,33 +61,34 @@ AUDIT_HOW = """## How to read it
 - `..`: code that is left out.
 {twins}
 
-Of several equations the first one that fits counts. Contracts see a slice as a list. `command.sound` is the clause `sound` of the contract
-of `command`. Definitions stand word for word, without the prover's `pub` and `abbrev`."""
+Of several equations the first one that fits counts. Contracts see a slice as a list. `command.sound` is the clause `sound` of
+the contract of `command`. Definitions stand word for word, without the prover's `pub` and `abbrev`."""
 
 STATUS_0 = """## Status 0"""
 
-SIGNATURE = """This is [[fn command.sound]], of the whole program except `main`. `words` are those after the program's name. `out` and
-`err` haven't failed before. Threads and clock promise nothing; memory is from `Global`."""
+SIGNATURE = """This is [[fn command.sound]], of the whole program except `main`. `words` are those after the program's name.
+`out` and `err` haven't failed before. Threads and clock promise nothing; memory is from `Global`."""
 
 STATUS_0_PHRASES: Rows = [
     ("ends with status 0", "[[fn command.sound: result ≡ 0 →]]."),
-    ("the bytes that it read", """the `bytes` of [[NameUnsatisfiable: Read first formula_path bytes after]]. `Read` is
-     [[fn command.sound: WasRead F.opens F.Input.Source.reads (F.tells files.old)]]: the first opening was the file's, and its reads gave
-     these bytes, up to one that gave none ([[WasRead]], [[GaveAll]])."""),
-    ("from the formula's file", """[[NameUnsatisfiable: AskFor words formula_path assume]]: the words have no fault, and their FORMULA
-     is this path ([[AskFor]])."""),
-    ("are DIMACS CNF of a formula", """[[NameUnsatisfiable: IsFormulaText bytes formula]], and of no other ([[law one_formula]])."""),
+    ("the bytes that it read", """the `bytes` of [[NameUnsatisfiable: Read first formula_path bytes after]]. `Read` is [[fn
+     command.sound: WasRead F.opens F.Input.Source.reads (F.tells files.old)]]: the first opening was the file's, and its
+     reads gave these bytes, up to one that gave none ([[WasRead]], [[GaveAll]])."""),
+    ("from the formula's file", """[[NameUnsatisfiable: AskFor words formula_path assume]]: the words have no fault, and their
+     FORMULA is this path ([[AskFor]])."""),
+    ("are DIMACS CNF of a formula", """[[NameUnsatisfiable: IsFormulaText bytes formula]], and of no other ([[law
+     one_formula]])."""),
     ("that no assignment satisfies", "[[NameUnsatisfiable: IsUnsatisfiable formula]]."),
 ]
 
-ACCOUNT = """**Which reads?** Whoever hands in the files chooses `opens` and `reads`; [[Files]] and [[Source]] promise that each call
-stands in them. The machine's files tell nothing and allow all, so of such files alone the clause says only that the words have no fault.
-The step to your machine is an argument:
+ACCOUNT = """**Which reads?** Whoever hands in the files chooses `opens` and `reads`; [[Files]] and [[Source]] promise that
+each call stands in them. The machine's files tell nothing and allow all, so of such files alone the clause says only that the
+words have no fault. The step to your machine is an argument:
 
-- `command` hands the bytes that it read to [[fn check_formula]]: [[fn check_formula.sound: result ≡ 0 → (f : Cnf) × IsFormulaText
-  asked.entry.formula.items f × IsUnsatisfiable f]]. One loop is left, `read_all`, which fills their list.
-- Take any run, and files that play its calls back: their `opens` and `reads` hold of the calls in that run alone. `command` knows files only by
-  calls, so it does the same with them, and the clause speaks of the bytes that were read.
+- `command` hands the bytes that it read to [[fn check_formula]]: [[fn check_formula.sound: result ≡ 0 → (f : Cnf) ×
+  IsFormulaText asked.entry.formula.items f × IsUnsatisfiable f]]. One loop is left, `read_all`, which fills their list.
+- Take any run, and files that play its calls back: their `opens` and `reads` hold of the calls in that run alone. `command`
+  knows files only by calls, so it does the same with them, and the clause speaks of the bytes that were read.
 
 **And `--rounds`?** Both clauses speak of FORMULA alone: no file of the folder need be trusted."""
 
@@ -98,50 +101,56 @@ STATUS_8_TOP = """## Status 8"""
 
 STATUS_8_PHRASES: Rows = [
     ("with status 8", "[[fn command.sound_under: result ≡ 8 →]]; formula and file as above."),
-    ("none satisfies it and makes the assumed literals true", """[[NameUnsatisfiableUnder: IsUnsatisfiableUnder formula cube]]. `cube` is
-     their set ([[AreAssumed]]): what the next opening read of the file of `--assume` is its text. Without `--assume` it is empty."""),
+    ("none satisfies it and makes the assumed literals true", """[[NameUnsatisfiableUnder: IsUnsatisfiableUnder formula
+     cube]]. `cube` is their set ([[AreAssumed]]): what the next opening read of the file of `--assume` is its text. Without
+     `--assume` it is empty."""),
 ]
 
 CHECKPOINTS_TOP = """## Checkpoints"""
 
 CHECKPOINT_ROWS: Rows = [
-    ("If a run with a checkpoint ends with status 3 or 8, the saved bytes are a text of a formula over the same variables. All its clauses follow from the run's formula.",
-     """[[fn command.saved: (result ≡ 3) ⊎ (result ≡ 8)]], [[SavesFrom: Save before path saved last × IsCheckpoint formula saved]]. `Save` is
-     [[fn command.saved: WasSaved F.creates F.Output.Sink.written F.keeps]]: a file was created at the path, and it was empty
-     ([[Machine]]); these bytes went to it ([[WasSaved]], [[Sink]]); and it was kept."""),
-    ("The run's formula was read at FORMULA.", """[[SavesFrom: Read first given.formula.now bytes next × IsFormulaText bytes formula]], by
-     what the words say ([[IsCommandLineOf]], [[IsSaidBy]]). Then assumptions were read and streams opened ([[AreOpened]])."""),
-    ("If each run of a chain reads what the one before saved, and the last one ends with status 0, no assignment satisfies the first formula.",
-     """[[AreCheckpoints]] holds of such files, by `command.saved` of each run, and [[IsUnsatisfiableText]] of the last one, by
-     `command.sound`. So [[law files_refute]]; or, of runs without rounds, [[law outcomes_refute]]."""),
-    ("If it ends with status 8, no assignment satisfies the first formula and makes the last run's assumed literals true.", """[[law
-     files_refute_under]], [[law outcomes_refute_under]]."""),
+    ("If a run with a checkpoint ends with status 3 or 8, the saved bytes are a text of a formula over the same variables. "
+     "All its clauses follow from the run's formula.",
+     """[[fn command.saved: (result ≡ 3) ⊎ (result ≡ 8)]], [[SavesFrom: Save before path saved last × IsCheckpoint formula
+     saved]]. `Save` is [[fn command.saved: WasSaved F.creates F.Output.Sink.written F.keeps]]: a file was created at the
+     path, and it was empty ([[Machine]]); these bytes went to it ([[WasSaved]], [[Sink]]); and it was kept."""),
+    ("The run's formula was read at FORMULA.", """[[SavesFrom: Read first given.formula.now bytes next × IsFormulaText bytes
+     formula]], by what the words say ([[IsCommandLineOf]], [[IsSaidBy]]). Then assumptions were read and streams opened
+     ([[AreOpened]])."""),
+    ("If each run of a chain reads what the one before saved, and the last one ends with status 0, no assignment satisfies "
+     "the first formula.",
+     """[[AreCheckpoints]] holds of such files, by `command.saved` of each run, and [[IsUnsatisfiableText]] of the last one,
+     by `command.sound`. So [[law files_refute]]; or, of runs without rounds, [[law outcomes_refute]]."""),
+    ("If it ends with status 8, no assignment satisfies the first formula and makes the last run's assumed literals true.",
+     """[[law files_refute_under]], [[law outcomes_refute_under]]."""),
 ]
 
-CHECKPOINTS_ACCOUNT = """Of the machine's files this is an argument, as with reads. Whoever chains runs trusts that files hold what was written."""
+CHECKPOINTS_ACCOUNT = """Of the machine's files this is an argument, as with reads. Whoever chains runs trusts that files hold
+what was written."""
 
 AUDIT_LIBRARIES = """## What the libraries define
 
-In full: the module of `clap` that is named (`clap.specs.Words` is `rattle/clap/specs/Words.antt`, beside what `rt doc` prints), else
-Rattle's `std`."""
+In full: the module of `clap` that is named (`clap.specs.Words` is `rattle/clap/specs/Words.antt`, beside what `rt doc`
+prints), else Rattle's `std`."""
 
 TRUST = """## What you have to trust
 
-[TRUST](TRUST.md#what-you-trust) has the list. Of this page: `gate/audit.py` left nothing out; the lines above on libraries are right;
-`clap` knows which word is FORMULA. If no word begins with a hyphen, it is the first one ([[law plain_words]]).
+[TRUST](TRUST.md#what-you-trust) has the list. Of this page: `gate/audit.py` left nothing out; the lines above on libraries
+are right; `clap` knows which word is FORMULA. If no word begins with a hyphen, it is the first one ([[law plain_words]]).
 
-[`main`](../crates/lrupd/src/main.rt) has no contract. It hands the machine's files to `command_with_arguments` and returns the status.
-That function has this clause: [[fn command_with_arguments.sound: exit_status result ≡ 0 → IsOkAnd arguments (λ given. NameUnsatisfiable _
-read files.old (words_after_name given))]]. `IsOkAnd`: there are arguments with that property; `words_after_name`: those after the
-first."""
+[`main`](../crates/lrupd/src/main.rt) has no contract. It hands the machine's files to `command_with_arguments` and returns
+the status. That function has this clause: [[fn command_with_arguments.sound: exit_status result ≡ 0 → IsOkAnd arguments (λ
+given. NameUnsatisfiable _ read files.old (words_after_name given))]]. `IsOkAnd`: there are arguments with that property;
+`words_after_name`: those after the first."""
 
 FRONT_FILES = ("front.c", "inputs.h")        # of tools/solve/front
 
 FRONT_TOP = """## The front
 
-Of `lrup-solve` you have to trust these two files of C alone. Ask: does `lrupd` get the formula that was named? Does a line that begins with
-`s UNSATISFIABLE` come from its status alone? Has each clause a literal that the printed assignment makes true? Whatever `lrup-engines` does,
-the worst is a missing answer or `s UNKNOWN`. `tests/lrup_solve_front.py` runs programs in its place that lie and die."""
+Of `lrup-solve` you have to trust these two files of C alone. Ask: does `lrupd` get the formula that was named? Does a line
+that begins with `s UNSATISFIABLE` come from its status alone? Has each clause a literal that the printed assignment makes
+true? Whatever `lrup-engines` does, the worst is a missing answer or `s UNKNOWN`. `tests/lrup_solve_front.py` runs programs in
+its place that lie and die."""
 
 GLOSSES = """
 `AllByRecursion P xs` P of each element
@@ -222,196 +231,215 @@ RUNS_TOP = f"""# The five theorems
 
 {MADE}
 
-What is proved of whole runs. Each theorem begins as on [TRUST](TRUST.md#the-five-theorems). Then come its sentences in full, each with the
-clause, the law or the definition that has it. Names link to the sources.
-`make definitions` writes all contracts, laws and {{count}} definitions under these sentences into `out/definitions.md`, each after one that
-uses it. [AUDIT](AUDIT.md) does the same for status 0, and explains [the notation](AUDIT.md#how-to-read-it); besides, `¬ A` is 'not A', and `2 ^ 64` a power. A law is the contract of a
-function with an empty body, proved like any other.
+What is proved of whole runs. Each theorem begins as on [TRUST](TRUST.md#the-five-theorems). Then come its sentences in full,
+each with the clause, the law or the definition that has it. Names link to the sources. `make definitions` writes all
+contracts, laws and {{count}} definitions under these sentences into `out/definitions.md`, each after one that uses it.
+[AUDIT](AUDIT.md) does the same for status 0, and explains [the notation](AUDIT.md#how-to-read-it); besides, `¬ A` is 'not A',
+and `2 ^ 64` a power. A law is the contract of a function with an empty body, proved like any other.
 
-- **Run**: a call of [[fn run]], with two threads for each stream, or of [[fn run_serial]], on one thread. `lrupd` calls the second one with
-  `--serial`, and either one once in each round.
+- **Run**: a call of [[fn run]], with two threads for each stream, or of [[fn run_serial]], on one thread. `lrupd` calls the
+  second one with `--serial`, and either one once in each round.
 - **Stream**: bytes, and possibly an end ([[Stream]]). A **set** of streams is a test on their numbers, from 1 on.
 - **History**: a list of events ([[Event]]), one for each call of fetch, publish or retire at the store.
-- **Pass**: a stream's place at the store. Contracts see a [[View]]: `seen`, a history; `mine`, the calls made through the pass; `spelt`,
-  the places of clauses, and their literals.
+- **Pass**: a stream's place at the store. Contracts see a [[View]]: `seen`, a history; `mine`, the calls made through the
+  pass; `spelt`, the places of clauses, and their literals.
 - **Terms**: layout, assumed literals and tries, the same for all streams of a run ([[TermsValue]]).
-- A reader may **tell** which bytes it has left. The machine's files don't ([[Source]]). What is said below of readers or files that
-  tell is an argument for the machine's ([Which reads?](AUDIT.md#status-0)).
+- A reader may **tell** which bytes it has left. The machine's files don't ([[Source]]). What is said below of readers or
+  files that tell is an argument for the machine's ([Which reads?](AUDIT.md#status-0)).
 
 {{contents}}"""
 
 HISTORY_TOP = """If [[fn run]] gives reports:"""
 
 HISTORY_ROWS: Rows = [
-    ("All calls at the store stand in one history, each stream's in its own order.", """[[fn run.history]], by [[HaveOneHistory:
-     pass.mine ≡ own history s]] of each stream. `mine` are the calls that were made. A pass begins with none ([[IsOpened: mine :
-     pass.view.mine ≡ []]]), each call adds itself ([[Calls: moves : PassMoves old new (event ∷ [])]], [[PassMoves: mine : new.mine ≡
-     old.mine ++ history]]), and meeting adds none ([[Meets: first : PassMoves old new []]])."""),
-    ("A clause map of one thread gives the same replies to it.", """[[HaveOneHistory: legal : IsLegal formula layout history]]: from the
-     formula's clauses on, each event answers as the map after the events before it ([[LegalFrom: Answers slots event]]). Both sentences
-     are Lamport's *sequential consistency*. An [[Event]] has no moment, so real time is left open: it isn't linearizability."""),
-    ("The replies are those that the calls gave.", """[[fn Store::fetch.calls: events.fetch pass.old.view.caller.stream id reply]] with
-     [[fn Store::fetch.calls: reply = reply_of (pass_place pass.new.view) result]]; [[fn Store::publish.calls: events.publish stream id
-     clause.now result]]; [[fn Store::retire.calls: events.retire stream id result]]."""),
-    ("Each call comes after all that its stream had seen.", """[[PassMoves: seen : (more : History) × (new.seen ≡ old.seen ++ more)]],
-     and the call is the last event of this ([[Calls: last : EndsWith new.seen event]]). In the end each pass has seen the whole history:
-     [[HaveOneHistory: pass.seen ≡ history]]."""),
-    ("Each published clause has an identity that its stream owns, and follows from the formula.", """[[IsAllowed: Owns layout s id ×
-     IsPublishable formula clause]], with [[IsPublishable: follows : Follows formula candidate]]."""),
-    ("No clause changes.", """An entry goes from absent to live to retired ([[law entries_advance]]), with one clause ([[Advances:
-     Advances (live c) (retired d) = d ≡ c]]). A live fetch gives a known clip ([[fn Store::fetch.fetched: IsFetched (pass_place
-     pass.new.view) id result]]), and its literals are the clause's ([[fn Store::literal.value: slice_get (clip_clause (pass_place
-     pass.old.view) clip.now) k ≡ Some result]]; [[fn Store::pair]] gives two). What a fair pass keeps are the history's clauses ([[IsFair: spelt
-     : IsSpelt view.caller.formula view.seen view.spelt]]), and a known clip keeps its clause ([[law known_stays]], [[law pass_tells]])."""),
-    ("Each report is what the rules make of its stream's calls in this history and of its bytes.", """[[fn run.reports]]. The stream is
-     judged by blocks of events, one for each line. Together they are the stream's events ([[AreJudgedIn: own history t ≡ joined blocks]]).
-     Good lines come first, and then what ended the stream ([[JudgesBlocks]]). If memory ran out, events and bytes don't decide the report:
-     any deletion that drops something may have stopped for that ([[StopsDeletion]])."""),
+    ("All calls at the store stand in one history, each stream's in its own order.", """[[fn run.history]], by
+     [[HaveOneHistory: pass.mine ≡ own history s]] of each stream. `mine` are the calls that were made. A pass begins with
+     none ([[IsOpened: mine : pass.view.mine ≡ []]]), each call adds itself ([[Calls: moves : PassMoves old new (event ∷
+     [])]], [[PassMoves: mine : new.mine ≡ old.mine ++ history]]), and meeting adds none ([[Meets: first : PassMoves old new
+     []]])."""),
+    ("A clause map of one thread gives the same replies to it.", """[[HaveOneHistory: legal : IsLegal formula layout
+     history]]: from the formula's clauses on, each event answers as the map after the events before it ([[LegalFrom: Answers
+     slots event]]). Both sentences are Lamport's *sequential consistency*. An [[Event]] has no moment, so real time is left
+     open: it isn't linearizability."""),
+    ("The replies are those that the calls gave.", """[[fn Store::fetch.calls: events.fetch pass.old.view.caller.stream id
+     reply]] with [[fn Store::fetch.calls: reply = reply_of (pass_place pass.new.view) result]]; [[fn Store::publish.calls:
+     events.publish stream id clause.now result]]; [[fn Store::retire.calls: events.retire stream id result]]."""),
+    ("Each call comes after all that its stream had seen.", """[[PassMoves: seen : (more : History) × (new.seen ≡ old.seen ++
+     more)]], and the call is the last event of this ([[Calls: last : EndsWith new.seen event]]). In the end each pass has
+     seen the whole history: [[HaveOneHistory: pass.seen ≡ history]]."""),
+    ("Each published clause has an identity that its stream owns, and follows from the formula.", """[[IsAllowed: Owns layout
+     s id × IsPublishable formula clause]], with [[IsPublishable: follows : Follows formula candidate]]."""),
+    ("No clause changes.", """An entry goes from absent to live to retired ([[law entries_advance]]), with one clause
+     ([[Advances: Advances (live c) (retired d) = d ≡ c]]). A live fetch gives a known clip ([[fn Store::fetch.fetched:
+     IsFetched (pass_place pass.new.view) id result]]), and its literals are the clause's ([[fn Store::literal.value:
+     slice_get (clip_clause (pass_place pass.old.view) clip.now) k ≡ Some result]]; [[fn Store::pair]] gives two). What a fair
+     pass keeps are the history's clauses ([[IsFair: spelt : IsSpelt view.caller.formula view.seen view.spelt]]), and a known
+     clip keeps its clause ([[law known_stays]], [[law pass_tells]])."""),
+    ("Each report is what the rules make of its stream's calls in this history and of its bytes.", """[[fn run.reports]]. The
+     stream is judged by blocks of events, one for each line. Together they are the stream's events ([[AreJudgedIn: own
+     history t ≡ joined blocks]]). Good lines come first, and then what ended the stream ([[JudgesBlocks]]). If memory ran
+     out, events and bytes don't decide the report: any deletion that drops something may have stopped for that
+     ([[StopsDeletion]])."""),
     ("The bytes are those that the reads of the stream gave, up to its end or to a failed read.", """[[fn run.reports]]:
-     [[ReadOut: given : Gave S reads first bytes last]], then [[ReadOut: ends : IsLastRead S reads end last after]]. If the reader tells its
-     bytes, the stream's begin these ([[IsTold]])."""),
-    ("'Unsatisfiable' means that no assignment satisfies the formula; 'unsatisfiable under assumptions', that none makes the assumed literals true besides.",
-     """[[fn run.sound: IsUnsatisfiable formula.now]]; [[fn run.sound_under: IsUnsatisfiableUnder formula.now cube.now]]. The formula is
-     the one of its text ([[fn parse.formula: IfOk result (λ f. IsFormulaText bytes.now f)]]), and so are the literals ([[fn
-     read_cube.cube]])."""),
+     [[ReadOut: given : Gave S reads first bytes last]], then [[ReadOut: ends : IsLastRead S reads end last after]]. If the
+     reader tells its bytes, the stream's begin these ([[IsTold]])."""),
+    ("'Unsatisfiable' means that no assignment satisfies the formula; 'unsatisfiable under assumptions', that none makes the "
+     "assumed literals true besides.",
+     """[[fn run.sound: IsUnsatisfiable formula.now]]; [[fn run.sound_under: IsUnsatisfiableUnder formula.now cube.now]]. The
+     formula is the one of its text ([[fn parse.formula: IfOk result (λ f. IsFormulaText bytes.now f)]]), and so are the
+     literals ([[fn read_cube.cube]])."""),
 ]
 
-HISTORY_ACCOUNT = """What is said of single calls, each call at the store promises, whoever makes it. That the threads made their calls
-through the passes that the run gives back is a clause below `run`: [[fn check_all.found]], [[Finishes: moves : PassMoves jobs.pass.view
-found.pass.view (joined blocks)]]. There is no other way to make or copy a pass: its fields are private."""
+HISTORY_ACCOUNT = """What is said of single calls, each call at the store promises, whoever makes it. That the threads made
+their calls through the passes that the run gives back is a clause below `run`: [[fn check_all.found]], [[Finishes: moves :
+PassMoves jobs.pass.view found.pass.view (joined blocks)]]. There is no other way to make or copy a pass: its fields are
+private."""
 
 ISOLATION_TOP = """[[fn run.isolated]] and [[fn run_serial.isolated]]:"""
 
 ISOLATION_ROWS: Rows = [
-    ("If streams hint and import only clauses of each other and the formula,", """they are a closed set ([[IsClosed]]): [[CiteWithin:
-     AllByRecursion (IsOwnedWithin layout set) (cited_by line)]] of each line. Nobody owns the formula's identities."""),
-    ("their reports are such as they may be if all other streams are empty,", """[[IsGroup: judged : AreJudgedIn terms set history 1
-     streams reports]], by a legal history of events of the set alone ([[IsGroup: members : AllByRecursion (λ event. IsTrue (set (stream_of
-     event))) history]]). [[law others_empty]] puts empty streams in the others' places."""),
+    ("If streams hint and import only clauses of each other and the formula,", """they are a closed set ([[IsClosed]]):
+     [[CiteWithin: AllByRecursion (IsOwnedWithin layout set) (cited_by line)]] of each line. Nobody owns the formula's
+     identities."""),
+    ("their reports are such as they may be if all other streams are empty,", """[[IsGroup: judged : AreJudgedIn terms set
+     history 1 streams reports]], by a legal history of events of the set alone ([[IsGroup: members : AllByRecursion (λ event.
+     IsTrue (set (stream_of event))) history]]). [[law others_empty]] puts empty streams in the others' places."""),
     ("whatever the others are and however the threads ran,", """as [[IsGroup]] speaks of no other stream."""),
     ("unless memory ran out for one of the group.", """[[AreIsolated: NoneOutOfMemory set reports]]."""),
-    ("If one stream is such a group, it has one report with the same formula, options, assumptions and number of streams, unless memory ran out or a read failed.",
+    ("If one stream is such a group, it has one report with the same formula, options, assumptions and number of streams, "
+     "unless memory ran out or a read failed.",
      """A stream of the same bytes and end ([[IsReadingOf]]) has no other report that [[IsReportAlone]] allows ([[law
-     alone_has_one_report]]), and each run's report is such a one. A failed read is another end. [[law same_reading_agrees]] and [[law
-     same_bytes_agree]] say it of two runs. The assumptions have to be the same list."""),
+     alone_has_one_report]]), and each run's report is such a one. A failed read is another end. [[law same_reading_agrees]]
+     and [[law same_bytes_agree]] say it of two runs. The assumptions have to be the same list."""),
 ]
 
 SERIALIZABLE_TOP = """[[fn run.serializable]]. Of all streams [[fn run_serial.ordered]] has it without the premise."""
 
 SERIALIZABLE_ROWS: Rows = [
-    ("Premise: no stream of a closed set retires (deletes for all) a clause that another one found.", """[[FoundStays]]: if a stream of the
-     set found a clause live and doesn't own it, the run's history doesn't leave it retired. [[FindsKept: FindsKept layout final
-     (events.fetch s id (events.live clause)) = ¬ Owns layout s id → ¬ IsRetired (final id)]]."""),
-    ("Then the set's lines have an order", """[[IsOrdered]]: blocks, whose events are a legal history, [[IsOrdered: legal : IsLegal formula
-     terms.layout (events_in blocks)]]. A block has all events of one line: [[AreGood: JudgesLine setting (standing_of setting before) line
-     block Good]], or those of the bad line that ends the stream, [[EndsAfter: (one_block : blocks ≡ block ∷ [])]]."""),
-    ("in which one thread, line after line, gives the same reports.", """[[IsOrdered: judged : AreJudged terms set]], by each stream's
-     blocks in their order ([[IsOrdered: own_blocks ≡ blocks_of t blocks]])."""),
-    ("If that holds of all streams together, an order comes to the same verdict.", """[[IsSerializable: ComeToVerdict terms.cube
-     (events_in order.blocks) reports]]; [[fn run.verdict: outcome.verdict ≡ verdict_of outcome.reports.items]]."""),
+    ("Premise: no stream of a closed set retires (deletes for all) a clause that another one found.", """[[FoundStays]]: if a
+     stream of the set found a clause live and doesn't own it, the run's history doesn't leave it retired. [[FindsKept:
+     FindsKept layout final (events.fetch s id (events.live clause)) = ¬ Owns layout s id → ¬ IsRetired (final id)]]."""),
+    ("Then the set's lines have an order", """[[IsOrdered]]: blocks, whose events are a legal history, [[IsOrdered: legal :
+     IsLegal formula terms.layout (events_in blocks)]]. A block has all events of one line: [[AreGood: JudgesLine setting
+     (standing_of setting before) line block Good]], or those of the bad line that ends the stream, [[EndsAfter: (one_block :
+     blocks ≡ block ∷ [])]]."""),
+    ("in which one thread, line after line, gives the same reports.", """[[IsOrdered: judged : AreJudged terms set]], by each
+     stream's blocks in their order ([[IsOrdered: own_blocks ≡ blocks_of t blocks]])."""),
+    ("If that holds of all streams together, an order comes to the same verdict.", """[[IsSerializable: ComeToVerdict
+     terms.cube (events_in order.blocks) reports]]; [[fn run.verdict: outcome.verdict ≡ verdict_of outcome.reports.items]]."""),
 ]
 
 RIGHT_TOP = """The theorems above speak of the reports that came. These laws say which reports come:"""
 
 RIGHT_ROWS: Rows = [
-    ("A line is right by the formula and the lines before it", """if [[IsRightLine]] holds with the [[Database]] that these lines leave.
-     An addition has an own identity above the last ([[IsRightAddition: above : base.last < id]]), literals over the variables, and room.
-     Its hints have clauses ([[IsRightAddition: named : AllZip (λ hint clause. base.clauses hint ≡ Some clause) hints hinted]]) that show
-     its clause ([[IsRightAddition: shown : Accepts (distinct lits) hinted]]). A deletion names clauses that are there, each once
-     ([[IsRightDeletion: there : AllByRecursion (λ id. IsSome (base.clauses id)) ids]]). An import has the literals of a clause that is there and
-     isn't the stream's own ([[IsRightImport: there : base.clauses id ≡ Some clause]])."""),
-    ("Is that LRAT without RAT?", """This a reader has to judge. [EMITTING](EMITTING.md#what-differs-from-lrat) has the differences."""),
-    ("A stream of right lines is reported as ended, with its lines counted, unless memory ran out or a read failed.", """[[law
-     right_reported]]: if [[IsRightStream: text : bytes ≡ flat_map line_text lines]] are the bytes that the reader tells ([[RightReported:
-     telling.entry ≡ Some bytes]]), then [[RightReported: report ≡ right_report terms s lines]], in each run ([[IsRun]]). Each deletion
-     counts ([[law right_counted]]), and 'empty' is reported just if a line adds the empty clause ([[law right_empty]]). Of a reader that
-     tells nothing, the same follows from the bytes that its reads gave: alone, the stream has this report and no other
-     ([[law right_accepted]], [[law right_has_one_report]])."""),
-    ("If more follows the right lines, the report says at least what these do.", """[[law right_begins]], [[RightBegins: TellsAtLeast report
-     (right_report terms s lines)]], unless memory ran out or a read failed in these lines."""),
+    ("A line is right by the formula and the lines before it", """if [[IsRightLine]] holds with the [[Database]] that these
+     lines leave. An addition has an own identity above the last ([[IsRightAddition: above : base.last < id]]), literals over
+     the variables, and room. Its hints have clauses ([[IsRightAddition: named : AllZip (λ hint clause. base.clauses hint ≡
+     Some clause) hints hinted]]) that show its clause ([[IsRightAddition: shown : Accepts (distinct lits) hinted]]). A
+     deletion names clauses that are there, each once ([[IsRightDeletion: there : AllByRecursion (λ id. IsSome (base.clauses
+     id)) ids]]). An import has the literals of a clause that is there and isn't the stream's own ([[IsRightImport: there :
+     base.clauses id ≡ Some clause]])."""),
+    ("Is that LRAT without RAT?", """This a reader has to judge. [EMITTING](EMITTING.md#what-differs-from-lrat) has the
+     differences."""),
+    ("A stream of right lines is reported as ended, with its lines counted, unless memory ran out or a read failed.",
+     """[[law right_reported]]: if [[IsRightStream: text : bytes ≡ flat_map line_text lines]] are the bytes that the reader
+     tells ([[RightReported: telling.entry ≡ Some bytes]]), then [[RightReported: report ≡ right_report terms s lines]], in
+     each run ([[IsRun]]). Each deletion counts ([[law right_counted]]), and 'empty' is reported just if a line adds the empty
+     clause ([[law right_empty]]). Of a reader that tells nothing, the same follows from the bytes that its reads gave: alone,
+     the stream has this report and no other ([[law right_accepted]], [[law right_has_one_report]])."""),
+    ("If more follows the right lines, the report says at least what these do.", """[[law right_begins]], [[RightBegins:
+     TellsAtLeast report (right_report terms s lines)]], unless memory ran out or a read failed in these lines."""),
     ("If a stream ended and cites and deletes only its own and the formula's clauses, its lines are right.", """[[law
-     ended_is_right]], [[EndedIsRight: (lines : List StreamLine) × IsRightStream f terms.layout s bytes lines]]. The premise on deletions is
-     needed: a checker takes the deletion of what another stream never had."""),
-    ("If lines of several streams have an order in which each is right,", """[[IsRightOrder: right : AreRightTogether layout (λ t.
-     first_database formula layout) steps]]: each stream has a database, and an addition reaches each one ([[beside_line]]);"""),
+     ended_is_right]], [[EndedIsRight: (lines : List StreamLine) × IsRightStream f terms.layout s bytes lines]]. The premise
+     on deletions is needed: a checker takes the deletion of what another stream never had."""),
+    ("If lines of several streams have an order in which each is right,", """[[IsRightOrder: right : AreRightTogether layout
+     (λ t. first_database formula layout) steps]]: each stream has a database, and an addition reaches each one
+     ([[beside_line]]);"""),
     ("each stream is reported so, or stops at a clause of another stream that isn't there yet or was retired.", """[[law
-     right_together]], [[RightTogether: (report ≡ right_report terms s (lines_by s steps)) ⊎ LacksOfAnother (setting_of terms s) report]],
-     with the same exceptions; if more follows, [[law together_begins]]. [[law no_false_blame]] needs no order: it suffices that some
-     legal history judges the streams, and this one ended there."""),
-    ("With `--serial`, if the order takes a line of each stream in turn, none stops.", """[[law right_by_turns]], of orders that are
-     [[IsByTurns]], as [[fn run_serial.ordered]] has them. The bytes decide order and reports ([[law turns_decide]],
+     right_together]], [[RightTogether: (report ≡ right_report terms s (lines_by s steps)) ⊎ LacksOfAnother (setting_of terms
+     s) report]], with the same exceptions; if more follows, [[law together_begins]]. [[law no_false_blame]] needs no order:
+     it suffices that some legal history judges the streams, and this one ended there."""),
+    ("With `--serial`, if the order takes a line of each stream in turn, none stops.", """[[law right_by_turns]], of orders
+     that are [[IsByTurns]], as [[fn run_serial.ordered]] has them. The bytes decide order and reports ([[law turns_decide]],
      [[law bytes_decide]])."""),
-    ("If words, formula and assumptions are accepted, and a stream begins with right lines that add the empty clause, the status is 0.",
-     """[[law right_refutation_says]], by [[AskWell]] and [[AskForRightRefutation]], of all that `command` may do by [[fn command.ends]].
-     If lines of several streams have a right order: [[law right_order_says]], [[law right_turns_say]]. The exceptions are [[IsExcused]]:"""),
-    ("Status 5 or 6, by a fault of the machine, and no report is begun;", """[[IsExcused: no_report : (ends : EndsWithFault files words after out err
-     status) (machine : IsOfMachine ends.fault)]];"""),
-    ("status 3, 8 or 9, and the report says that memory ran out or a read failed in these lines,", """[[IsExcused: lost :]], [[RightRefutationSays:
-     IsCutOffIn (length ask.right.lines)]]. Or, in an order, that another stream's clause lacked ([[IsHeldUp]]). Status 9 comes only with a
-     checkpoint ([[IsOpen]]);"""),
-    ("status 7, and the report that wasn't written says 'unsatisfiable', or that a stream was cut off so.", """[[IsExcused: unwritten :]]. So a bad line of the
-     stream is shown only with status 0, or with 7 and 'unsatisfiable' ([[law no_bad_line_shown]])."""),
+    ("If words, formula and assumptions are accepted, and a stream begins with right lines that add the empty clause, the "
+     "status is 0.",
+     """[[law right_refutation_says]], by [[AskWell]] and [[AskForRightRefutation]], of all that `command` may do by [[fn
+     command.ends]]. If lines of several streams have a right order: [[law right_order_says]], [[law right_turns_say]]. The
+     exceptions are [[IsExcused]]:"""),
+    ("Status 5 or 6, by a fault of the machine, and no report is begun;", """[[IsExcused: no_report : (ends : EndsWithFault
+     files words after out err status) (machine : IsOfMachine ends.fault)]];"""),
+    ("status 3, 8 or 9, and the report says that memory ran out or a read failed in these lines,", """[[IsExcused: lost :]],
+     [[RightRefutationSays: IsCutOffIn (length ask.right.lines)]]. Or, in an order, that another stream's clause lacked
+     ([[IsHeldUp]]). Status 9 comes only with a checkpoint ([[IsOpen]]);"""),
+    ("status 7, and the report that wasn't written says 'unsatisfiable', or that a stream was cut off so.", """[[IsExcused:
+     unwritten :]]. So a bad line of the stream is shown only with status 0, or with 7 and 'unsatisfiable' ([[law
+     no_bad_line_shown]])."""),
 ]
 
-ROUNDS_TOP = """[AUDIT](AUDIT.md#checkpoints) has chains of runs. Of runs with `--rounds` ([[EndsInRounds: asked : rounds_at given ≡ Some folder]])
-[[fn command.ends]] has this:"""
+ROUNDS_TOP = """[AUDIT](AUDIT.md#checkpoints) has chains of runs. Of runs with `--rounds` ([[EndsInRounds: asked : rounds_at
+given ≡ Some folder]]) [[fn command.ends]] has this:"""
 
 ROUNDS_ROWS: Rows = [
     ("A run that gives a report had rounds, one after the other, and the report and the status are the last one's.", """[[ReportsRounds:
-     were : WereRounds files given folder last before]], a list with the last [[Round]] first ([[AreRounds]]); [[ReportsRounds: printed : SinkTook out
-     (last_text (length (last ∷ before)) last.reports last.verdict)]]; [[ReportsRounds: status_is : status ≡ report_status out.failed
-     last.unsaved last.verdict]]."""),
+     were : WereRounds files given folder last before]], a list with the last [[Round]] first ([[AreRounds]]);
+     [[ReportsRounds: printed : SinkTook out (last_text (length (last ∷ before)) last.reports last.verdict)]];
+     [[ReportsRounds: status_is : status ≡ report_status out.failed last.unsaved last.verdict]]."""),
     ("Round 1 has the formula that was read, and the words' streams.", """[[IsFirst: formula_is : round.formula ≡ formula]],
-     [[WereRounds: is_formula : IsFormulaAt files given.formula.now formula next]]; [[IsFirst: opened : StreamsOpened its first paths
-     round.readers round.opened]]."""),
-    ("Each later round has the formula that the round before carried on,", """[[ComesNext: goes_on : CarriesOn its plan number before
-     round.formula]];"""),
-    ("the sizes of its file of sizes, or else those of the round before,", """[[AreSized: (its.lacks before path after × (new ≡
-     old))]], [[AreSized: IsSizesText bytes new]];"""),
-    ("and the files of its number as its streams.", """[[ComesNext: opened : StreamsOpened its sized (stream_paths plan.folder (number
-     + 1) round.sizes.streams) round.readers round.opened]]."""),
-    ("A round carries on just the live clauses that some stream didn't drop.", """[[SavesRound: exactly : CarriesRun its.reading]]:
-     a history judges the round's streams as reported, and [[CarriesRun: carries : CarriesState written result (state formula history)
-     terms.layout (is_wanted dropped) first last]] fetches each identity once, and carries what is live and [[is_wanted]]."""),
-    ("They follow from the round's formula, and their text was saved for the next round, once the round's streams were opened.", """[[SavesRound: carried : IsCheckpointOf
-     round.formula bytes next]], [[IsCheckpointOf: entails : Entails original next]]; [[SavesRound: saved : WasSavedBy its round.opened
-     (formula_path plan.folder (number + 1)) bytes round.after]]."""),
-    ("The streams of each round are checked as those of a single run.", """[[WasChecked]], [[AreChecked]]: with a history, or with
-     `--serial` an order of lines, of its own. Tries, assumed literals and `--serial` stay ([[Plan]])."""),
+     [[WereRounds: is_formula : IsFormulaAt files given.formula.now formula next]]; [[IsFirst: opened : StreamsOpened its
+     first paths round.readers round.opened]]."""),
+    ("Each later round has the formula that the round before carried on,", """[[ComesNext: goes_on : CarriesOn its plan number
+     before round.formula]];"""),
+    ("the sizes of its file of sizes, or else those of the round before,", """[[AreSized: (its.lacks before path after × (new
+     ≡ old))]], [[AreSized: IsSizesText bytes new]];"""),
+    ("and the files of its number as its streams.", """[[ComesNext: opened : StreamsOpened its sized (stream_paths plan.folder
+     (number + 1) round.sizes.streams) round.readers round.opened]]."""),
+    ("A round carries on just the live clauses that some stream didn't drop.", """[[SavesRound: exactly : CarriesRun
+     its.reading]]: a history judges the round's streams as reported, and [[CarriesRun: carries : CarriesState written
+     result]] fetches each identity once, and carries what is live and [[is_wanted]]."""),
+    ("They follow from the round's formula, and their text was saved for the next round, once the round's streams were "
+     "opened.",
+     """[[SavesRound: carried : IsCheckpointOf round.formula bytes next]], [[IsCheckpointOf: entails : Entails original
+     next]]; [[SavesRound: saved : WasSavedBy its round.opened (formula_path plan.folder (number + 1)) bytes round.after]]."""),
+    ("The streams of each round are checked as those of a single run.", """[[WasChecked]], [[AreChecked]]: with a history, or
+     with `--serial` an order of lines, of its own. Tries, assumed literals and `--serial` stay ([[Plan]])."""),
     ("A round is followed by another one only if its verdict is 'unknown', its streams ended, and its formula was saved.",
-     """[[CarriesOn: verdict : round.verdict ≡ Unknown]], [[CarriesOn: ended : HaveEnded round.reports]], [[CarriesOn: unsaved :
-     round.unsaved ≡ None]]."""),
-    ("The last round is barred so, or the next one has no file as its stream 1, or the numbers below 2^64 - 1 are used up.", """[[RoundsEnd]]: [[IsBarred]];
-     or [[RoundsEnd: its.lacks sized (stream_path plan.folder (number + 1) 1) after]]; or [[RoundsEnd: (2 ^ 64 < number + 3)]]."""),
-    ("If there is no report, the cause is one of round 1, or of the round that follows such rounds.", """[[FailsInRound: cause :
-     IsNextCause files.its (plan_at given were.cube folder) (length (last ∷ before)) last fault]]: of its sizes ([[IsSizesCause]]), its
-     streams, or their start ([[IsStartCause]]). The text names the round ([[FailsInRound: said : SinkTook err (round_error_text
-     (length (last ∷ before) + 1) fault)]])."""),
-    ("Nothing more was done to the files then, except that a created file was discarded.", """Each cause has the files after it; for
-     the exception [[IsLeftUnused]]."""),
-    ("Premise: all streams of each round before the last are right, alone or by an order. In the last one a stream begins with right lines that add the empty clause.",
+     """[[CarriesOn: verdict : round.verdict ≡ Unknown]], [[CarriesOn: ended : HaveEnded round.reports]], [[CarriesOn: unsaved
+     : round.unsaved ≡ None]]."""),
+    ("The last round is barred so, or the next one has no file as its stream 1, or the numbers below 2^64 - 1 are used up.",
+     """[[RoundsEnd]]: [[IsBarred]]; or [[RoundsEnd: its.lacks sized (stream_path plan.folder (number + 1) 1) after]]; or
+     [[RoundsEnd: (2 ^ 64 < number + 3)]]."""),
+    ("If there is no report, the cause is one of round 1, or of the round that follows such rounds.", """[[FailsInRound: cause
+     : IsNextCause files.its (plan_at given were.cube folder) (length (last ∷ before)) last fault]]: of its sizes
+     ([[IsSizesCause]]), its streams, or their start ([[IsStartCause]]). The text names the round ([[FailsInRound: said :
+     SinkTook err (round_error_text (length (last ∷ before) + 1) fault)]])."""),
+    ("Nothing more was done to the files then, except that a created file was discarded.", """Each cause has the files after
+     it; for the exception [[IsLeftUnused]]."""),
+    ("Premise: all streams of each round before the last are right, alone or by an order. In the last one a stream begins "
+     "with right lines that add the empty clause.",
      """[[AskForRightRounds]]."""),
-    ("Then the status is 0.", """[[law right_rounds_say]], [[law right_orders_say]] and, with `--serial`, [[law right_turn_rounds_say]].
-     The exceptions are [[IsExcusedInRounds]]: those of a single run, and [[FallsShort]]. Status 9 comes if a formula wasn't saved, 8 if literals
-     are assumed, 3 if a stream was cut off or, in an order, lacked another one's clause. The report says which, printed or not (7)."""),
+    ("Then the status is 0.", """[[law right_rounds_say]], [[law right_orders_say]] and, with `--serial`, [[law
+     right_turn_rounds_say]]. The exceptions are [[IsExcusedInRounds]]: those of a single run, and [[FallsShort]]. Status 9
+     comes if a formula wasn't saved, 8 if literals are assumed, 3 if a stream was cut off or, in an order, lacked another
+     one's clause. The report says which, printed or not (7)."""),
 ]
 
 RUNS_HOW = """## How to read it
 
 As [on AUDIT](AUDIT.md#how-to-read-it); and besides:
 
-- **Signs.** `¬ A` is 'not A', `≢` 'is not', `m - n` is 0 if n is greater, `m / n` is rounded down, `m % n` the remainder, `m ^ n` a power, `&&` is 'and' of tests.
-  `(x y : A)` are two; `r.0` and `r.1` the parts of a pair. A `data` is one of its cases, with what that case takes.
-  `elim x [ | p ↦ a | q ↦ b ]` is a if x is p, and b if it is q. `R.left` is the
-  member `left` of the trait for the type R. Contracts see a slice or a `Vec` as a list (`v.items`), a `u64` and an `Id` as ℕ, a
+- **Signs.** `¬ A` is 'not A', `≢` 'is not', `m - n` is 0 if n is greater, `m / n` is rounded down, `m % n` the remainder, `m
+  ^ n` a power, `&&` is 'and' of tests. `(x y : A)` are two; `r.0` and `r.1` the parts of a pair. A `data` is one of its
+  cases, with what that case takes. `elim x [ | p ↦ a | q ↦ b ]` is a if x is p, and b if it is q. `R.left` is the member
+  `left` of the trait for the type R. Contracts see a slice or a `Vec` as a list (`v.items`), a `u64` and an `Id` as ℕ, a
   `Lit` as ℤ. A type that they see as something else they know by that alone, whatever its members are.
 {constructors}
 {twins}"""
 
 DEFINITIONS_TOP = """# The definitions under the five theorems
 
-Made from the sources by `make definitions`: the contracts, laws and definitions of [THEOREMS](THEOREMS.md), each after one that uses it.
-[AUDIT](AUDIT.md) has those on formulas, assignments, clauses and literals.
+Made from the sources by `make definitions`: the contracts, laws and definitions of [THEOREMS](THEOREMS.md), each after one
+that uses it. [AUDIT](AUDIT.md) has those on formulas, assignments, clauses and literals.
 
 {contents}"""
 
@@ -423,7 +451,8 @@ turn, and the rest ask, and change nothing."""
 ASKED = """A gate is called before each fetch and after each publish, and may hold a thread there; it promises nothing."""
 
 STORE_LAWS = [f"lrup_model/src/laws.rt: {name}" for name in "entries_advance known_stays pass_tells".split()]
-GROUP_LAWS = [f"run_laws/src/groups.rt: {name}" for name in "others_empty alone_has_one_report same_reading_agrees same_bytes_agree".split()]
+GROUP_LAWS = [f"run_laws/src/groups.rt: {name}" for name in """others_empty alone_has_one_report same_reading_agrees
+    same_bytes_agree""".split()]
 RIGHT_LAWS = [f"run_laws/src/right.rt: {name}" for name in """right_reported right_accepted right_has_one_report right_counted
     right_empty right_begins right_cite_within ended_is_right right_together together_begins no_false_blame""".split()] + [
     f"run_laws/src/turns.rt: {name}" for name in "right_by_turns turns_decide bytes_decide".split()]
@@ -432,8 +461,8 @@ PROGRAM_LAWS = [f"outcome_laws/src/laws.rt: {name}" for name in """right_refutat
 
 LAWS = """## The laws"""
 
-PROGRAM = """And of the program. [AUDIT](AUDIT.md) has the other clauses of `command`. Outcomes, causes and what goes out are linked to in the
-sources, except those of rounds."""
+PROGRAM = """And of the program. [AUDIT](AUDIT.md) has the other clauses of `command`. Outcomes, causes and what goes out are
+linked to in the sources, except those of rounds."""
 
 RUNS_LIBRARIES = """## What the libraries define
 
