@@ -298,15 +298,16 @@ private."""
 ISOLATION_TOP = """[[fn run.isolated]] and [[fn run_serial.isolated]]:"""
 
 ISOLATION_ROWS: Rows = [
-    ("If streams hint and import only clauses of each other and the formula,", """they are a closed set ([[IsClosed]]):
+    ("Streams are a closed set if they hint and import only clauses of each other and the formula.", """[[IsClosed]]:
      [[CiteWithin: AllByRecursion (IsOwnedWithin layout set) (cited_by line)]] of each line. Nobody owns the formula's
      identities."""),
-    ("their reports are such as they may be if all other streams are empty,", """[[IsGroup: judged : AreJudgedIn terms set
-     history 1 streams reports]], by a legal history of events of the set alone ([[IsGroup: members : AllByRecursion (λ event.
-     IsTrue (set (stream_of event))) history]]). [[law others_empty]] puts empty streams in the others' places."""),
-    ("whatever the others are and however the threads ran,", """as [[IsGroup]] speaks of no other stream."""),
-    ("unless memory ran out for one of the group.", """[[AreIsolated: NoneOutOfMemory set reports]]."""),
-    ("If one stream is such a group, it has one report with the same formula, options, assumptions and number of streams, "
+    ("The reports of a closed set are such as they may be if all other streams are empty.", """[[IsGroup: judged : AreJudgedIn
+     terms set history 1 streams reports]], by a legal history with events of the set alone, [[IsGroup: members :
+     AllByRecursion (λ event. IsTrue (set (stream_of event))) history]]. [[law others_empty]] puts empty streams in the
+     others' places."""),
+    ("That holds whatever the others are and however the threads ran, unless memory ran out for one of the set.", """[[IsGroup]]
+     speaks of no other stream; [[AreIsolated: NoneOutOfMemory set reports]]."""),
+    ("If one stream is a closed set, it has one report with the same formula, options, assumptions and number of streams, "
      "unless memory ran out or a read failed.",
      """A stream of the same bytes and end ([[IsReadingOf]]) has no other report that [[IsReportAlone]] allows ([[law
      alone_has_one_report]]), and each run's report is such a one. A failed read is another end. [[law same_reading_agrees]]
@@ -319,20 +320,20 @@ SERIALIZABLE_ROWS: Rows = [
     ("Premise: no stream of a closed set retires (deletes for all) a clause that another one found.", """[[FoundStays]]: if a
      stream of the set found a clause live and doesn't own it, the run's history doesn't leave it retired. [[FindsKept:
      FindsKept layout final (events.fetch s id (events.live clause)) = ¬ Owns layout s id → ¬ IsRetired (final id)]]."""),
-    ("Then the set's lines have an order", """[[IsOrdered]]: blocks, whose events are a legal history, [[IsOrdered: legal :
+    ("Then the set's lines have an order.", """[[IsOrdered]]: blocks, whose events are a legal history, [[IsOrdered: legal :
      IsLegal formula terms.layout (events_in blocks)]]. A block has all events of one line: [[AreGood: JudgesLine setting
      (standing_of setting before) line block Good]], or those of the bad line that ends the stream, [[EndsAfter: (one_block :
      blocks ≡ block ∷ [])]]."""),
-    ("in which one thread, line after line, gives the same reports.", """[[IsOrdered: judged : AreJudged terms set]], by each
-     stream's blocks in their order ([[IsOrdered: own_blocks ≡ blocks_of t blocks]])."""),
-    ("If that holds of all streams together, an order comes to the same verdict.", """[[IsSerializable: ComeToVerdict
+    ("In this order one thread, line after line, gives the same reports.", """[[IsOrdered: judged : AreJudged terms set]], by
+     each stream's blocks in their order, [[IsOrdered: own_blocks ≡ blocks_of t blocks]]."""),
+    ("If the premise holds of all streams together, an order comes to the same verdict.", """[[IsSerializable: ComeToVerdict
      terms.cube (events_in order.blocks) reports]]; [[fn run.verdict: outcome.verdict ≡ verdict_of outcome.reports.items]]."""),
 ]
 
 RIGHT_TOP = """The theorems above speak of the reports that came. These laws say which reports come:"""
 
 RIGHT_ROWS: Rows = [
-    ("A line is right by the formula and the lines before it", """if [[IsRightLine]] holds with the [[Database]] that these
+    ("A line is right by the formula and the lines before it.", """[[IsRightLine]] holds with the [[Database]] that these
      lines leave. An addition has an own identity above the last ([[IsRightAddition: above : base.last < id]]), literals over
      the variables, and room. Its hints have clauses ([[IsRightAddition: named : AllZip (λ hint clause. base.clauses hint ≡
      Some clause) hints hinted]]) that show its clause ([[IsRightAddition: shown : Accepts (distinct lits) hinted]]). A
@@ -352,29 +353,30 @@ RIGHT_ROWS: Rows = [
     ("If a stream ended and cites and deletes only its own and the formula's clauses, its lines are right.", """[[law
      ended_is_right]], [[EndedIsRight: (lines : List StreamLine) × IsRightStream f terms.layout s bytes lines]]. The premise
      on deletions is needed: a checker takes the deletion of what another stream never had."""),
-    ("If lines of several streams have an order in which each is right,", """[[IsRightOrder: right : AreRightTogether layout
-     (λ t. first_database formula layout) steps]]: each stream has a database, and an addition reaches each one
-     ([[beside_line]]);"""),
-    ("each stream is reported so, or stops at a clause of another stream that isn't there yet or was retired.", """[[law
-     right_together]], [[RightTogether: (report ≡ right_report terms s (lines_by s steps)) ⊎ LacksOfAnother (setting_of terms
-     s) report]], with the same exceptions; if more follows, [[law together_begins]]. [[law no_false_blame]] needs no order:
-     it suffices that some legal history judges the streams, and this one ended there."""),
+    ("If lines of several streams have an order in which each is right, each stream is reported so. Or it stops at another "
+     "stream's clause that isn't there yet or was retired.",
+     """[[law right_together]]. The premise is [[IsRightOrder: right : AreRightTogether layout (λ t. first_database formula
+     layout) steps]]: each stream has a database, and an addition reaches each one ([[beside_line]]). The conclusion is
+     [[RightTogether: (report ≡ right_report terms s (lines_by s steps)) ⊎ LacksOfAnother (setting_of terms s) report]], with
+     the same exceptions. If more follows: [[law together_begins]]. [[law no_false_blame]] needs no order: it suffices that
+     some legal history judges the streams, and this one ended there."""),
     ("With `--serial`, if the order takes a line of each stream in turn, none stops.", """[[law right_by_turns]], of orders
-     that are [[IsByTurns]], as [[fn run_serial.ordered]] has them. The bytes decide order and reports ([[law turns_decide]],
-     [[law bytes_decide]])."""),
+     that are [[IsByTurns]], as [[fn run_serial.ordered]] has them: if nothing follows the lines ([[RightByTurns:
+     HaveJustTexts steps told]]), memory suffices and no read fails ([[RightByTurns: NoneCutShort reports]]). The bytes decide
+     order and reports ([[law turns_decide]], [[law bytes_decide]])."""),
     ("If words, formula and assumptions are accepted, and a stream begins with right lines that add the empty clause, the "
      "status is 0.",
-     """[[law right_refutation_says]], by [[AskWell]] and [[AskForRightRefutation]], of all that `command` may do by [[fn
-     command.ends]]. If lines of several streams have a right order: [[law right_order_says]], [[law right_turns_say]]. The
-     exceptions are [[IsExcused]]:"""),
-    ("Status 5 or 6, by a fault of the machine, and no report is begun;", """[[IsExcused: no_report : (ends : EndsWithFault
-     files words after out err status) (machine : IsOfMachine ends.fault)]];"""),
-    ("status 3, 8 or 9, and the report says that memory ran out or a read failed in these lines,", """[[IsExcused: lost :]],
-     [[RightRefutationSays: IsCutOffIn (length ask.right.lines)]]. Or, in an order, that another stream's clause lacked
-     ([[IsHeldUp]]). Status 9 comes only with a checkpoint ([[IsOpen]]);"""),
-    ("status 7, and the report that wasn't written says 'unsatisfiable', or that a stream was cut off so.", """[[IsExcused:
-     unwritten :]]. So a bad line of the stream is shown only with status 0, or with 7 and 'unsatisfiable' ([[law
-     no_bad_line_shown]])."""),
+     """[[law right_refutation_says]], of files that tell ([[AskWell]], [[AskForRightRefutation: tells : files.tells path ≡
+     Some bytes]]) and of all that `command` may do by [[fn command.ends]]. If lines of several streams have a right order:
+     [[law right_order_says]], [[law right_turns_say]]. [[IsExcused]] has the exceptions."""),
+    ("Exception: by a fault of the machine the status is 5 or 6, and no report is begun.", """[[IsExcused: no_report : (ends :
+     EndsWithFault files words after out err status) (machine : IsOfMachine ends.fault)]]."""),
+    ("Exception: if memory ran out or a read failed in these lines, the report says so, and the status is 3, 8 or 9.",
+     """[[IsExcused: lost :]], [[RightRefutationSays: IsCutOffIn (length ask.right.lines)]]; or, in an order, another stream's
+     clause lacked ([[IsHeldUp]]). Status 9 comes only with a checkpoint ([[IsOpen]])."""),
+    ("Exception: if the report can't be written, the status is 7.", """[[IsExcused: unwritten :]]: the report says
+     'unsatisfiable', or what the exception before has. So a bad line of the stream is shown only with status 0, or with 7 and
+     'unsatisfiable' ([[law no_bad_line_shown]])."""),
 ]
 
 ROUNDS_TOP = """[AUDIT](AUDIT.md#checkpoints) has chains of runs. Of runs with `--rounds` ([[EndsInRounds: asked : rounds_at
@@ -388,11 +390,11 @@ ROUNDS_ROWS: Rows = [
     ("Round 1 has the formula that was read, and the words' streams.", """[[IsFirst: formula_is : round.formula ≡ formula]],
      [[WereRounds: is_formula : IsFormulaAt files given.formula.now formula next]]; [[IsFirst: opened : StreamsOpened its
      first paths round.readers round.opened]]."""),
-    ("Each later round has the formula that the round before carried on,", """[[ComesNext: goes_on : CarriesOn its plan number
-     before round.formula]];"""),
-    ("the sizes of its file of sizes, or else those of the round before,", """[[AreSized: (its.lacks before path after × (new
-     ≡ old))]], [[AreSized: IsSizesText bytes new]];"""),
-    ("and the files of its number as its streams.", """[[ComesNext: opened : StreamsOpened its sized (stream_paths plan.folder
+    ("Each later round has the formula that the round before carried on.", """[[ComesNext: goes_on : CarriesOn its plan number
+     before round.formula]]."""),
+    ("It has the sizes of its file of sizes, or else those of the round before.", """[[AreSized: (its.lacks before path after
+     × (new ≡ old))]], [[AreSized: IsSizesText bytes new]]."""),
+    ("Its streams are the files of its number.", """[[ComesNext: opened : StreamsOpened its sized (stream_paths plan.folder
      (number + 1) round.sizes.streams) round.readers round.opened]]."""),
     ("A round carries on just the live clauses that some stream didn't drop.", """[[SavesRound: exactly : CarriesRun
      its.reading]]: a history judges the round's streams as reported, and [[CarriesRun: carries : CarriesState written
