@@ -334,12 +334,10 @@ RIGHT_TOP = """The theorems above speak of the reports that came. These laws say
 
 RIGHT_ROWS: Rows = [
     ("A line is right by the formula and the lines before it.", """[[IsRightLine]] holds with the [[Database]] that these
-     lines leave. An addition has an own identity above the last ([[IsRightAddition: above : base.last < id]]), literals over
-     the variables, and room. Its hints have clauses ([[IsRightAddition: named : AllZip (λ hint clause. base.clauses hint ≡
-     Some clause) hints hinted]]) that show its clause ([[IsRightAddition: shown : Accepts (distinct lits) hinted]]). A
-     deletion names clauses that are there, each once ([[IsRightDeletion: there : AllByRecursion (λ id. IsSome (base.clauses
-     id)) ids]]). An import has the literals of a clause that is there and isn't the stream's own ([[IsRightImport: there :
-     base.clauses id ≡ Some clause]])."""),
+     lines leave. An addition has an own identity above the last one, literals over the variables, and room. Its hints name
+     clauses that are there, and these show its clause ([[Accepts]]). A deletion names clauses that are there, each once
+     ([[IsRightDeletion: there : AllByRecursion (λ id. IsSome (base.clauses id)) ids]]). An import has the literals of a
+     clause that is there and isn't the stream's own ([[IsRightImport: there : base.clauses id ≡ Some clause]])."""),
     ("Is that LRAT without RAT?", """This a reader has to judge. [EMITTING](EMITTING.md#what-differs-from-lrat) has the
      differences."""),
     ("A stream of right lines is reported as ended, with its lines counted, unless memory ran out or a read failed.",
