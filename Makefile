@@ -30,8 +30,8 @@ STREAMS ?= $(addprefix examples/bmc-four.,1 2 3 4)
 OPTIONS ?= --tries 1000000
 
 .PHONY: run build install examples live checkpoints rounds demo solver exact trim explain solve solver-test filter-test trim-test
-.PHONY: explain-test solve-test neighbours sweep leaks instructions audit definitions tables pages test toolchain c-and-python libcadical beside-it
-.PHONY: mpicxx help try deb dist quick edits packages warnings builds shown
+.PHONY: explain-test solve-test neighbours sweep leaks instructions audit definitions promises tables pages test toolchain c-and-python
+.PHONY: libcadical beside-it mpicxx help try deb dist quick edits packages warnings builds shown
 
 help:
 	@awk -f gate/help.awk $(firstword $(MAKEFILE_LIST))
@@ -221,6 +221,10 @@ audit: ## check: write docs/AUDIT.md and docs/THEOREMS.md anew from the sources
 definitions: ## check: write out/definitions.md, all contracts and definitions under the theorems
 	@python3 gate/audit.py --definitions
 
+# A list that docs/PROMISES.md has in words.
+promises: ## check: list what each function of CRATE=name, or of all crates, promises, and the edits that turn it
+	@python3 gate/promises.py $(CRATE)
+
 # Of docs/interface.txt, and of what --help says.
 tables: ## check: write the tables of USING and lrupd.1 anew
 	@python3 gate/tables.py
@@ -233,6 +237,7 @@ pages: c-and-python ## check: the documents, against the sources and each other;
 	@python3 gate/tables.py --check
 	@python3 gate/style.py
 	@python3 gate/prose.py
+	@python3 gate/promises.py > /dev/null
 
 # With dpkg-deb and dpkg-dev.
 deb: ## use: a Debian package of what make install installs, with the pages for users and the examples, in out/

@@ -5,7 +5,7 @@
 
 It lists names in backticks, in the documents, that don't exist; lines of clauses and of definitions beyond 100 columns, and of
 proofs beyond 140; lemmas that are stated twice; names that mean one thing in one crate and another in another; where the picture of
-the crates isn't what crates.txt says; targets of the Makefile that CONTRIBUTING doesn't list as `make help` does; links in the
+the crates isn't what crates.txt says; targets of the Makefile that `make help` doesn't list; links in the
 documents that lead nowhere; edits that the gate leaves out, and that don't fit their sources; whether the logic of README is the one of the `rt` on the
 PATH, if there is one; and whether `lrupd --version` says what the file VERSION does. The last line has the counts, and the status
 is 1 where one of them isn't 0.
@@ -213,27 +213,18 @@ def wrong_arrows():
             yield f"{shown(page)}: the picture {what} {crate} --> {name}"
 
 
-# The Makefile's lines in CONTRIBUTING.
+# The Makefile's targets.
 
 UNLISTED = {"help", "toolchain", "c-and-python", "libcadical", "mpicxx", "beside-it"}
 
 
 def unlisted_targets():
-    """Those that `make help` leaves out, and its lines that CONTRIBUTING hasn't, or has beyond them."""
+    """Those that `make help` leaves out."""
     words = ["make", "-s", "--no-print-directory", "help"]
     says = subprocess.run(words, cwd=ROOT, capture_output=True, text=True, check=True).stdout
     for name in re.findall(r"^([a-z-]+):(?! [A-Z]+ :=)", (ROOT / "Makefile").read_text(), re.M):
         if name not in UNLISTED and f"  make {name} " not in says:
             yield f"Makefile: make help says nothing of {name}: its line lacks ' ## KIND: WHAT IT DOES'"
-    page = ROOT / "CONTRIBUTING.md"
-    block = re.search(r"^    \$ make help\n((?:    .+\n)*)", page.read_text(), re.M)
-    told = re.sub(r"^    ", "", block[1], flags=re.M).splitlines() if block else []
-    for what, lines, others in (("lacks", says.splitlines(), told), ("has, and make help doesn't print,", told, says.splitlines())):
-        for line in lines:
-            if line not in others:
-                yield f"{shown(page)}: {what} '{line}'"
-    if not block or sorted(told) == sorted(says.splitlines()) and told != says.splitlines():
-        yield f"{shown(page)}: the lines of make help stand in another order"
 
 
 # The logic that all is proved in.
@@ -427,7 +418,7 @@ def main():
               ("lines of definitions too wide", wide_definitions), ("lines of proofs too wide", wide_proofs),
               ("statements of lemmas more than once", repeated_statements), ("names with two meanings", names_with_two_meanings),
               ("arrows that are wrong", wrong_arrows),
-              ("targets and lines of make help that differ", unlisted_targets), ("links that lead nowhere", dead_links),
+              ("targets that make help lacks", unlisted_targets), ("links that lead nowhere", dead_links),
               ("edits that don't fit", misfits),
               ("other logics", other_logics), ("other versions", other_versions)]
     counts = []
