@@ -1,5 +1,5 @@
 #!/usr/bin/env python3
-"""Fails where a page that is written by hand is longer than it may be, or where its English stops a reader.
+"""Fails where a page is longer than it may be, or where its English stops a reader.
 
     python3 gate/prose.py            shows what is off
     python3 gate/prose.py --counts   shows each page's words
@@ -44,6 +44,9 @@ PAGES: Dict[str, int] = {
     "examples/planning/README.md": 300,
     "examples/lemma/README.md": 300,
     "examples/fifo/README.md": 300,
+    "docs/AUDIT.md": 5500,
+    "docs/THEOREMS.md": 3500,
+    **{str(path.relative_to(ROOT)): 700 for path in sorted(ROOT.glob("crates/*/specs/README.md"))},
 }
 # Their tables don't count.
 FIGURES = {"bench/RESULTS.md"}

@@ -371,7 +371,7 @@ def names_of(span):
 def unknown_names():
     sources = Sources()
     targets = re.findall(r"^([a-z-]+):", (ROOT / "Makefile").read_text(), re.M)
-    pages = [path for path in files(r".*\.md") if path.name not in ("AUDIT.md", "AUDIT-RUNS.md")]   # made of the sources
+    pages = [path for path in files(r".*\.md") if path.name not in ("AUDIT.md", "THEOREMS.md")]   # made of the sources
     for path, number, span in ((path, *found) for path in pages for found in spans(path)):
         words = names_of(span) if span not in FOREIGN and not span.startswith("rt ") else []
         unknown = [word for word in words if word not in FOREIGN and not sources.has(word)]
