@@ -30,8 +30,8 @@ STREAMS ?= $(addprefix examples/bmc-four.,1 2 3 4)
 OPTIONS ?= --tries 1000000
 
 .PHONY: run build install examples live checkpoints rounds demo solver exact trim explain solve solver-test filter-test trim-test
-.PHONY: explain-test solve-test neighbours sweep leaks instructions audit promises tables pages test toolchain c-and-python libcadical
-.PHONY: beside-it mpicxx help try deb dist quick edits packages warnings builds shown
+.PHONY: explain-test solve-test neighbours sweep leaks instructions audit definitions promises tables pages test toolchain c-and-python
+.PHONY: libcadical beside-it mpicxx help try deb dist quick edits packages warnings builds shown
 
 help:
 	@awk -f gate/help.awk $(firstword $(MAKEFILE_LIST))
@@ -213,9 +213,13 @@ leaks: $(BUILT) c-and-python ## measure: memory that isn't given back, by valgri
 instructions: $(BUILT) c-and-python ## measure: how many instructions lines take, by valgrind, beside what they took
 	@python3 gate/instructions.py $(PROGRAM)
 
-# These pages have what one must read to believe status 0 and 8, and whole runs.
-audit: ## check: write docs/AUDIT.md and docs/AUDIT-RUNS.md anew from the sources
+# These pages have what you must read to believe status 0 and 8, and the theorems on whole runs.
+audit: ## check: write docs/AUDIT.md and docs/THEOREMS.md anew from the sources
 	@python3 gate/audit.py
+
+# For looking up; no page of the repository.
+definitions: ## check: write out/definitions.md, all contracts and definitions under the theorems
+	@python3 gate/audit.py --definitions
 
 # A list that docs/PROMISES.md has in words.
 promises: ## check: list what each function of CRATE=name, or of all crates, promises, and the edits that turn it
@@ -225,7 +229,7 @@ promises: ## check: list what each function of CRATE=name, or of all crates, pro
 tables: ## check: write the tables of USING and lrupd.1 anew
 	@python3 gate/tables.py
 
-# Fails unless the two pages and the tables are what the sources give, and DEFINITIONS has their counts; docs/interface.txt has the
+# Fails unless the two pages and the tables are what the sources give, and TRUST has their count; docs/interface.txt has the
 # faults and causes of the definitions; names in backticks and links in the documents lead somewhere; clauses and definitions are
 # within 100 columns, proofs within 140, and each lemma stands once.
 pages: c-and-python ## check: the documents, against the sources and each other; needs no prover

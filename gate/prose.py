@@ -1,5 +1,5 @@
 #!/usr/bin/env python3
-"""Fails where a page that is written by hand is longer than it may be, or where its English stops a reader.
+"""Fails where a page is longer than it may be, or where its English stops a reader.
 
     python3 gate/prose.py            shows what is off
     python3 gate/prose.py --counts   shows each page's words
@@ -23,25 +23,30 @@ PAGES: Dict[str, int] = {
     "docs/FORMAT.md": 600,
     "docs/EMITTING.md": 1500,
     "docs/TRUST.md": 1200,
+    "docs/SECURITY.md": 450,
     "CHANGELOG.md": 1500,
     "docs/DECISIONS.md": 4500,
     "docs/RELATED.md": 1000,
     "bench/RESULTS.md": 900,
     **{f"bench/{name}/README.md": 160 for name in ("checkpoint", "filter", "program", "readers", "ring", "row")},
     "bench/solve/README.md": 220,
-    "docs/lrupd.1": 550,
+    "docs/lrupd.1": 500,
     "docs/lrup-chain.1": 250,
-    "docs/lrup-exact.1": 800,
-    "docs/lrup-explain.1": 500,
-    "docs/lrup-solve.1": 1400,
-    "docs/lrup-trim.1": 400,
+    "docs/lrup-exact.1": 760,
+    "docs/lrup-explain.1": 480,
+    "docs/lrup-solve.1": 1300,
+    "docs/lrup-trim.1": 380,
     "examples/README.md": 600,
     "docs/ARCHITECTURE.md": 3500,
     "docs/PROVING.md": 2000,
     "docs/PROMISES.md": 2200,
+    "examples/solver/README.md": 250,
     "examples/planning/README.md": 300,
     "examples/lemma/README.md": 300,
     "examples/fifo/README.md": 300,
+    "docs/AUDIT.md": 5500,
+    "docs/THEOREMS.md": 3500,
+    **{str(path.relative_to(ROOT)): 700 for path in sorted(ROOT.glob("crates/*/specs/README.md"))},
 }
 # Their tables don't count.
 FIGURES = {"bench/RESULTS.md"}
