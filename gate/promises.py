@@ -14,6 +14,7 @@ from typing import Iterator, List, NamedTuple
 
 ROOT = Path(__file__).resolve().parent.parent
 CRATES = ROOT / "crates"
+CLAUSE = re.compile(r" +ensures\*?(?: (\w+))? \{")
 WIDTH = 120
 
 
@@ -40,7 +41,7 @@ def functions(lines: List[str]) -> Iterator[Function]:
         found = re.match(r"( *)(pub )?(?:pub\(\w+\) )?(?:const )?fn (\w+)", line)
         if found:
             end = next((k for k in range(at, len(lines)) if lines[k] in (found[1] + "}", found[1] + "{}") or lines[k].endswith("};")), at)
-            clauses = [match[1] or "" for match in map(re.compile(r" +ensures(?: (\w+))? \{").match, lines[at:end]) if match]
+            clauses = [match[1] or "" for match in map(CLAUSE.match, lines[at:end + 1]) if match]
             yield Function(holder + found[3], found[2] is not None and lines[end] != "{}", at, end + 1, clauses)
 
 

@@ -32,8 +32,8 @@ PROOF_COLUMNS = 140
 # What stands in backticks and isn't of this repository: the toolchain's, the system's, other programs', and what a text makes up.
 FOREIGN = set("""
 ANTT.md CONTRACTS.md SHORTER_PROOFS.md BUILD.bazel start_lib start_io proves untested --only
-cadical libcadical-dev yosys -j -v -q --plain --no-binary pv socat ssh madvise
-veth docker0 btl_tcp_if_include --host oob_tcp_keepalive_time oob_tcp_keepalive_intvl oob_tcp_keepalive_probes plm_rsh_agent
+cadical libcadical-dev yosys -j -v -q --plain --no-binary socat ssh
+veth --host plm_rsh_agent
 %formula %proof :init :goal formula.cnf ten.cnf proof.lrat core.cnf kept/command
 GLIBC_TUNABLES=glibc.malloc.hugetlb=1
 group1 group2 my_lemma run_ serial_ worker_ XValue OPTIONS=--serial LIMIT=900
