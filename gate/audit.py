@@ -352,8 +352,8 @@ def constructors(things: Sequence[Thing]) -> str:
                 for thing in definition.file.resolve(word, member):
                     types.setdefault(word, set()).add(thing.name)
     said = [f"`{word}.` of {' or '.join(f'`{name}`' for name in sorted(types[word]))}" for word in sorted(types)]
-    return f"""- **Constructors.** Where a dot stands in front of one, the name before it tells its type, as the file brings it in:
-        {", ".join(said)}. Without a dot it is of the type that the signature has at its place."""
+    return f"""- **Constructors.** If a dot stands in front of a constructor, the name before the dot tells its type:
+        {", ".join(said)}. Without a dot its type is the one that the signature has at its place."""
 
 
 def twins(things: Sequence[Thing]) -> str:

@@ -8,7 +8,7 @@ from typing import Dict, List, Optional, Tuple
 
 Rows = List[Tuple[str, str]]
 
-# Of these traits what the clauses rest on: the members, and the clauses of each.
+# What AUDIT shows of traits: the members on which its clauses rest, and the clauses of each.
 SHOWN: Dict[str, Dict[str, List[Optional[str]]]] = {
     "Files": {"Input": [], "tells": [], "opens": [], "open": ["opens"]},
     "Machine": {"Output": [], "creates": [], "keeps": [], "create": ["creates"], "keep": ["keeps"]},
@@ -19,10 +19,10 @@ SHOWN: Dict[str, Dict[str, List[Optional[str]]]] = {
 # Names in signatures of which no clause on the pages speaks.
 UNSEEN = {"DimacsFault", "OpenFault", "ReadFault", "Sink", "WriteFault"}
 
-# What the page on status 0 and 8 links to in the sources: who believes checkpoints needs no more of it than is quoted.
+# AUDIT links to these in the sources: to believe checkpoints a reader needs no more than is quoted.
 LINKED = ("IsCommandLineOf", "IsSaidBy", "CommandLine", "assumed_at", "AreOpened")
 
-MOST_WORDS = {"AUDIT.md": 5500, "THEOREMS.md": 3500}      # of AUDIT but for the front, which one reads as a program
+MOST_WORDS = {"AUDIT.md": 5500, "THEOREMS.md": 3500}      # of AUDIT without the front, which is read as a program
 
 MADE = "Made from the sources by `make audit`; the gate compares."
 
@@ -36,7 +36,7 @@ words say? Examples stand with [formulas](../crates/lrup_model/specs/README.md),
 [words](../crates/command_line/specs/README.md), [files](../crates/command/specs/README.md). [THEOREMS](THEOREMS.md) has whole
 runs.
 
-No clause says that there is an answer: memory may always run out."""
+No clause says that there is an answer: memory may run out."""
 
 AUDIT_HOW = """## How to read it
 
@@ -58,7 +58,7 @@ AUDIT_HOW = """## How to read it
 - `old`; `new`; `now`: what a reference had before the call; after it; has.
 - `ghost`; `impl`: a member of a trait for contracts alone; after `=` stands what it is if an `impl` gives none.
 - `F.tells`; `F.Input.Source.reads`: that member for the type F; the member of `Source` for F's own type `Input`.
-- `..`: code that is left out.
+- `..`: code left out.
 {twins}
 
 Of several equations the first one that fits counts. Contracts see a slice as a list. `command.sound` is the clause `sound` of
@@ -115,8 +115,8 @@ CHECKPOINT_ROWS: Rows = [
      saved]]. `Save` is [[fn command.saved: WasSaved F.creates F.Output.Sink.written F.keeps]]: a file was created at the
      path, and it was empty ([[Machine]]); these bytes went to it ([[WasSaved]], [[Sink]]); and it was kept."""),
     ("The run's formula was read at FORMULA.", """[[SavesFrom: Read first given.formula.now bytes next × IsFormulaText bytes
-     formula]], by what the words say ([[IsCommandLineOf]], [[IsSaidBy]]). Then assumptions were read and streams opened
-     ([[AreOpened]])."""),
+     formula]], by what the words say ([[IsCommandLineOf]], [[IsSaidBy: formula : first_of (codes "FORMULA") rows ≡ Some
+     given.formula.now]]). Then assumptions were read and streams opened ([[AreOpened]])."""),
     ("If each run of a chain reads what the one before saved, and the last one ends with status 0, no assignment satisfies "
      "the first formula.",
      """[[AreCheckpoints]] holds of such files, by `command.saved` of each run, and [[IsUnsatisfiableText]] of the last one,

@@ -60,7 +60,8 @@ def way(name):
 def is_young(name):
     """Whether the library is younger than its sources. If it doesn't fit them all the same, `rt run` will see that."""
     stamp = CRATES / name / "out/rlib/stamp"
-    files = [file for crate in {name, *below(name)} for part in PARTS for file in (CRATES / crate / part).rglob("*")]
+    parts = [CRATES / crate / part for crate in {name, *below(name)} for part in PARTS]
+    files = [file for part in parts for file in part.rglob("*") if file.suffix != ".md"]
     return stamp.is_file() and stamp.stat().st_mtime > max(file.stat().st_mtime for file in files)
 
 
