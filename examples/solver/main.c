@@ -5,8 +5,8 @@
 // One thread for each STREAM. They are the streams 1, 2, .. of lrupd's command line; or, with --first and --streams, S, S + 1, ..
 // of N, where other processes write the rest. Clauses of at most that LBD are given to the other threads (4; 0: none). With
 // --imports a stream has a line for each clause of another thread that its own took over.
-// Standard output: what each stream has, the answer, and where the formula is satisfiable an assignment, which was checked.
-// The status is 20 where the formula is refuted, 10 where it is satisfied, 1 where something failed.
+// Standard output: what each stream has, the answer, and if the formula is satisfiable an assignment, which was checked.
+// The status is 20 if the formula is refuted, 10 if it is satisfied, 1 if something failed.
 #include <signal.h>
 #include <stdio.h>
 #include <stdlib.h>
