@@ -395,7 +395,8 @@ ROUNDS_ROWS: Rows = [
     ("Each later round has the formula that the round before carried on.", """[[ComesNext: goes_on : CarriesOn its plan number
      before round.formula]]."""),
     ("It has the sizes of its file of sizes, or else those of the round before.", """[[AreSized: (its.lacks before path after
-     × (new ≡ old))]], [[AreSized: IsSizesText bytes new]]."""),
+     × (new ≡ old))]], [[AreSized: IsSizesText bytes new]]. That file is opened once the formula was saved ([[ComesNext: sizes
+     : AreSized its (sizes_path plan.folder (number + 1)) before.sizes before.after]])."""),
     ("Its streams are the files of its number.", """[[ComesNext: opened : StreamsOpened its sized (stream_paths plan.folder
      (number + 1) round.sizes.streams) round.readers round.opened]]."""),
     ("A round carries on just the live clauses that some stream didn't drop.", """[[SavesRound: exactly : CarriesRun
