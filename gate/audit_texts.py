@@ -311,8 +311,9 @@ ISOLATION_ROWS: Rows = [
      speaks of no other stream; [[AreIsolated: NoneOutOfMemory set reports]]."""),
     ("If one stream is a closed set, it has one report with the same formula, options, assumptions and number of streams, "
      "unless memory ran out or a read failed.",
-     """A stream of the same bytes and end ([[IsReadingOf]]) has no other report that [[IsReportAlone]] allows ([[law
-     alone_has_one_report]]), and each run's report is such a one. A failed read is another end. [[law same_reading_agrees]]
+     """[[fn run.alone]], [[fn run_serial.alone]]: alone ([[IsReportAlone]]), a stream of the same bytes and end
+     ([[IsReadingOf]]) has no other report than in the run ([[HaveReportsAlone: other ≡ report]], [[law
+     alone_has_one_report]]). A failed read is another end. [[law same_reading_agrees]]
      and [[law same_bytes_agree]] say it of two runs. The assumptions have to be the same list."""),
 ]
 
