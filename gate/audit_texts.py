@@ -277,7 +277,7 @@ HISTORY_ROWS: Rows = [
      slice_get (clip_clause (pass_place pass.old.view) clip.now) k ≡ Some result]]; [[fn Store::pair]] gives two). A pass is *fair* after each call, and what it
      keeps are then the clauses of what it has seen ([[Calls: fair : IsFair new]], [[IsFair: spelt : IsSpelt
      view.caller.formula view.seen view.spelt]]). A known clip keeps its clause ([[law known_stays]], [[law pass_tells]])."""),
-    ("Each report is what the rules make of its stream's calls in this history and of its bytes.", """[[fn run.reports]]. The
+    ("Each report is right by the rules, for its stream's calls in this history and its bytes.", """[[fn run.reports]]. The
      stream is judged by blocks of events, one for each line. Together they are the stream's events ([[AreJudgedIn: own
      history t ≡ joined blocks]]). Good lines come first, and then what ended the stream ([[JudgesBlocks]]). If memory ran
      out, events and bytes don't decide the report: any deletion that drops something may have stopped for that
@@ -421,9 +421,9 @@ ROUNDS_ROWS: Rows = [
      SinkTook err (round_error_text (length (last ∷ before) + 1) fault)]])."""),
     ("Nothing more was done to the files then, except that a created file was discarded.", """Each cause has the files after
      it; for the exception [[IsLeftUnused]]."""),
-    ("Premise: the words are accepted, and each round finds its stream 1, and sizes that have a layout. All streams of each "
-     "round before the last are right, alone or by an order. In the last one a stream begins with right lines that add the "
-     "empty clause.",
+    ("Premise: words, formula and assumptions are accepted, and each round finds its stream 1, and sizes that have a layout. "
+     "All streams of each round before the last are right, alone or by an order. In the last one a stream begins with right "
+     "lines that add the empty clause.",
      """[[AskForRightRounds]]."""),
     ("Then the status is 0.", """[[law right_rounds_say]], [[law right_orders_say]] and, with `--serial`, [[law
      right_turn_rounds_say]]. The exceptions are [[IsExcusedInRounds]]: those of a single run, a file of sizes that can't be read
