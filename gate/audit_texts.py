@@ -284,7 +284,7 @@ HISTORY_ROWS: Rows = [
      ([[StopsDeletion]])."""),
     ("The bytes are those that the reads of the stream gave, up to its end or to a failed read.", """[[fn run.reports]]:
      [[ReadOut: given : Gave S reads first bytes last]], then [[ReadOut: ends : IsLastRead S reads end last after]]. If the
-     reader tells its bytes, the stream's begin these ([[IsTold]])."""),
+     reader tells its bytes, the stream's bytes begin these ([[IsTold]])."""),
     ("'Unsatisfiable' means that no assignment satisfies the formula; 'unsatisfiable under assumptions', that none makes the "
      "assumed literals true besides.",
      """[[fn run.sound: IsUnsatisfiable formula.now]]; [[fn run.sound_under: IsUnsatisfiableUnder formula.now cube.now]]. The
@@ -365,8 +365,8 @@ RIGHT_ROWS: Rows = [
      some legal history judges the streams, which are a closed set, and this one ended there."""),
     ("With `--serial`, if the order takes a line of each stream in turn, none stops.", """[[law right_by_turns]], of orders
      that are [[IsByTurns]], as [[fn run_serial.ordered]] has them: if nothing follows the lines ([[RightByTurns:
-     HaveJustTexts steps told]]), memory suffices and no read fails ([[RightByTurns: NoneCutShort reports]]). The bytes decide
-     order and reports ([[law turns_decide]], [[law bytes_decide]])."""),
+     HaveJustTexts steps told]]), memory suffices and no read fails ([[RightByTurns: NoneCutShort reports]]). Unless memory ran
+     out or a read failed, the bytes decide order and reports ([[law turns_decide]], [[law bytes_decide]])."""),
     ("If words without `--rounds`, formula and assumptions are accepted, and a stream begins with right lines that add the "
      "empty clause, the status is 0.",
      """[[law right_refutation_says]], of files that tell ([[AskWell]], [[AskForRightRefutation: tells : files.tells path ≡
