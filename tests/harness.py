@@ -41,9 +41,10 @@ FOUR = "p cnf 2 4\n1 2 0\n-1 2 0\n1 -2 0\n-1 -2 0\n"
 COMPRESSED = {"zcat": b"\x1f\x8b\x08\0", "xzcat": b"\xfd7zXZ\0", "bzcat": b"BZh9", "zstdcat": b"\x28\xb5\x2f\xfd"}
 VERDICTS = {0: "s UNSATISFIABLE", 3: "s UNKNOWN", 8: "s UNSATISFIABLE UNDER ASSUMPTIONS"}
 
-# A shell starts what is in the background with the one ignored, and nohup with the other, and then programs under test would
+# A shell starts what is in the background with the first two ignored, and nohup with the third, and then programs under test would
 # ignore them, too. A handler isn't theirs.
 signal.signal(signal.SIGINT, signal.default_int_handler)
+signal.signal(signal.SIGQUIT, signal.SIG_DFL)
 if signal.getsignal(signal.SIGHUP) == signal.SIG_IGN:
     signal.signal(signal.SIGHUP, lambda *_: None)
 
