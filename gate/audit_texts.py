@@ -113,7 +113,7 @@ CHECKPOINT_ROWS: Rows = [
      "All its clauses follow from the run's formula.",
      """[[fn command.saved: (result ≡ 3) ⊎ (result ≡ 8)]], [[SavesFrom: Save before path saved last × IsCheckpoint formula
      saved]]. `Save` is [[fn command.saved: WasSaved F.creates F.Output.Sink.written F.keeps]]: a file was created at the
-     path, and it was empty ([[Machine]]); these bytes went to it ([[WasSaved]], [[Sink]]); and it was kept."""),
+     path ([[Machine]]), and it was empty; these bytes went to it ([[WasSaved]], [[Sink]]); and it was kept."""),
     ("The run's formula was read at FORMULA.", """[[SavesFrom: Read first given.formula.now bytes next × IsFormulaText bytes
      formula]], by what the words say ([[IsCommandLineOf]], [[IsSaidBy: formula : first_of (codes "FORMULA") rows ≡ Some
      given.formula.now]]). Then assumptions were read and streams opened ([[AreOpened]])."""),
@@ -243,7 +243,8 @@ and `2 ^ 64` a power. A law is the contract of a function with an empty body, pr
 - **History**: a list of events ([[Event]]), one for each call of fetch, publish or retire at the store.
 - **Pass**: a stream's place at the store. Contracts see a [[View]]: `seen`, a history; `mine`, the calls made through the
   pass; `spelt`, the places of clauses, and their literals.
-- **Terms**: layout, assumed literals and tries, the same for all streams of a run ([[TermsValue]]).
+- **Terms**: layout, assumed literals and tries (how often another stream's clause is looked up again), the same for all
+  streams of a run ([[TermsValue]]).
 - A reader may **tell** which bytes it has left. The machine's files don't ([[Source]]). What is said below of readers or
   files that tell is an argument for the machine's ([Which reads?](AUDIT.md#status-0)).
 
@@ -270,19 +271,20 @@ HISTORY_ROWS: Rows = [
     ("Each published clause has an identity that its stream owns, and follows from the formula.", """[[IsAllowed: Owns layout
      s id × IsPublishable formula clause]], with [[IsPublishable: follows : Follows formula candidate]]."""),
     ("No clause changes.", """An entry goes from absent to live to retired ([[law entries_advance]]), with one clause
-     ([[Advances: Advances (live c) (retired d) = d ≡ c]]). A live fetch gives a known clip ([[fn Store::fetch.fetched:
-     IsFetched (pass_place pass.new.view) id result]]), and its literals are the clause's ([[fn Store::literal.value:
-     slice_get (clip_clause (pass_place pass.old.view) clip.now) k ≡ Some result]]; [[fn Store::pair]] gives two). What a fair
-     pass keeps are the history's clauses ([[IsFair: spelt : IsSpelt view.caller.formula view.seen view.spelt]]), and a known
-     clip keeps its clause ([[law known_stays]], [[law pass_tells]])."""),
-    ("Each report is what the rules make of its stream's calls in this history and of its bytes.", """[[fn run.reports]]. The
+     ([[Advances: Advances (live c) (retired d) = d ≡ c]]). A fetch that answers 'live' gives a *clip*: id, length and place of
+     the clause. The pass knows that place ([[fn Store::fetch.fetched: IsFetched (pass_place pass.new.view) id result]]), and
+     the literals read there are the clause's ([[fn Store::literal.value:
+     slice_get (clip_clause (pass_place pass.old.view) clip.now) k ≡ Some result]]; [[fn Store::pair]] gives two). A pass is *fair* after each call, and what it
+     keeps are then the clauses of what it has seen ([[Calls: fair : IsFair new]], [[IsFair: spelt : IsSpelt
+     view.caller.formula view.seen view.spelt]]). A known clip keeps its clause ([[law known_stays]], [[law pass_tells]])."""),
+    ("Each report is right by the rules, for its stream's calls in this history and its bytes.", """[[fn run.reports]]. The
      stream is judged by blocks of events, one for each line. Together they are the stream's events ([[AreJudgedIn: own
      history t ≡ joined blocks]]). Good lines come first, and then what ended the stream ([[JudgesBlocks]]). If memory ran
      out, events and bytes don't decide the report: any deletion that drops something may have stopped for that
      ([[StopsDeletion]])."""),
     ("The bytes are those that the reads of the stream gave, up to its end or to a failed read.", """[[fn run.reports]]:
      [[ReadOut: given : Gave S reads first bytes last]], then [[ReadOut: ends : IsLastRead S reads end last after]]. If the
-     reader tells its bytes, the stream's begin these ([[IsTold]])."""),
+     reader tells its bytes, the stream's bytes begin these ([[IsTold]])."""),
     ("'Unsatisfiable' means that no assignment satisfies the formula; 'unsatisfiable under assumptions', that none makes the "
      "assumed literals true besides.",
      """[[fn run.sound: IsUnsatisfiable formula.now]]; [[fn run.sound_under: IsUnsatisfiableUnder formula.now cube.now]]. The
@@ -309,8 +311,9 @@ ISOLATION_ROWS: Rows = [
      speaks of no other stream; [[AreIsolated: NoneOutOfMemory set reports]]."""),
     ("If one stream is a closed set, it has one report with the same formula, options, assumptions and number of streams, "
      "unless memory ran out or a read failed.",
-     """A stream of the same bytes and end ([[IsReadingOf]]) has no other report that [[IsReportAlone]] allows ([[law
-     alone_has_one_report]]), and each run's report is such a one. A failed read is another end. [[law same_reading_agrees]]
+     """[[fn run.alone]], [[fn run_serial.alone]]: alone ([[IsReportAlone]]), a stream of the same bytes and end
+     ([[IsReadingOf]]) has no other report than in the run ([[HaveReportsAlone: other ≡ report]], [[law
+     alone_has_one_report]]). A failed read is another end. [[law same_reading_agrees]]
      and [[law same_bytes_agree]] say it of two runs. The assumptions have to be the same list."""),
 ]
 
@@ -325,7 +328,8 @@ SERIALIZABLE_ROWS: Rows = [
      (standing_of setting before) line block Good]], or those of the bad line that ends the stream, [[EndsAfter: (one_block :
      blocks ≡ block ∷ [])]]."""),
     ("In this order one thread, line after line, gives the same reports.", """[[IsOrdered: judged : AreJudged terms set]], by
-     each stream's blocks in their order, [[IsOrdered: own_blocks ≡ blocks_of t blocks]]."""),
+     each stream's blocks in their order, [[IsOrdered: own_blocks ≡ blocks_of t blocks]]. A report 'out of memory'
+     is then one that the thread may give."""),
     ("If the premise holds of all streams together, an order comes to the same verdict.", """[[IsSerializable: ComeToVerdict
      terms.cube (events_in order.blocks) reports]]; [[fn run.verdict: outcome.verdict ≡ verdict_of outcome.reports.items]]."""),
 ]
@@ -338,13 +342,14 @@ RIGHT_ROWS: Rows = [
      clauses that are there, and these show its clause ([[Accepts]]). A deletion names clauses that are there, each once
      ([[IsRightDeletion: there : AllByRecursion (λ id. IsSome (base.clauses id)) ids]]). An import has the literals of a
      clause that is there and isn't the stream's own ([[IsRightImport: there : base.clauses id ≡ Some clause]])."""),
-    ("Is that LRAT without RAT?", """This a reader has to judge. [EMITTING](EMITTING.md#what-differs-from-lrat) has the
+    ("Whether that is LRAT without RAT, a reader has to judge.", """[EMITTING](EMITTING.md#what-differs-from-lrat) has the
      differences."""),
-    ("A stream of right lines is reported as ended, with its lines counted, unless memory ran out or a read failed.",
+    ("A stream of right lines is reported as ended, with its additions and deletions counted, unless memory ran out or a "
+     "read failed.",
      """[[law right_reported]]: if [[IsRightStream: text : bytes ≡ flat_map line_text lines]] are the bytes that the reader
      tells ([[RightReported: telling.entry ≡ Some bytes]]), then [[RightReported: report ≡ right_report terms s lines]], in
-     each run ([[IsRun]]). Each deletion counts ([[law right_counted]]), and 'empty' is reported just if a line adds the empty
-     clause ([[law right_empty]]). Of a reader that tells nothing, the same follows from the bytes that its reads gave: alone,
+     each run ([[IsRun]]). Each deleted id counts ([[law right_counted]]), and 'empty' is reported just if a line adds the empty
+     clause ([[law right_empty]]). Of a reader that tells nothing, the same follows from what its reads gave: alone,
      the stream has this report and no other ([[law right_accepted]], [[law right_has_one_report]])."""),
     ("If more follows the right lines, the report says at least what these do.", """[[law right_begins]], [[RightBegins:
      TellsAtLeast report (right_report terms s lines)]], unless memory ran out or a read failed in these lines."""),
@@ -357,17 +362,17 @@ RIGHT_ROWS: Rows = [
      layout) steps]]: each stream has a database, and an addition reaches each one ([[beside_line]]). The conclusion is
      [[RightTogether: (report ≡ right_report terms s (lines_by s steps)) ⊎ LacksOfAnother (setting_of terms s) report]], with
      the same exceptions. If more follows: [[law together_begins]]. [[law no_false_blame]] needs no order: it suffices that
-     some legal history judges the streams, and this one ended there."""),
+     some legal history judges the streams, which are a closed set, and this one ended there."""),
     ("With `--serial`, if the order takes a line of each stream in turn, none stops.", """[[law right_by_turns]], of orders
      that are [[IsByTurns]], as [[fn run_serial.ordered]] has them: if nothing follows the lines ([[RightByTurns:
-     HaveJustTexts steps told]]), memory suffices and no read fails ([[RightByTurns: NoneCutShort reports]]). The bytes decide
-     order and reports ([[law turns_decide]], [[law bytes_decide]])."""),
-    ("If words, formula and assumptions are accepted, and a stream begins with right lines that add the empty clause, the "
-     "status is 0.",
+     HaveJustTexts steps told]]), memory suffices and no read fails ([[RightByTurns: NoneCutShort reports]]). Unless memory ran
+     out or a read failed, the bytes decide order and reports ([[law turns_decide]], [[law bytes_decide]])."""),
+    ("If words without `--rounds`, formula and assumptions are accepted, and a stream begins with right lines that add the "
+     "empty clause, the status is 0.",
      """[[law right_refutation_says]], of files that tell ([[AskWell]], [[AskForRightRefutation: tells : files.tells path ≡
      Some bytes]]) and of all that `command` may do by [[fn command.ends]]. If lines of several streams have a right order:
      [[law right_order_says]], [[law right_turns_say]]. [[IsExcused]] has the exceptions."""),
-    ("Exception: by a fault of the machine the status is 5 or 6, and no report is begun.", """[[IsExcused: no_report : (ends :
+    ("Exception: by a fault of the machine, or if a stream's end got lost, the status is 5 or 6, and no report is begun.", """[[IsExcused: no_report : (ends :
      EndsWithFault files words after out err status) (machine : IsOfMachine ends.fault)]]."""),
     ("Exception: if memory ran out or a read failed in these lines, the report says so, and the status is 3, 8 or 9.",
      """[[IsExcused: lost :]], [[RightRefutationSays: IsCutOffIn (length ask.right.lines)]]; or, in an order, another stream's
@@ -391,7 +396,8 @@ ROUNDS_ROWS: Rows = [
     ("Each later round has the formula that the round before carried on.", """[[ComesNext: goes_on : CarriesOn its plan number
      before round.formula]]."""),
     ("It has the sizes of its file of sizes, or else those of the round before.", """[[AreSized: (its.lacks before path after
-     × (new ≡ old))]], [[AreSized: IsSizesText bytes new]]."""),
+     × (new ≡ old))]], [[AreSized: IsSizesText bytes new]]. That file is opened once the formula was saved ([[ComesNext: sizes
+     : AreSized its (sizes_path plan.folder (number + 1)) before.sizes before.after]])."""),
     ("Its streams are the files of its number.", """[[ComesNext: opened : StreamsOpened its sized (stream_paths plan.folder
      (number + 1) round.sizes.streams) round.readers round.opened]]."""),
     ("A round carries on just the live clauses that some stream didn't drop.", """[[SavesRound: exactly : CarriesRun
@@ -415,13 +421,14 @@ ROUNDS_ROWS: Rows = [
      SinkTook err (round_error_text (length (last ∷ before) + 1) fault)]])."""),
     ("Nothing more was done to the files then, except that a created file was discarded.", """Each cause has the files after
      it; for the exception [[IsLeftUnused]]."""),
-    ("Premise: all streams of each round before the last are right, alone or by an order. In the last one a stream begins "
-     "with right lines that add the empty clause.",
+    ("Premise: words, formula and assumptions are accepted, and each round finds its stream 1, and sizes that have a layout. "
+     "All streams of each round before the last are right, alone or by an order. In the last one a stream begins with right "
+     "lines that add the empty clause.",
      """[[AskForRightRounds]]."""),
     ("Then the status is 0.", """[[law right_rounds_say]], [[law right_orders_say]] and, with `--serial`, [[law
-     right_turn_rounds_say]]. The exceptions are [[IsExcusedInRounds]]: those of a single run, and [[FallsShort]]. Status 9
-     comes if a formula wasn't saved, 8 if literals are assumed, 3 if a stream was cut off or, in an order, lacked another
-     one's clause. The report says which, printed or not (7)."""),
+     right_turn_rounds_say]]. The exceptions are [[IsExcusedInRounds]]: those of a single run, a file of sizes that can't be read
+     (5), and [[FallsShort]]. Status 9 comes if a formula wasn't saved, and 8 if a round is 'unsatisfiable under assumptions'. Status
+     3 comes if a stream was cut off or, in an order, lacked another one's clause. The report says which, printed or not (7)."""),
 ]
 
 RUNS_HOW = """## How to read it
