@@ -288,9 +288,8 @@ judged_members terms set h s (stream ∷ streams) (report ∷ reports) judged =
     ((λ member. judged.0 refl), judged_members terms set h (s + 1) streams reports judged.1)
 
 pub run_serializable : ClosedOrdered → AllOrdered → RunSerializable
-run_serializable closed_ordered all_ordered f terms h passes told reports fits count one streams are_told judged =
-    let many = told_count told streams are_told ∙ count in (
-      (λ set closed stays. closed_ordered f terms set h streams reports fits many one.legal
-          (judged_members terms set h 1 streams reports judged) closed stays),
-      (λ stays. all_ordered f terms h streams reports fits many one.legal judged stays),
-    )
+run_serializable closed_ordered all_ordered f terms told reports fits run = (
+  (λ set closed stays. closed_ordered f terms set run.history run.streams reports fits run.count run.legal
+      (judged_members terms set run.history 1 run.streams reports run.judged) closed stays),
+  (λ stays. all_ordered f terms run.history run.streams reports fits run.count run.legal run.judged stays),
+)

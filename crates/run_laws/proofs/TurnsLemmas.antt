@@ -149,13 +149,13 @@ turns_decide stays one forks alike f terms streams others reports other_reports 
     )
 
 pub bytes_decide : DecidedBeforeFailure → OneReport → LegalNeverFork → BlocksGoAlike → BytesDecide
-bytes_decide decided one forks alike f terms told other_told reports other_reports count other_count same x y fine good =
+bytes_decide decided one forks alike f terms told other_told reports other_reports same x y a b fine good =
     let streams = x.streams in
     let others = y.streams in
-    let a = x.judged in
-    let b = y.judged in
-    let many : length streams ≡ terms.layout.streams = told_count told streams x.are_told ∙ count in
-    let other_many : length others ≡ terms.layout.streams = told_count other_told others y.are_told ∙ other_count in
+    let many : length streams ≡ terms.layout.streams = x.count in
+    let other_many : length others ≡ terms.layout.streams = y.count in
+    let count : length told ≡ terms.layout.streams = sym (told_count told streams x.are_told) ∙ many in
+    let other_count : length other_told ≡ terms.layout.streams = sym (told_count other_told others y.are_told) ∙ other_many in
     reports_same alike forks one f terms streams others reports other_reports a b many other_many
     (λ s stream other report other_report at there says also.
     let first = at.0 in

@@ -1,7 +1,7 @@
 -- What a run's streams told, and in which order of lines their reports hold (this project's own).
 use Rattle.std.specs.Prelude.{◌≡◌, ◌+◌, ◌++◌, ◌==◌, ℕ, Bool, false, IsTrue, List, [], ◌∷◌, Option, IsSome, IfSome, MatchOption, if◌then◌else◌}
 use Rattle.std.specs.Io.KnownBytes.{Consumes}
-use Rattle.std.specs.List.{AllByRecursion, AllZip, flat_map}
+use Rattle.std.specs.List.{AllByRecursion, flat_map}
 use Rattle.lrup_model.specs.Formula.{Cnf}
 use Rattle.lrup_model.specs.Cube.{CubeValue}
 use Rattle.lrup_model.specs.Layout.{LayoutValue, IsStream}
@@ -56,12 +56,6 @@ abbrev pub JudgesStream : Setting → Stream → List History → Report → Typ
 JudgesStream setting stream blocks report =
     (end : StreamEnd) → IfSome stream.end (λ known. known ≡ end)
     → JudgesBlocks setting stream.bytes end blocks report
-
--- What the reports of a run stand on: streams, each of which is what its reader told, and of which the judgement holds.
-pub record StandsOnStreams (told : List Telling) (Judged : List Stream → Type 0) : Type 0 where
-  pub streams : List Stream
-  pub are_told : AllZip IsTold told streams
-  pub judged : Judged streams
 
 -- An order of lines
 
