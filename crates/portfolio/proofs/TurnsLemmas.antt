@@ -26,7 +26,6 @@ use Rattle.stream_check.specs.DroppedValue.{DroppedValue}
 use Rattle.stream_check.specs.CheckerValue.{Tally, report_of_tally}
 use Rattle.stream_check.specs.Checker.{IsReadyAt}
 use Rattle.stream_check.specs.Laws.{ReadyBeside}
-use Rattle.portfolio.proofs.EmptyLemmas.{sound_in_order}
 use Rattle.portfolio.proofs.RoundLemmas.{tagged, within-tagged, events_more, blocks_more, blocks_beside, round_opened, round_turned}
 use Rattle.portfolio.proofs.RoundLemmas.{round_passed, round_over}
 use Rattle.portfolio.proofs.WorkingLemmas.{not_over}
@@ -34,8 +33,11 @@ use Rattle.portfolio.specs.Dropping.{HasDropped, HaveDropped}
 use Rattle.lrup_text.specs.ReadOut.{SourceView}
 use Rattle.runs.specs.Readings.{AreRead, IsStreamOf}
 use Rattle.runs.specs.Streams.{Stream, tellings, IsTold, JudgesStream, Block, blocks_of, events_in, IsBlockWithin, setting_of, AreJudged}
-use Rattle.runs.specs.Streams.{IsOrdered, StandsOnStreams, TermsValue}
+use Rattle.runs.specs.Streams.{TermsValue}
+use Rattle.runs.specs.StreamLemmas.{told_as_many, told_count}
 use Rattle.runs.specs.Turns.{IsOrderedByTurns, streams_of}
+use Rattle.run_laws.specs.OwnLemmas.{ordered_judged}
+use Rattle.portfolio.specs.Histories.{IsRunOf}
 use Rattle.portfolio.specs.Working.{AreBlocksOfTurn, WorkerValue, WorksBy, Works, WorksOn, IsStarted}
 use Rattle.portfolio.specs.Turns.{HasRun, IsWorking, AreWorking, Runs, IsRunning, GoesOn, IsOver, AreOver, IsOverAt, AreStarted}
 use Rattle.portfolio.specs.Turns.{AreRun, HaveReports}
@@ -455,44 +457,32 @@ module _ {S : Type 0} (view : SourceView S) where
         ),
       )
 
--- where one of the reports says 'empty', no assignment makes every clause of the formula true
-sound_among : (f : Cnf) (terms : TermsValue) (blocks : List Block) (k : ℕ) (streams : List Stream) (reports : List Report)
-    → IsLegal f terms.layout (events_in blocks)
-    → AreJudged terms (λ s. true) (λ s events. events ≡ blocks_of s blocks) k streams reports
-    → IsTrue (list_any (λ report. report.empty) reports) → IsUnsatisfiable f
-sound_among f terms blocks k [] [] legal judged some = absurd (let none : false ≡ true = some in cc)
-sound_among f terms blocks k [] (r ∷ reports) legal judged some = absurd judged
-sound_among f terms blocks k (stream ∷ streams) [] legal judged some = absurd judged
-sound_among f terms blocks k (stream ∷ streams) (r ∷ reports) legal judged some =
-    elim (cases_Bool r.empty) [
-      | inl yes' ↦ sound_in_order f terms.layout blocks k (setting_of terms k) stream _ r legal (judged.0 refl).1 (judged.0 refl).2 yes'
-      | inr none ↦ sound_among f terms blocks (k + 1) streams reports legal judged.1
-          (ap (λ b. b || list_any (λ (report : Report). report.empty) reports) (sym none) ∙ some)
-    ]
-
-pub sound_over : (f : Cnf) (terms : TermsValue) (streams : List Stream) (reports : List Report)
-    → IsOrdered f terms (λ s. true) streams reports → IsTrue (list_any (λ report. report.empty) reports) → IsUnsatisfiable f
-sound_over f terms streams reports ordered some = sound_among f terms ordered.blocks 1 streams reports ordered.legal ordered.judged some
-
 -- the whole run: begun, gone on with, and over
 pub run_ordered : {S : Type 0} (view : SourceView S) (f : Cnf) (terms : TermsValue) (firsts : List S) (m : Plain)
-    (ws : List (WorkerValue S)) → Runs view f terms firsts 0 m ws
+    (ws : List (WorkerValue S)) → length firsts ≡ terms.layout.streams → Runs view f terms firsts 0 m ws
     → (n : Plain) (reports : List Report) (lasts : List S) (dropped : List DroppedValue) → AreRun view m ws n reports lasts dropped
-    → StandsOnStreams (tellings view firsts lasts)
-    (λ streams. (ordered : IsOrderedByTurns f terms streams reports) × AreRead S view.reads firsts lasts streams
-    × HaveDropped terms 1 streams reports (map (λ d. d.ids) dropped) × (plain_state n ≡ state f (events_in ordered.order.blocks)))
-run_ordered {S} view f terms firsts m ws begun n reports lasts dropped so =
-    let ordered = ordered_over view f terms firsts n so.ended reports (so.goes f terms firsts begun) so.reports_are in
-    record {
-      streams = ordered.0;
-      are_told = subst (λ (ls : List S). AllZip IsTold (tellings view firsts ls) ordered.0) (sym so.readers_are) ordered.1;
-      judged = (
-        ordered.3.0,
-        subst (λ (ls : List S). AreRead S view.reads firsts ls ordered.0) (sym so.readers_are) ordered.2,
-        subst (HaveDropped terms 1 ordered.0 reports) (sym so.dropped_are) ordered.3.1,
-        ordered.3.2,
-      );
-    }
+    → (ran : IsRunOf view true f terms firsts lasts reports dropped) × (plain_state n ≡ state f ran.run.history)
+run_ordered {S} view f terms firsts m ws count begun n reports lasts dropped so =
+    let over = ordered_over view f terms firsts n so.ended reports (so.goes f terms firsts begun) so.reports_are in
+    let streams = over.0 in
+    let order = over.3.0.order in
+    let told = subst (λ (ls : List S). AllZip IsTold (tellings view firsts ls) streams) (sym so.readers_are) over.1 in
+    let read = subst (λ (ls : List S). AreRead S view.reads firsts ls streams) (sym so.readers_are) over.2 in (
+      record {
+        run = record {
+          streams = streams;
+          are_told = told;
+          count = told_count _ _ told ∙ told_as_many view firsts lasts streams read ∙ count;
+          history = events_in order.blocks;
+          legal = order.legal;
+          judged = ordered_judged terms (λ s. true) (λ s. true) order.blocks 1 streams reports order.within order.judged;
+        };
+        order = (over.3.0, refl);
+        read = read;
+        have_dropped = subst (HaveDropped terms 1 streams reports) (sym so.dropped_are) over.3.1;
+      },
+      over.3.2,
+    )
 
 -- what is written to all of a list
 pub written_back : {A : Type 0} (n : ℕ) (xs ys : List A) → length xs ≡ n → take n (xs ++ ys) ≡ xs
