@@ -296,16 +296,17 @@ HEADLINE_PHRASES: Rows = [
      whatever calls follow: the law [[law known_stays]], [[KnownStays: clip_clause b clip ≡ clip_clause a clip]], where calls
      lead from place a to place b ([[Tells]]), as those of a pass do by the law [[law pass_tells]]."""),
     ("follows from the formula", "[[IsPublishable: follows : Follows formula candidate]], which [[IsAllowed]] asks of each publish."),
-    ("Each report is the judgement of these replies", """[[fn run.reports]]: there are streams ([[StandsOnStreams]]), and
-     [[fn run.reports: AreJudgedIn terms (λ s. true) (seen_by (views outcome.passes.items)) 1 streams outcome.reports.items]], by
-     the same history. Each stream is judged, as its report says, by blocks of events ([[AreJudged]]) that are together the stream's events in it, [[AreJudgedIn: own history t ≡ joined blocks]]: its good
+    ("Each report is the judgement of these replies", """[[fn run.reports]]: it is a run ([[IsRun]]), so there are streams,
+     and [[IsRunOfFirst: judged : AreJudgedIn terms (λ s. true) history 1 streams reports]], by the same history,
+     [[fn run.reports: ran.run.history ≡ seen_by (views outcome.passes.items)]]. Each stream is judged, as its report says, by blocks of events ([[AreJudged]]) that are together the stream's events in it, [[AreJudgedIn: own history t ≡ joined blocks]]: its good
      lines first, each with a block, and then what ended it ([[JudgesBlocks]]). Where memory ran out these don't decide: any
      deletion of what isn't the stream's own may have stopped for it ([[StopsDeletion]])."""),
-    ("of the bytes that reads of the stream gave", """[[fn run.reports: AreRead _ R.reads readers.items outcome.readers.items
-     streams]], of the same streams: [[ReadOut: given : Gave S reads first bytes last]], from each reader as it was handed in.
+    ("of the bytes that reads of the stream gave", """[[IsRunOf: read : AreRead S view.reads firsts lasts run.streams]],
+     of the same streams: [[ReadOut: given : Gave S reads first bytes last]], from each reader as it was handed in.
      Whoever hands in the readers chooses `reads`; [AUDIT](AUDIT.md#status-0) says under 'Which reads?' why that suffices. Where
      a reader tells what it has left, the bytes begin that ([[IsTold]])."""),
-    ("up to its first end or to one that failed", """[[fn run.reports: AllByRecursion (λ stream. IsSome stream.end) streams]], so
+    ("up to its first end or to one that failed", """[[IsRunOf: order : IsHistoryOf serial formula terms run.history
+     run.streams reports]], and there [[IsHistoryOf: AllByRecursion (λ stream. IsSome stream.end) streams]], so
      [[ReadOut: ends : IsLastRead S reads end last after]] for the end by which the stream is judged."""),
     ("'Unsatisfiable' means that no assignment makes every clause of the formula true", """[[fn run.sound: outcome.verdict ≡
      Verdict.Unsatisfiable → IsUnsatisfiable formula.now]]. The [[Formula]] is that of its text,
@@ -328,34 +329,33 @@ HEADLINE_PHRASES: Rows = [
 
 ISOLATION_TOP = """## Groups of streams are isolated
 
-By the [[fn run.isolated+alone]], and those of [[fn run_serial]]."""
+By the [[fn run.isolated]], and that of [[fn run_serial]]."""
 
 ISOLATION_PHRASES: Rows = [
     ("Streams that cite and import only clauses of each other and of the formula", """they are a closed set:
-     [[AreIsolated: (set : ℕ → Bool) → IsClosed terms.layout set streams]]. No line of a stream of it cites what a stream outside
+     [[AreIsolated: IsClosed terms.layout set run.streams]]. No line of a stream of it cites what a stream outside
      it owns, [[CiteWithin: AllByRecursion (IsOwnedWithin layout set) (cited_by line)]], hints and imports ([[cited_by]]); nobody owns
      the formula's identities."""),
-    ("have such reports as they may have", """[[AreIsolated: IsGroup formula terms set streams reports]]: some legal history judges the
+    ("have such reports as they may have", """[[AreIsolated: IsGroup formula terms set run.streams reports]]: some legal history judges the
      set's streams so, [[IsGroup: judged : AreJudgedIn terms set history 1 streams reports]]."""),
     ("where all others are empty", """that history has events of the set's streams alone,
      [[IsGroup: members : AllByRecursion (λ event. IsTrue (set (stream_of event))) history]]. By the law [[law others_empty]] a
      legal history judges the set's streams so where the others have no bytes, [[OthersEmpty: with_others set empty_stream 1 streams]]."""),
     ("whatever these hold and however the threads ran", """the clause is one of every run, and [[IsGroup]] says nothing of
-     streams outside the set. The streams are any that the readers told and by which the run's reports are judged: in its history,
-     [[fn run.isolated: AreJudgedIn terms (λ s. true) (seen_by (views outcome.passes.items)) 1 streams outcome.reports.items]],
-     or on one thread in an order of lines, [[fn run_serial.isolated: IsOrdered formula.now terms (λ s. true) streams
-     outcome.reports.items]]. Those of [[fn run.reports]] and of [[fn run_serial.ordered]] are among them."""),
+     streams outside the set. The streams and the history are those of any run ([[IsRun]]) that has these reports and of which the
+     readers told, [[AreIsolated: (run : IsRun formula terms told reports) (set : ℕ → Bool)]]. The run of [[fn run.reports]] is one,
+     and that of [[fn run_serial.ordered]]."""),
     ("unless memory ran out", "[[AreIsolated: NoneOutOfMemory set reports]]."),
-    ("A stream that cites and imports only its own and the formula's", """[[fn run.alone]], [[HaveReportsAlone: IsClosed
-     terms.layout (one s) streams]]."""),
-    ("with the same formula, options, assumptions and number of streams", """the `formula` and the `terms` of [[HaveReportsAlone:
-     IsReportAlone formula terms s whole end other]], which are [[fn run.alone: terms_of options cube.now formula.now (length
+    ("A stream that cites and imports only its own and the formula's", """[[AreIsolated: IsClosed terms.layout (one s)
+     run.streams]]."""),
+    ("with the same formula, options, assumptions and number of streams", """the `formula` and the `terms` of [[AreIsolated:
+     IsReportAlone formula terms s whole end other]], which are [[fn run.isolated: terms_of options cube.now formula.now (length
      readers.items)]]; of the assumptions the list counts."""),
-    ("one report", """[[HaveReportsAlone: (other : Report) → IsReportAlone formula terms s whole end other → other ≡ report]]: each
+    ("one report", """[[AreIsolated: (other : Report) → IsReportAlone formula terms s whole end other → other ≡ report]]: each
      report that the stream may have alone with these bytes and this end. Another run's report of it is such a one, by that run's
      `isolated`."""),
-    ("unless memory ran out or a read failed", """[[HaveReportsAlone: ¬ IsOfMemory report]]; and bytes and end are to be the same,
-     [[HaveReportsAlone: IsReadingOf whole end stream]]: a read that failed is another end. The laws
+    ("unless memory ran out or a read failed", """[[AreIsolated: ¬ IsOfMemory report]]; and bytes and end are to be the same,
+     [[AreIsolated: IsReadingOf whole end stream]]: a read that failed is another end. The laws
      [[law same_reading_agrees]] and [[law same_bytes_agree]] say it of two runs: where the readers told the same bytes and end, and
      where they had the same bytes left, [[SameBytesAgree: ¬ IsOfMemory report → ¬ IsOfFailure report]]."""),
 ]
@@ -366,17 +366,17 @@ By the [[fn run.serializable]]; the [[fn run_serial.ordered]] says it of all str
 
 SERIALIZABLE_PHRASES: Rows = [
     ("The lines of such a group", """of each closed set: [[IsSerializable: (set : ℕ → Bool) → IsClosed terms.layout set
-     streams]]."""),
+     run.streams]]."""),
     ("if no stream retires (deletes for all) a clause that another one found", """[[IsSerializable: FoundStays formula terms.layout set
-     history]]: what a stream of the set found live, and isn't its own, the run's history doesn't leave retired,
+     run.history]]: what a stream of the set found live, and isn't its own, the run's history doesn't leave retired,
      [[FindsKept: FindsKept layout final (events.fetch s id (events.live clause)) = ¬ Owns layout s id → ¬ IsRetired (final id)]]."""),
-    ("have an order", """[[IsSerializable: IsOrdered formula terms set streams reports]]: a list of blocks ([[Block]]), whose events
+    ("have an order", """[[IsSerializable: IsOrdered formula terms set run.streams reports]]: a list of blocks ([[Block]]), whose events
      are one after the other a legal history, [[IsOrdered: legal : IsLegal formula terms.layout (events_in blocks)]]."""),
     ("one thread that takes whole lines", """a block is one stream's, [[IsBlockWithin: AllByRecursion (λ event. stream_of event ≡
      block.stream) block.events]], and has all events of one line, [[AreGood: JudgesLine setting (standing_of setting before) line block
      Good]], or of the bad one that ends the stream, [[EndsAfter: (one_block : blocks ≡ block ∷ [])]]. That is what [[fn run_serial]]
-     promises, where the lines come by turns: [[fn run_serial.ordered: IsOrderedByTurns formula.now terms streams
-     outcome.reports.items]]."""),
+     promises, where the lines come by turns: by [[fn run_serial.ordered]] the history is that of such an order, [[IsHistoryOf:
+     IsOrderedByTurns formula terms streams reports]]."""),
     ("gives the same reports", """[[IsOrdered: judged : AreJudged terms set]], with the run's `reports`: each stream is
      judged by its own blocks in their order, [[IsOrdered: own_blocks ≡ blocks_of t blocks]]."""),
 ]
@@ -412,7 +412,7 @@ RIGHT_PHRASES: Rows = [
      [[RightReported: telling.entry ≡ Some bytes]]; then [[RightReported: report ≡ right_report terms s lines]], of the reports of
      [[fn run]] and of [[fn run_serial]] ([[IsRun]]). Alone it has this report, and no other, by the laws [[law right_accepted]] and
      [[law right_has_one_report]]; so where a reader tells nothing the same follows of the bytes that its reads gave, up to its first
-     end, by the [[fn run.alone]]. All that it deletes is counted, by the law [[law right_counted]], and 'empty' is reported exactly if a
+     end, by the [[fn run.isolated]]. All that it deletes is counted, by the law [[law right_counted]], and 'empty' is reported exactly if a
      line adds the empty clause, by the law [[law right_empty]]."""),
     ("that cite, import and delete only their own clauses and the formula's", """[[EndedIsRight: CiteWithin terms.layout (one s)
      bytes → DeleteWithin terms.layout (one s) bytes]]. A right stream cites so by the law [[law right_cite_within]]. A checker takes
@@ -487,10 +487,10 @@ ROUNDS_PHRASES: Rows = [
      after the sizes ([[StreamsOpened]])."""),
     ("just the clauses that a history of the round leaves live, but for those that all streams dropped",
      """[[SavesRound: exactly : CarriesRun its.reading its.written plan.serial round.formula (terms_by plan round.formula round.sizes)
-     round.readers round.reports (Ok next) saved.first saved.last]]: by [[CarriesRun: stands : StandsOnHistory view serial formula terms
-     history firsts lasts reports dropped]] the history judges the round's streams as reported, and what they dropped is what their lines
-     drop, since all ended; by [[CarriesRun: carries : CarriesState written result (state formula history) terms.layout (is_wanted dropped)
-     first last]] each identity was fetched once, and [[Carries: (next ≡ printed vars entries)]] of what was found live and
+     round.readers round.reports (Ok next) saved.first saved.last]]: by [[CarriesRun: ran : IsRunOf view serial formula terms
+     firsts lasts reports dropped]] the history judges the round's streams as reported, and what they dropped is what their lines
+     drop, since all ended; by [[CarriesRun: carries : CarriesState written result (state formula ran.run.history) terms.layout
+     (is_wanted dropped) first last]] each identity was fetched once, and [[Carries: (next ≡ printed vars entries)]] of what was found live and
      [[is_wanted]], in the order of the identities."""),
     ("over the same variables, each clause of which follows from the round's", """[[SavesRound: carried : IsCheckpointOf round.formula bytes
      next]], and there [[IsCheckpointOf: entails : Entails original next]]."""),
@@ -542,9 +542,9 @@ As [on AUDIT](AUDIT.md#how-to-read-it); and besides:
 
 CONTRACTS = """## The contracts
 
-What the sentences don't say: the [[fn run.layout+spawn+ring+first]] say what holds where there is no outcome, and the
-[[fn run.store+kept+dropped]] what an outcome keeps for a checkpoint; which identities a stream dropped, the last part of
-[[fn run.reports]]."""
+What the sentences don't say: the [[fn run.layout+spawn+ring]] say what holds where there is no outcome, and the
+[[fn run.store]] what an outcome keeps for a checkpoint; which identities a stream dropped,
+[[IsRunOf: have_dropped : HaveDropped terms 1 run.streams reports]]."""
 
 CALLS = """The calls of the store by which a pass makes, sees and reads history. Of its others `meet_all` lets passes meet in
 turn, and the rest ask, and change nothing."""
