@@ -305,8 +305,8 @@ HEADLINE_PHRASES: Rows = [
      of the same streams: [[ReadOut: given : Gave S reads first bytes last]], from each reader as it was handed in.
      Whoever hands in the readers chooses `reads`; [AUDIT](AUDIT.md#status-0) says under 'Which reads?' why that suffices. Where
      a reader tells what it has left, the bytes begin that ([[IsTold]])."""),
-    ("up to its first end or to one that failed", """[[IsRunOf: order : IsHistoryOf serial formula terms run.history
-     run.streams reports]], and there [[IsHistoryOf: AllByRecursion (λ stream. IsSome stream.end) streams]], so
+    ("up to its first end or to one that failed", """[[fn run.reports: InThreads]], [[InThreads: AllByRecursion
+     (λ stream. IsSome stream.end) streams]], so
      [[ReadOut: ends : IsLastRead S reads end last after]] for the end by which the stream is judged."""),
     ("'Unsatisfiable' means that no assignment makes every clause of the formula true", """[[fn run.sound: outcome.verdict ≡
      Verdict.Unsatisfiable → IsUnsatisfiable formula.now]]. The [[Formula]] is that of its text,
@@ -375,8 +375,8 @@ SERIALIZABLE_PHRASES: Rows = [
     ("one thread that takes whole lines", """a block is one stream's, [[IsBlockWithin: AllByRecursion (λ event. stream_of event ≡
      block.stream) block.events]], and has all events of one line, [[AreGood: JudgesLine setting (standing_of setting before) line block
      Good]], or of the bad one that ends the stream, [[EndsAfter: (one_block : blocks ≡ block ∷ [])]]. That is what [[fn run_serial]]
-     promises, where the lines come by turns: by [[fn run_serial.ordered]] the history is that of such an order, [[IsHistoryOf:
-     IsOrderedByTurns formula terms streams reports]]."""),
+     promises, where the lines come by turns: [[fn run_serial.ordered: OnOneThread]], and there the history is that of such an
+     order, [[OnOneThread: IsOrderedByTurns formula terms streams reports]]."""),
     ("gives the same reports", """[[IsOrdered: judged : AreJudged terms set]], with the run's `reports`: each stream is
      judged by its own blocks in their order, [[IsOrdered: own_blocks ≡ blocks_of t blocks]]."""),
 ]
@@ -487,8 +487,8 @@ ROUNDS_PHRASES: Rows = [
      after the sizes ([[StreamsOpened]])."""),
     ("just the clauses that a history of the round leaves live, but for those that all streams dropped",
      """[[SavesRound: exactly : CarriesRun its.reading its.written plan.serial round.formula (terms_by plan round.formula round.sizes)
-     round.readers round.reports (Ok next) saved.first saved.last]]: by [[CarriesRun: ran : IsRunOf view serial formula terms
-     firsts lasts reports dropped]] the history judges the round's streams as reported, and what they dropped is what their lines
+     round.readers round.reports (Ok next) saved.first saved.last]]: by [[CarriesRun: ran : IsRunOf (way_of serial) view
+     formula terms firsts lasts reports dropped]] the history judges the round's streams as reported, and what they dropped is what their lines
      drop, since all ended; by [[CarriesRun: carries : CarriesState written result (state formula ran.run.history) terms.layout
      (is_wanted dropped) first last]] each identity was fetched once, and [[Carries: (next ≡ printed vars entries)]] of what was found live and
      [[is_wanted]], in the order of the identities."""),

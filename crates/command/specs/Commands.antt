@@ -19,7 +19,7 @@ use Rattle.lrup_text.specs.Reads.{GaveAll, ReadsOf}
 use Rattle.lrup_text.specs.Cubes.{IsCubeFault, IsCubeText}
 use Rattle.lrup_text.specs.declared.cube.CubeFault.TheVariants as cubes
 use Rattle.stream_check.specs.declared.report.Report.{Report}
-use Rattle.portfolio.specs.Histories.{IsRunOf, SavesRun}
+use Rattle.portfolio.specs.Histories.{IsRunOf, SavesRun, way_of}
 use Rattle.portfolio.specs.Outcomes.{OptionsValue, layout_of, terms_of, verdict_of}
 use Rattle.portfolio.specs.ReportText.{report_text}
 use Rattle.runs.specs.Readings.{readers_view}
@@ -177,7 +177,7 @@ pub record AreChecked {R : Type 0} (reading : SourceView R) (serial : Bool) (for
   pub layout : (fault : LayoutFault) → IsFault terms.layout fault → ⊥
   pub lasts : List R
   pub dropped : List DroppedValue
-  pub ran : IsRunOf reading serial formula terms firsts lasts reports dropped
+  pub ran : IsRunOf (way_of serial) reading formula terms firsts lasts reports dropped
   pub is_verdict : verdict ≡ verdict_of reports
   pub sound : verdict ≡ Unsatisfiable → IsUnsatisfiable formula
   pub sound_under : verdict ≡ UnsatisfiableUnder → IsUnsatisfiableUnder formula terms.cube

@@ -11,7 +11,7 @@ use Rattle.runs.specs.Headline.{HaveOneHistory}
 use Rattle.runs.specs.Streams.{TermsValue}
 use Rattle.stream_check.specs.DroppedValue.{DroppedValue}
 use Rattle.stream_check.specs.declared.report.Report.{Report}
-use Rattle.portfolio.specs.Histories.{IsRunOf}
+use Rattle.portfolio.specs.Histories.{IsRunOf, way_of}
 use Rattle.command.specs.Commands.{HasNoFault}
 use Rattle.command.specs.declared.fault.CommandFault.{CommandFault}
 use Rattle.command.specs.declared.fault.CommandFault.TheVariants as faults
@@ -46,7 +46,7 @@ pub record StandsBehind {R : Type 0} (view : SourceView R) (serial : Bool) (form
     (terms : TermsValue) (firsts : List R) (reports : List Report)
     (left : LeftClauses) : Type 0 where
   pub lasts : List R
-  pub ran : IsRunOf view serial formula terms firsts lasts reports (dropped_in left)
+  pub ran : IsRunOf (way_of serial) view formula terms firsts lasts reports (dropped_in left)
   pub layout : left_layout left ≡ terms.layout
   pub has : HasHistory formula ran.run.history left
 

@@ -23,7 +23,7 @@ use Rattle.run_laws.specs.Groups.{IsRun}
 use Rattle.run_laws.specs.Right.{AddsEmpty, IsCutOffIn, IsRightBeginning}
 use Rattle.run_laws.specs.RightLaws.{RightBegins, RightEmpty}
 use Rattle.run_laws.specs.Together.{Step, IsRightOrder, HaveTexts, lines_by, TogetherBegins}
-use Rattle.portfolio.specs.Histories.{IsHistoryOf}
+use Rattle.portfolio.specs.Histories.{OnOneThread, way_of}
 use Rattle.portfolio.specs.Outcomes.{verdict_of}
 use Rattle.portfolio.specs.declared.outcome.Verdict.{Verdict}
 use Rattle.portfolio.specs.declared.outcome.Verdict.TheVariants.{Unsatisfiable, UnsatisfiableUnder, Unknown}
@@ -115,9 +115,9 @@ module _ {R : Type 0} (reading : SourceView R) (c : Check reading) where
   -- those on one thread have an order by turns
   pub turns_of : c.serial ≡ true → IsOrderedByTurns c.formula c.terms run_of.streams c.reports
   turns_of on_one =
-      let order : IsHistoryOf true c.formula c.terms run_of.history run_of.streams c.reports =
-      subst (λ (b : Bool). IsHistoryOf b c.formula c.terms run_of.history run_of.streams c.reports) on_one c.checked.ran.order in
-      order.0
+      let way : OnOneThread c.formula c.terms run_of.history run_of.streams c.reports =
+      subst (λ (b : Bool). way_of b c.formula c.terms run_of.history run_of.streams c.reports) on_one c.checked.ran.way in
+      way.0
 
   -- without a cube there is nothing under it
   pub never_under : EmptyCubeReported → c.terms.cube ≡ [] → ¬ (c.verdict ≡ UnsatisfiableUnder)

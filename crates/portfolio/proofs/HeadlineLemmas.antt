@@ -33,8 +33,10 @@ use Rattle.portfolio.specs.declared.outcome.Verdict.{Verdict}
 use Rattle.portfolio.specs.declared.outcome.Verdict.TheVariants.{Unsatisfiable, UnsatisfiableUnder, Unknown}
 use Rattle.portfolio.specs.Dropping.{HasDropped, HaveDropped}
 use Rattle.portfolio.specs.Outcomes.{OptionsValue, layout_of, terms_of, verdict_of}
-use Rattle.portfolio.specs.Histories.{IsRunOf}
+use Rattle.portfolio.specs.Histories.{InThreads, IsRunOf}
 use Rattle.portfolio.specs.Threads.{AreGathered, HaveReadyJobs, IsBegun, HasReadyJobs, WasReadOut, WereGathered, WereJudged}
+use Rattle.runs.specs.Each.{EachOfThree}
+use Rattle.runs.specs.EachLemmas.{each_count, each_take, zip_count}
 use Rattle.runs.specs.StreamLemmas.{IsJudgedBy, told_as_many, told_count}
 use Rattle.runs.specs.Headline.{HaveOneHistory, AreJudgedIn, seen_by}
 use Rattle.stream_threads.specs.Jobs.{JobsValue, FoundValue, CanBegin, Finishes, AllFinish, AreJobs, MissesMark}
@@ -151,10 +153,8 @@ opened_room f p store s q same opened =
 -- Each report is the judgement of what the stream's reader told and of the calls of the stream's pass, for the streams counted
 -- on from s.
 abbrev pub AreJudgedBy : TermsValue → ℕ → List Stream → List View → List Report → Type 0
-AreJudgedBy terms s [] [] [] = Unit {0}
-AreJudgedBy terms s (stream ∷ streams) (v ∷ vs) (report ∷ reports) =
-    IsJudgedBy (setting_of terms s) stream v.mine report × AreJudgedBy terms (s + 1) streams vs reports
-AreJudgedBy terms s _ _ _ = ⊥
+AreJudgedBy terms s streams vs reports =
+    EachOfThree (λ t stream v report. IsJudgedBy (setting_of terms t) stream v.mine report) s streams vs reports
 
 -- these calls are the events of the one history
 judged_in : (terms : TermsValue) (h : History) (s : ℕ) (streams : List Stream) (vs : List View) (reports : List Report)
@@ -233,20 +233,12 @@ module _ {S : Type 0} (view : SourceView S) where
 
   pub ready_count : (store : StoreValue) (f : Cnf) (terms : TermsValue) (s : ℕ) (firsts : List S) (js : List (JobsValue S))
       → HaveReadyJobs store f terms s firsts js → length js ≡ length firsts
-  ready_count store f terms s [] [] ready = refl
-  ready_count store f terms s [] (j ∷ js) ready = absurd ready
-  ready_count store f terms s (e ∷ es) [] ready = absurd ready
-  ready_count store f terms s (e ∷ es) (j ∷ js) ready = omega (arith, ready_count store f terms (s + 1) es js ready.1)
+  ready_count store f terms s firsts js ready = each_count _ s firsts js ready
 
   -- the jobs of the first streams
   pub ready_take : (store : StoreValue) (f : Cnf) (terms : TermsValue) (s n : ℕ) (firsts : List S) (js : List (JobsValue S))
       → HaveReadyJobs store f terms s firsts js → HaveReadyJobs store f terms s (take n firsts) (take n js)
-  ready_take store f terms s zero [] [] ready = tt
-  ready_take store f terms s (suc n) [] [] ready = tt
-  ready_take store f terms s n [] (j ∷ js) ready = absurd ready
-  ready_take store f terms s n (e ∷ es) [] ready = absurd ready
-  ready_take store f terms s zero (e ∷ es) (j ∷ js) ready = tt
-  ready_take store f terms s (suc n) (e ∷ es) (j ∷ js) ready = (ready.0, ready_take store f terms (s + 1) n es js ready.1)
+  ready_take store f terms s n firsts js ready = each_take _ n s firsts js ready
 
   -- ---- what was found, and the passes when all have met
 
@@ -265,10 +257,7 @@ module _ {S : Type 0} (view : SourceView S) where
   begin_take store (suc n) (j ∷ js) begin = (begin.0, begin_take store n js begin.1)
 
   pub finish_count : (js : List (JobsValue S)) (fs : List (FoundValue S)) → AllFinish view js fs → length fs ≡ length js
-  finish_count [] [] all = refl
-  finish_count [] (x ∷ fs) all = absurd all
-  finish_count (j ∷ js) [] all = absurd all
-  finish_count (j ∷ js) (x ∷ fs) all = omega (arith, finish_count js fs all.1)
+  finish_count js fs all = zip_count (Finishes view) js fs all
 
   met_count : (fs : List (FoundValue S)) (vs : List View) → AreMet (views (map (λ x. x.pass) fs)) vs → length vs ≡ length fs
   met_count [] [] met = refl
@@ -472,7 +461,7 @@ module _ {S : Type 0} (view : SourceView S) where
       → HaveOneHistory f terms.layout (seen_by vs) vs
       → (reports : List Report) (lasts : List S) (dropped : List DroppedValue) → reports ≡ map (λ x. x.report) fs
       → lasts ≡ map (λ x. x.reader) fs → map (λ d. d.ids) dropped ≡ map (λ x. x.dropped.ids) fs
-      → (ran : IsRunOf view false f terms firsts lasts reports dropped) × (ran.run.history ≡ seen_by vs)
+      → (ran : IsRunOf InThreads view f terms firsts lasts reports dropped) × (ran.run.history ≡ seen_by vs)
   gathered f terms store firsts js begun vs fs finish met one reports lasts dropped reports_are lasts_are dropped_are =
       let j = judged_by f terms store begun.store_is 1 firsts js fs vs begun.ready finish met in
       let run = first_run f terms (seen_by vs) firsts fs vs j one.legal (mine_at f terms.layout vs one) in
@@ -487,7 +476,7 @@ module _ {S : Type 0} (view : SourceView S) where
             legal = one.legal;
             judged = subst (AreJudgedIn terms (λ s. true) (seen_by vs) 1 j.streams) (sym reports_are) run.judged;
           };
-          order = j.out;
+          way = j.out;
           read = subst (λ (ls : List S). AreRead S view.reads firsts ls j.streams) (sym lasts_are) j.read;
           have_dropped = rw dropped_are (rw reports_are j.dropped);
         },
@@ -498,7 +487,7 @@ module _ {S : Type 0} (view : SourceView S) where
       → IsBegun f terms store firsts js
       → (vs : List View) (reports : List Report) (lasts : List S) (dropped : List DroppedValue)
       → AreGathered view js vs reports lasts dropped
-      → (ran : IsRunOf view false f terms firsts lasts reports dropped) × (ran.run.history ≡ seen_by vs)
+      → (ran : IsRunOf InThreads view f terms firsts lasts reports dropped) × (ran.run.history ≡ seen_by vs)
   run_reports {f} {terms} {store} {firsts} {js} begun vs reports lasts dropped so =
       let gone : map (λ (d : DroppedValue). d.ids) dropped ≡ map (λ (x : FoundValue S). x.dropped.ids) so.found =
       ap (map (λ (d : DroppedValue). d.ids)) so.dropped_are

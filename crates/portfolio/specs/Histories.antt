@@ -16,23 +16,34 @@ use Rattle.checkpoint.specs.declared.saving.SaveFault.{SaveFault}
 use Rattle.portfolio.specs.Dropping.{HaveDropped}
 use Rattle.portfolio.specs.Saving.{CarriesState, SavesState, is_wanted}
 
--- What more is known of the history: on one thread it is that of an order of lines, which is by turns; with two threads for each stream,
--- each was read to its end or to a read that failed.
-abbrev pub IsHistoryOf : Bool → Cnf → TermsValue → History → List Stream → List Report → Type 0
-IsHistoryOf true formula terms history streams reports =
-    (ordered : IsOrderedByTurns formula terms streams reports)
-    × (history ≡ events_in ordered.order.blocks)
-IsHistoryOf false formula terms history streams reports =
+-- in which way the streams were checked: what more is known of a run's history, its streams and its reports
+abbrev pub Way : Type 1
+Way = Cnf → TermsValue → History → List Stream → List Report → Type 0
+
+-- in threads: each stream was read to its end, or to a read that failed
+abbrev pub InThreads : Way
+InThreads formula terms history streams reports =
     AllByRecursion (λ stream. IsSome stream.end) streams
 
--- What a run promises of its streams. `firsts` are their readers before the first read, and `lasts` those in the end. It is a run of what
--- these told; reads of them gave its streams; and each stream dropped just what its lines drop, or where one stopped it what was
--- dropped until then.
-pub record IsRunOf {S : Type 0} (view : SourceView S) (serial : Bool) (formula : Cnf)
+-- on one thread: the history is that of an order of lines, which is by turns
+abbrev pub OnOneThread : Way
+OnOneThread formula terms history streams reports =
+    (ordered : IsOrderedByTurns formula terms streams reports)
+    × (history ≡ events_in ordered.order.blocks)
+
+-- the one or the other
+abbrev pub way_of : Bool → Way
+way_of true = OnOneThread
+way_of false = InThreads
+
+-- What a run promises of its streams, which were checked in this way. `firsts` are their readers before the first read, and `lasts`
+-- those in the end. It is a run of what these told; reads of them gave its streams; and each stream dropped just what its lines drop,
+-- or where one stopped it what was dropped until then.
+pub record IsRunOf {S : Type 0} (Checked : Way) (view : SourceView S) (formula : Cnf)
     (terms : TermsValue) (firsts lasts : List S) (reports : List Report)
     (dropped : List DroppedValue) : Type 0 where
   pub run : IsRun formula terms (tellings view firsts lasts) reports
-  pub order : IsHistoryOf serial formula terms run.history run.streams reports
+  pub way : Checked formula terms run.history run.streams reports
   pub read : AreRead S view.reads firsts lasts run.streams
   pub have_dropped : HaveDropped terms 1 run.streams reports (map (λ d. d.ids) dropped)
 
@@ -43,7 +54,7 @@ pub record SavesRun {S W : Type 0} (view : SourceView S) (written : W → Option
     (result : Result (Unit {0}) SaveFault) (first last : W) : Type 0 where
   pub lasts : List S
   pub dropped : List DroppedValue
-  pub ran : IsRunOf view serial formula terms firsts lasts reports dropped
+  pub ran : IsRunOf (way_of serial) view formula terms firsts lasts reports dropped
   pub saves : SavesState written result (state formula ran.run.history) terms.layout
       (is_wanted dropped) first last
 
@@ -54,6 +65,6 @@ pub record CarriesRun {S W : Type 0} (view : SourceView S) (written : W → Opti
     (result : Result Cnf SaveFault) (first last : W) : Type 0 where
   pub lasts : List S
   pub dropped : List DroppedValue
-  pub ran : IsRunOf view serial formula terms firsts lasts reports dropped
+  pub ran : IsRunOf (way_of serial) view formula terms firsts lasts reports dropped
   pub carries : CarriesState written result (state formula ran.run.history) terms.layout
       (is_wanted dropped) first last

@@ -1,11 +1,12 @@
 -- The streams of a run with threads, before the threads start, and when all have ended (this project's own).
-use Rattle.std.specs.Prelude.{◌≡◌, ◌+◌, ◌-◌, ℕ, List, [], ◌∷◌, IsSome, IsSomeAnd, length, map, slice_get, take}
+use Rattle.std.specs.Prelude.{◌≡◌, ◌-◌, ℕ, List, IsSome, IsSomeAnd, length, map, slice_get, take}
 use Rattle.std.specs.List.{AllByRecursion}
 use Rattle.lrup_model.specs.Formula.{Cnf}
 use Rattle.lrup_model.specs.Layout.{Fits, IsLayout, IsStream}
 use Rattle.lrup_model.specs.Pass.{AreMet, View}
 use Rattle.clause_store.specs.Passes.{HaveMet, IsOpened, StoreValue, views}
 use Rattle.lrup_text.specs.ReadOut.{SourceView}
+use Rattle.runs.specs.Each.{Each}
 use Rattle.runs.specs.Readings.{AreRead, IsStreamOf}
 use Rattle.runs.specs.Streams.{Stream, TermsValue, tellings}
 use Rattle.run_laws.specs.Groups.{IsRunOfFirst}
@@ -24,11 +25,8 @@ pub record HasReadyJobs {S : Type 0} (store : StoreValue) (formula : Cnf) (terms
 -- those of the streams counted on from s
 abbrev pub HaveReadyJobs : {S : Type 0} → StoreValue → Cnf → TermsValue → ℕ → List S
     → List (JobsValue S) → Type 0
-HaveReadyJobs store formula terms s [] [] = Unit {0}
-HaveReadyJobs store formula terms s (first ∷ firsts) (jobs ∷ all) =
-    HasReadyJobs store formula terms s first jobs
-    × HaveReadyJobs store formula terms (s + 1) firsts all
-HaveReadyJobs store formula terms s _ _ = ⊥
+HaveReadyJobs store formula terms s firsts all =
+    Each (HasReadyJobs store formula terms) s firsts all
 
 -- a run before its threads start, by its terms: the store, and the jobs of all readers
 pub record IsBegun {S : Type 0} (formula : Cnf) (terms : TermsValue) (store : StoreValue)

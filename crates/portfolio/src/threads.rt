@@ -7,10 +7,9 @@ ghost use Rattle.lrup_model.specs.Layout.{Fits, IsFault, IsLayout, IsStream};
 ghost use Rattle.lrup_model.specs.declared.layout.LayoutFault.{LayoutFault};
 ghost use Rattle.lrup_model.specs.Pass.{AreMet};
 ghost use Rattle.clause_store.specs.Passes.{AreOf, HaveMet, store_of, views};
-ghost use Rattle.lrup_text.specs.ReadOut.{source_view};
 ghost use Rattle.runs.specs.Readings.{readers_view};
 ghost use Rattle.runs.specs.Headline.{HaveOneHistory, seen_by};
-ghost use Rattle.portfolio.specs.Histories.{IsRunOf};
+ghost use Rattle.portfolio.specs.Histories.{InThreads, IsRunOf};
 ghost use Rattle.portfolio.specs.Outcomes.{layout_of, terms_of, verdict_of};
 ghost use Rattle.portfolio.specs.Threads.{AreGathered, IsBegun, StopsAtRing, WasReadOut, WereGathered};
 ghost use Rattle.runs.specs.Streams.{tellings};
@@ -65,8 +64,8 @@ pub fn run<T: Threads + Wait + Sync, R: Source + Send + Drop, G: Gate + Send + D
         (seen_by passes) passes) }
     // It is a run by that history, of what the readers told and their reads gave.
     ensures reports { let terms = terms_of options cube.now formula.now (length readers.items) in
-        IfOk result (λ outcome. (ran : IsRunOf (readers_view R.Source) false formula.now terms
-        readers.items outcome.readers.items outcome.reports.items outcome.dropped.items)
+        IfOk result (λ outcome. (ran : IsRunOf InThreads (readers_view R.Source) formula.now
+        terms readers.items outcome.readers.items outcome.reports.items outcome.dropped.items)
         × (ran.run.history ≡ seen_by (views outcome.passes.items))) }
     // Groups of streams are isolated.
     ensures isolated { let terms = terms_of options cube.now formula.now (length readers.items) in
@@ -139,11 +138,11 @@ fn check<T: Threads + Wait + Sync, R: Source + Send + Drop, G: Gate + Send + Dro
     ensures ring { (stream : ℕ) → result ≡ Err (RunFault.Ring stream)
         → (0 < stream) × (stream ≤ length jobs.items) }
     ensures first { (stream : ℕ) → result ≡ Err (RunFault.Ring stream)
-        → WereGathered (source_view R.left R.has_failed R.reads) (take (stream - 1) jobs.items) }
+        → WereGathered (readers_view R.Source) (take (stream - 1) jobs.items) }
     ensures read_out { (stream : ℕ) → result ≡ Err (RunFault.Ring stream)
         → IsSomeAnd (slice_get jobs.items (stream - 1))
-        (λ one. WasReadOut (source_view R.left R.has_failed R.reads) one.reader) }
-    ensures found { IfOk result (λ outcome. AreGathered (source_view R.left R.has_failed R.reads)
+        (λ one. WasReadOut (readers_view R.Source) one.reader) }
+    ensures found { IfOk result (λ outcome. AreGathered (readers_view R.Source)
         jobs.items (views outcome.passes.items) outcome.reports.items outcome.readers.items
         outcome.dropped.items) }
     ensures verdict { IfOk result (λ outcome.

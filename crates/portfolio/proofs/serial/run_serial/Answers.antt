@@ -1,7 +1,6 @@
 use Rattle.std.proofs.Common.{◌∙◌, length, refl, sym, ap, subst}
 use Rattle.std.proofs.lemmas.Result.{IfOk-weaker}
 use Rattle.lrup_model.specs.Layout.{Fits, LayoutValue}
-use Rattle.lrup_text.specs.ReadOut.{source_view}
 use Rattle.runs.specs.Readings.{readers_view}
 use Rattle.runs.specs.Streams.{TermsValue}
 use Rattle.portfolio.specs.Outcomes.{terms_of}
@@ -15,11 +14,11 @@ use Rattle.portfolio.proofs.serial.run_serial.Goals as goal
 use Rattle.portfolio.proofs.serial.run_serial.Goals.{In_ok-map}
 
 -- the run was opened by the terms of its formula, options and streams
-runs : (g : given.Over) (c : In_ok-map g) → Runs (source_view g.R.Source.left g.R.Source.has_failed g.R.Source.reads) c.args.formula.now
+runs : (g : given.Over) (c : In_ok-map g) → Runs (readers_view g.R.Source) c.args.formula.now
     (terms_of c.args.options c.args.cube.now c.args.formula.now (length c.args.readers.items)) c.args.readers.items 0 c.in_ok-map.map
     c.in_ok-map.workers.items
 runs g c =
-    let view = source_view g.R.Source.left g.R.Source.has_failed g.R.Source.reads in
+    let view = readers_view g.R.Source in
     subst (λ (t : TermsValue). Runs view c.args.formula.now t c.args.readers.items 0 c.in_ok-map.map c.in_ok-map.workers.items)
     (terms_made c.args.options c.args.cube.now c.args.formula.now c.in_ok-layout.layout c.len.result (length c.args.readers.items)
     c.tries.result _ c.new-terms.ensures c.in_ok-layout.ensures.layout.0 (c.len.ensures ∙ c.args.readers.ok.0) c.tries.ensures.tries)

@@ -2,7 +2,6 @@ use Rattle.std.proofs.Common.{◌-◌, ◌∙◌, length, sym, subst, ap}
 use Rattle.std.proofs.lemmas.Result.{IfOk-weaker}
 use Rattle.clause_store.specs.Passes.{AreOf, StoreValue}
 use Rattle.lrup_model.specs.Layout.{Fits, IsLayout, LayoutValue}
-use Rattle.lrup_text.specs.ReadOut.{source_view}
 use Rattle.runs.specs.Readings.{readers_view}
 use Rattle.runs.specs.Streams.{TermsValue}
 use Rattle.portfolio.specs.Outcomes.{terms_of}
@@ -43,7 +42,7 @@ open-requires-clause-streams g c =
 
 pub check-requires-clause-begin : goal.check-requires-clause-begin
 check-requires-clause-begin g c κs within =
-    can_begin (source_view g.R.Source.left g.R.Source.has_failed g.R.Source.reads)
+    can_begin (readers_view g.R.Source)
     (begun g (goal.at.check-requires-clause-begin g c).In_ok-store)
 
 pub returns-clause-layout : goal.returns-clause-layout
@@ -63,7 +62,7 @@ returns-in_err-store-clause-layout g c = λ fault. (
 pub returns-clause-spawn : goal.returns-clause-spawn
 returns-clause-spawn g c = λ stream e.
     let begun = begun g (goal.at.returns-clause-spawn g c).In_ok-store in
-    let view = source_view g.R.Source.left g.R.Source.has_failed g.R.Source.reads in
+    let view = readers_view g.R.Source in
     let wanted = terms_of c.args.options c.args.cube.now c.args.formula.now (length c.args.readers.items) in
     stream_within view {terms = wanted} begun stream (c.check.ensures.spawn stream e)
 
