@@ -277,14 +277,15 @@ HISTORY_ROWS: Rows = [
      slice_get (clip_clause (pass_place pass.old.view) clip.now) k ≡ Some result]]; [[fn Store::pair]] gives two). A pass is *fair* after each call, and what it
      keeps are then the clauses of what it has seen ([[Calls: fair : IsFair new]], [[IsFair: spelt : IsSpelt
      view.caller.formula view.seen view.spelt]]). A known clip keeps its clause ([[law known_stays]], [[law pass_tells]])."""),
-    ("Each report is right by the rules, for its stream's calls in this history and its bytes.", """[[fn run.reports]]. The
+    ("Each report is right by the rules, for its stream's calls in this history and its bytes.", """[[fn run.reports]]: it is
+     a run ([[IsRun]]) by this history ([[fn run.reports: ran.run.history ≡ seen_by (views outcome.passes.items)]]). Each
      stream is judged by blocks of events, one for each line. Together they are the stream's events ([[AreJudgedIn: own
      history t ≡ joined blocks]]). Good lines come first, and then what ended the stream ([[JudgesBlocks]]). If memory ran
      out, events and bytes don't decide the report: any deletion that drops something may have stopped for that
      ([[StopsDeletion]])."""),
-    ("The bytes are those that the reads of the stream gave, up to its end or to a failed read.", """[[fn run.reports]]:
-     [[ReadOut: given : Gave S reads first bytes last]], then [[ReadOut: ends : IsLastRead S reads end last after]]. If the
-     reader tells its bytes, the stream's bytes begin these ([[IsTold]])."""),
+    ("The bytes are those that the reads of the stream gave, up to its end or to a failed read.", """[[IsRunOf: read : AreRead S view.reads
+     firsts lasts run.streams]]: [[ReadOut: given : Gave S reads first bytes last]], then [[ReadOut: ends : IsLastRead S reads end last after]]. With
+     threads each stream has an end ([[InThreads: AllByRecursion (λ stream. IsSome stream.end) streams]]). If the reader tells its bytes, the stream's bytes begin these ([[IsTold]])."""),
     ("'Unsatisfiable' means that no assignment satisfies the formula; 'unsatisfiable under assumptions', that none makes the "
      "assumed literals true besides.",
      """[[fn run.sound: IsUnsatisfiable formula.now]]; [[fn run.sound_under: IsUnsatisfiableUnder formula.now cube.now]]. The
@@ -311,8 +312,8 @@ ISOLATION_ROWS: Rows = [
      speaks of no other stream; [[AreIsolated: NoneOutOfMemory set reports]]."""),
     ("If one stream is a closed set, it has one report with the same formula, options, assumptions and number of streams, "
      "unless memory ran out or a read failed.",
-     """[[fn run.alone]], [[fn run_serial.alone]]: alone ([[IsReportAlone]]), a stream of the same bytes and end
-     ([[IsReadingOf]]) has no other report than in the run ([[HaveReportsAlone: other ≡ report]], [[law
+     """[[AreIsolated: alone : (run : IsRun formula terms told reports)]]: alone ([[IsReportAlone]]), a stream of the same
+     bytes and end ([[IsReadingOf]]) has no other report than in the run ([[AreIsolated: other ≡ report]], [[law
      alone_has_one_report]]). A failed read is another end. [[law same_reading_agrees]]
      and [[law same_bytes_agree]] say it of two runs. The assumptions have to be the same list."""),
 ]

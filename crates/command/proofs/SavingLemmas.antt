@@ -86,14 +86,13 @@ module _ (its : Deeds) (serial : Bool) (f : Cnf) (terms : TermsValue) (firsts : 
     result = result;
     last = last;
     saving = record {
-      checkpoint = checkpoint f stands.history stands.has;
+      checkpoint = checkpoint f stands.ran.run.history stands.has;
       exactly = record {
-        history = stands.history;
         lasts = stands.lasts;
         dropped = dropped_in left;
-        stands = stands.stands;
-        saves = subst (λ (p : LayoutValue). SavesState its.written result (state f stands.history) p (is_wanted (dropped_in left)) first
-            last) stands.layout (saves f stands.history stands.has);
+        ran = stands.ran;
+        saves = subst (λ (p : LayoutValue). SavesState its.written result (state f stands.ran.run.history) p
+            (is_wanted (dropped_in left)) first last) stands.layout (saves f stands.ran.run.history stands.has);
       };
       failed = failed;
     };
@@ -108,14 +107,13 @@ module _ (its : Deeds) (serial : Bool) (f : Cnf) (terms : TermsValue) (firsts : 
       → IsTrue (its.has_failed last) ↔ (result ≡ Err faults.Unwritten)
       → CarriesCheckpoint its serial f terms firsts reports result first last
   carrying result next carries failed = record {
-    checkpoint = next f stands.history stands.has;
+    checkpoint = next f stands.ran.run.history stands.has;
     exactly = record {
-      history = stands.history;
       lasts = stands.lasts;
       dropped = dropped_in left;
-      stands = stands.stands;
-      carries = subst (λ (p : LayoutValue). CarriesState its.written result (state f stands.history) p (is_wanted (dropped_in left)) first
-          last) stands.layout (carries f stands.history stands.has);
+      ran = stands.ran;
+      carries = subst (λ (p : LayoutValue). CarriesState its.written result (state f stands.ran.run.history) p
+          (is_wanted (dropped_in left)) first last) stands.layout (carries f stands.ran.run.history stands.has);
     };
     failed = failed;
   }

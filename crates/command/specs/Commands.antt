@@ -14,16 +14,17 @@ use Rattle.dimacs.specs.declared.fault.DimacsFault.TheVariants as formulas
 use Rattle.lrup_text.specs.declared.device.Sink as Sink
 use Rattle.lrup_text.specs.declared.device.Source as Source
 use Rattle.lrup_text.specs.declared.device.StreamEnd.TheVariants as stream_ends
-use Rattle.lrup_text.specs.ReadOut.{ReadOut, SourceView, source_view}
+use Rattle.lrup_text.specs.ReadOut.{ReadOut, SourceView}
 use Rattle.lrup_text.specs.Reads.{GaveAll, ReadsOf}
 use Rattle.lrup_text.specs.Cubes.{IsCubeFault, IsCubeText}
 use Rattle.lrup_text.specs.declared.cube.CubeFault.TheVariants as cubes
 use Rattle.stream_check.specs.declared.report.Report.{Report}
-use Rattle.portfolio.specs.Histories.{AreReported, SavesRun}
+use Rattle.portfolio.specs.Histories.{IsRunOf, SavesRun, way_of}
 use Rattle.portfolio.specs.Outcomes.{OptionsValue, layout_of, terms_of, verdict_of}
 use Rattle.portfolio.specs.ReportText.{report_text}
-use Rattle.runs.specs.Readings.{AreRead}
-use Rattle.runs.specs.Streams.{StandsOnStreams, TermsValue, tellings}
+use Rattle.runs.specs.Readings.{readers_view}
+use Rattle.runs.specs.Streams.{TermsValue}
+use Rattle.stream_check.specs.DroppedValue.{DroppedValue}
 use Rattle.portfolio.specs.declared.outcome.Verdict.{Verdict}
 use Rattle.portfolio.specs.declared.outcome.Verdict.TheVariants.{Unsatisfiable, UnsatisfiableUnder, Unknown}
 use Rattle.checkpoint.specs.Checkpoints.{IsCheckpoint}
@@ -168,23 +169,18 @@ terms_given given cube formula = terms_of (options_of given) cube formula (lengt
 abbrev pub terms_on : Setup → ℕ → TermsValue
 terms_on setup streams = terms_of setup.options setup.cube.now setup.formula.now streams
 
--- The reports and the verdict of a formula's streams. `firsts` are the readers of the streams as they were opened, and `lasts` those
--- in the end, after reads that gave the streams.
+-- The reports and the verdict of a formula's streams are those of a run. `firsts` are the readers of the streams as they were opened,
+-- and `lasts` those in the end.
 pub record AreChecked {R : Type 0} (reading : SourceView R) (serial : Bool) (formula : Cnf)
     (terms : TermsValue) (firsts : List R) (reports : List Report)
     (verdict : Verdict) : Type 0 where
   pub layout : (fault : LayoutFault) → IsFault terms.layout fault → ⊥
   pub lasts : List R
-  pub reported : StandsOnStreams (tellings reading firsts lasts)
-      (AreReported serial formula terms reports)
-  pub read : AreRead R reading.reads firsts lasts reported.streams
+  pub dropped : List DroppedValue
+  pub ran : IsRunOf (way_of serial) reading formula terms firsts lasts reports dropped
   pub is_verdict : verdict ≡ verdict_of reports
   pub sound : verdict ≡ Unsatisfiable → IsUnsatisfiable formula
   pub sound_under : verdict ≡ UnsatisfiableUnder → IsUnsatisfiableUnder formula terms.cube
-
--- what is known of readers, as their type says it
-abbrev pub readers_view : {R : Type 0} → Source.Ghosts R → SourceView R
-readers_view its = source_view its.left its.has_failed its.reads
 
 -- What files do and tell, whichever they are: of an opening, and of one that was refused; of what is seen where a path has no file, and of
 -- an opening that failed although it may have one; of a creation, and of one that was refused; of a file that was kept, of one that wasn't,

@@ -11,7 +11,7 @@ use Rattle.runs.specs.Headline.{HaveOneHistory}
 use Rattle.runs.specs.Streams.{TermsValue}
 use Rattle.stream_check.specs.DroppedValue.{DroppedValue}
 use Rattle.stream_check.specs.declared.report.Report.{Report}
-use Rattle.portfolio.specs.Histories.{StandsOnHistory}
+use Rattle.portfolio.specs.Histories.{IsRunOf, way_of}
 use Rattle.command.specs.Commands.{HasNoFault}
 use Rattle.command.specs.declared.fault.CommandFault.{CommandFault}
 use Rattle.command.specs.declared.fault.CommandFault.TheVariants as faults
@@ -41,16 +41,14 @@ CanBeSaved (lefts.Shared left) =
     AreOf left.store left.passes.items × (0 < vec_len left.passes)
 CanBeSaved (lefts.Plain left) = Fits left.map.layout (formula_of left.map)
 
--- The reports of streams, and the clauses that these left, stand on one history.
+-- It is a run that has these reports, and these clauses were left by its history.
 pub record StandsBehind {R : Type 0} (view : SourceView R) (serial : Bool) (formula : Cnf)
     (terms : TermsValue) (firsts : List R) (reports : List Report)
     (left : LeftClauses) : Type 0 where
-  pub history : History
   pub lasts : List R
-  pub stands : StandsOnHistory view serial formula terms history firsts lasts reports
-      (dropped_in left)
+  pub ran : IsRunOf (way_of serial) view formula terms firsts lasts reports (dropped_in left)
   pub layout : left_layout left ≡ terms.layout
-  pub has : HasHistory formula history left
+  pub has : HasHistory formula ran.run.history left
 
 -- why streams aren't checked: there is no layout
 abbrev pub IsLayoutCause : LayoutValue → CommandFault → Type 0

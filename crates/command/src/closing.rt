@@ -3,7 +3,8 @@ ghost use Rattle.std.specs.Prelude.{◌≡◌, ◌⊎◌, [], Bool, List, None, 
 ghost use Rattle.std.specs.Option.{ForSome};
 ghost use Rattle.lrup_model.specs.Formula.{Cnf};
 ghost use Rattle.runs.specs.Streams.{TermsValue};
-ghost use Rattle.command.specs.Commands.{SavesCheckpoint, deeds, path_of, readers_view};
+ghost use Rattle.command.specs.Commands.{SavesCheckpoint, deeds, path_of};
+ghost use Rattle.runs.specs.Readings.{readers_view};
 ghost use Rattle.command.specs.Rounds.{CarriesCheckpoint};
 ghost use Rattle.command.specs.Running.{CanBeSaved, StandsBehind};
 ghost use Rattle.command.specs.Saving.{ClosesCheckpoint, CreatesCheckpoint, DiscardsIt, IsNotCreated, KeepsNext, SavesAndCloses};

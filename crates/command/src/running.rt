@@ -7,7 +7,8 @@ ghost use Rattle.lrup_model.specs.Formula.{Cnf};
 ghost use Rattle.lrup_model.specs.State.{state};
 ghost use Rattle.checkpoint.specs.Checkpoints.{IsCheckpoint, IsCheckpointOf};
 ghost use Rattle.portfolio.specs.Saving.{CarriesState, SavesState, is_wanted};
-ghost use Rattle.command.specs.Commands.{AreChecked, readers_view, terms_on};
+ghost use Rattle.command.specs.Commands.{AreChecked, terms_on};
+ghost use Rattle.runs.specs.Readings.{readers_view};
 ghost use Rattle.command.specs.Running.{HasHistory, CanBeSaved, IsRunCause, StandsBehind, dropped_in, left_layout};
 
 use crate::fault::CommandFault;

@@ -1,6 +1,7 @@
 //! The sizes of a round, from their file.
 ghost use Rattle.std.specs.Prelude.{◌≡◌, false, IfErr, IfNone, IfOk, IfSome, string_bytes};
-ghost use Rattle.command.specs.Commands.{deeds, readers_view};
+ghost use Rattle.command.specs.Commands.{deeds};
+ghost use Rattle.runs.specs.Readings.{readers_view};
 ghost use Rattle.command.specs.Paths.{sizes_path};
 ghost use Rattle.command.specs.Rounds.{AreSized, IsSizesCause};
 ghost use Rattle.command.specs.Standing.{IsUnsized, ReadsSizes};

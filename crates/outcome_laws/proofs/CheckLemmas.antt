@@ -15,16 +15,15 @@ use Rattle.stream_check.specs.declared.report.Report.{Report}
 use Rattle.stream_check.specs.Laws.{EmptyCubeReported}
 use Rattle.runs.specs.Headline.{AreJudgedIn}
 use Rattle.runs.specs.Closed.{IsOfStream}
-use Rattle.runs.specs.Streams.{Stream, Telling, TermsValue, StandsOnStreams, setting_of, tellings}
-use Rattle.runs.specs.StreamLemmas.{judged_count, same_at, told_as_many, told_count, telling_at, some_end}
+use Rattle.runs.specs.Streams.{Stream, Telling, TermsValue, setting_of, tellings}
+use Rattle.runs.specs.StreamLemmas.{judged_count, same_at, told_as_many, telling_at, some_end}
 use Rattle.runs.specs.Turns.{IsOrderedByTurns}
 use Rattle.run_laws.specs.Blame.{LacksOfAnotherIn}
 use Rattle.run_laws.specs.Groups.{IsRun}
-use Rattle.run_laws.specs.GroupLaws.{SerialRun}
 use Rattle.run_laws.specs.Right.{AddsEmpty, IsCutOffIn, IsRightBeginning}
 use Rattle.run_laws.specs.RightLaws.{RightBegins, RightEmpty}
 use Rattle.run_laws.specs.Together.{Step, IsRightOrder, HaveTexts, lines_by, TogetherBegins}
-use Rattle.portfolio.specs.Histories.{AreReported}
+use Rattle.portfolio.specs.Histories.{OnOneThread, way_of}
 use Rattle.portfolio.specs.Outcomes.{verdict_of}
 use Rattle.portfolio.specs.declared.outcome.Verdict.{Verdict}
 use Rattle.portfolio.specs.declared.outcome.Verdict.TheVariants.{Unsatisfiable, UnsatisfiableUnder, Unknown}
@@ -44,19 +43,6 @@ pub record Check {R : Type 0} (reading : SourceView R) : Type 0 where
   pub reports : List Report
   pub verdict : Verdict
   pub checked : AreChecked reading serial formula terms readers reports verdict
-
-is_run : SerialRun → (serial : Bool) (f : Cnf) (terms : TermsValue) (told : List Telling) (reports : List Report)
-    → length told ≡ terms.layout.streams → StandsOnStreams told (AreReported serial f terms reports) → IsRun f terms told reports
-is_run law true f terms told reports count stands =
-    law f terms told reports count (record { streams = stands.streams; are_told = stands.are_told; judged = stands.judged.order })
-is_run law false f terms told reports count stands = record {
-  streams = stands.streams;
-  are_told = stands.are_told;
-  count = told_count told stands.streams stands.are_told ∙ count;
-  history = stands.judged.1.0;
-  legal = stands.judged.1.1;
-  judged = stands.judged.1.2;
-}
 
 -- a report of the empty clause comes to 'unsatisfiable'
 one_says : (reports : List Report) (k : ℕ) (report : Report) → slice_get reports k ≡ Some report → report.empty ≡ true
@@ -119,23 +105,24 @@ module _ {R : Type 0} (reading : SourceView R) (c : Check reading) where
   -- each stream's reader told something
   pub told_length : length told_of ≡ length c.paths
   told_length =
-      told_as_many reading c.readers c.checked.lasts c.checked.reported.streams c.checked.read
+      told_as_many reading c.readers c.checked.lasts c.checked.ran.run.streams c.checked.ran.read
       ∙ sym (length-map c.readers reading.left) ∙ ap length c.left ∙ length-map c.paths c.tells
 
   -- the reports are those of a run
-  pub run_of : SerialRun → IsRun c.formula c.terms told_of c.reports
-  run_of serial = is_run serial c.serial c.formula c.terms told_of c.reports (told_length ∙ c.count) c.checked.reported
+  abbrev pub run_of : IsRun c.formula c.terms told_of c.reports
+  run_of = c.checked.ran.run
 
   -- those on one thread have an order by turns
-  pub turns_of : c.serial ≡ true → StandsOnStreams told_of (λ streams. IsOrderedByTurns c.formula c.terms streams c.reports)
+  pub turns_of : c.serial ≡ true → IsOrderedByTurns c.formula c.terms run_of.streams c.reports
   turns_of on_one =
-      subst (λ (b : Bool). StandsOnStreams told_of (AreReported b c.formula c.terms c.reports)) on_one c.checked.reported
+      let way : OnOneThread c.formula c.terms run_of.history run_of.streams c.reports =
+      subst (λ (b : Bool). way_of b c.formula c.terms run_of.history run_of.streams c.reports) on_one c.checked.ran.way in
+      way.0
 
   -- without a cube there is nothing under it
-  pub never_under : SerialRun → EmptyCubeReported → c.terms.cube ≡ [] → ¬ (c.verdict ≡ UnsatisfiableUnder)
-  never_under serial bare none under =
-      let run = run_of serial in
-      let same = within_empty bare c.terms none run.history 1 run.streams c.reports run.judged in
+  pub never_under : EmptyCubeReported → c.terms.cube ≡ [] → ¬ (c.verdict ≡ UnsatisfiableUnder)
+  never_under bare none under =
+      let same = within_empty bare c.terms none run_of.history 1 run_of.streams c.reports run_of.judged in
       not_under (list_any (λ r. r.empty) c.reports) (list_any (λ r. r.within) c.reports) same (sym c.checked.is_verdict ∙ under)
 
   -- what a file tells its reader had left at first
@@ -145,7 +132,7 @@ module _ {R : Type 0} (reading : SourceView R) (c : Check reading) where
       let entry : slice_get (map reading.left c.readers) (s - 1) ≡ Some (Some whole) =
       ap (λ (es : List (Option (List ℕ))). slice_get es (s - 1)) c.left
       ∙ slice_get-map c.tells c.paths (s - 1) ∙ ap (option_map c.tells) at.1 ∙ ap (λ (x : Option (List ℕ)). Some x) told in
-      let is = telling_at reading c.readers c.checked.lasts c.checked.reported.streams c.checked.read (s - 1) (Some whole) entry in
+      let is = telling_at reading c.readers c.checked.lasts run_of.streams c.checked.ran.read (s - 1) (Some whole) entry in
       (is.0, (at.0, is.1), is.2)
 
   -- a stream that told something has a path
@@ -165,17 +152,17 @@ module _ {R : Type 0} (reading : SourceView R) (c : Check reading) where
       ap (λ (x : Telling). x.entry) (same_at told_of s telling here.0 at here.1) ∙ here.2
 
   -- A stream with a right refutation comes to 'unsatisfiable', or was cut off in it.
-  pub refutation_says : SerialRun → RightBegins → RightEmpty → IsCnf c.formula → (s : ℕ) (path : Text) (bytes : List ℕ)
+  pub refutation_says : RightBegins → RightEmpty → IsCnf c.formula → (s : ℕ) (path : Text) (bytes : List ℕ)
       (lines : List StreamLine) → IsOfStream c.paths s path → c.tells path ≡ Some bytes
       → IsRightBeginning c.formula c.terms.layout s bytes lines → Any AddsEmpty lines
       → (c.verdict ≡ Unsatisfiable) ⊎ ((report : Report) × IsOfStream c.reports s report × IsCutOffIn (length lines) report)
-  refutation_says serial begins empty cnf s path bytes lines names tells right refutes =
-      let run = run_of serial in
+  refutation_says begins empty cnf s path bytes lines names tells right refutes =
       let here = telling_of_file s path bytes names tells in
       let within = slice_get_within c.paths (s - 1) path names.1 in
       let stream : IsStream c.terms.layout s = (names.0, omega (arith, within, names.0, c.count)) in
-      let report = has_report c.formula c.terms told_of c.reports run s stream in
-      elim (begins c.formula c.terms s bytes lines told_of here.0 c.reports report.0 cnf c.fits stream right run here.1 here.2 report.1) [
+      let report = has_report c.formula c.terms told_of c.reports run_of s stream in
+      elim (begins c.formula c.terms s bytes lines told_of here.0 c.reports report.0 cnf c.fits stream right run_of here.1 here.2
+      report.1) [
         | inl least ↦
             inl (comes_to c.reports c.verdict s report.0 c.checked.is_verdict report.1 (least.empty ((empty c.terms s lines).1 refutes)))
         | inr cut ↦ inr (report.0, report.1, cut)
@@ -193,19 +180,18 @@ module _ {R : Type 0} (reading : SourceView R) (c : Check reading) where
       (tells.0, entry_at t telling path.0 (flat_map line_text (lines_by t steps) ++ tells.0) at path.1 tells.1)
 
   -- A stream that adds the empty clause in a right order comes to 'unsatisfiable', or was cut off in its lines, or lacks another's clause.
-  pub order_says : SerialRun → TogetherBegins → RightEmpty → IsCnf c.formula → (s : ℕ) (set : ℕ → Bool) (steps : List Step)
+  pub order_says : TogetherBegins → RightEmpty → IsCnf c.formula → (s : ℕ) (set : ℕ → Bool) (steps : List Step)
       → IsRightOrder c.formula c.terms.layout steps → AllByRecursion (λ step. IsTrue (set step.stream)) steps
       → BeginSo set steps → Any AddsEmpty (lines_by s steps)
       → (c.verdict ≡ Unsatisfiable)
       ⊎ ((report : Report) × IsOfStream c.reports s report × (IsCutOffIn (length (lines_by s steps)) report
       ⊎ LacksOfAnotherIn (setting_of c.terms s) (length (lines_by s steps)) report))
-  order_says serial together empty cnf s set steps order members begin refutes =
-      let run = run_of serial in
+  order_says together empty cnf s set steps order members begin refutes =
       let some : 0 < length (lines_by s steps) = omega (arith, refutes.2) in
       let stream : IsStream c.terms.layout s = of_some s (IsStream c.terms.layout) steps order.streams some in
       let member : IsTrue (set s) = of_some s (λ t. IsTrue (set t)) steps members some in
-      let report = has_report c.formula c.terms told_of c.reports run s stream in
-      elim (together c.formula c.terms set steps told_of c.reports s report.0 cnf c.fits order members run
+      let report = has_report c.formula c.terms told_of c.reports run_of s stream in
+      elim (together c.formula c.terms set steps told_of c.reports s report.0 cnf c.fits order members run_of
       (have_texts set steps begin) member report.1) [
         | inl least ↦ inl (comes_to c.reports c.verdict s report.0 c.checked.is_verdict report.1
             (least.empty ((empty c.terms s (lines_by s steps)).1 refutes)))

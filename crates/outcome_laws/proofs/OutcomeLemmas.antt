@@ -9,7 +9,6 @@ use Rattle.dimacs.specs.FormulaText.{IsFormulaText}
 use Rattle.stream_check.specs.declared.report.Ending.{Ending}
 use Rattle.stream_check.specs.declared.report.Report.{Report}
 use Rattle.run_laws.specs.Groups.{IsRun}
-use Rattle.run_laws.specs.GroupLaws.{SerialRun}
 use Rattle.portfolio.specs.Outcomes.{OptionsValue, layout_of}
 use Rattle.portfolio.specs.ReportText.{ending_text, stream_line}
 use Rattle.portfolio.specs.declared.outcome.Verdict.{Verdict}
@@ -58,8 +57,8 @@ check_of files words reports verdict a = record {
   checked = a.checked;
 }
 
-pub outcomes_agree : OneFormula → SerialRun → SameBytesSayTheSame → (files : FilesView) (others : FilesView) → OutcomesAgree files others
-outcomes_agree one_formula serial same files others words other_words reports other_reports verdict other_verdict a b s text
+pub outcomes_agree : OneFormula → SameBytesSayTheSame → (files : FilesView) (others : FilesView) → OutcomesAgree files others
+outcomes_agree one_formula same files others words other_words reports other_reports verdict other_verdict a b s text
     whole report other
     options count told known cites on there =
     let formulas : b.formula ≡ a.formula =
@@ -78,7 +77,7 @@ outcomes_agree one_formula serial same files others words other_words reports ot
     (same a.formula (terms_given a.given a.cube a.formula) (terms_given b.given b.cube b.formula) s whole
     (told_of files.its.reading mine) (told_of others.its.reading theirs) here.0 over.0 reports other_reports report other
     fits layouts (ap (λ (x : OptionsValue). x.tries) options) cites
-    (run_of files.its.reading mine serial) (subst (λ (g : Cnf). IsRun g (terms_given b.given b.cube b.formula)
-    (told_of others.its.reading theirs) other_reports) formulas (run_of others.its.reading theirs serial))
+    (run_of files.its.reading mine) (subst (λ (g : Cnf). IsRun g (terms_given b.given b.cube b.formula)
+    (told_of others.its.reading theirs) other_reports) formulas (run_of others.its.reading theirs))
     here.1 here.2 over.1 over.2
     on.says there.says on.memory on.failure there.memory there.failure)

@@ -18,7 +18,6 @@ use Rattle.stream_check.specs.Setting.{side_of}
 use Rattle.stream_check.specs.declared.setting.Side.TheVariants as sides
 use Rattle.runs.specs.Closed.{IsOfStream}
 use Rattle.runs.specs.Streams.{setting_of}
-use Rattle.run_laws.specs.GroupLaws.{SerialRun}
 use Rattle.run_laws.specs.Together.{IsRightOrder, lines_by, TogetherBegins}
 use Rattle.run_laws.specs.Right.{IsCutOffIn, IsRightBeginning}
 use Rattle.run_laws.specs.RightLaws.{RightBegins, RightEmpty}
@@ -147,7 +146,7 @@ machine_status faults.Sizes is = absurd is
 abbrev IsAnothers : LayoutValue → ℕ → ℕ → Type 0
 IsAnothers p s id = side_of (setting_of (record { layout = p; cube = []; tries = 0 }) s) id ≡ sides.Foreign
 
-module _ (one_formula : OneFormula) (serial : SerialRun) (alike : SameWordsAskAlike) (empty : RightEmpty) (files : FilesView) where
+module _ (one_formula : OneFormula) (alike : SameWordsAskAlike) (empty : RightEmpty) (files : FilesView) where
   -- what was asked for is what the outcome is of
   pub record IsOf (words : List Text) (asks : AskWell files words None) (reports : List Report) (verdict : Verdict)
       (a : IsOutcome files words reports verdict) : Type 0 where
@@ -185,7 +184,7 @@ module _ (one_formula : OneFormula) (serial : SerialRun) (alike : SameWordsAskAl
       subst (λ (x : Cnf). IsRightBeginning x (layout_at a.given a.formula) s ask.bytes lines) (sym is.formulas)
       (subst (λ (p : LayoutValue). IsRightBeginning asks.formula p s ask.bytes lines) is.layouts ask.right.right) in
       let names : IsOfStream a.given.streams s ask.path = subst (λ (x : List Text). IsOfStream x s ask.path) (sym is.streams) ask.names in
-      refutes files.its.reading (check_of files words reports verdict a) serial begins empty is.cnf s ask.path ask.bytes lines names
+      refutes files.its.reading (check_of files words reports verdict a) begins empty is.cnf s ask.path ask.bytes lines names
       ask.tells
       right ask.right.empty
 
@@ -200,7 +199,7 @@ module _ (one_formula : OneFormula) (serial : SerialRun) (alike : SameWordsAskAl
       let order : IsRightOrder a.formula (layout_at a.given a.formula) ask.steps =
       subst (λ (x : Cnf). IsRightOrder x (layout_at a.given a.formula) ask.steps) (sym is.formulas)
       (subst (λ (p : LayoutValue). IsRightOrder asks.formula p ask.steps) is.layouts ask.order) in
-      elim (orders files.its.reading (check_of files words reports verdict a) serial together empty is.cnf s ask.set ask.steps order
+      elim (orders files.its.reading (check_of files words reports verdict a) together empty is.cnf s ask.set ask.steps order
       ask.members
       (λ t path member names. ask.tells t path member (subst (λ (x : List Text). IsOfStream x t path) is.streams names)) ask.empty) [
         | inl says ↦ inl says
@@ -366,19 +365,19 @@ without_report one_formula no_fault alike files Lost words after s out err statu
     in
     no_report ends machine (subst (λ (n : ℕ). (n ≡ 5) ⊎ (n ≡ 6)) (sym ends.status_is) (machine_status ends.fault machine))
 
-pub right_refutation_says : OneFormula → NoFormulaFault → SerialRun → SameWordsAskAlike → RightBegins → RightEmpty
+pub right_refutation_says : OneFormula → NoFormulaFault → SameWordsAskAlike → RightBegins → RightEmpty
     → (files : FilesView) → RightRefutationSays files
-right_refutation_says one_formula no_fault serial alike begins empty files words after s out err status ask (inl ends) =
+right_refutation_says one_formula no_fault alike begins empty files words after s out err status ask (inl ends) =
     with_report files (IsCutOffIn (length ask.right.lines)) words after s out err status ends
-    (refutation_says one_formula serial alike empty files begins words s ask ends.reports ends.verdict ends.outcome)
-right_refutation_says one_formula no_fault serial alike begins empty files words after s out err status ask (inr ends) =
+    (refutation_says one_formula alike empty files begins words s ask ends.reports ends.verdict ends.outcome)
+right_refutation_says one_formula no_fault alike begins empty files words after s out err status ask (inr ends) =
     inr (without_report one_formula no_fault alike files (IsCutOffIn (length ask.right.lines)) words after s out err status ask.asks ends)
 
-pub right_order_says : OneFormula → NoFormulaFault → SerialRun → SameWordsAskAlike → TogetherBegins → RightEmpty
+pub right_order_says : OneFormula → NoFormulaFault → SameWordsAskAlike → TogetherBegins → RightEmpty
     → (files : FilesView) → RightOrderSays files
-right_order_says one_formula no_fault serial alike together empty files words after s out err status ask (inl ends) =
+right_order_says one_formula no_fault alike together empty files words after s out err status ask (inl ends) =
     with_report files (IsHeldUp files words ask.asks s (length (lines_by s ask.steps))) words after s out err status ends
-    (order_says one_formula serial alike empty files together words s ask ends.reports ends.verdict ends.outcome)
-right_order_says one_formula no_fault serial alike together empty files words after s out err status ask (inr ends) =
+    (order_says one_formula alike empty files together words s ask ends.reports ends.verdict ends.outcome)
+right_order_says one_formula no_fault alike together empty files words after s out err status ask (inr ends) =
     inr (without_report one_formula no_fault alike files
     (IsHeldUp files words ask.asks s (length (lines_by s ask.steps))) words after s out err status ask.asks ends)

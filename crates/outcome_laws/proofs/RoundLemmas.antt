@@ -9,7 +9,6 @@ use Rattle.dimacs.specs.FormulaText.{IsFormulaText}
 use Rattle.stream_check.specs.declared.report.Ending.TheVariants as endings
 use Rattle.stream_check.specs.declared.report.Report.{Report}
 use Rattle.stream_check.specs.Laws.{EmptyCubeReported}
-use Rattle.run_laws.specs.GroupLaws.{SerialRun}
 use Rattle.run_laws.specs.RightLaws.{RightBegins, RightEmpty, RightReported}
 use Rattle.run_laws.specs.TurnsLaws.{RightByTurns}
 use Rattle.run_laws.specs.Together.{RightTogether, TogetherBegins}
@@ -154,7 +153,7 @@ module _ (Mode : Bool → Type 0) (Before Last : RoundAsk) (Early Late : Loss) (
     (refutes_so : RefutesSo Mode Last Late)
     (early_open : (layout : LayoutValue) (s : ℕ) (report : Report) → Early layout s report → ¬ (report.ending ≡ endings.Ended))
     (late_open : (layout : LayoutValue) (s : ℕ) (report : Report) → Late layout s report → ¬ (report.ending ≡ endings.Ended))
-    (serial : SerialRun) (bare : EmptyCubeReported)
+    (bare : EmptyCubeReported)
     (one_formula : OneFormula) (no_fault : NoFormulaFault) (alike : SameWordsAskAlike) (files : FilesView) (words : List Text)
     (folder : Text)
     (last : ℕ) (ask : AskForRightRounds Before Last files words folder last)
@@ -287,7 +286,7 @@ module _ (Mode : Bool → Type 0) (Before Last : RoundAsk) (Early Late : Loss) (
       let plan = plan_at given were.cube folder in
       let number = length (round ∷ before) in
       let asked = is_asked given line round before were (few_rounds given line round before were) in
-      absurd (never_under files.its.reading (check_in Before Last last files.its plan number round asked) serial bare assumed.0 under)
+      absurd (never_under files.its.reading (check_in Before Last last files.its plan number round asked) bare assumed.0 under)
 
   asked_under : (given : CommandLine) → IsCommandLineOf words given
       → (round : Round files.its.State files.its.Reader) (before : List (Round files.its.State files.its.Reader))
@@ -396,24 +395,24 @@ module _ (Mode : Bool → Type 0) (Before Last : RoundAsk) (Early Late : Loss) (
           | inr fails ↦ failed_so ends.given ends.command_line fails
         ]
 
-pub right_rounds_say : OneFormula → NoFormulaFault → SerialRun → EmptyCubeReported → SameWordsAskAlike → RightReported → RightBegins
+pub right_rounds_say : OneFormula → NoFormulaFault → EmptyCubeReported → SameWordsAskAlike → RightReported → RightBegins
     → RightEmpty → (files : FilesView) → RightRoundsSay files
-right_rounds_say one_formula no_fault serial bare alike reported begins empty files words folder last s count after out err status ask =
+right_rounds_say one_formula no_fault bare alike reported begins empty files words folder last s count after out err status ask =
     rounds_say Either AreRightAlone (IsRefutedAlone s count) (λ layout t report. IsCutOff report) (IsCutOffOf s count)
-    (ends_alone serial reported) (refutes_alone serial begins empty s count) cut_is_open (cut_of_is_open s count)
-    serial bare one_formula no_fault alike files words folder last ask (λ given line. tt) after out err status
+    (ends_alone reported) (refutes_alone begins empty s count) cut_is_open (cut_of_is_open s count)
+    bare one_formula no_fault alike files words folder last ask (λ given line. tt) after out err status
 
-pub right_orders_say : OneFormula → NoFormulaFault → SerialRun → EmptyCubeReported → SameWordsAskAlike → RightTogether → TogetherBegins
+pub right_orders_say : OneFormula → NoFormulaFault → EmptyCubeReported → SameWordsAskAlike → RightTogether → TogetherBegins
     → RightEmpty → (files : FilesView) → RightOrdersSay files
-right_orders_say one_formula no_fault serial bare alike together begins empty files words folder last s count after out err status ask =
+right_orders_say one_formula no_fault bare alike together begins empty files words folder last s count after out err status ask =
     rounds_say Either AreRightInOrder (IsRefutedInOrder s count) IsStopped (IsStoppedOf s count)
-    (ends_in_order serial together) (refutes_in_order serial begins empty s count) stopped_is_open (stopped_of_is_open s count)
-    serial bare one_formula no_fault alike files words folder last ask (λ given line. tt) after out err status
+    (ends_in_order together) (refutes_in_order begins empty s count) stopped_is_open (stopped_of_is_open s count)
+    bare one_formula no_fault alike files words folder last ask (λ given line. tt) after out err status
 
-pub right_turn_rounds_say : OneFormula → NoFormulaFault → SerialRun → EmptyCubeReported → SameWordsAskAlike → RightByTurns → RightEmpty
+pub right_turn_rounds_say : OneFormula → NoFormulaFault → EmptyCubeReported → SameWordsAskAlike → RightByTurns → RightEmpty
     → (files : FilesView) → RightTurnRoundsSay files
-right_turn_rounds_say one_formula no_fault serial bare alike by_turns empty files words folder last s after out err status ask on_one =
+right_turn_rounds_say one_formula no_fault bare alike by_turns empty files words folder last s after out err status ask on_one =
     rounds_say OnOne AreRightByTurns (IsRefutedByTurns s) (λ layout t report. IsCutOff report) (λ layout t report. IsCutOff report)
-    (ends_by_turns by_turns) (refutes_by_turns serial by_turns empty s) cut_is_open cut_is_open
-    serial bare one_formula no_fault alike files words folder last ask
+    (ends_by_turns by_turns) (refutes_by_turns by_turns empty s) cut_is_open cut_is_open
+    bare one_formula no_fault alike files words folder last ask
     (λ given line. line.said.serial ∙ sym ask.asks.command_line.said.serial ∙ on_one) after out err status

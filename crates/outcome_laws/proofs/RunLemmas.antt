@@ -1,5 +1,5 @@
 -- A run under a cube, and without one.
-use Rattle.std.proofs.Common.{◌≡◌, ◌+◌, ◌-◌, ℕ, Bool, true, List, [], ◌∷◌, map, ap, subst, ◌∙◌}
+use Rattle.std.proofs.Common.{◌≡◌, ◌-◌, ℕ, Bool, true, List, [], map, ap, subst, ◌∙◌}
 use Rattle.std.specs.Prelude.{option_map}
 use Rattle.std.proofs.lemmas.Option.{slice_get-map}
 use Rattle.lrup_model.specs.Event.{History}
@@ -7,6 +7,7 @@ use Rattle.lrup_model.specs.Formula.{Cnf}
 use Rattle.stream_check.specs.declared.report.Report.{Report}
 use Rattle.stream_check.specs.Setting.{Setting}
 use Rattle.runs.specs.Closed.{IsOfStream}
+use Rattle.runs.specs.EachLemmas.{each_map}
 use Rattle.runs.specs.Headline.{AreJudgedIn}
 use Rattle.runs.specs.Streams.{Stream, Telling, JudgesStream, TermsValue, setting_of}
 use Rattle.run_laws.specs.Groups.{IsRun}
@@ -21,13 +22,9 @@ judges_bare law c stream blocks report judged = λ end its. law c stream.bytes e
 judged_bare : NoCubeJudgesAlike
     → (terms : TermsValue) (set : ℕ → Bool) (h : History) (s : ℕ) (streams : List Stream) (reports : List Report)
     → AreJudgedIn terms set h s streams reports → AreJudgedIn (bare_terms terms) set h s streams (map bare_report reports)
-judged_bare law terms set h s [] [] judged = tt
-judged_bare law terms set h s [] (r ∷ rs) judged = absurd judged
-judged_bare law terms set h s (t ∷ ts) [] judged = absurd judged
-judged_bare law terms set h s (t ∷ ts) (r ∷ rs) judged = (
-  (λ member. let j = judged.0 member in (j.0, j.1, judges_bare law (setting_of terms s) t j.0 r j.2)),
-  judged_bare law terms set h (s + 1) ts rs judged.1,
-)
+judged_bare law terms set h s streams reports judged =
+    each_map _ bare_report s streams reports judged (λ t stream report j member.
+    let by = j member in (by.0, by.1, judges_bare law (setting_of terms t) stream by.0 report by.2))
 
 run_bare : NoCubeJudgesAlike → (f : Cnf) (terms : TermsValue) (told : List Telling) (reports : List Report)
     → IsRun f terms told reports → IsRun f (bare_terms terms) told (map bare_report reports)

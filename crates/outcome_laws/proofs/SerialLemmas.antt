@@ -14,9 +14,9 @@ use Rattle.stream_check.specs.declared.report.Report.{Report}
 use Rattle.stream_check.specs.Laws.{IsOfMemory, IsOfFailure}
 use Rattle.runs.specs.Turns.{IsByTurns, IsOrderedByTurns}
 use Rattle.runs.specs.Closed.{IsOfStream}
-use Rattle.runs.specs.Streams.{StandsOnStreams, TermsValue}
+use Rattle.runs.specs.Streams.{Telling, TermsValue}
+use Rattle.run_laws.specs.Groups.{IsRun}
 use Rattle.run_laws.specs.Right.{AddsEmpty, right_report}
-use Rattle.run_laws.specs.GroupLaws.{SerialRun}
 use Rattle.run_laws.specs.RightLaws.{RightEmpty}
 use Rattle.run_laws.specs.Together.{Step, IsRightOrder, lines_by}
 use Rattle.run_laws.specs.TurnsLaws.{BytesDecide, HaveJustTexts, HaveSameBytes, NoneCutShort, RightByTurns}
@@ -27,9 +27,13 @@ use Rattle.command.specs.Commands.{EndsWithReport, FilesView, IsOutcome, SinkCha
 use Rattle.outcome_laws.specs.Laws.{SameWordsAskAlike}
 use Rattle.outcome_laws.specs.Right.{IsExcused}
 use Rattle.outcome_laws.specs.Serial.{AskForRightTurns, IsCutOff, RightTurnsSay, SerialOutcomesAgree}
-use Rattle.outcome_laws.proofs.CheckLemmas.{Check, turns_of, comes_to, entry_at, has_report, of_some, path_at, run_of, told_length, told_of}
+use Rattle.outcome_laws.proofs.CheckLemmas.{Check, turns_of, comes_to, entry_at, has_report, of_some, path_at, run_of, told_of}
 use Rattle.outcome_laws.proofs.OutcomeLemmas.{OneFormula, is_text, check_of}
 use Rattle.outcome_laws.proofs.RightLemmas.{NoFormulaFault, IsOf, is_of, with_report, without_report}
+
+-- a run whose lines have an order by turns
+abbrev IsRunInTurns : Cnf → TermsValue → List Telling → List Report → Type 0
+IsRunInTurns f terms told reports = (run : IsRun f terms told reports) × IsOrderedByTurns f terms run.streams reports
 
 pub serial_outcomes_agree : OneFormula → BytesDecide → (files : FilesView) (others : FilesView) → SerialOutcomesAgree files others
 serial_outcomes_agree one_formula decide files others words other_words reports other_reports verdict other_verdict a b ask
@@ -50,11 +54,10 @@ serial_outcomes_agree one_formula decide files others words other_words reports 
     let others_check = check_of others other_words other_reports other_verdict b in
     let told = told_of files.its.reading mine in
     let other_told = told_of others.its.reading others_check in
-    let theirs : StandsOnStreams other_told (λ streams. IsOrderedByTurns a.formula terms streams other_reports) =
-    subst (λ (t : TermsValue). StandsOnStreams other_told (λ streams. IsOrderedByTurns a.formula t streams other_reports)) same_terms
-    (subst (λ (g : Cnf). StandsOnStreams other_told
-    (λ streams. IsOrderedByTurns g (terms_given b.given b.cube b.formula) streams other_reports)) formulas
-    (turns_of others.its.reading others_check ask.too)) in
+    let theirs : IsRunInTurns a.formula terms other_told other_reports =
+    subst (λ (t : TermsValue). IsRunInTurns a.formula t other_told other_reports) same_terms
+    (subst (λ (g : Cnf). IsRunInTurns g (terms_given b.given b.cube b.formula) other_told other_reports) formulas
+    (run_of others.its.reading others_check, turns_of others.its.reading others_check ask.too)) in
     let bytes : HaveSameBytes told other_told = λ s telling other at there.
     let path = path_at files.its.reading mine s telling at in
     let other_path = path_at others.its.reading others_check s other there in
@@ -64,9 +67,8 @@ serial_outcomes_agree one_formula decide files others words other_words reports 
       entry_at others.its.reading others_check s other other_path.0 both.0 there other_path.1 both.2,
     ) in
     let same : reports ≡ other_reports =
-    decide a.formula terms told other_told reports other_reports
-    (told_length files.its.reading mine) (told_length others.its.reading others_check ∙ ask.count)
-    bytes (turns_of files.its.reading mine ask.serial) theirs fine good in
+    decide a.formula terms told other_told reports other_reports bytes (run_of files.its.reading mine) theirs.0
+    (turns_of files.its.reading mine ask.serial) theirs.1 fine good in
     (same, a.checked.is_verdict ∙ ap verdict_of same ∙ sym b.checked.is_verdict)
 
 -- Right streams, by turns
@@ -125,18 +127,18 @@ module _ {R : Type 0} (reading : SourceView R) (c : Check reading) (cnf : IsCnf 
       let texts : HaveJustTexts steps (told_of reading c) = λ t telling at.
       let path = path_at reading c t telling at in
       entry_at reading c t telling path.0 (flat_map line_text (lines_by t steps)) at path.1 (tells t path.0 path.1) in
-      right c.formula c.terms steps (told_of reading c) c.reports s report cnf c.fits (told_length reading c ∙ c.count) order turns texts
-      (turns_of reading c on_one) fine says
+      right c.formula c.terms steps (told_of reading c) c.reports s report cnf c.fits order turns texts
+      (run_of reading c) (turns_of reading c on_one) fine says
 
-  pub by_turns_refutes : SerialRun → RightEmpty → (s : ℕ) → Any AddsEmpty (lines_by s steps) → c.verdict ≡ Unsatisfiable
-  by_turns_refutes serial empty s refutes =
+  pub by_turns_refutes : RightEmpty → (s : ℕ) → Any AddsEmpty (lines_by s steps) → c.verdict ≡ Unsatisfiable
+  by_turns_refutes empty s refutes =
       let some : 0 < length (lines_by s steps) = omega (arith, refutes.2) in
       let stream : IsStream c.terms.layout s = of_some s (IsStream c.terms.layout) steps order.streams some in
-      let report = has_report c.formula c.terms (told_of reading c) c.reports (run_of reading c serial) s stream in
+      let report = has_report c.formula c.terms (told_of reading c) c.reports (run_of reading c) s stream in
       comes_to c.reports c.verdict s report.0 c.checked.is_verdict report.1
       (ap (λ (r : Report). r.empty) (right_by_turns s report.0 report.1) ∙ (empty c.terms s (lines_by s steps)).1 refutes)
 
-module _ (one_formula : OneFormula) (no_fault : NoFormulaFault) (serial_run : SerialRun) (alike : SameWordsAskAlike) (right : RightByTurns)
+module _ (one_formula : OneFormula) (no_fault : NoFormulaFault) (alike : SameWordsAskAlike) (right : RightByTurns)
     (empty : RightEmpty)
     (files : FilesView) (words : List Text) (s : ℕ) (ask : AskForRightTurns files words s) where
   -- where no stream was cut off the verdict is 'unsatisfiable'
@@ -144,14 +146,14 @@ module _ (one_formula : OneFormula) (no_fault : NoFormulaFault) (serial_run : Se
       → verdict ≡ Unsatisfiable
   turns_refute reports verdict a fine =
       let asks = ask.asks in
-      let is : IsOf one_formula serial_run alike empty files words asks reports verdict a =
-      is_of one_formula serial_run alike empty files words asks reports verdict a in
+      let is : IsOf one_formula alike empty files words asks reports verdict a =
+      is_of one_formula alike empty files words asks reports verdict a in
       let order : IsRightOrder a.formula (layout_at a.given a.formula) ask.steps =
       subst (λ (x : Cnf). IsRightOrder x (layout_at a.given a.formula) ask.steps) (sym is.formulas)
       (subst (λ (p : LayoutValue). IsRightOrder asks.formula p ask.steps) is.layouts ask.order) in
       let on_one : a.given.serial ≡ true = a.command_line.said.serial ∙ sym asks.command_line.said.serial ∙ ask.serial in
       by_turns_refutes files.its.reading (check_of files words reports verdict a) is.cnf right on_one ask.steps order ask.turns
-      (λ t path names. ask.tells t path (subst (λ (x : List Text). IsOfStream x t path) is.streams names)) fine serial_run empty s ask.empty
+      (λ t path names. ask.tells t path (subst (λ (x : List Text). IsOfStream x t path) is.streams names)) fine empty s ask.empty
 
   turns_say : (after : files.its.State) (out err : SinkChange) (status : ℕ) → EndsWithReport files words after out err status
       → (status ≡ 0) ⊎ ((t : ℕ) × IsExcused files words t IsCutOff after out err status)
@@ -168,9 +170,9 @@ module _ (one_formula : OneFormula) (no_fault : NoFormulaFault) (serial_run : Se
         ]
   ]
 
-pub right_turns_say : OneFormula → NoFormulaFault → SerialRun → SameWordsAskAlike → RightByTurns → RightEmpty
+pub right_turns_say : OneFormula → NoFormulaFault → SameWordsAskAlike → RightByTurns → RightEmpty
     → (files : FilesView) → RightTurnsSay files
-right_turns_say one_formula no_fault serial_run alike right empty files words after s out err status ask (inl report) =
-    turns_say one_formula no_fault serial_run alike right empty files words s ask after out err status report
-right_turns_say one_formula no_fault serial_run alike right empty files words after s out err status ask (inr fault) =
+right_turns_say one_formula no_fault alike right empty files words after s out err status ask (inl report) =
+    turns_say one_formula no_fault alike right empty files words s ask after out err status report
+right_turns_say one_formula no_fault alike right empty files words after s out err status ask (inr fault) =
     inr (s, without_report one_formula no_fault alike files IsCutOff words after s out err status ask.asks fault)

@@ -14,7 +14,6 @@ use Rattle.stream_check.specs.declared.report.Ending.TheVariants as endings
 use Rattle.stream_check.specs.declared.report.Report.{Report}
 use Rattle.runs.specs.Closed.{IsOfStream}
 use Rattle.runs.specs.StreamLemmas.{judged_count}
-use Rattle.run_laws.specs.GroupLaws.{SerialRun}
 use Rattle.run_laws.specs.Right.{IsCutOffIn}
 use Rattle.run_laws.specs.RightLaws.{RightBegins, RightEmpty, RightReported}
 use Rattle.run_laws.specs.Together.{Step, TogetherBegins, RightTogether, lines_by}
@@ -84,12 +83,12 @@ ended_at [] k report at all = absurd (cc)
 ended_at (r ∷ rs) zero report at all = let same : r ≡ report = cc in subst (λ (x : Report). x.ending ≡ endings.Ended) same all.0
 ended_at (r ∷ rs) (suc k) report at all = ended_at rs k report at all.1
 
-module _ (serial : SerialRun) {R : Type 0} (reading : SourceView R) (c : Check reading) (cnf : IsCnf c.formula) where
+module _ {R : Type 0} (reading : SourceView R) (c : Check reading) (cnf : IsCnf c.formula) where
   -- a stream with a report has a path
   path_of : (s : ℕ) (report : Report) → IsOfStream c.reports s report
       → IsStream c.terms.layout s × ((path : Text) × IsOfStream c.paths s path)
   path_of s report says =
-      let run = run_of reading c serial in
+      let run = run_of reading c in
       let within = slice_get_within c.reports (s - 1) report says.1 in
       let count = judged_count c.terms (λ t. true) run.history 1 run.streams c.reports run.judged in
       let stream : IsStream c.terms.layout s = (says.0, omega (arith, within, count, run.count, says.0)) in
@@ -108,25 +107,25 @@ module _ (serial : SerialRun) {R : Type 0} (reading : SourceView R) (c : Check r
         | inl cut ↦ inr cut
         | inr fine ↦ inl (ap (λ (r : Report). r.ending)
             (reported c.formula c.terms s asked.0 asked.1 (told_of reading c) here.0 c.reports report cnf c.fits at.0 asked.3
-            (run_of reading c serial) here.1 here.2 says fine.0 fine.1))
+            (run_of reading c) here.1 here.2 says fine.0 fine.1))
       ]
 
 all_true : (steps : List Step) → AllByRecursion (λ step. IsTrue true) steps
 all_true [] = tt
 all_true (step ∷ steps) = (refl, all_true steps)
 
-module _ (serial : SerialRun) {R : Type 0} (reading : SourceView R) (c : Check reading) (cnf : IsCnf c.formula) where
+module _ {R : Type 0} (reading : SourceView R) (c : Check reading) (cnf : IsCnf c.formula) where
   order_ends : RightTogether → AreRightInOrder c.formula c.terms.layout c.tells c.paths → (s : ℕ) (report : Report)
       → IsOfStream c.reports s report → (report.ending ≡ endings.Ended) ⊎ IsStopped c.terms.layout s report
   order_ends together right s report says =
-      let at = path_of serial reading c cnf s report says in
+      let at = path_of reading c cnf s report says in
       let steps = right.0 in
       let lines = flat_map line_text (lines_by s steps) in
       let here = telling_of_file reading c s at.1.0 lines at.1.1 (right.2 s at.1.0 at.1.1) in
       elim (said_of report) [
         | inl cut ↦ inr (inl cut)
         | inr fine ↦ elim (together c.formula c.terms (λ t. true) steps (told_of reading c) c.reports s here.0 report cnf c.fits right.1
-            (all_true steps) (run_of reading c serial) (have_texts reading c (λ t. true) steps (λ t path member names.
+            (all_true steps) (run_of reading c) (have_texts reading c (λ t. true) steps (λ t path member names.
             ([], right.2 t path names ∙ ap (λ (b : List ℕ). Some b) (sym (append-nil (flat_map line_text (lines_by t steps)))))))
             refl here.1 here.2 says fine.0 fine.1) [
               | inl same ↦ inl (ap (λ (r : Report). r.ending) same)
@@ -134,32 +133,32 @@ module _ (serial : SerialRun) {R : Type 0} (reading : SourceView R) (c : Check r
             ]
       ]
 
-pub ends_alone : SerialRun → RightReported → EndsSo Either AreRightAlone (λ layout s report. IsCutOff report)
-ends_alone serial reported R reading c mode cnf right =
-    all_streams (λ s report. IsCutOff report) c.reports (alone_ends serial reading c cnf reported right)
+pub ends_alone : RightReported → EndsSo Either AreRightAlone (λ layout s report. IsCutOff report)
+ends_alone reported R reading c mode cnf right =
+    all_streams (λ s report. IsCutOff report) c.reports (alone_ends reading c cnf reported right)
 
-pub ends_in_order : SerialRun → RightTogether → EndsSo Either AreRightInOrder IsStopped
-ends_in_order serial together R reading c mode cnf right =
-    all_streams (IsStopped c.terms.layout) c.reports (order_ends serial reading c cnf together right)
+pub ends_in_order : RightTogether → EndsSo Either AreRightInOrder IsStopped
+ends_in_order together R reading c mode cnf right =
+    all_streams (IsStopped c.terms.layout) c.reports (order_ends reading c cnf together right)
 
 -- who was cut off in some first lines was so in more
 cut_in : (few many : ℕ) (report : Report) → few ≤ many → IsCutOffIn few report → IsCutOffIn many report
 cut_in few many report more cut = (cut.0, omega (arith, cut.1, more), cut.2)
 
-pub refutes_alone : SerialRun → RightBegins → RightEmpty → (s count : ℕ) → RefutesSo Either (IsRefutedAlone s count) (IsCutOffOf s count)
-refutes_alone serial begins empty s count R reading c mode cnf right =
+pub refutes_alone : RightBegins → RightEmpty → (s count : ℕ) → RefutesSo Either (IsRefutedAlone s count) (IsCutOffOf s count)
+refutes_alone begins empty s count R reading c mode cnf right =
     let refutation = right.4.0 in
-    elim (refutation_says reading c serial begins empty cnf s right.0 right.1 refutation.lines right.2 right.3 refutation.right
+    elim (refutation_says reading c begins empty cnf s right.0 right.1 refutation.lines right.2 right.3 refutation.right
     refutation.empty) [
       | inl says ↦ inl says
       | inr cut ↦ inr (s, cut.0, cut.1, (refl, cut_in (length refutation.lines) count cut.0 right.4.1 cut.2))
     ]
 
-pub refutes_in_order : SerialRun → TogetherBegins → RightEmpty → (s count : ℕ)
+pub refutes_in_order : TogetherBegins → RightEmpty → (s count : ℕ)
     → RefutesSo Either (IsRefutedInOrder s count) (IsStoppedOf s count)
-refutes_in_order serial together empty s count R reading c mode cnf right =
+refutes_in_order together empty s count R reading c mode cnf right =
     let lines = length (lines_by s right.1) in
-    elim (order_says reading c serial together empty cnf s right.0 right.1 right.2 right.3 right.4 right.5) [
+    elim (order_says reading c together empty cnf s right.0 right.1 right.2 right.3 right.4 right.5) [
       | inl says ↦ inl says
       | inr (report, says, inl cut) ↦ inr (s, report, says, (refl, inl (cut_in lines count report right.6 cut)))
       | inr (report, says, inr lacks) ↦ inr (
@@ -177,13 +176,13 @@ ends_by_turns by_turns R reading c on_one cnf right = elim (some_cut c.reports) 
       (right_by_turns reading c cnf by_turns on_one right.0.0 right.0.1 right.1 right.0.2 fine s report says)))
 ]
 
-pub refutes_by_turns : SerialRun → RightByTurns → RightEmpty → (s : ℕ)
+pub refutes_by_turns : RightByTurns → RightEmpty → (s : ℕ)
     → RefutesSo OnOne (IsRefutedByTurns s) (λ layout t report. IsCutOff report)
-refutes_by_turns serial by_turns empty s R reading c on_one cnf right = elim (some_cut c.reports) [
+refutes_by_turns by_turns empty s R reading c on_one cnf right = elim (some_cut c.reports) [
   | inl cut ↦ inr cut
   | inr fine ↦
       let order = right.0.0 in
-      inl (by_turns_refutes reading c cnf by_turns on_one order.0 order.1 right.0.1 order.2 fine serial empty s right.1)
+      inl (by_turns_refutes reading c cnf by_turns on_one order.0 order.1 right.0.1 order.2 fine empty s right.1)
 ]
 
 -- who was stopped hasn't ended

@@ -10,7 +10,7 @@ ghost use Rattle.outcome_laws.specs.Laws.{NoCubeJudgesAlike, SameBytesSayTheSame
 use checkpoint::laws::{files_refute, files_refute_under};
 use command::Machine;
 use dimacs::laws::{formula_or_fault, one_formula};
-use run_laws::groups::{same_bytes_agree, serial_run};
+use run_laws::groups::same_bytes_agree;
 use run_laws::right::{right_begins, right_empty, right_reported, right_together, together_begins};
 use run_laws::turns::{bytes_decide, right_by_turns};
 use stream_check::laws::empty_cube_reported;
@@ -45,7 +45,6 @@ pub fn outcomes_agree<F: Machine, G: Machine>(files: &F, others: &G)
         OutcomesAgree view other }
 {
     one_formula();
-    serial_run();
     same_bytes_say_the_same();
 }
 
@@ -72,7 +71,6 @@ pub fn right_refutation_says<F: Machine>(files: &F)
 {
     one_formula();
     formula_or_fault();
-    serial_run();
     same_words_ask_alike();
     right_begins();
     right_empty();
@@ -97,7 +95,6 @@ pub fn right_order_says<F: Machine>(files: &F)
 {
     one_formula();
     formula_or_fault();
-    serial_run();
     same_words_ask_alike();
     together_begins();
     right_empty();
@@ -125,7 +122,6 @@ pub fn right_turns_say<F: Machine>(files: &F)
 {
     one_formula();
     formula_or_fault();
-    serial_run();
     same_words_ask_alike();
     right_by_turns();
     right_empty();
@@ -143,7 +139,6 @@ pub fn right_rounds_say<F: Machine>(files: &F)
 {
     one_formula();
     formula_or_fault();
-    serial_run();
     empty_cube_reported();
     same_words_ask_alike();
     right_reported();
@@ -160,7 +155,6 @@ pub fn right_orders_say<F: Machine>(files: &F)
 {
     one_formula();
     formula_or_fault();
-    serial_run();
     empty_cube_reported();
     same_words_ask_alike();
     right_together();
@@ -177,7 +171,6 @@ pub fn right_turn_rounds_say<F: Machine>(files: &F)
 {
     one_formula();
     formula_or_fault();
-    serial_run();
     empty_cube_reported();
     same_words_ask_alike();
     right_by_turns();

@@ -22,13 +22,14 @@ use Rattle.stream_check.specs.CubeLemmas.{is_within-decides}
 use Rattle.stream_check.specs.Judging.{joined, JudgesBlocks}
 use Rattle.stream_check.specs.ReportLemmas.{said_within}
 use Rattle.runs.specs.StreamLemmas.{some_end}
-use Rattle.runs.specs.Streams.{Stream, JudgesStream, Block, blocks_of, events_in, AreJudged, IsOrdered, TermsValue, setting_of}
+use Rattle.runs.specs.Streams.{Stream, JudgesStream, Telling, TermsValue, setting_of}
+use Rattle.run_laws.specs.Groups.{IsRun}
 use Rattle.runs.specs.Headline.{AreJudgedIn}
 use Rattle.run_laws.specs.PublishLemmas.{publishes_within}
 use Rattle.portfolio.specs.declared.outcome.Verdict.{Verdict}
 use Rattle.portfolio.specs.declared.outcome.Verdict.TheVariants.{Unsatisfiable, UnsatisfiableUnder, Unknown}
 use Rattle.portfolio.specs.Outcomes.{verdict_of}
-use Rattle.portfolio.proofs.EmptyLemmas.{any_front, any_filtered, any_block, lines_publish}
+use Rattle.portfolio.proofs.EmptyLemmas.{any_front, any_filtered, lines_publish}
 
 -- ---- the lines of a stream
 
@@ -79,20 +80,8 @@ sound f p h c stream blocks report legal mine judged is =
     refuted_from f p c.cube (opening f) h legal.events
     (any_filtered (publishes_within c.cube) _ h (ap (list_any (publishes_within c.cube)) mine ∙ published))
 
--- So it is where the stream's blocks stand in an order of lines that is legal.
-sound_in_order : (f : Cnf) (p : LayoutValue) (order : List Block) (s : ℕ) (c : Setting) (stream : Stream) (blocks : List History)
-    (report : Report)
-    → IsLegal f p (events_in order) → blocks ≡ blocks_of s order → JudgesStream c stream blocks report → IsTrue report.within
-    → IsUnsatisfiableUnder f c.cube
-sound_in_order f p order s c stream blocks report legal own judged is =
-    refuted_from f p c.cube (opening f) (events_in order) legal.events
-    (any_block (publishes_within c.cube) s order
-    (subst (λ (bs : List History). IsTrue (list_any (publishes_within c.cube) (joined bs))) own
-    (stream_publishes c stream blocks report judged is)))
-
 -- ---- a run
 
--- with two threads for each stream
 sound_by : (f : Cnf) (terms : TermsValue) (h : History) → IsLegal f terms.layout h → (s : ℕ) (streams : List Stream) (reports : List Report)
     → AreJudgedIn terms (λ t. true) h s streams reports → list_any (λ report. report.within) reports ≡ true
     → IsUnsatisfiableUnder f terms.cube
@@ -105,21 +94,6 @@ sound_by f terms h legal s (t ∷ ts) (r ∷ rs) judged is =
       | inl here ↦ sound f terms.layout h (setting_of terms s) t this.0 r legal this.1 this.2 here
       | inr none ↦
           sound_by f terms h legal (s + 1) ts rs judged.1 (ap (λ b. b || list_any (λ (report : Report). report.within) rs) (sym none) ∙ is)
-    ]
-
--- by turns
-sound_among : (f : Cnf) (terms : TermsValue) (blocks : List Block) (k : ℕ) (streams : List Stream) (reports : List Report)
-    → IsLegal f terms.layout (events_in blocks)
-    → AreJudged terms (λ s. true) (λ s events. events ≡ blocks_of s blocks) k streams reports
-    → list_any (λ report. report.within) reports ≡ true → IsUnsatisfiableUnder f terms.cube
-sound_among f terms blocks k [] [] legal judged some = absurd (let none : false ≡ true = some in cc)
-sound_among f terms blocks k [] (r ∷ reports) legal judged some = absurd judged
-sound_among f terms blocks k (stream ∷ streams) [] legal judged some = absurd judged
-sound_among f terms blocks k (stream ∷ streams) (r ∷ reports) legal judged some =
-    elim (cases_Bool r.within) [
-      | inl yes' ↦ sound_in_order f terms.layout blocks k (setting_of terms k) stream _ r legal (judged.0 refl).1 (judged.0 refl).2 yes'
-      | inr none ↦ sound_among f terms blocks (k + 1) streams reports legal judged.1
-          (ap (λ b. b || list_any (λ (report : Report). report.within) reports) (sym none) ∙ some)
     ]
 
 -- ---- the verdict
@@ -136,15 +110,7 @@ is_within_some reports verdict of is =
     some_within (list_any (λ (report : Report). report.empty) reports) (list_any (λ (report : Report). report.within) reports) (sym of ∙ is)
 
 -- so it is true, with two threads for each stream
-pub sound_under_run : (f : Cnf) (terms : TermsValue) (h : History) (streams : List Stream) (reports : List Report) (verdict : Verdict)
-    → IsLegal f terms.layout h → AreJudgedIn terms (λ t. true) h 1 streams reports → verdict ≡ verdict_of reports
-    → verdict ≡ UnsatisfiableUnder → IsUnsatisfiableUnder f terms.cube
-sound_under_run f terms h streams reports verdict legal judged of is =
-    sound_by f terms h legal 1 streams reports judged (is_within_some reports verdict of is)
-
--- and by turns
-pub sound_under_order : (f : Cnf) (terms : TermsValue) (streams : List Stream) (reports : List Report) (verdict : Verdict)
-    → IsOrdered f terms (λ s. true) streams reports → verdict ≡ verdict_of reports → verdict ≡ UnsatisfiableUnder
-    → IsUnsatisfiableUnder f terms.cube
-sound_under_order f terms streams reports verdict ordered of is =
-    sound_among f terms ordered.blocks 1 streams reports ordered.legal ordered.judged (is_within_some reports verdict of is)
+pub sound_under_run : (f : Cnf) (terms : TermsValue) (told : List Telling) (reports : List Report) (verdict : Verdict)
+    → IsRun f terms told reports → verdict ≡ verdict_of reports → verdict ≡ UnsatisfiableUnder → IsUnsatisfiableUnder f terms.cube
+sound_under_run f terms told reports verdict run of is =
+    sound_by f terms run.history run.legal 1 run.streams reports run.judged (is_within_some reports verdict of is)

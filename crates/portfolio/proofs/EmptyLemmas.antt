@@ -29,7 +29,7 @@ use Rattle.stream_check.specs.Judging.{JudgesLine, AreGood, joined, JudgesBlocks
 use Rattle.stream_check.specs.ReportLemmas.{said_empty}
 use Rattle.run_laws.specs.PublishLemmas.{publishes_empty}
 use Rattle.runs.specs.StreamLemmas.{some_end}
-use Rattle.runs.specs.Streams.{Stream, JudgesStream, Block, blocks_of, events_in}
+use Rattle.runs.specs.Streams.{Stream, JudgesStream}
 
 -- ---- some element of a list
 
@@ -58,17 +58,6 @@ module _ (p : Event → Bool) where
   pub any_filtered : (q : Event → Bool) (es : History) → list_any p (filter q es) ≡ true → list_any p es ≡ true
   any_filtered q [] e = e
   any_filtered q (x ∷ es) e = filtered_step x es (filter q es) (q x) (any_filtered q es) e
-
-  -- one of a stream's blocks is one of all
-  block_step : (es all : History) (later : List History) (b : Bool) → (list_any p (joined later) ≡ true → list_any p all ≡ true)
-      → list_any p (joined (if b then es ∷ later else later)) ≡ true → list_any p (es ++ all) ≡ true
-  block_step es all later true rest e = any_more es (joined later) all rest e
-  block_step es all later false rest e = any_back es all (rest e)
-
-  pub any_block : (s : ℕ) (blocks : List Block) → list_any p (joined (blocks_of s blocks)) ≡ true → list_any p (events_in blocks) ≡ true
-  any_block s [] e = e
-  any_block s (block ∷ blocks) e =
-      block_step block.events (events_in blocks) (blocks_of s blocks) (block.stream == s) (any_block s blocks) e
 
 -- ---- the publish of a good addition
 
@@ -179,12 +168,3 @@ pub sound : (f : Cnf) (p : LayoutValue) (h : History) (c : Setting) (stream : St
 sound f p h c stream blocks report legal mine judged is =
     let published = stream_publishes c stream blocks report judged is in
     refuted f p h legal (any_filtered publishes_empty _ h (ap (list_any publishes_empty) mine ∙ published))
-
--- So it is where the stream's blocks stand in an order of lines that is legal.
-pub sound_in_order : (f : Cnf) (p : LayoutValue) (order : List Block) (s : ℕ) (c : Setting) (stream : Stream) (blocks : List History)
-    (report : Report)
-    → IsLegal f p (events_in order) → blocks ≡ blocks_of s order → JudgesStream c stream blocks report → IsTrue report.empty
-    → IsUnsatisfiable f
-sound_in_order f p order s c stream blocks report legal own judged is =
-    refuted f p (events_in order) legal (any_block publishes_empty s order
-    (subst (λ (bs : List History). IsTrue (list_any publishes_empty (joined bs))) own (stream_publishes c stream blocks report judged is)))

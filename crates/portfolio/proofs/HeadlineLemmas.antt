@@ -33,17 +33,17 @@ use Rattle.portfolio.specs.declared.outcome.Verdict.{Verdict}
 use Rattle.portfolio.specs.declared.outcome.Verdict.TheVariants.{Unsatisfiable, UnsatisfiableUnder, Unknown}
 use Rattle.portfolio.specs.Dropping.{HasDropped, HaveDropped}
 use Rattle.portfolio.specs.Outcomes.{OptionsValue, layout_of, terms_of, verdict_of}
-use Rattle.portfolio.specs.Threads.{AreGathered, HaveReadyJobs, IsBegun, HasReadyJobs, WasReadOut, WereGathered}
-use Rattle.runs.specs.StreamLemmas.{IsJudgedBy, told_as_many}
-use Rattle.runs.specs.Headline.{HaveOneHistory, AreJudgedIn, WereJudged, seen_by}
+use Rattle.portfolio.specs.Histories.{InThreads, IsRunOf}
+use Rattle.portfolio.specs.Threads.{AreGathered, HaveReadyJobs, IsBegun, HasReadyJobs, WasReadOut, WereGathered, WereJudged}
+use Rattle.runs.specs.Each.{EachOfThree}
+use Rattle.runs.specs.EachLemmas.{each_count, each_take, zip_count}
+use Rattle.runs.specs.StreamLemmas.{IsJudgedBy, told_as_many, told_count}
+use Rattle.runs.specs.Headline.{HaveOneHistory, AreJudgedIn, seen_by}
 use Rattle.stream_threads.specs.Jobs.{JobsValue, FoundValue, CanBegin, Finishes, AllFinish, AreJobs, MissesMark}
 use Rattle.lrup_text.specs.ReadOut.{SourceView}
 use Rattle.runs.specs.Readings.{AreRead, IsStreamOf}
-use Rattle.runs.specs.Streams.{Stream, tellings, IsTold, JudgesStream, StandsOnStreams, TermsValue, setting_of}
-use Rattle.run_laws.specs.GroupLaws.{RunIsolated}
-use Rattle.run_laws.specs.Groups.{AreIsolated}
-use Rattle.run_laws.specs.OrderLaws.{RunSerializable}
-use Rattle.run_laws.specs.Serializable.{IsSerializable}
+use Rattle.runs.specs.Streams.{Stream, Telling, tellings, IsTold, JudgesStream, TermsValue, setting_of}
+use Rattle.run_laws.specs.Groups.{IsRun, IsRunOfFirst}
 use Rattle.portfolio.proofs.DroppingLemmas.{job_drops}
 use Rattle.portfolio.proofs.EmptyLemmas.{sound}
 
@@ -153,10 +153,8 @@ opened_room f p store s q same opened =
 -- Each report is the judgement of what the stream's reader told and of the calls of the stream's pass, for the streams counted
 -- on from s.
 abbrev pub AreJudgedBy : TermsValue → ℕ → List Stream → List View → List Report → Type 0
-AreJudgedBy terms s [] [] [] = Unit {0}
-AreJudgedBy terms s (stream ∷ streams) (v ∷ vs) (report ∷ reports) =
-    IsJudgedBy (setting_of terms s) stream v.mine report × AreJudgedBy terms (s + 1) streams vs reports
-AreJudgedBy terms s _ _ _ = ⊥
+AreJudgedBy terms s streams vs reports =
+    EachOfThree (λ t stream v report. IsJudgedBy (setting_of terms t) stream v.mine report) s streams vs reports
 
 -- these calls are the events of the one history
 judged_in : (terms : TermsValue) (h : History) (s : ℕ) (streams : List Stream) (vs : List View) (reports : List Report)
@@ -235,20 +233,12 @@ module _ {S : Type 0} (view : SourceView S) where
 
   pub ready_count : (store : StoreValue) (f : Cnf) (terms : TermsValue) (s : ℕ) (firsts : List S) (js : List (JobsValue S))
       → HaveReadyJobs store f terms s firsts js → length js ≡ length firsts
-  ready_count store f terms s [] [] ready = refl
-  ready_count store f terms s [] (j ∷ js) ready = absurd ready
-  ready_count store f terms s (e ∷ es) [] ready = absurd ready
-  ready_count store f terms s (e ∷ es) (j ∷ js) ready = omega (arith, ready_count store f terms (s + 1) es js ready.1)
+  ready_count store f terms s firsts js ready = each_count _ s firsts js ready
 
   -- the jobs of the first streams
   pub ready_take : (store : StoreValue) (f : Cnf) (terms : TermsValue) (s n : ℕ) (firsts : List S) (js : List (JobsValue S))
       → HaveReadyJobs store f terms s firsts js → HaveReadyJobs store f terms s (take n firsts) (take n js)
-  ready_take store f terms s zero [] [] ready = tt
-  ready_take store f terms s (suc n) [] [] ready = tt
-  ready_take store f terms s n [] (j ∷ js) ready = absurd ready
-  ready_take store f terms s n (e ∷ es) [] ready = absurd ready
-  ready_take store f terms s zero (e ∷ es) (j ∷ js) ready = tt
-  ready_take store f terms s (suc n) (e ∷ es) (j ∷ js) ready = (ready.0, ready_take store f terms (s + 1) n es js ready.1)
+  ready_take store f terms s n firsts js ready = each_take _ n s firsts js ready
 
   -- ---- what was found, and the passes when all have met
 
@@ -267,10 +257,7 @@ module _ {S : Type 0} (view : SourceView S) where
   begin_take store (suc n) (j ∷ js) begin = (begin.0, begin_take store n js begin.1)
 
   pub finish_count : (js : List (JobsValue S)) (fs : List (FoundValue S)) → AllFinish view js fs → length fs ≡ length js
-  finish_count [] [] all = refl
-  finish_count [] (x ∷ fs) all = absurd all
-  finish_count (j ∷ js) [] all = absurd all
-  finish_count (j ∷ js) (x ∷ fs) all = omega (arith, finish_count js fs all.1)
+  finish_count js fs all = zip_count (Finishes view) js fs all
 
   met_count : (fs : List (FoundValue S)) (vs : List View) → AreMet (views (map (λ x. x.pass) fs)) vs → length vs ≡ length fs
   met_count [] [] met = refl
@@ -397,17 +384,38 @@ module _ {S : Type 0} (view : SourceView S) where
         dropped = (dropped, more.dropped);
       }
 
-  -- Of the first streams alone, whose passes have met: one legal history has the events by which each is judged.
+  -- By a legal history that has their calls, it is a run as far as these streams go.
+  abbrev first_run : (f : Cnf) (terms : TermsValue) (h : History) (firsts : List S) (fs : List (FoundValue S)) (vs : List View)
+      → (j : Judged terms 1 firsts fs vs) → IsLegal f terms.layout h
+      → ((k : ℕ) (v : View) → slice_get vs k ≡ Some v → v.mine ≡ own h (1 + k))
+      → IsRunOfFirst (length firsts) f terms (tellings view firsts (map (λ x. x.reader) fs)) (map (λ x. x.report) fs)
+  first_run f terms h firsts fs vs j legal calls = record {
+    streams = j.streams;
+    are_told = j.told;
+    count = told_count _ _ j.told ∙ told_as_many view firsts (map (λ x. x.reader) fs) j.streams j.read;
+    history = h;
+    legal = legal;
+    judged = judged_in terms h 1 j.streams vs (map (λ x. x.report) fs) j.judged calls;
+  }
+
+  -- Of the first streams alone, whose passes have met: so by the history that they have.
   pub were_judged : (f : Cnf) (terms : TermsValue) (store : StoreValue) → store.layout ≡ terms.layout
       → (firsts : List S) (js : List (JobsValue S)) (fs : List (FoundValue S)) (vs : List View)
       → HaveReadyJobs store f terms 1 firsts js → AllFinish view js fs → AreMet (views (map (λ x. x.pass) fs)) vs → HaveMet vs
       → WereJudged view f terms firsts
   were_judged f terms store same [] [] [] vs ready all met one = record {
-    history = [];
-    legal = record { events = tt; room = λ s. omega arith };
     lasts = [];
     reports = [];
-    judged = record { streams = []; are_told = tt; judged = (tt, tt, tt) };
+    run = record {
+      streams = [];
+      are_told = tt;
+      count = refl;
+      history = [];
+      legal = record { events = tt; room = λ s. omega arith };
+      judged = tt;
+    };
+    ended = tt;
+    read = tt;
   }
   were_judged f terms store same [] [] (x ∷ fs) vs ready all met one = absurd all
   were_judged f terms store same [] (j ∷ js) fs vs ready all met one = absurd ready
@@ -415,16 +423,13 @@ module _ {S : Type 0} (view : SourceView S) where
   were_judged f terms store same (e ∷ es) (j ∷ js) fs vs ready all met one =
       let so = judged_by f terms store same 1 (e ∷ es) (j ∷ js) fs vs ready all met in
       let calls = have_calls f terms store one.0 same 1 (e ∷ es) (j ∷ js) fs vs ready all met one.1 in
+      let legal = have_legal f terms store one.0 same 1 (e ∷ es) (j ∷ js) fs vs ready all met one.1 (omega arith) in
       record {
-        history = one.0;
-        legal = have_legal f terms store one.0 same 1 (e ∷ es) (j ∷ js) fs vs ready all met one.1 (omega arith);
         lasts = map (λ x. x.reader) fs;
         reports = map (λ x. x.report) fs;
-        judged = record {
-          streams = so.streams;
-          are_told = so.told;
-          judged = (so.out, judged_in terms one.0 1 so.streams vs (map (λ x. x.report) fs) so.judged (λ k v at. (calls k v at).2), so.read);
-        };
+        run = first_run f terms one.0 (e ∷ es) fs vs so legal (λ k v at. (calls k v at).2);
+        ended = so.out;
+        read = so.read;
       }
 
   -- ---- the run as a whole
@@ -449,30 +454,46 @@ module _ {S : Type 0} (view : SourceView S) where
   run_history {f} {terms} begun vs reports lasts dropped so =
       one_history f terms _ _ _ so.found vs begun.is begun.store_is (begun_count begun) begun.ready so.finish so.met so.one
 
+  -- the outcome's lists are those of what was found
+  gathered : (f : Cnf) (terms : TermsValue) (store : StoreValue) (firsts : List S) (js : List (JobsValue S))
+      → IsBegun f terms store firsts js
+      → (vs : List View) (fs : List (FoundValue S)) → AllFinish view js fs → AreMet (views (map (λ x. x.pass) fs)) vs
+      → HaveOneHistory f terms.layout (seen_by vs) vs
+      → (reports : List Report) (lasts : List S) (dropped : List DroppedValue) → reports ≡ map (λ x. x.report) fs
+      → lasts ≡ map (λ x. x.reader) fs → map (λ d. d.ids) dropped ≡ map (λ x. x.dropped.ids) fs
+      → (ran : IsRunOf InThreads view f terms firsts lasts reports dropped) × (ran.run.history ≡ seen_by vs)
+  gathered f terms store firsts js begun vs fs finish met one reports lasts dropped reports_are lasts_are dropped_are =
+      let j = judged_by f terms store begun.store_is 1 firsts js fs vs begun.ready finish met in
+      let run = first_run f terms (seen_by vs) firsts fs vs j one.legal (mine_at f terms.layout vs one) in
+      let told : AllZip IsTold (tellings view firsts lasts) j.streams =
+      subst (λ (ls : List S). AllZip IsTold (tellings view firsts ls) j.streams) (sym lasts_are) j.told in (
+        record {
+          run = record {
+            streams = j.streams;
+            are_told = told;
+            count = run.count ∙ begun.count;
+            history = seen_by vs;
+            legal = one.legal;
+            judged = subst (AreJudgedIn terms (λ s. true) (seen_by vs) 1 j.streams) (sym reports_are) run.judged;
+          };
+          way = j.out;
+          read = subst (λ (ls : List S). AreRead S view.reads firsts ls j.streams) (sym lasts_are) j.read;
+          have_dropped = rw dropped_are (rw reports_are j.dropped);
+        },
+        refl,
+      )
+
   pub run_reports : {f : Cnf} {terms : TermsValue} {store : StoreValue} {firsts : List S} {js : List (JobsValue S)}
       → IsBegun f terms store firsts js
       → (vs : List View) (reports : List Report) (lasts : List S) (dropped : List DroppedValue)
       → AreGathered view js vs reports lasts dropped
-      → StandsOnStreams (tellings view firsts lasts)
-      (λ streams. AllByRecursion (λ stream. IsSome stream.end) streams × AreJudgedIn terms (λ s. true) (seen_by vs) 1 streams reports
-      × AreRead S view.reads firsts lasts streams
-      × HaveDropped terms 1 streams reports (map (λ d. d.ids) dropped))
-  run_reports {f} {terms} {store} {firsts} begun vs reports lasts dropped so =
-      let fs = so.found in
-      let j = judged_by f terms _ begun.store_is _ _ _ fs vs begun.ready so.finish so.met in
-      let one = run_history begun vs reports lasts dropped so in
-      let gone : map (λ (d : DroppedValue). d.ids) dropped ≡ map (λ (x : FoundValue S). x.dropped.ids) fs =
-      ap (map (λ (d : DroppedValue). d.ids)) so.dropped_are ∙ map-map (λ (d : DroppedValue). d.ids) (λ (x : FoundValue S). x.dropped) fs in
-      record {
-        streams = j.streams;
-        are_told = subst (λ (ls : List S). AllZip IsTold (tellings view firsts ls) j.streams) (sym so.readers_are) j.told;
-        judged = (
-          j.out,
-          rw so.reports_are (judged_in terms (seen_by vs) 1 j.streams vs (map (λ x. x.report) fs) j.judged (mine_at f terms.layout vs one)),
-          subst (λ (ls : List S). AreRead S view.reads firsts ls j.streams) (sym so.readers_are) j.read,
-          rw gone (rw so.reports_are j.dropped),
-        );
-      }
+      → (ran : IsRunOf InThreads view f terms firsts lasts reports dropped) × (ran.run.history ≡ seen_by vs)
+  run_reports {f} {terms} {store} {firsts} {js} begun vs reports lasts dropped so =
+      let gone : map (λ (d : DroppedValue). d.ids) dropped ≡ map (λ (x : FoundValue S). x.dropped.ids) so.found =
+      ap (map (λ (d : DroppedValue). d.ids)) so.dropped_are
+      ∙ map-map (λ (d : DroppedValue). d.ids) (λ (x : FoundValue S). x.dropped) so.found in
+      gathered f terms store firsts js begun vs so.found so.finish so.met (run_history begun vs reports lasts dropped so) reports lasts
+      dropped so.reports_are so.readers_are gone
 
   -- the streams before the one that a ring's fault names
   pub run_before : {f : Cnf} {terms : TermsValue} {store : StoreValue} {firsts : List S} {js : List (JobsValue S)}
@@ -502,40 +523,6 @@ module _ {S : Type 0} (view : SourceView S) where
       → IsSomeAnd (slice_get firsts n) (WasReadOut view)
   run_read_out begun n read = reader_read_out _ _ _ _ _ _ n begun.ready read
 
-  told_count : {f : Cnf} {terms : TermsValue} {store : StoreValue} {firsts : List S} {js : List (JobsValue S)}
-      → IsBegun f terms store firsts js
-      → (vs : List View) (reports : List Report) (lasts : List S) (dropped : List DroppedValue)
-      → AreGathered view js vs reports lasts dropped → length (tellings view firsts lasts) ≡ terms.layout.streams
-  told_count {firsts = firsts} begun vs reports lasts dropped so =
-      told_as_many view firsts lasts _ (run_reports begun vs reports lasts dropped so).judged.2 ∙ begun.count
-
-  pub run_isolated : {f : Cnf} {terms : TermsValue} {store : StoreValue} {firsts : List S} {js : List (JobsValue S)}
-      → IsBegun f terms store firsts js → RunIsolated
-      → (vs : List View) (reports : List Report) (lasts : List S) (dropped : List DroppedValue)
-      → AreGathered view js vs reports lasts dropped
-      → AreIsolated f terms (tellings view firsts lasts)
-      (λ streams. AreJudgedIn terms (λ s. true) (seen_by vs) 1 streams reports) reports
-  run_isolated {f} {terms} begun law vs reports lasts dropped so =
-      law f terms (seen_by vs) vs _ reports begun.fits (told_count begun vs reports lasts dropped so)
-      (run_history begun vs reports lasts dropped so)
-
-  pub run_serializable : {f : Cnf} {terms : TermsValue} {store : StoreValue} {firsts : List S} {js : List (JobsValue S)}
-      → IsBegun f terms store firsts js → RunSerializable
-      → (vs : List View) (reports : List Report) (lasts : List S) (dropped : List DroppedValue)
-      → AreGathered view js vs reports lasts dropped → IsSerializable f terms (tellings view firsts lasts) (seen_by vs) reports
-  run_serializable {f} {terms} begun law vs reports lasts dropped so =
-      law f terms (seen_by vs) vs _ reports begun.fits (told_count begun vs reports lasts dropped so)
-      (run_history begun vs reports lasts dropped so)
-
-  -- each stream's dropped identities
-  pub run_dropped : {f : Cnf} {terms : TermsValue} {store : StoreValue} {firsts : List S} {js : List (JobsValue S)}
-      → IsBegun f terms store firsts js
-      → (vs : List View) (reports : List Report) (lasts : List S) (dropped : List DroppedValue)
-      → AreGathered view js vs reports lasts dropped → length dropped ≡ length firsts
-  run_dropped begun vs reports lasts dropped so =
-      ap length so.dropped_are ∙ length-map so.found (λ (x : FoundValue S). x.dropped)
-      ∙ finish_count _ _ so.finish ∙ ready_count _ _ _ _ _ _ begun.ready
-
 -- ---- 'unsatisfiable'
 
 -- where one of the reports says 'empty', no assignment makes every clause of the formula true
@@ -563,8 +550,7 @@ is_empty reports verdict of is =
     some_empty (list_any (λ (report : Report). report.empty) reports) (list_any (λ (report : Report). report.within) reports) (sym of ∙ is)
 
 -- so it is true
-pub sound_run : (f : Cnf) (terms : TermsValue) (h : History) (streams : List Stream) (reports : List Report) (verdict : Verdict)
-    → IsLegal f terms.layout h → AreJudgedIn terms (λ t. true) h 1 streams reports → verdict ≡ verdict_of reports → verdict ≡ Unsatisfiable
-    → IsUnsatisfiable f
-sound_run f terms h streams reports verdict legal judged of is =
-    sound_by f terms h legal 1 streams reports judged (is_empty reports verdict of is)
+pub sound_run : (f : Cnf) (terms : TermsValue) (told : List Telling) (reports : List Report) (verdict : Verdict)
+    → IsRun f terms told reports → verdict ≡ verdict_of reports → verdict ≡ Unsatisfiable → IsUnsatisfiable f
+sound_run f terms told reports verdict run of is =
+    sound_by f terms run.history run.legal 1 run.streams reports run.judged (is_empty reports verdict of is)

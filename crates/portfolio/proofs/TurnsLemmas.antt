@@ -3,7 +3,7 @@ use Rattle.std.proofs.Common.{◌≡◌, ◌≢◌, IsSome, IfSome, ℕ, zero, s
 use Rattle.std.proofs.Common.{length, get_or, set, take, replicate, map, Option, Some, None, refl, sym, ap, subst, ◌∙◌, inl, inr, arith}
 use Rattle.std.proofs.Common.{length-set, ne_eqb}
 use borrow.Author.Count.{below_more}
-use Rattle.std.specs.Prelude.{◌||◌, ◌↔◌, IsTrue}
+use Rattle.std.specs.Prelude.{◌||◌, ◌↔◌, IsTrue, slice_get}
 use Rattle.std.specs.List.{AllByRecursion, list_any, sum_by, AllZip}
 use Rattle.std.proofs.lemmas.Option.{slice_get-get_or}
 use Rattle.std.proofs.lemmas.Bool.{cases_Bool, cases_eq, cases_lt, cond-false}
@@ -26,7 +26,6 @@ use Rattle.stream_check.specs.DroppedValue.{DroppedValue}
 use Rattle.stream_check.specs.CheckerValue.{Tally, report_of_tally}
 use Rattle.stream_check.specs.Checker.{IsReadyAt}
 use Rattle.stream_check.specs.Laws.{ReadyBeside}
-use Rattle.portfolio.proofs.EmptyLemmas.{sound_in_order}
 use Rattle.portfolio.proofs.RoundLemmas.{tagged, within-tagged, events_more, blocks_more, blocks_beside, round_opened, round_turned}
 use Rattle.portfolio.proofs.RoundLemmas.{round_passed, round_over}
 use Rattle.portfolio.proofs.WorkingLemmas.{not_over}
@@ -34,8 +33,12 @@ use Rattle.portfolio.specs.Dropping.{HasDropped, HaveDropped}
 use Rattle.lrup_text.specs.ReadOut.{SourceView}
 use Rattle.runs.specs.Readings.{AreRead, IsStreamOf}
 use Rattle.runs.specs.Streams.{Stream, tellings, IsTold, JudgesStream, Block, blocks_of, events_in, IsBlockWithin, setting_of, AreJudged}
-use Rattle.runs.specs.Streams.{IsOrdered, StandsOnStreams, TermsValue}
+use Rattle.runs.specs.Streams.{TermsValue}
+use Rattle.runs.specs.EachLemmas.{each_count, each_push, each_second, each_set, each_within}
+use Rattle.runs.specs.StreamLemmas.{told_as_many, told_count}
 use Rattle.runs.specs.Turns.{IsOrderedByTurns, streams_of}
+use Rattle.run_laws.specs.OwnLemmas.{ordered_judged}
+use Rattle.portfolio.specs.Histories.{IsRunOf, OnOneThread}
 use Rattle.portfolio.specs.Working.{AreBlocksOfTurn, WorkerValue, WorksBy, Works, WorksOn, IsStarted}
 use Rattle.portfolio.specs.Turns.{HasRun, IsWorking, AreWorking, Runs, IsRunning, GoesOn, IsOver, AreOver, IsOverAt, AreStarted}
 use Rattle.portfolio.specs.Turns.{AreRun, HaveReports}
@@ -154,54 +157,21 @@ module _ {S : Type 0} (view : SourceView S) where
               (law w.checker m n s (joined bs) here moves (λ is. other (is ∙ stream)));
         }
 
-    working_above : (k : ℕ) (firsts : List S) (ws : List (WorkerValue S)) → s < k → AreWorking view terms blocks m k firsts ws
-        → AreWorking view terms (blocks ++ tagged s bs) n k firsts ws
-    working_above k [] [] above working = tt
-    working_above k [] (w ∷ ws) above working = absurd working
-    working_above k (first ∷ firsts) [] above working = absurd working
-    working_above k (first ∷ firsts) (w ∷ ws) above working = (
-      working_beside k first w (omega arith) (λ is. omega (arith, is, above)) working.0,
-      working_above (k + 1) firsts ws (omega arith) working.1,
-    )
-
     -- the turn of the worker at place i, which is now v
-    turn_at : (k i : ℕ) (firsts : List S) (ws : List (WorkerValue S)) (d w v : WorkerValue S) → 0 < k → s ≡ k + i → i < length ws
-        → get_or ws i d ≡ w
+    turn_at : (i : ℕ) (firsts : List S) (ws : List (WorkerValue S)) (w v : WorkerValue S) → s ≡ 1 + i → slice_get ws i ≡ Some w
         → WorksOn view w (free_at m s) bs v (free_at n s) → IsReadyAt v.checker (plain_place n s) → v.checker.setting ≡ w.checker.setting
-        → AreWorking view terms blocks m k firsts ws → AreWorking view terms (blocks ++ tagged s bs) n k firsts (set ws i v)
-    turn_at k i [] [] d w v positive place within is on ready setting working = absurd (omega (arith, within))
-    turn_at k i [] (x ∷ ws) d w v positive place within is on ready setting working = absurd working
-    turn_at k i (first ∷ firsts) [] d w v positive place within is on ready setting working = absurd working
-    turn_at k zero (first ∷ firsts) (x ∷ ws) d w v positive place within is on ready setting working =
-        let here : s ≡ k = omega (arith, place) in
-        let mine : IsWorking view terms blocks m s first w = subst (λ (y : WorkerValue S). IsWorking view terms blocks m s first y) is
-        (subst (λ t. IsWorking view terms blocks m t first x) (sym here) working.0) in (
-          subst (λ t. IsWorking view terms (blocks ++ tagged s bs) n t first v) here
-              (working_on terms blocks m n s bs first w v mine on ready setting),
-          working_above (k + 1) firsts ws (omega (arith, here)) working.1,
-        )
-    turn_at k (suc i) (first ∷ firsts) (x ∷ ws) d w v positive place within is on ready setting working = (
-      working_beside k first x positive (λ same. omega (arith, same, place)) working.0,
-      turn_at (k + 1) i firsts ws d w v (omega arith) (omega (arith, place)) (omega (arith, within)) is on ready setting working.1,
-    )
+        → AreWorking view terms blocks m 1 firsts ws → AreWorking view terms (blocks ++ tagged s bs) n 1 firsts (set ws i v)
+    turn_at i firsts ws w v place at on ready setting working =
+        each_set 1 i firsts ws v working
+        (λ t first other from apart its. working_beside t first other (omega (arith, from)) (λ same. apart (sym same ∙ place)) its)
+        (λ first was there its.
+        let same : was ≡ w = let e : Some was ≡ Some w = sym there ∙ at in cc in
+        let mine : IsWorking view terms blocks m s first w = subst (λ k. IsWorking view terms blocks m k first w) (sym place)
+        (subst (λ (x : WorkerValue S). IsWorking view terms blocks m (1 + i) first x) same its) in
+        subst (λ k. IsWorking view terms (blocks ++ tagged s bs) n k first v) place
+        (working_on terms blocks m n s bs first w v mine on ready setting))
 
   -- ---- what a worker has before its turn
-
-  -- the worker at place i, where they are counted on from k
-  pub working_at : (terms : TermsValue) (blocks : List Block) (m : Plain) (k i : ℕ) (firsts : List S) (ws : List (WorkerValue S))
-      (d w : WorkerValue S) → i < length ws → get_or ws i d ≡ w
-      → AreWorking view terms blocks m k firsts ws → IsReadyAt w.checker (plain_place m (k + i))
-  working_at terms blocks m k i [] [] d w within is working = absurd (omega (arith, within))
-  working_at terms blocks m k i [] (x ∷ ws) d w within is working = absurd working
-  working_at terms blocks m k i (first ∷ firsts) [] d w within is working = absurd working
-  working_at terms blocks m k zero (first ∷ firsts) (x ∷ ws) d w within is working =
-      let place : k ≡ k + zero = omega arith in
-      subst (λ t. IsReadyAt w.checker (plain_place m t)) place
-      (subst (λ (y : WorkerValue S). IsReadyAt y.checker (plain_place m k)) is working.0.ready)
-  working_at terms blocks m k (suc i) (first ∷ firsts) (x ∷ ws) d w within is working =
-      let place : k + 1 + i ≡ k + suc i = omega arith in
-      subst (λ t. IsReadyAt w.checker (plain_place m t)) place
-      (working_at terms blocks m (k + 1) i firsts ws d w (omega (arith, within)) is working.1)
 
   -- the worker at this place isn't over
   pub going_at : (ws : List (WorkerValue S)) (i : ℕ) (d e : WorkerValue S) (over : Bool) → i < length ws
@@ -214,9 +184,9 @@ module _ {S : Type 0} (view : SourceView S) where
       → IsReadyAt (get_or ws i d).checker (plain_place m (i + 1))
   ready_at taken m ws i d running within =
       let runs = running.3 in
-      let here = working_at running.1 runs.blocks m 1 i running.2 ws d (get_or ws i d) within refl runs.workers_are in
+      let here = each_second _ 1 running.2 ws runs.workers_are i (get_or ws i d) (slice_get-get_or ws i d within) in
       let place : 1 + i ≡ i + 1 = omega arith in
-      subst (λ t. IsReadyAt (get_or ws i d).checker (plain_place m t)) place here
+      subst (λ t. IsReadyAt (get_or ws i d).checker (plain_place m t)) place here.1.ready
 
   -- a run goes on by a turn of the worker at place i
   pub runs_more : (law : ReadyBeside) (f : Cnf) (terms : TermsValue) (firsts : List S) (m n : Plain) (ws : List (WorkerValue S)) (i : ℕ)
@@ -231,8 +201,8 @@ module _ {S : Type 0} (view : SourceView S) where
         count = count;
         blocks = runs.blocks ++ tagged (i + 1) bs;
         map_is = run_more f terms.layout runs.blocks m n (i + 1) bs runs.map_is (omega arith, omega (arith, within, runs.count)) moves;
-        workers_are = turn_at law terms runs.blocks m n (i + 1) bs moves 1 i firsts ws d (get_or ws i d) v (omega arith)
-            (omega arith) within refl on ready setting runs.workers_are;
+        workers_are = turn_at law terms runs.blocks m n (i + 1) bs moves i firsts ws (get_or ws i d) v (omega arith)
+            (slice_get-get_or ws i d within) on ready setting runs.workers_are;
         rounds = runs.rounds;
         in_round = round_turned runs.rounds i runs.blocks ws (get_or ws i d) (slice_get-get_or ws i d within) runs.in_round v bs going are;
       }
@@ -306,17 +276,6 @@ module _ {S : Type 0} (view : SourceView S) where
   -- ---- before the first turn
 
   -- one worker more
-  started_more : (terms : TermsValue) (k : ℕ) (firsts : List S) (ws : List (WorkerValue S)) (first : S) (w : WorkerValue S)
-      → AreStarted view terms k firsts ws → IsStarted view terms (k + length ws) first w
-      → AreStarted view terms k (firsts ++ first ∷ []) (ws ++ w ∷ [])
-  started_more terms k [] [] first w started here =
-      let place : k + 0 ≡ k = omega arith in (subst (λ s. IsStarted view terms s first w) place here, tt)
-  started_more terms k [] (v ∷ ws) first w started here = absurd started
-  started_more terms k (other ∷ firsts) [] first w started here = absurd started
-  started_more terms k (other ∷ firsts) (v ∷ ws) first w started here =
-      let place : k + length (v ∷ ws) ≡ k + 1 + length ws = omega arith in
-      (started.0, started_more terms (k + 1) firsts ws first w started.1 (subst (λ s. IsStarted view terms s first w) place here))
-
   pub started_pushed : {X : Type 0} (terms : TermsValue) (s : ℕ) (f : X → S) (xs : List X) (x : X) (ws vs : List (WorkerValue S))
       (w : WorkerValue S)
       → vs ≡ ws ++ w ∷ [] → s ≡ length ws + 1 → AreStarted view terms 1 (map f xs) ws → IsStarted view terms s (f x) w
@@ -324,16 +283,9 @@ module _ {S : Type 0} (view : SourceView S) where
   started_pushed {X} terms s f xs x ws vs w pushed place started here =
       let next : s ≡ 1 + length ws = omega (arith, place) in
       let more : AreStarted view terms 1 (map f xs ++ f x ∷ []) (ws ++ w ∷ []) =
-      started_more terms 1 (map f xs) ws (f x) w started (subst (λ k. IsStarted view terms k (f x) w) next here) in
+      each_push _ 1 (map f xs) ws (f x) w started (subst (λ k. IsStarted view terms k (f x) w) next here) in
       subst (AreStarted view terms 1 (map f (xs ++ x ∷ []))) (sym pushed)
       (subst (λ firsts. AreStarted view terms 1 firsts (ws ++ w ∷ [])) (sym (map-append f xs (x ∷ []))) more)
-
-  count_started : (terms : TermsValue) (k : ℕ) (firsts : List S) (ws : List (WorkerValue S)) → AreStarted view terms k firsts ws
-      → length ws ≡ length firsts
-  count_started terms k [] [] started = refl
-  count_started terms k [] (w ∷ ws) started = absurd started
-  count_started terms k (first ∷ firsts) [] started = absurd started
-  count_started terms k (first ∷ firsts) (w ∷ ws) started = omega (arith, count_started terms (k + 1) firsts ws started.1)
 
   module _ (f : Cnf) (terms : TermsValue) (m : Plain) (opened : IsOpened f terms.layout m) where
     room_opened : (s : ℕ) → IsStream terms.layout s → free_at m s ≡ terms.layout.room
@@ -351,20 +303,14 @@ module _ {S : Type 0} (view : SourceView S) where
           ∙ opening-owned f terms.layout s id opened.fits (subst (λ (q : LayoutValue). Owns q s id) opened.layout owns);
     }
 
-    working_started : (k : ℕ) (firsts : List S) (ws : List (WorkerValue S)) → 0 < k → k + length ws ≤ terms.layout.streams + 1
-        → AreStarted view terms k firsts ws → AreWorking view terms [] m k firsts ws
-    working_started k [] [] positive within started = tt
-    working_started k [] (w ∷ ws) positive within started = absurd started
-    working_started k (first ∷ firsts) [] positive within started = absurd started
-    working_started k (first ∷ firsts) (w ∷ ws) positive within started =
-        let room : free_at m k ≡ terms.layout.room = room_opened k (positive, omega (arith, within)) in (
-          record {
-            setting = started.0.setting;
-            works = subst (λ free. Works view first w free []) (sym room) started.0.works;
-            ready = ready_opened k first w started.0;
-          },
-          working_started (k + 1) firsts ws (omega arith) (omega (arith, within)) started.1,
-        )
+    working_started : (firsts : List S) (ws : List (WorkerValue S)) → length firsts ≡ terms.layout.streams
+        → AreStarted view terms 1 firsts ws → AreWorking view terms [] m 1 firsts ws
+    working_started firsts ws count started =
+        each_within terms.layout.streams 1 firsts ws (omega (arith, count)) started (λ s first w from to its. record {
+          setting = its.setting;
+          works = subst (λ free. Works view first w free []) (sym (room_opened s (omega (arith, from), to))) its.works;
+          ready = ready_opened s first w its;
+        })
 
     run_opened : HasRun f terms.layout [] m
     run_opened = record {
@@ -380,12 +326,12 @@ module _ {S : Type 0} (view : SourceView S) where
     pub runs_opened : (firsts : List S) (ws : List (WorkerValue S)) → length firsts ≡ terms.layout.streams
         → AreStarted view terms 1 firsts ws → Runs view f terms firsts 0 m ws
     runs_opened firsts ws count started =
-        let same : length ws ≡ terms.layout.streams = omega (arith, count_started terms 1 firsts ws started, count) in
+        let same : length ws ≡ terms.layout.streams = each_count _ 1 firsts ws started ∙ count in
         record {
           count = same;
           blocks = [];
           map_is = run_opened;
-          workers_are = working_started 1 firsts ws (omega arith) (omega (arith, same)) started;
+          workers_are = working_started firsts ws count started;
           rounds = 0;
           in_round = round_opened ws;
         }
@@ -455,44 +401,32 @@ module _ {S : Type 0} (view : SourceView S) where
         ),
       )
 
--- where one of the reports says 'empty', no assignment makes every clause of the formula true
-sound_among : (f : Cnf) (terms : TermsValue) (blocks : List Block) (k : ℕ) (streams : List Stream) (reports : List Report)
-    → IsLegal f terms.layout (events_in blocks)
-    → AreJudged terms (λ s. true) (λ s events. events ≡ blocks_of s blocks) k streams reports
-    → IsTrue (list_any (λ report. report.empty) reports) → IsUnsatisfiable f
-sound_among f terms blocks k [] [] legal judged some = absurd (let none : false ≡ true = some in cc)
-sound_among f terms blocks k [] (r ∷ reports) legal judged some = absurd judged
-sound_among f terms blocks k (stream ∷ streams) [] legal judged some = absurd judged
-sound_among f terms blocks k (stream ∷ streams) (r ∷ reports) legal judged some =
-    elim (cases_Bool r.empty) [
-      | inl yes' ↦ sound_in_order f terms.layout blocks k (setting_of terms k) stream _ r legal (judged.0 refl).1 (judged.0 refl).2 yes'
-      | inr none ↦ sound_among f terms blocks (k + 1) streams reports legal judged.1
-          (ap (λ b. b || list_any (λ (report : Report). report.empty) reports) (sym none) ∙ some)
-    ]
-
-pub sound_over : (f : Cnf) (terms : TermsValue) (streams : List Stream) (reports : List Report)
-    → IsOrdered f terms (λ s. true) streams reports → IsTrue (list_any (λ report. report.empty) reports) → IsUnsatisfiable f
-sound_over f terms streams reports ordered some = sound_among f terms ordered.blocks 1 streams reports ordered.legal ordered.judged some
-
 -- the whole run: begun, gone on with, and over
 pub run_ordered : {S : Type 0} (view : SourceView S) (f : Cnf) (terms : TermsValue) (firsts : List S) (m : Plain)
-    (ws : List (WorkerValue S)) → Runs view f terms firsts 0 m ws
+    (ws : List (WorkerValue S)) → length firsts ≡ terms.layout.streams → Runs view f terms firsts 0 m ws
     → (n : Plain) (reports : List Report) (lasts : List S) (dropped : List DroppedValue) → AreRun view m ws n reports lasts dropped
-    → StandsOnStreams (tellings view firsts lasts)
-    (λ streams. (ordered : IsOrderedByTurns f terms streams reports) × AreRead S view.reads firsts lasts streams
-    × HaveDropped terms 1 streams reports (map (λ d. d.ids) dropped) × (plain_state n ≡ state f (events_in ordered.order.blocks)))
-run_ordered {S} view f terms firsts m ws begun n reports lasts dropped so =
-    let ordered = ordered_over view f terms firsts n so.ended reports (so.goes f terms firsts begun) so.reports_are in
-    record {
-      streams = ordered.0;
-      are_told = subst (λ (ls : List S). AllZip IsTold (tellings view firsts ls) ordered.0) (sym so.readers_are) ordered.1;
-      judged = (
-        ordered.3.0,
-        subst (λ (ls : List S). AreRead S view.reads firsts ls ordered.0) (sym so.readers_are) ordered.2,
-        subst (HaveDropped terms 1 ordered.0 reports) (sym so.dropped_are) ordered.3.1,
-        ordered.3.2,
-      );
-    }
+    → (ran : IsRunOf OnOneThread view f terms firsts lasts reports dropped) × (plain_state n ≡ state f ran.run.history)
+run_ordered {S} view f terms firsts m ws count begun n reports lasts dropped so =
+    let over = ordered_over view f terms firsts n so.ended reports (so.goes f terms firsts begun) so.reports_are in
+    let streams = over.0 in
+    let order = over.3.0.order in
+    let told = subst (λ (ls : List S). AllZip IsTold (tellings view firsts ls) streams) (sym so.readers_are) over.1 in
+    let read = subst (λ (ls : List S). AreRead S view.reads firsts ls streams) (sym so.readers_are) over.2 in (
+      record {
+        run = record {
+          streams = streams;
+          are_told = told;
+          count = told_count _ _ told ∙ told_as_many view firsts lasts streams read ∙ count;
+          history = events_in order.blocks;
+          legal = order.legal;
+          judged = ordered_judged terms (λ s. true) (λ s. true) order.blocks 1 streams reports order.within order.judged;
+        };
+        way = (over.3.0, refl);
+        read = read;
+        have_dropped = subst (HaveDropped terms 1 streams reports) (sym so.dropped_are) over.3.1;
+      },
+      over.3.2,
+    )
 
 -- what is written to all of a list
 pub written_back : {A : Type 0} (n : ℕ) (xs ys : List A) → length xs ≡ n → take n (xs ++ ys) ≡ xs

@@ -1,5 +1,5 @@
 -- Which identities the streams of a run dropped (this project's own).
-use Rattle.std.specs.Prelude.{◌≡◌, ◌+◌, ℕ, List, [], ◌∷◌}
+use Rattle.std.specs.Prelude.{◌≡◌, ℕ, List}
 use Rattle.lrup_text.specs.Lines.{StreamLine, Cut}
 use Rattle.stream_check.specs.declared.report.Ending.{Ending}
 use Rattle.stream_check.specs.declared.report.Ending.TheVariants as endings
@@ -7,6 +7,7 @@ use Rattle.stream_check.specs.declared.report.Report.{Report}
 use Rattle.stream_check.specs.Setting.{Setting}
 use Rattle.stream_check.specs.Standing.{is_among, standing_of}
 use Rattle.stream_check.specs.Stopping.{DropsUntilStop}
+use Rattle.runs.specs.Each.{EachOfThree}
 use Rattle.runs.specs.Streams.{Stream, TermsValue, setting_of}
 
 -- These are the identities that the lines of the bytes drop: of those that a deletion among them names, the formula's and other
@@ -34,8 +35,5 @@ HasDropped setting bytes report ids = HasDroppedBy report.ending setting bytes r
 
 -- so it is with each stream, counted on from s
 abbrev pub HaveDropped : TermsValue → ℕ → List Stream → List Report → List (List ℕ) → Type 0
-HaveDropped terms s [] [] [] = Unit {0}
-HaveDropped terms s (stream ∷ streams) (report ∷ reports) (ids ∷ all) =
-    HasDropped (setting_of terms s) stream.bytes report ids
-    × HaveDropped terms (s + 1) streams reports all
-HaveDropped terms s _ _ _ = ⊥
+HaveDropped terms s streams reports all = EachOfThree (λ t stream report ids.
+    HasDropped (setting_of terms t) stream.bytes report ids) s streams reports all

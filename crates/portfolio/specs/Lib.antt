@@ -6,5 +6,4 @@ pub mod Saving
 pub mod Dropping
 pub mod Threads
 pub mod Histories
-pub mod HistoryLemmas
 pub mod ResultLemmas

@@ -1,12 +1,15 @@
 -- The streams of a run with threads, before the threads start, and when all have ended (this project's own).
-use Rattle.std.specs.Prelude.{◌≡◌, ◌+◌, ℕ, List, [], ◌∷◌, IsSome, length, map}
+use Rattle.std.specs.Prelude.{◌≡◌, ◌-◌, ℕ, List, IsSome, IsSomeAnd, length, map, slice_get, take}
+use Rattle.std.specs.List.{AllByRecursion}
 use Rattle.lrup_model.specs.Formula.{Cnf}
-use Rattle.lrup_model.specs.Layout.{Fits, IsLayout}
+use Rattle.lrup_model.specs.Layout.{Fits, IsLayout, IsStream}
 use Rattle.lrup_model.specs.Pass.{AreMet, View}
 use Rattle.clause_store.specs.Passes.{HaveMet, IsOpened, StoreValue, views}
 use Rattle.lrup_text.specs.ReadOut.{SourceView}
-use Rattle.runs.specs.Readings.{IsStreamOf}
-use Rattle.runs.specs.Streams.{Stream, TermsValue}
+use Rattle.runs.specs.Each.{Each}
+use Rattle.runs.specs.Readings.{AreRead, IsStreamOf}
+use Rattle.runs.specs.Streams.{Stream, TermsValue, tellings}
+use Rattle.run_laws.specs.Groups.{IsRunOfFirst}
 use Rattle.stream_check.specs.declared.report.Report.{Report}
 use Rattle.stream_check.specs.Checker.{IsNew}
 use Rattle.stream_check.specs.DroppedValue.{DroppedValue}
@@ -22,11 +25,8 @@ pub record HasReadyJobs {S : Type 0} (store : StoreValue) (formula : Cnf) (terms
 -- those of the streams counted on from s
 abbrev pub HaveReadyJobs : {S : Type 0} → StoreValue → Cnf → TermsValue → ℕ → List S
     → List (JobsValue S) → Type 0
-HaveReadyJobs store formula terms s [] [] = Unit {0}
-HaveReadyJobs store formula terms s (first ∷ firsts) (jobs ∷ all) =
-    HasReadyJobs store formula terms s first jobs
-    × HaveReadyJobs store formula terms (s + 1) firsts all
-HaveReadyJobs store formula terms s _ _ = ⊥
+HaveReadyJobs store formula terms s firsts all =
+    Each (HasReadyJobs store formula terms) s firsts all
 
 -- a run before its threads start, by its terms: the store, and the jobs of all readers
 pub record IsBegun {S : Type 0} (formula : Cnf) (terms : TermsValue) (store : StoreValue)
@@ -61,3 +61,20 @@ pub record WasReadOut {S : Type 0} (view : SourceView S) (reader : S) : Type 0 w
   pub stream : Stream
   pub ended : IsSome stream.end
   pub read : IsStreamOf view reader last stream
+
+-- These readers, which are those of the streams from 1 on, were each read to its end, or to the read that failed; and as far as these
+-- streams go it is a run of what they told, with some reports.
+pub record WereJudged {S : Type 0} (view : SourceView S) (formula : Cnf) (terms : TermsValue)
+    (firsts : List S) : Type 0 where
+  pub lasts : List S
+  pub reports : List Report
+  pub run : IsRunOfFirst (length firsts) formula terms (tellings view firsts lasts) reports
+  pub ended : AllByRecursion (λ stream. IsSome stream.end) run.streams
+  pub read : AreRead S view.reads firsts lasts run.streams
+
+-- A run that the ring of this stream stopped: the streams before it were judged, and its own reader was read out.
+pub record StopsAtRing {S : Type 0} (view : SourceView S) (formula : Cnf) (terms : TermsValue)
+    (firsts : List S) (stream : ℕ) : Type 0 where
+  pub is_stream : IsStream terms.layout stream
+  pub before : WereJudged view formula terms (take (stream - 1) firsts)
+  pub read_out : IsSomeAnd (slice_get firsts (stream - 1)) (WasReadOut view)

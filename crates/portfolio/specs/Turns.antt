@@ -1,6 +1,6 @@
 -- The streams of a run on one thread, between two turns (this project's own).
-use Rattle.std.specs.Prelude.{◌≡◌, ◌+◌, ◌≤◌, ◌<◌, ℕ, true, List, [], ◌∷◌, length, map, None, Some, IsSome, IfSome, slice_get}
-use Rattle.std.specs.List.{AllByRecursion}
+use Rattle.std.specs.Prelude.{◌≡◌, ◌+◌, ◌≤◌, ◌<◌, ℕ, true, List, length, map, None, Some, IsSome, IfSome, slice_get}
+use Rattle.std.specs.List.{AllByRecursion, AllZip}
 use Rattle.lrup_model.specs.Formula.{Cnf}
 use Rattle.lrup_model.specs.Layout.{LayoutValue, IsStream}
 use Rattle.lrup_model.specs.Event.{spent}
@@ -13,6 +13,7 @@ use Rattle.stream_check.specs.CheckerValue.{report_of_tally}
 use Rattle.stream_check.specs.Checker.{IsReadyAt}
 use Rattle.stream_check.specs.DroppedValue.{DroppedValue}
 use Rattle.runs.specs.Closed.{IsOfStream}
+use Rattle.runs.specs.Each.{Each}
 use Rattle.runs.specs.Streams.{Block, blocks_of, events_in, IsBlockWithin, TermsValue, setting_of}
 use Rattle.runs.specs.Turns.{IsByTurns, line_count, streams_of}
 use Rattle.lrup_text.specs.ReadOut.{SourceView}
@@ -39,11 +40,8 @@ pub record IsWorking {S : Type 0} (view : SourceView S) (terms : TermsValue) (bl
 -- so it is with each worker, counted on from s
 abbrev pub AreWorking : {S : Type 0} → SourceView S → TermsValue → List Block → Plain → ℕ → List S
     → List (WorkerValue S) → Type 0
-AreWorking view terms blocks map s [] [] = Unit {0}
-AreWorking view terms blocks map s (first ∷ firsts) (worker ∷ workers) =
-    IsWorking view terms blocks map s first worker
-    × AreWorking view terms blocks map (s + 1) firsts workers
-AreWorking view terms blocks map s _ _ = ⊥
+AreWorking view terms blocks map s firsts workers =
+    Each (IsWorking view terms blocks map) s firsts workers
 
 -- An order of lines after so many whole rounds and the turns of so many streams more. No stream has more lines than it has had turns,
 -- one that isn't over has as many, and the order is by turns.
@@ -95,18 +93,13 @@ IsOverAt workers place = IfSome (slice_get workers place) IsOver
 -- the workers of the streams counted on from s, before their first bytes
 abbrev pub AreStarted : {S : Type 0} → SourceView S → TermsValue → ℕ → List S → List (WorkerValue S)
     → Type 0
-AreStarted view terms s [] [] = Unit {0}
-AreStarted view terms s (first ∷ firsts) (worker ∷ workers) =
-    IsStarted view terms s first worker × AreStarted view terms (s + 1) firsts workers
-AreStarted view terms s _ _ = ⊥
+AreStarted view terms s firsts workers = Each (IsStarted view terms) s firsts workers
 
 -- the reports of workers that are over
 abbrev pub HaveReports : {S : Type 0} → List (WorkerValue S) → List Report → Type 0
-HaveReports [] [] = Unit {0}
-HaveReports (worker ∷ workers) (report ∷ reports) =
-    ((ending : Ending) × (worker.checker.ending ≡ Some ending)
-    × (report ≡ report_of_tally worker.checker.tally ending)) × HaveReports workers reports
-HaveReports _ _ = ⊥
+HaveReports workers reports = AllZip (λ worker report. (ending : Ending)
+    × (worker.checker.ending ≡ Some ending)
+    × (report ≡ report_of_tally worker.checker.tally ending)) workers reports
 
 -- What a run that stood at the one map with these workers came to at the other: all its streams are over, and these are their
 -- reports, their readers, and the identities that they dropped.

@@ -10,13 +10,11 @@ ghost use Rattle.lrup_model.specs.Plain.{PlainMoves, formula_of, free_at, plain_
 ghost use Rattle.lrup_model.specs.State.{state};
 ghost use Rattle.stream_check.specs.Checker.{IsReadyAt};
 ghost use Rattle.stream_check.specs.Judging.{joined};
-ghost use Rattle.run_laws.specs.Groups.{AreIsolated, HaveReportsAlone};
-ghost use Rattle.portfolio.specs.Dropping.{HaveDropped};
+ghost use Rattle.run_laws.specs.Groups.{AreIsolated};
+ghost use Rattle.portfolio.specs.Histories.{IsRunOf, OnOneThread};
 ghost use Rattle.portfolio.specs.Outcomes.{layout_of, terms_of, verdict_of};
-ghost use Rattle.lrup_text.specs.ReadOut.{source_view};
-ghost use Rattle.runs.specs.Readings.{AreRead};
-ghost use Rattle.runs.specs.Streams.{IsOrdered, StandsOnStreams, events_in, tellings};
-ghost use Rattle.runs.specs.Turns.{IsOrderedByTurns};
+ghost use Rattle.runs.specs.Readings.{readers_view};
+ghost use Rattle.runs.specs.Streams.{tellings};
 ghost use Rattle.portfolio.specs.Turns.{AreOver, AreRun, AreStarted, GoesOn, HaveReports, IsOverAt, IsRunning, Runs};
 ghost use Rattle.portfolio.specs.Working.{AreBlocksOfTurn, WorksOn};
 
@@ -25,7 +23,7 @@ use crate::outcome::{RunFault, SerialOutcome, Verdict};
 use crate::worker::Worker;
 use lrup_model::{Cube, Formula, PlainMap};
 use lrup_text::Source;
-use run_laws::groups::{alone_has_one_report, serial_isolated};
+use run_laws::groups::run_isolated;
 use runs::Terms;
 use std::alloc::{AllocError, Global};
 use std::sync::Wait;
@@ -50,38 +48,24 @@ pub fn run_serial<W: Wait, R: Source + Drop, G: Gate + Drop>(
     // `Layout` is answered exactly where these numbers have no layout, whatever is read.
     ensures layout { (fault : LayoutFault) → (result ≡ Err (RunFault.Layout fault))
         ↔ IsFault (layout_of options formula.now (length readers.items)) fault }
-    ensures no_spawn { (stream : ℕ) → result ≢ Err (RunFault.Spawn stream) }
-    ensures no_ring { (stream : ℕ) → result ≢ Err (RunFault.Ring stream) }
-    // Each stream is what its reader told, and what the reader's reads gave, and the reports have an
-    // order of lines, which is by turns. Each stream dropped just what its lines drop, or where one
-    // stopped it what was dropped until then. The map has what the order leaves.
+    ensures no_threads { (stream : ℕ) → (result ≢ Err (RunFault.Spawn stream))
+        × (result ≢ Err (RunFault.Ring stream)) }
+    // It is a run of what the readers told and their reads gave, and its history is that of an order of
+    // lines, which is by turns. The map has what this leaves.
     ensures ordered { let terms = terms_of options cube.now formula.now (length readers.items) in
-        IfOk result (λ outcome. StandsOnStreams
-        (tellings (source_view R.left R.has_failed R.reads) readers.items outcome.readers.items)
-        (λ streams. (ordered : IsOrderedByTurns formula.now terms streams outcome.reports.items)
-        × AreRead _ R.reads readers.items outcome.readers.items streams
-        × HaveDropped terms 1 streams outcome.reports.items
-        (map (λ d. d.ids) outcome.dropped.items)
-        × (plain_state outcome.map ≡ state formula.now (events_in ordered.order.blocks)))) }
-    // Groups of streams are isolated: the reports of a closed set of streams, where none tells that
-    // memory ran out, are such as the set alone may have.
+        IfOk result (λ outcome. (ran : IsRunOf OnOneThread (readers_view R.Source) formula.now
+        terms readers.items outcome.readers.items outcome.reports.items outcome.dropped.items)
+        × (plain_state outcome.map ≡ state formula.now ran.run.history)) }
+    // Groups of streams are isolated.
     ensures isolated { let terms = terms_of options cube.now formula.now (length readers.items) in
         IfOk result (λ outcome. AreIsolated formula.now terms
-        (tellings (source_view R.left R.has_failed R.reads) readers.items outcome.readers.items)
-        (λ streams. IsOrdered formula.now terms (λ s. true) streams outcome.reports.items)
-        outcome.reports.items) }
-    // A stream that is a closed set by itself has the one report that it may have alone.
-    ensures alone { let terms = terms_of options cube.now formula.now (length readers.items) in
-        IfOk result (λ outcome. HaveReportsAlone formula.now terms
-        (tellings (source_view R.left R.has_failed R.reads) readers.items outcome.readers.items)
-        (λ streams. IsOrdered formula.now terms (λ s. true) streams outcome.reports.items)
+        (tellings (readers_view R.Source) readers.items outcome.readers.items)
         outcome.reports.items) }
     ensures verdict { IfOk result (λ outcome.
         outcome.verdict ≡ verdict_of outcome.reports.items) }
     // The clauses stay, for whoever saves them.
     ensures kept { IfOk result (λ outcome. (formula_of outcome.map ≡ formula.now)
         × (outcome.map.layout ≡ layout_of options formula.now (length readers.items))) }
-    ensures dropped { IfOk result (λ outcome. vec_len outcome.dropped ≡ length readers.items) }
     // What a user relies on.
     ensures sound { IfOk result (λ outcome.
         outcome.verdict ≡ Verdict.Unsatisfiable → IsUnsatisfiable formula.now) }
@@ -91,8 +75,7 @@ pub fn run_serial<W: Wait, R: Source + Drop, G: Gate + Drop>(
     let layout = options.layout(formula, readers.len())?;
     let terms = Terms::new(&layout, cube, options.tries());
     let (map, workers) = open(alloc, formula, &terms, readers, gates)?;
-    serial_isolated();
-    alone_has_one_report();
+    run_isolated();
     check(wait, alloc, map, workers)
 }
 
@@ -108,7 +91,7 @@ fn open<R: Source + Drop, G: Gate + Drop>(
     requires streams { terms.now.layout.streams ≡ length readers.items }
     requires gates { vec_len gates ≡ vec_len readers }
     requires running { AllByRecursion (λ r. R.has_failed r ≡ false) readers.items }
-    ensures { IfOk result (λ opened. Runs (source_view R.left R.has_failed R.reads) formula.now
+    ensures { IfOk result (λ opened. Runs (readers_view R.Source) formula.now
         terms.now readers.items 0 opened.0 opened.1.items) }
 {
     let map = PlainMap::open(alloc, formula, terms.layout())?;
@@ -123,9 +106,9 @@ fn check<W: Wait, R: Source + Drop, G: Gate + Drop>(
     mut map: PlainMap,
     mut workers: Vec<Worker<R, G>>,
 ) -> Result<SerialOutcome<R>, RunFault>
-    requires running { IsRunning (source_view R.left R.has_failed R.reads) 0 map workers.items }
+    requires running { IsRunning (readers_view R.Source) 0 map workers.items }
     ensures memory { IfErr result (λ fault. fault ≡ RunFault.Memory) }
-    ensures ran { IfOk result (λ outcome. AreRun (source_view R.left R.has_failed R.reads) map
+    ensures ran { IfOk result (λ outcome. AreRun (readers_view R.Source) map
         workers.items outcome.map outcome.reports.items outcome.readers.items
         outcome.dropped.items) }
     ensures verdict { IfOk result (λ outcome.
@@ -148,7 +131,7 @@ pub(crate) fn workers_of<R: Source + Drop, G: Gate + Drop>(
     requires gates { vec_len gates ≡ vec_len readers }
     requires running { AllByRecursion (λ r. R.has_failed r ≡ false) readers.items }
     requires streams { terms.now.layout.streams ≡ length readers.items }
-    ensures { IfOk result (λ workers. AreStarted (source_view R.left R.has_failed R.reads)
+    ensures { IfOk result (λ workers. AreStarted (readers_view R.Source)
         terms.now 1 readers.items workers.items) }
 {
     let mut workers = Vec::with_capacity(alloc, readers.len())?;
@@ -165,9 +148,9 @@ fn take_turns<W: Wait, R: Source + Drop, G: Gate + Drop>(
     map: &mut PlainMap,
     workers: &mut [Worker<R, G>],
 )
-    requires running { IsRunning (source_view R.left R.has_failed R.reads) 0 map.old
+    requires running { IsRunning (readers_view R.Source) 0 map.old
         workers.old }
-    ensures runs { GoesOn (source_view R.left R.has_failed R.reads) 0 map.old workers.old 0
+    ensures runs { GoesOn (readers_view R.Source) 0 map.old workers.old 0
         map.new workers.new }
     ensures over { AreOver workers.new }
 {
@@ -184,9 +167,9 @@ fn take_round<W: Wait, R: Source + Drop, G: Gate + Drop>(
     map: &mut PlainMap,
     workers: &mut [Worker<R, G>],
 ) -> bool
-    requires running { IsRunning (source_view R.left R.has_failed R.reads) 0 map.old
+    requires running { IsRunning (readers_view R.Source) 0 map.old
         workers.old }
-    ensures runs { GoesOn (source_view R.left R.has_failed R.reads) 0 map.old workers.old 0
+    ensures runs { GoesOn (readers_view R.Source) 0 map.old workers.old 0
         map.new workers.new }
     ensures over { result ≡ false → AreOver workers.new }
 {
@@ -204,10 +187,10 @@ fn take_turn<W: Wait, R: Source + Drop, G: Gate + Drop>(
     workers: &mut [Worker<R, G>],
     i: usize,
 ) -> bool
-    requires running { IsRunning (source_view R.left R.has_failed R.reads) i map.old
+    requires running { IsRunning (readers_view R.Source) i map.old
         workers.old }
     requires within { i < length workers.old }
-    ensures runs { GoesOn (source_view R.left R.has_failed R.reads) i map.old workers.old (i + 1)
+    ensures runs { GoesOn (readers_view R.Source) i map.old workers.old (i + 1)
         map.new workers.new }
     ensures over { result ≡ false → IsOverAt workers.old i × (workers.new ≡ workers.old) }
 {
@@ -231,7 +214,7 @@ fn turn_at_desk<W: Wait, R: Source + Drop, G: Gate + Drop>(
     requires going { worker.old.checker.ending ≡ None }
     ensures works { (blocks : List History) × PlainMoves map.old map.new s (joined blocks)
         × AreBlocksOfTurn worker.new.checker.ending blocks
-        × WorksOn (source_view R.left R.has_failed R.reads) worker.old (free_at map.old s) blocks
+        × WorksOn (readers_view R.Source) worker.old (free_at map.old s) blocks
         worker.new (free_at map.new s) }
     ensures ready { IsReadyAt worker.new.checker (plain_place map.new s) }
     ensures setting { worker.new.checker.setting ≡ worker.old.checker.setting }

@@ -1,5 +1,5 @@
 //! A run with two threads for each stream.
-ghost use Rattle.std.specs.Prelude.{◌≡◌, ◌≢◌, ◌↔◌, ◌≤◌, ◌<◌, ◌-◌, true, false, ℕ, [], Err, IfOk, IsSome, IsSomeAnd, length, map, slice_get, take, vec_capacity, vec_len};
+ghost use Rattle.std.specs.Prelude.{◌≡◌, ◌≢◌, ◌↔◌, ◌≤◌, ◌<◌, ◌-◌, false, ℕ, [], Err, IfOk, IsSomeAnd, length, map, slice_get, take, vec_capacity, vec_len};
 ghost use Rattle.std.specs.List.{AllByRecursion};
 ghost use Rattle.lrup_model.specs.Cube.{IsUnsatisfiableUnder};
 ghost use Rattle.lrup_model.specs.Entailment.{IsUnsatisfiable};
@@ -7,14 +7,13 @@ ghost use Rattle.lrup_model.specs.Layout.{Fits, IsFault, IsLayout, IsStream};
 ghost use Rattle.lrup_model.specs.declared.layout.LayoutFault.{LayoutFault};
 ghost use Rattle.lrup_model.specs.Pass.{AreMet};
 ghost use Rattle.clause_store.specs.Passes.{AreOf, HaveMet, store_of, views};
-ghost use Rattle.lrup_text.specs.ReadOut.{source_view};
-ghost use Rattle.runs.specs.Readings.{AreRead};
-ghost use Rattle.runs.specs.Headline.{AreJudgedIn, HaveOneHistory, WereJudged, seen_by};
-ghost use Rattle.portfolio.specs.Dropping.{HaveDropped};
+ghost use Rattle.runs.specs.Readings.{readers_view};
+ghost use Rattle.runs.specs.Headline.{HaveOneHistory, seen_by};
+ghost use Rattle.portfolio.specs.Histories.{InThreads, IsRunOf};
 ghost use Rattle.portfolio.specs.Outcomes.{layout_of, terms_of, verdict_of};
-ghost use Rattle.portfolio.specs.Threads.{AreGathered, IsBegun, WasReadOut, WereGathered};
-ghost use Rattle.runs.specs.Streams.{StandsOnStreams, tellings};
-ghost use Rattle.run_laws.specs.Groups.{AreIsolated, HaveReportsAlone};
+ghost use Rattle.portfolio.specs.Threads.{AreGathered, IsBegun, StopsAtRing, WasReadOut, WereGathered};
+ghost use Rattle.runs.specs.Streams.{tellings};
+ghost use Rattle.run_laws.specs.Groups.{AreIsolated};
 ghost use Rattle.run_laws.specs.Serializable.{IsSerializable};
 ghost use Rattle.stream_threads.specs.Jobs.{CanBegin};
 
@@ -23,7 +22,7 @@ use crate::outcome::{Outcome, RunFault, Verdict};
 use clause_store::{Pass, Store};
 use lrup_model::{Cube, Formula};
 use lrup_text::Source;
-use run_laws::groups::{alone_has_one_report, run_isolated};
+use run_laws::groups::run_isolated;
 use run_laws::orders::run_serializable;
 use runs::Terms;
 use std::alloc::{AllocError, Global};
@@ -55,60 +54,34 @@ pub fn run<T: Threads + Wait + Sync, R: Source + Send + Drop, G: Gate + Send + D
         ↔ IsFault (layout_of options formula.now (length readers.items)) fault }
     ensures spawn { (stream : ℕ) → result ≡ Err (RunFault.Spawn stream)
         → IsStream (layout_of options formula.now (length readers.items)) stream }
-    ensures ring { (stream : ℕ) → result ≡ Err (RunFault.Ring stream)
-        → IsStream (layout_of options formula.now (length readers.items)) stream }
-    // Each stream before it was judged, as a run with an outcome has it, by its events of a legal history.
-    ensures first { let terms = terms_of options cube.now formula.now (length readers.items) in
+    // Each stream before it was judged, as in a run with an outcome; and its own reader was read out.
+    ensures ring { let terms = terms_of options cube.now formula.now (length readers.items) in
         (stream : ℕ) → result ≡ Err (RunFault.Ring stream)
-        → WereJudged (source_view R.left R.has_failed R.reads) formula.now terms
-        (take (stream - 1) readers.items) }
-    // Its own reader was read out too.
-    ensures read_out { (stream : ℕ) → result ≡ Err (RunFault.Ring stream)
-        → IsSomeAnd (slice_get readers.items (stream - 1))
-        (WasReadOut (source_view R.left R.has_failed R.reads)) }
+        → StopsAtRing (readers_view R.Source) formula.now terms readers.items stream }
     // One legal history has each stream's calls once, in its order, with the replies that it got.
     ensures history { IfOk result (λ outcome. let passes = views outcome.passes.items in
         HaveOneHistory formula.now (layout_of options formula.now (length readers.items))
         (seen_by passes) passes) }
-    // Each stream is what its reader told, and what the reader's reads gave, to its end or to the read
-    // that failed, and its report is the judgement of its bytes and its events of that history. It
-    // dropped just what its lines drop, or where one stopped it what was dropped until then.
+    // It is a run by that history, of what the readers told and their reads gave.
     ensures reports { let terms = terms_of options cube.now formula.now (length readers.items) in
-        IfOk result (λ outcome. StandsOnStreams
-        (tellings (source_view R.left R.has_failed R.reads) readers.items outcome.readers.items)
-        (λ streams. AllByRecursion (λ stream. IsSome stream.end) streams
-        × AreJudgedIn terms (λ s. true) (seen_by (views outcome.passes.items)) 1
-        streams outcome.reports.items
-        × AreRead _ R.reads readers.items outcome.readers.items streams
-        × HaveDropped terms 1 streams outcome.reports.items
-        (map (λ d. d.ids) outcome.dropped.items))) }
-    // Groups of streams are isolated: the reports of a closed set of streams, where none tells that
-    // memory ran out, are such as the set alone may have.
+        IfOk result (λ outcome. (ran : IsRunOf InThreads (readers_view R.Source) formula.now
+        terms readers.items outcome.readers.items outcome.reports.items outcome.dropped.items)
+        × (ran.run.history ≡ seen_by (views outcome.passes.items))) }
+    // Groups of streams are isolated.
     ensures isolated { let terms = terms_of options cube.now formula.now (length readers.items) in
         IfOk result (λ outcome. AreIsolated formula.now terms
-        (tellings (source_view R.left R.has_failed R.reads) readers.items outcome.readers.items)
-        (λ streams. AreJudgedIn terms (λ s. true) (seen_by (views outcome.passes.items)) 1
-        streams outcome.reports.items) outcome.reports.items) }
-    // A stream that is a closed set by itself has the one report that it may have alone.
-    ensures alone { let terms = terms_of options cube.now formula.now (length readers.items) in
-        IfOk result (λ outcome. HaveReportsAlone formula.now terms
-        (tellings (source_view R.left R.has_failed R.reads) readers.items outcome.readers.items)
-        (λ streams. AreJudgedIn terms (λ s. true) (seen_by (views outcome.passes.items)) 1
-        streams outcome.reports.items) outcome.reports.items) }
-    // The lines are serializable: those of each closed set of streams have an order, where what
-    // they found live of one another isn't left retired; and all together have the verdict.
+        (tellings (readers_view R.Source) readers.items outcome.readers.items)
+        outcome.reports.items) }
+    // The lines are serializable.
     ensures serializable { let terms = terms_of options cube.now formula.now
-        (length readers.items) in
-        IfOk result (λ outcome. IsSerializable formula.now terms
-        (tellings (source_view R.left R.has_failed R.reads) readers.items outcome.readers.items)
-        (seen_by (views outcome.passes.items)) outcome.reports.items) }
+        (length readers.items) in IfOk result (λ outcome. IsSerializable formula.now terms
+        (tellings (readers_view R.Source) readers.items outcome.readers.items)
+        outcome.reports.items) }
     ensures verdict { IfOk result (λ outcome.
         outcome.verdict ≡ verdict_of outcome.reports.items) }
     // The clauses stay, for whoever saves them.
-    ensures store { IfOk result (λ outcome. AreOf outcome.store outcome.passes.items) }
-    ensures kept { IfOk result (λ outcome.
-        outcome.store.layout ≡ layout_of options formula.now (length readers.items)) }
-    ensures dropped { IfOk result (λ outcome. vec_len outcome.dropped ≡ length readers.items) }
+    ensures store { IfOk result (λ outcome. AreOf outcome.store outcome.passes.items
+        × (outcome.store.layout ≡ layout_of options formula.now (length readers.items))) }
     // What a user relies on.
     ensures sound { IfOk result (λ outcome.
         outcome.verdict ≡ Verdict.Unsatisfiable → IsUnsatisfiable formula.now) }
@@ -119,7 +92,6 @@ pub fn run<T: Threads + Wait + Sync, R: Source + Send + Drop, G: Gate + Send + D
     let terms = Terms::new(&layout, cube, options.tries());
     let Opened { store, jobs } = open(alloc, formula, &terms, readers, gates)?;
     run_isolated();
-    alone_has_one_report();
     run_serializable();
     check(threads, alloc, store, jobs)
 }
@@ -166,11 +138,11 @@ fn check<T: Threads + Wait + Sync, R: Source + Send + Drop, G: Gate + Send + Dro
     ensures ring { (stream : ℕ) → result ≡ Err (RunFault.Ring stream)
         → (0 < stream) × (stream ≤ length jobs.items) }
     ensures first { (stream : ℕ) → result ≡ Err (RunFault.Ring stream)
-        → WereGathered (source_view R.left R.has_failed R.reads) (take (stream - 1) jobs.items) }
+        → WereGathered (readers_view R.Source) (take (stream - 1) jobs.items) }
     ensures read_out { (stream : ℕ) → result ≡ Err (RunFault.Ring stream)
         → IsSomeAnd (slice_get jobs.items (stream - 1))
-        (λ one. WasReadOut (source_view R.left R.has_failed R.reads) one.reader) }
-    ensures found { IfOk result (λ outcome. AreGathered (source_view R.left R.has_failed R.reads)
+        (λ one. WasReadOut (readers_view R.Source) one.reader) }
+    ensures found { IfOk result (λ outcome. AreGathered (readers_view R.Source)
         jobs.items (views outcome.passes.items) outcome.reports.items outcome.readers.items
         outcome.dropped.items) }
     ensures verdict { IfOk result (λ outcome.

@@ -3,10 +3,10 @@ ghost use Rattle.std.specs.Prelude.{◌≡◌, ◌↔◌, ◌≤◌, ℕ, false,
 ghost use Rattle.std.specs.Bool.{OnTrue, OnFalse};
 ghost use Rattle.lrup_model.specs.Event.{History};
 ghost use Rattle.lrup_model.specs.Layout.{IsStream};
-ghost use Rattle.lrup_text.specs.ReadOut.{source_view};
 ghost use Rattle.stream_check.specs.CheckerValue.{report_of_tally};
 ghost use Rattle.stream_check.specs.Checker.{AreBlocksOf, Ends, IsReadyAt, ReportsEnd};
 ghost use Rattle.stream_check.specs.Judging.{joined};
+ghost use Rattle.runs.specs.Readings.{readers_view};
 ghost use Rattle.portfolio.specs.Working.{AreBlocksOfTurn, IsStarted, WorksOn};
 
 use lrup_model::ClauseMap;
@@ -56,7 +56,7 @@ impl<R: Source + Drop, G: Gate + Drop> Worker<R, G> {
     ) -> Result<Worker<R, G>, AllocError>
         requires running { R.has_failed reader ≡ false }
         requires stream { IsStream terms.now.layout stream }
-        ensures { IfOk result (IsStarted (source_view R.left R.has_failed R.reads)
+        ensures { IfOk result (IsStarted (readers_view R.Source)
             terms.now stream reader) }
     {
         Ok(Worker {
@@ -82,7 +82,7 @@ impl<R: Source + Drop, G: Gate + Drop> Worker<R, G> {
         requires going { self.old.checker.ending ≡ None }
         ensures works { (blocks : List History) × M.moves map.old map.new (joined blocks)
             × AreBlocksOfTurn self.new.checker.ending blocks
-            × WorksOn (source_view R.left R.has_failed R.reads) self.old (M.place map.old).room
+            × WorksOn (readers_view R.Source) self.old (M.place map.old).room
             blocks self.new (M.place map.new).room }
         ensures ready { IsReadyAt self.new.checker (M.place map.new) }
         ensures setting { self.new.checker.setting ≡ self.old.checker.setting }
@@ -103,7 +103,7 @@ impl<R: Source + Drop, G: Gate + Drop> Worker<R, G> {
     /// false.
     fn read(&mut self) -> bool
         requires { self.old.checker.ending ≡ None }
-        ensures works { (room : ℕ) → WorksOn (source_view R.left R.has_failed R.reads)
+        ensures works { (room : ℕ) → WorksOn (readers_view R.Source)
             self.old room [] self.new room }
         ensures going { OnTrue result (self.new.checker.ending ≡ None) }
         ensures over { OnFalse result (IsSome self.new.checker.ending) }
@@ -136,7 +136,7 @@ impl<R: Source + Drop, G: Gate + Drop> Worker<R, G> {
         requires going { self.old.checker.ending ≡ None }
         ensures works { (blocks : List History) × M.moves map.old map.new (joined blocks)
             × AreBlocksOf result blocks
-            × WorksOn (source_view R.left R.has_failed R.reads) self.old (M.place map.old).room
+            × WorksOn (readers_view R.Source) self.old (M.place map.old).room
             blocks self.new (M.place map.new).room }
         ensures going { result ≡ CheckTurn.More → self.new.checker.ending ≡ None }
         ensures over { result ≡ CheckTurn.Over → IsSome self.new.checker.ending }

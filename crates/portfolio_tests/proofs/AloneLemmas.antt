@@ -12,7 +12,7 @@ use Rattle.lrup_text.specs.Lines.{StreamLine, Addition, Deletion, Import, Cut, H
 use Rattle.lrup_text.specs.Laws.{OneCut}
 use Rattle.stream_check.specs.declared.report.Report.{Report}
 use Rattle.lrup_text.specs.declared.device.StreamEnd.TheVariants as stream_ends
-use Rattle.std.specs.List.{AllByRecursion, list_any, AllZip}
+use Rattle.std.specs.List.{AllByRecursion, list_any}
 use Rattle.stream_check.specs.Laws.{IsOfMemory, cited_by}
 use Rattle.lrup_model.specs.Cube.{CubeValue}
 use Rattle.lrup_model.specs.Formula.{Cnf}
@@ -20,14 +20,14 @@ use Rattle.lrup_model.specs.Event.{History, published}
 use Rattle.portfolio.specs.declared.outcome.Verdict.{Verdict}
 use Rattle.portfolio.specs.declared.outcome.Verdict.TheVariants.{Unsatisfiable, UnsatisfiableUnder, Unknown}
 use Rattle.portfolio.specs.Outcomes.{OptionsValue, terms_of, verdict_of}
-use Rattle.run_laws.specs.Serializable.{ComeToVerdict}
+use Rattle.run_laws.specs.Serializable.{ComeToVerdict, IsSerializable}
 use Rattle.run_laws.specs.Premises.{FoundStays}
 use Rattle.runs.specs.StreamLemmas.{same_at}
 use Rattle.lrup_text.specs.ReadOut.{SourceView}
 use Rattle.runs.specs.Readings.{AreRead}
-use Rattle.runs.specs.Streams.{Stream, Telling, TermsValue, telling_of, tellings, IsTold, IsOrdered, events_in}
+use Rattle.runs.specs.Streams.{Stream, Telling, TermsValue, telling_of, tellings, IsOrdered, events_in}
 use Rattle.runs.specs.Closed.{IsOfStream, IsOwnedWithin, CiteWithin}
-use Rattle.run_laws.specs.Groups.{one, AreIsolated, HaveReportsAlone}
+use Rattle.run_laws.specs.Groups.{one, AreIsolated, IsRun}
 use Rattle.run_laws.specs.ReportLemmas.{only}
 use Rattle.run_laws.specs.GroupLaws.{ReadersClosed, ToldIsReading}
 use Rattle.test_support.specs.Worked.{four}
@@ -67,57 +67,55 @@ of_two Holds options cube f count same none formula two holds =
     (subst (λ k. Holds f (terms_of usual k f count)) none
     (subst (λ o. Holds f (terms_of o cube f count)) same holds)))
 
-pub two_isolated : (options : OptionsValue) (cube : CubeValue) (f : Cnf) (count : ℕ) (told : List Telling)
-    (Judged : List Stream → Type 0) (reports : List Report) → options ≡ usual → cube ≡ [] → f ≡ four → count ≡ 2
-    → AreIsolated f (terms_of options cube f count) told Judged reports → AreIsolated four two_terms told Judged reports
-two_isolated options cube f count told Judged reports = of_two (λ g terms. AreIsolated g terms told Judged reports) options cube f count
+-- what a run promises of its reports, whichever way its history is known
+abbrev pub IsIsolated : {S : Type 0} → SourceView S → List S → List S → List Report → Cnf → TermsValue → Type 0
+IsIsolated {S} view firsts lasts reports f terms =
+    AreIsolated f terms (tellings view firsts lasts) reports
+    × ((run : IsRun f terms (tellings view firsts lasts) reports) × AreRead S view.reads firsts lasts run.streams)
 
-pub two_alone : (options : OptionsValue) (cube : CubeValue) (f : Cnf) (count : ℕ) (told : List Telling)
-    (Judged : List Stream → Type 0) (reports : List Report) → options ≡ usual → cube ≡ [] → f ≡ four → count ≡ 2
-    → HaveReportsAlone f (terms_of options cube f count) told Judged reports → HaveReportsAlone four two_terms told Judged reports
-two_alone options cube f count told Judged reports = of_two (λ g terms. HaveReportsAlone g terms told Judged reports) options cube f count
+-- the streams of a run that has this history have an order that comes to the verdict, where it leaves what they found of one another
+abbrev pub HasOrdered : List Telling → List Report → History → Cnf → TermsValue → Type 0
+HasOrdered told reports h f terms =
+    IsSerializable f terms told reports × ((run : IsRun f terms told reports) × (run.history ≡ h))
 
--- the streams of this history have an order that comes to the verdict, where it leaves what they found of one another
-abbrev pub HaveOrder : Cnf → TermsValue → History → List Stream → List Report → Type 0
-HaveOrder f terms h streams reports = FoundStays f terms.layout (λ s. true) h
-    → (order : IsOrdered f terms (λ s. true) streams reports) × ComeToVerdict terms.cube (events_in order.blocks) reports
+pub two_isolated : {S : Type 0} (view : SourceView S) (firsts lasts : List S) (reports : List Report) (options : OptionsValue)
+    (cube : CubeValue) (f : Cnf) (count : ℕ) → options ≡ usual → cube ≡ [] → f ≡ four → count ≡ 2
+    → IsIsolated view firsts lasts reports f (terms_of options cube f count) → IsIsolated view firsts lasts reports four two_terms
+two_isolated view firsts lasts reports options cube f count = of_two (IsIsolated view firsts lasts reports) options cube f count
 
-pub two_ordered : (options : OptionsValue) (cube : CubeValue) (f : Cnf) (count : ℕ) (h : History) (streams : List Stream)
-    (reports : List Report) → options ≡ usual → cube ≡ [] → f ≡ four → count ≡ 2
-    → HaveOrder f (terms_of options cube f count) h streams reports → HaveOrder four two_terms h streams reports
-two_ordered options cube f count h streams reports = of_two (λ g terms. HaveOrder g terms h streams reports) options cube f count
+pub two_ordered : (told : List Telling) (reports : List Report) (h : History) (options : OptionsValue) (cube : CubeValue) (f : Cnf)
+    (count : ℕ) → options ≡ usual → cube ≡ [] → f ≡ four → count ≡ 2
+    → HasOrdered told reports h f (terms_of options cube f count) → HasOrdered told reports h four two_terms
+two_ordered told reports h options cube f count = of_two (HasOrdered told reports h) options cube f count
 
 -- A report of stream 1 is the one that it may have alone, by what a run promises.
 pub report_alone : ReadersClosed → ToldIsReading → {S : Type 0} (view : SourceView S) (firsts lasts : List S) (bytes : List ℕ)
-    (Judged : List Stream → Type 0) (reports : List Report) (report : Report) (streams : List Stream)
-    → AreIsolated four two_terms (tellings view firsts lasts) Judged reports
-    → HaveReportsAlone four two_terms (tellings view firsts lasts) Judged reports
-    → AllZip IsTold (tellings view firsts lasts) streams → AreRead S view.reads firsts lasts streams → Judged streams
-    → CiteWithin layout_of_two (one 1) bytes
+    (reports : List Report) (report : Report)
+    → IsIsolated view firsts lasts reports four two_terms → CiteWithin layout_of_two (one 1) bytes
     → IsOfStream (map view.left firsts) 1 (Some bytes) → IsOfStream (map view.has_failed lasts) 1 false
     → IsOfStream reports 1 report → ¬ IsOfMemory report → IsOnlyReport bytes report
-report_alone closes reads view firsts lasts bytes Judged reports report streams isolated unique told read judged cites entry
-    fine says memory =
+report_alone closes reads view firsts lasts bytes reports report (isolated, run, read) cites entry fine says memory =
     let tells = tellings view firsts lasts in
-    let first = first_told view firsts lasts streams bytes read entry fine in
-    let closed = closes layout_of_two (one 1) tells streams told
+    let first = first_told view firsts lasts run.streams bytes read entry fine in
+    let closed = closes layout_of_two (one 1) tells run.streams run.are_told
     (λ s other member at.
     let same = same_at tells 1 other first.telling (subst (λ n. IsOfStream tells n other) (only 1 s member) at) first.telling_at in
     (bytes, ap (λ (t : Telling). t.entry) same ∙ first.entry, cites)) in
-    let is_reading = reads tells streams 1 first.telling first.stream bytes told first.telling_at first.at first.entry first.running in
+    let is_reading = reads tells run.streams 1 first.telling first.stream bytes run.are_told first.telling_at first.at first.entry
+    first.running in
     record {
       alone = record {
-        streams = streams;
+        streams = run.streams;
         reports = reports;
         stream = first.stream;
-        alone = isolated streams told judged (one 1) closed
+        alone = isolated.groups run (one 1) closed
             (λ s other member at. subst (λ r. ¬ IsOfMemory r)
             (same_at reports 1 report other says (subst (λ n. IsOfStream reports n other) (only 1 s member) at)) memory);
         at = first.at;
         reads = is_reading;
         says = says;
       };
-      only = unique streams told judged 1 first.stream report first.at says closed memory bytes stream_ends.Ended is_reading;
+      only = isolated.alone run 1 first.stream report first.at says closed memory bytes stream_ends.Ended is_reading;
     }
 
 -- The verdict of an order of lines
@@ -136,15 +134,22 @@ says_so verdict false false false same is = (
   λ t. absurd (let no : false ≡ true = t in cc),
 )
 
-pub has_order : (streams : List Stream) (reports : List Report) (verdict : Verdict)
+order_says : (streams : List Stream) (reports : List Report) (verdict : Verdict)
     → (order : IsOrdered four two_terms (λ s. true) streams reports) × ComeToVerdict two_terms.cube (events_in order.blocks) reports
     → verdict ≡ verdict_of reports → HasOrder verdict
-has_order streams reports verdict (order, comes) is = record {
+order_says streams reports verdict (order, comes) is = record {
   lines = order.blocks;
   legal = order.legal;
   says = says_so verdict (list_any (λ report. report.empty) reports) (list_any (λ report. report.within) reports)
       (list_any (λ p. length p.1 == 0) (published (events_in order.blocks))) comes.empty is;
 }
+
+-- A run's verdict is that of an order of its lines, by what it promises.
+pub has_order : (told : List Telling) (reports : List Report) (h : History) (verdict : Verdict) → HasOrdered told reports h four two_terms
+    → verdict ≡ verdict_of reports → FoundStays four layout_of_two (λ s. true) h → HasOrder verdict
+has_order told reports h verdict (serializable, run, same) is stays =
+    order_says run.streams reports verdict
+    ((serializable run).1 (subst (FoundStays four layout_of_two (λ s. true)) (sym same) stays)) is
 
 -- The lines of the first stream, and of one that imports alone
 

@@ -19,6 +19,7 @@ use Rattle.stream_check.specs.declared.report.Report.{Report}
 use Rattle.stream_check.specs.Setting.{Setting}
 use Rattle.stream_check.specs.Judging.{joined}
 use Rattle.stream_check.specs.Laws.{cited_by, FetchesOnly, CitedFetched}
+use Rattle.runs.specs.EachLemmas.{each_within}
 use Rattle.runs.specs.StreamLemmas.{IsJudgedBy, some_end}
 use Rattle.runs.specs.Streams.{Stream, JudgesStream, TermsValue, setting_of}
 use Rattle.runs.specs.Headline.{AreJudgedIn}
@@ -147,15 +148,11 @@ closed_finds law terms set h streams reports count judged closed =
 judged_among : (terms : TermsValue) (set : ℕ → Bool) (h : History) (s : ℕ) (streams : List Stream) (reports : List Report)
     → 0 < s → s + length streams ≤ terms.layout.streams + 1
     → AreJudgedIn terms set h s streams reports → AreJudgedIn terms set (among (inside terms.layout set) h) s streams reports
-judged_among terms set h s [] [] first last judged = tt
-judged_among terms set h s [] (r ∷ rs) first last judged = absurd judged
-judged_among terms set h s (t ∷ ts) [] first last judged = absurd judged
-judged_among terms set h s (t ∷ ts) (r ∷ rs) first last judged = (
-  λ member.
-      let is = is_inside terms.layout set s member (first, omega (arith, last)) in
-      subst (λ (es : History). IsJudgedBy (setting_of terms s) t es r) (sym (own-among (inside terms.layout set) h s is)) (judged.0 member),
-  judged_among terms set h (s + 1) ts rs (omega arith) (omega (arith, last)) judged.1,
-)
+judged_among terms set h s streams reports first last judged =
+    each_within terms.layout.streams s streams reports last judged (λ t stream report from to j member.
+    let is = is_inside terms.layout set t member (omega (arith, first, from), to) in
+    subst (λ (es : History). IsJudgedBy (setting_of terms t) stream es report) (sym (own-among (inside terms.layout set) h t is))
+    (j member))
 
 pub closed_is_group : CitedFetched → ClosedIsGroup
 closed_is_group law f terms set h streams reports fits count legal judged closed memory =

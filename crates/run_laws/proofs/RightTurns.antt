@@ -52,14 +52,14 @@ right_order_by_turns f terms steps order is turns = record {
 pub right_by_turns : GoodExactlyIf → PropagationSound → GoodLineTaken → FreshLeft → EndJudged → EmptyCut → OneCut
     → DecidedBeforeFailure → OneReport → LegalNeverFork → BlocksGoAlike → RightByTurns
 unfolding right_order_by_turns
-right_by_turns good sound taken fresh ends empty_cut one_cut decided one forks alike f terms steps told reports s report cnf fits count
-    right turns texts x fine says =
+right_by_turns good sound taken fresh ends empty_cut one_cut decided one forks alike f terms steps told reports s report cnf fits
+    right turns texts x a fine says =
     let n = terms.layout.streams in
     let said : ℕ → Report = λ t. right_report terms t (lines_by t steps) in
     let found = right_ordered good sound taken fresh ends empty_cut one_cut f terms steps cnf fits right in
-    let a = x.judged in
     let b = right_order_by_turns f terms steps found.0 found.1 turns in
-    let many : length x.streams ≡ n = told_count told x.streams x.are_told ∙ count in
+    let many : length x.streams ≡ n = x.count in
+    let count : length told ≡ n = sym (told_count told x.streams x.are_told) ∙ many in
     let same : reports ≡ each_from n 1 said =
     reports_same alike forks one f terms x.streams (each_from n 1 (text_stream steps)) reports (each_from n 1 said) a b many
     (each_count n 1 (text_stream steps))

@@ -18,15 +18,13 @@ use Rattle.stream_check.specs.Setting.{Setting}
 use Rattle.stream_check.specs.Judging.{JudgesBlocks, Judges}
 use Rattle.stream_check.specs.Laws.{AloneDecides, DecidedBeforeFailure, IsOfMemory, IsOfFailure}
 use Rattle.runs.specs.Streams.{Stream, Telling, IsTold, TermsValue, setting_of}
-use Rattle.runs.specs.Closed.{IsOfStream, CiteWithin}
-use Rattle.runs.specs.StreamLemmas.{told_count, told_from, told_begins, same_at}
-use Rattle.run_laws.specs.Groups.{one, IsGroup, IsRun}
-use Rattle.run_laws.specs.GroupLaws.{BeginningsWithin, ReadersClosed, ClosedIsGroup, OrderedIsGroup, AloneHasOneReport, RunIsolated}
-use Rattle.run_laws.specs.GroupLaws.{SerialIsolated, ThreadsRun, SerialRun, ToldIsReading, FailedIsReading, SameReadingAgrees}
-use Rattle.run_laws.specs.GroupLaws.{SameBytesAgree}
+use Rattle.runs.specs.Closed.{IsOfStream, CiteWithin, IsClosed}
+use Rattle.runs.specs.StreamLemmas.{told_from, told_begins, same_at}
+use Rattle.run_laws.specs.Groups.{one, IsGroup, IsRun, NoneOutOfMemory}
+use Rattle.run_laws.specs.GroupLaws.{BeginningsWithin, ReadersClosed, ClosedIsGroup, AloneHasOneReport, RunIsolated}
+use Rattle.run_laws.specs.GroupLaws.{ToldIsReading, FailedIsReading, SameReadingAgrees, SameBytesAgree}
 use Rattle.run_laws.proofs.Places.{has_place, judged_at, judged_fewer}
 use Rattle.runs.specs.StreamLemmas.{judged_count}
-use Rattle.run_laws.specs.OwnLemmas.{ordered_judged}
 use Rattle.run_laws.specs.ReportLemmas.{only}
 use Rattle.run_laws.proofs.AloneLemmas.{ReadsTo, me, own-one}
 
@@ -91,38 +89,31 @@ failed_is_reading told streams s telling stream whole left are_told here at entr
     (subst (λ (l : Option (List ℕ)). EndsWith stream.end l true) has
     (subst (EndsWith stream.end telling.left) fails is.ends)) is.needed
 
--- Both kinds of run
+-- A run
 
-pub run_isolated : ClosedIsGroup → RunIsolated
-run_isolated law f terms h passes told reports fits count one streams are_told judged set closed memory =
-    law f terms set h streams reports fits (told_count told streams are_told ∙ count) one.legal
-    (judged_fewer terms (λ s. true) set h (λ s member. refl) 1 streams reports judged) closed memory
+-- a closed set of its streams is a group
+closed_group : ClosedIsGroup → (f : Cnf) (terms : TermsValue) (told : List Telling) (reports : List Report) → Fits terms.layout f
+    → (run : IsRun f terms told reports) (set : ℕ → Bool) → IsClosed terms.layout set run.streams → NoneOutOfMemory set reports
+    → IsGroup f terms set run.streams reports
+closed_group law f terms told reports fits run set closed memory =
+    law f terms set run.history run.streams reports fits run.count run.legal
+    (judged_fewer terms (λ s. true) set run.history (λ s member. refl) 1 run.streams reports run.judged) closed memory
 
-pub serial_isolated : OrderedIsGroup → SerialIsolated
-serial_isolated law f terms told reports fits count streams are_told ordered set closed memory =
-    law f terms (λ s. true) set streams reports fits (told_count told streams are_told ∙ count) (λ s member. refl) ordered closed memory
+-- where one stream's report doesn't tell that memory ran out, none of it alone does
+alone_fine : (s : ℕ) (reports : List Report) (report : Report) → IsOfStream reports s report → ¬ IsOfMemory report
+    → NoneOutOfMemory (one s) reports
+alone_fine s reports report says memory t other member there =
+    let here = subst (λ n. IsOfStream reports n other) (only s t member) there in
+    subst (λ (r : Report). ¬ IsOfMemory r) (same_at reports s report other says here) memory
 
-pub threads_run : ThreadsRun
-threads_run f terms h passes told reports count one stands = record {
-  streams = stands.streams;
-  are_told = stands.are_told;
-  count = told_count told stands.streams stands.are_told ∙ count;
-  history = h;
-  legal = one.legal;
-  judged = stands.judged;
+pub run_isolated : ClosedIsGroup → AloneHasOneReport → RunIsolated
+run_isolated law alone f terms told reports fits = record {
+  groups = closed_group law f terms told reports fits;
+  alone = λ run s stream report at says closed memory whole end reads other is.
+      alone f terms s whole end is.streams run.streams is.reports reports is.stream stream other report is.alone
+      (closed_group law f terms told reports fits run (one s) closed (alone_fine s reports report says memory)) is.at at is.reads reads
+      is.says says;
 }
-
-pub serial_run : SerialRun
-serial_run f terms told reports count stands =
-    let o = stands.judged in
-    record {
-      streams = stands.streams;
-      are_told = stands.are_told;
-      count = told_count told stands.streams stands.are_told ∙ count;
-      history = _;
-      legal = o.legal;
-      judged = ordered_judged terms (λ s. true) (λ s. true) o.blocks 1 stands.streams reports o.within o.judged;
-    }
 
 -- Two runs
 
@@ -132,14 +123,11 @@ run_alone : ClosedIsGroup → (f : Cnf) (terms : TermsValue) (s : ℕ) (told : L
     → IsOfStream a.streams s stream → IsOfStream reports s report → CiteWithin terms.layout (one s) stream.bytes → ¬ IsOfMemory report
     → IsGroup f terms (one s) a.streams reports
 run_alone law f terms s told reports stream report fits a at says cites memory =
-    law f terms (one s) a.history a.streams reports fits a.count a.legal
-    (judged_fewer terms (λ t. true) (one s) a.history (λ t member. refl) 1 a.streams reports a.judged)
+    closed_group law f terms told reports fits a (one s)
     (λ t other member there.
     let here = subst (λ n. IsOfStream a.streams n other) (only s t member) there in
     subst (λ (x : Stream). CiteWithin terms.layout (one s) x.bytes) (same_at a.streams s stream other at here) cites)
-    (λ t other member there.
-    let here = subst (λ n. IsOfStream reports n other) (only s t member) there in
-    subst (λ (r : Report). ¬ IsOfMemory r) (same_at reports s report other says here) memory)
+    (alone_fine s reports report says memory)
 
 reading_within : BeginningsWithin → (p : LayoutValue) (set : ℕ → Bool) (its : Option StreamEnd) (bytes whole : List ℕ) (end : StreamEnd)
     → ReadsTo its bytes whole end → CiteWithin p set whole → CiteWithin p set bytes

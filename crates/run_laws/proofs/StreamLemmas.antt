@@ -22,10 +22,13 @@ use Rattle.stream_check.specs.Laws.{cited_by, FetchesOnly, CitedFetched, Reduced
 use Rattle.runs.specs.Streams.{Stream, JudgesStream, Block, blocks_of, IsBlockWithin, AreJudged, TermsValue, setting_of}
 use Rattle.runs.specs.Headline.{AreJudgedIn}
 use Rattle.runs.specs.Closed.{IsOfStream, IsOwnedWithin, CiteWithin}
-use Rattle.runs.specs.StreamLemmas.{IsJudgedBy, some_end, told_count}
+use Rattle.runs.specs.Each.{Each}
+use Rattle.runs.specs.EachLemmas.{each_at, each_count, each_more, each_within}
+use Rattle.runs.specs.StreamLemmas.{IsJudgedBy, some_end}
 use Rattle.run_laws.specs.Lines.{IsOrder}
 use Rattle.run_laws.specs.OrderLaws.{JudgedBlocks, LinesOrdered, ClosedOrdered, AllClosed, AllOrdered, RunSerializable}
 use Rattle.run_laws.proofs.OrderLemmas.{streams_in, streams_are, are_streams, own_each}
+use Rattle.run_laws.proofs.Places.{has_place}
 
 -- One stream's blocks
 
@@ -48,20 +51,13 @@ module _ (terms : TermsValue) (set : ℕ → Bool) (h : History) where
 
   -- so for each stream, counted on from s
   abbrev AreJudgedWith : (ℕ → List History) → ℕ → List Stream → List Report → Type 0
-  AreJudgedWith blocks s [] [] = Unit {0}
-  AreJudgedWith blocks s (stream ∷ streams) (report ∷ reports) =
-      IsJudgedWith s stream report (blocks s) × AreJudgedWith blocks (s + 1) streams reports
-  AreJudgedWith blocks s _ _ = ⊥
+  AreJudgedWith blocks s streams reports = Each (λ t stream report. IsJudgedWith t stream report (blocks t)) s streams reports
 
   judged_alike : (blocks others : ℕ → List History) (s : ℕ) (streams : List Stream) (reports : List Report)
       → ((t : ℕ) → s ≤ t → blocks t ≡ others t) → AreJudgedWith blocks s streams reports → AreJudgedWith others s streams reports
-  judged_alike blocks others s [] [] same judged = tt
-  judged_alike blocks others s [] (report ∷ reports) same judged = absurd judged
-  judged_alike blocks others s (stream ∷ streams) [] same judged = absurd judged
-  judged_alike blocks others s (stream ∷ streams) (report ∷ reports) same judged = (
-    subst (IsJudgedWith s stream report) (same s (omega arith)) judged.0,
-    judged_alike blocks others (s + 1) streams reports (λ t above. same t (omega (arith, above))) judged.1,
-  )
+  judged_alike blocks others s streams reports same judged =
+      each_within (s + length streams) s streams reports (omega arith) judged
+      (λ t stream report from to j. subst (IsJudgedWith t stream report) (same t from) j)
 
   gathered : (s : ℕ) (streams : List Stream) (reports : List Report) → AreJudgedIn terms set h s streams reports
       → (blocks : ℕ → List History) × AreJudgedWith blocks s streams reports
@@ -88,50 +84,26 @@ module _ (terms : TermsValue) (set : ℕ → Bool) (h : History) where
     own_events : own h s ≡ joined (blocks s)
     judges : JudgesStream (setting_of terms s) stream (blocks s) report
 
-  judged_from : (blocks : ℕ → List History) (s : ℕ) (streams : List Stream) (reports : List Report)
-      → AreJudgedWith blocks s streams reports
-      → (k : ℕ) → k < length streams → IsTrue (set (s + k)) → IsJudgedAt blocks streams k (s + k)
-  judged_from blocks s [] [] judged k below member = absurd (omega (arith, below))
-  judged_from blocks s [] (report ∷ reports) judged k below member = absurd judged
-  judged_from blocks s (stream ∷ streams) [] judged k below member = absurd judged
-  judged_from blocks s (stream ∷ streams) (report ∷ reports) judged zero below member =
-      let here : s + 0 ≡ s = omega arith in
-      let mine : (own h s ≡ joined (blocks s)) × JudgesStream (setting_of terms s) stream (blocks s) report
-      = judged.0 (subst (λ (t : ℕ). IsTrue (set t)) here member) in
-      subst (IsJudgedAt blocks (stream ∷ streams) zero) (sym here)
-      (record { stream = stream; report = report; at = refl; own_events = mine.0; judges = mine.1 })
-  judged_from blocks s (stream ∷ streams) (report ∷ reports) judged (suc k) below member =
-      let next : s + 1 + k ≡ s + suc k = omega arith in
-      let later : IsJudgedAt blocks streams k (s + 1 + k)
-      = judged_from blocks (s + 1) streams reports judged.1 k (omega (arith, below))
-      (subst (λ (t : ℕ). IsTrue (set t)) (sym next) member) in
-      subst (IsJudgedAt blocks (stream ∷ streams) (suc k)) next
-      (record { stream = later.stream; report = later.report; at = later.at; own_events = later.own_events; judges = later.judges })
-
   judged_at : (blocks : ℕ → List History) (streams : List Stream) (reports : List Report) → AreJudgedWith blocks 1 streams reports
       → (s : ℕ) → 0 < s → s ≤ length streams → IsTrue (set s) → IsJudgedAt blocks streams (s - 1) s
   judged_at blocks streams reports judged s first last member =
-      let here : 1 + (s - 1) ≡ s = omega (arith, first) in
-      subst (λ (t : ℕ). IsJudgedAt blocks streams (s - 1) t) here
-      (judged_from blocks 1 streams reports judged (s - 1) (omega (arith, first, last))
-      (subst (λ (t : ℕ). IsTrue (set t)) (sym here) member))
+      let stream = has_place streams s first last in
+      let many : length reports ≡ length streams = each_count _ 1 streams reports judged in
+      let report = has_place reports s first (omega (arith, last, many)) in
+      let mine = each_at _ streams reports judged s stream.0 report.0 stream.1 report.1 member in
+      record { stream = stream.0; report = report.0; at = stream.1.1; own_events = mine.0; judges = mine.1 }
 
   -- in an order of these lines, reduced, each stream is judged the same
   are_judged : ReducedStream → (blocks : ℕ → List History) (order : List Block) (s : ℕ) (streams : List Stream) (reports : List Report)
       → ((t : ℕ) → IsStream terms.layout t → IsTrue (set t) → blocks_of t order ≡ map reduced (blocks t))
       → 0 < s → s + length streams ≤ terms.layout.streams + 1
       → AreJudgedWith blocks s streams reports → AreJudged terms set (λ t events. events ≡ blocks_of t order) s streams reports
-  are_judged law blocks order s [] [] lines first last judged = tt
-  are_judged law blocks order s [] (report ∷ reports) lines first last judged = absurd judged
-  are_judged law blocks order s (stream ∷ streams) [] lines first last judged = absurd judged
-  are_judged law blocks order s (stream ∷ streams) (report ∷ reports) lines first last judged = (
-    λ member. (
-      map reduced (blocks s),
-      sym (lines s (first, omega (arith, last)) member),
-      reduced_judged law (setting_of terms s) stream (blocks s) report (judged.0 member).1,
-    ),
-    are_judged law blocks order (s + 1) streams reports lines (omega arith) (omega (arith, last)) judged.1,
-  )
+  are_judged law blocks order s streams reports lines first last judged =
+      each_within terms.layout.streams s streams reports last judged (λ t stream report from to j member. (
+        map reduced (blocks t),
+        sym (lines t (omega (arith, first, from), to) member),
+        reduced_judged law (setting_of terms t) stream (blocks t) report (j member).1,
+      ))
 
 -- Each stream of a set, and its own events
 
@@ -281,16 +253,11 @@ all_closed every_cut p streams s stream member at =
 -- streams that are all judged so are judged so where they are of a set
 judged_members : (terms : TermsValue) (set : ℕ → Bool) (h : History) (s : ℕ) (streams : List Stream) (reports : List Report)
     → AreJudgedIn terms (λ t. true) h s streams reports → AreJudgedIn terms set h s streams reports
-judged_members terms set h s [] [] judged = tt
-judged_members terms set h s [] (report ∷ reports) judged = absurd judged
-judged_members terms set h s (stream ∷ streams) [] judged = absurd judged
-judged_members terms set h s (stream ∷ streams) (report ∷ reports) judged =
-    ((λ member. judged.0 refl), judged_members terms set h (s + 1) streams reports judged.1)
+judged_members terms set h s streams reports judged = each_more s streams reports judged (λ t stream report j member. j refl)
 
 pub run_serializable : ClosedOrdered → AllOrdered → RunSerializable
-run_serializable closed_ordered all_ordered f terms h passes told reports fits count one streams are_told judged =
-    let many = told_count told streams are_told ∙ count in (
-      (λ set closed stays. closed_ordered f terms set h streams reports fits many one.legal
-          (judged_members terms set h 1 streams reports judged) closed stays),
-      (λ stays. all_ordered f terms h streams reports fits many one.legal judged stays),
-    )
+run_serializable closed_ordered all_ordered f terms told reports fits run = (
+  (λ set closed stays. closed_ordered f terms set run.history run.streams reports fits run.count run.legal
+      (judged_members terms set run.history 1 run.streams reports run.judged) closed stays),
+  (λ stays. all_ordered f terms run.history run.streams reports fits run.count run.legal run.judged stays),
+)

@@ -12,6 +12,7 @@ use Rattle.stream_check.specs.Judging.{joined}
 use Rattle.stream_check.specs.Laws.{BlocksGoAlike, DecidedBeforeFailure, LegalNeverFork, OneReport, OverStays}
 use Rattle.runs.specs.Closed.{IsOfStream}
 use Rattle.runs.specs.Streams.{Stream, JudgesStream, blocks_of, AreJudged, TermsValue, setting_of}
+use Rattle.runs.specs.EachLemmas.{each_at, each_count}
 use Rattle.runs.specs.StreamLemmas.{told_count}
 use Rattle.runs.specs.Turns.{IsOrderedByTurns}
 use Rattle.run_laws.specs.TurnsLaws.{BytesDecide, TurnsDecide}
@@ -43,42 +44,12 @@ same_for_each {X} xs ys count same = same_at_each xs ys count (λ k x y at there
 
 -- Streams judged by their own blocks of an order
 
-module _ (terms : TermsValue) (own : ℕ → List History) where
-  abbrev AreOwn : ℕ → List Stream → List Report → Type 0
-  AreOwn s streams reports = AreJudged terms (λ t. true) (λ t blocks. blocks ≡ own t) s streams reports
-
-  own_count : (s : ℕ) (streams : List Stream) (reports : List Report) → AreOwn s streams reports → length reports ≡ length streams
-  own_count s [] [] judged = refl
-  own_count s [] (r ∷ rs) judged = absurd judged
-  own_count s (t ∷ ts) [] judged = absurd judged
-  own_count s (t ∷ ts) (r ∷ rs) judged = ap suc (own_count (s + 1) ts rs judged.1)
-
-  own_from : (s k : ℕ) (streams : List Stream) (reports : List Report) (stream : Stream) (report : Report) → AreOwn s streams reports
-      → slice_get streams k ≡ Some stream → slice_get reports k ≡ Some report
-      → JudgesStream (setting_of terms (s + k)) stream (own (s + k)) report
-  own_from s k [] [] stream report judged at says = absurd (cc)
-  own_from s k [] (r ∷ rs) stream report judged at says = absurd judged
-  own_from s k (t ∷ ts) [] stream report judged at says = absurd judged
-  own_from s zero (t ∷ ts) (r ∷ rs) stream report judged at says =
-      let same_stream : t ≡ stream = cc in
-      let same_report : r ≡ report = cc in
-      let here : s ≡ s + 0 = omega arith in
-      let j = judged.0 refl in
-      subst (λ n. JudgesStream (setting_of terms n) stream (own n) report) here
-      (subst (λ x. JudgesStream (setting_of terms s) x (own s) report) same_stream
-      (subst (λ x. JudgesStream (setting_of terms s) t (own s) x) same_report
-      (subst (λ (bs : List History). JudgesStream (setting_of terms s) t bs r) j.1 j.2)))
-  own_from s (suc k) (t ∷ ts) (r ∷ rs) stream report judged at says =
-      let next : s + 1 + k ≡ s + suc k = omega arith in
-      subst (λ n. JudgesStream (setting_of terms n) stream (own n) report) next (own_from (s + 1) k ts rs stream report judged.1 at says)
-
-  pub own_at : (s : ℕ) (streams : List Stream) (reports : List Report) (stream : Stream) (report : Report) → AreOwn 1 streams reports
-      → IsOfStream streams s stream → IsOfStream reports s report → JudgesStream (setting_of terms s) stream (own s) report
-  own_at s streams reports stream report judged at says =
-      let first = at.0 in
-      let place : 1 + (s - 1) ≡ s = omega (arith, first) in
-      subst (λ n. JudgesStream (setting_of terms n) stream (own n) report) place
-      (own_from 1 (s - 1) streams reports stream report judged at.1 says.1)
+pub own_at : (terms : TermsValue) (own : ℕ → List History) (s : ℕ) (streams : List Stream) (reports : List Report) (stream : Stream)
+    (report : Report) → AreJudged terms (λ t. true) (λ t blocks. blocks ≡ own t) 1 streams reports
+    → IsOfStream streams s stream → IsOfStream reports s report → JudgesStream (setting_of terms s) stream (own s) report
+own_at terms own s streams reports stream report judged at says =
+    let j = each_at _ streams reports judged s stream report at says refl in
+    subst (λ (bs : List History). JudgesStream (setting_of terms s) stream bs report) j.1 j.2
 
 -- Two runs
 
@@ -92,10 +63,10 @@ module _ (alike : BlocksGoAlike) (forks : LegalNeverFork) (one : OneReport) (f :
     → (j : JudgedTwice (setting_of terms s) (blocks_of s a.order.blocks) (blocks_of s b.order.blocks)) × (j.report ≡ report)
     × (j.other ≡ other_report)) where
   many : length reports ≡ length streams
-  many = own_count terms (λ t. blocks_of t a.order.blocks) 1 streams reports a.order.judged
+  many = each_count _ 1 streams reports a.order.judged
 
   other_many : length other_reports ≡ length others
-  other_many = own_count terms (λ t. blocks_of t b.order.blocks) 1 others other_reports b.order.judged
+  other_many = each_count _ 1 others other_reports b.order.judged
 
   orders_same : a.order.blocks ≡ b.order.blocks
   orders_same = same_order alike forks f terms a.order.blocks b.order.blocks
@@ -149,13 +120,13 @@ turns_decide stays one forks alike f terms streams others reports other_reports 
     )
 
 pub bytes_decide : DecidedBeforeFailure → OneReport → LegalNeverFork → BlocksGoAlike → BytesDecide
-bytes_decide decided one forks alike f terms told other_told reports other_reports count other_count same x y fine good =
+bytes_decide decided one forks alike f terms told other_told reports other_reports same x y a b fine good =
     let streams = x.streams in
     let others = y.streams in
-    let a = x.judged in
-    let b = y.judged in
-    let many : length streams ≡ terms.layout.streams = told_count told streams x.are_told ∙ count in
-    let other_many : length others ≡ terms.layout.streams = told_count other_told others y.are_told ∙ other_count in
+    let many : length streams ≡ terms.layout.streams = x.count in
+    let other_many : length others ≡ terms.layout.streams = y.count in
+    let count : length told ≡ terms.layout.streams = sym (told_count told streams x.are_told) ∙ many in
+    let other_count : length other_told ≡ terms.layout.streams = sym (told_count other_told others y.are_told) ∙ other_many in
     reports_same alike forks one f terms streams others reports other_reports a b many other_many
     (λ s stream other report other_report at there says also.
     let first = at.0 in

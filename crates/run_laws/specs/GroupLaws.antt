@@ -5,15 +5,14 @@ use Rattle.lrup_model.specs.Formula.{Cnf}
 use Rattle.lrup_model.specs.Layout.{LayoutValue, Fits}
 use Rattle.lrup_model.specs.Event.{History}
 use Rattle.lrup_model.specs.History.{IsLegal}
-use Rattle.lrup_model.specs.Pass.{View}
 use Rattle.stream_check.specs.declared.report.Report.{Report}
 use Rattle.lrup_text.specs.declared.device.StreamEnd.{StreamEnd}
 use Rattle.lrup_text.specs.declared.device.StreamEnd.TheVariants as stream_ends
 use Rattle.stream_check.specs.Laws.{IsOfMemory, IsOfFailure}
 use Rattle.stream_check.specs.declared.report.Ending.TheVariants as endings
 use Rattle.stream_check.specs.Setting.{Setting}
-use Rattle.runs.specs.Streams.{Stream, Telling, TermsValue, IsTold, JudgesStream, StandsOnStreams, IsOrdered}
-use Rattle.runs.specs.Headline.{HaveOneHistory, AreJudgedIn}
+use Rattle.runs.specs.Streams.{Stream, Telling, TermsValue, IsTold, JudgesStream, IsOrdered}
+use Rattle.runs.specs.Headline.{AreJudgedIn}
 use Rattle.runs.specs.Closed.{IsOfStream, CiteWithin, IsClosed}
 use Rattle.run_laws.specs.Groups.{one, AreClosedReaders, NoneOutOfMemory, IsGroup, AreIsolated, empty_stream, empty_report, with_others, IsRun, IsReadingOf}
 
@@ -78,35 +77,10 @@ AloneHasOneReport = (f : Cnf) (terms : TermsValue) (s : ℕ) (whole : List ℕ) 
 
 -- Runs
 
--- the reports of a run with threads are isolated
+-- the reports of every run are isolated
 abbrev pub RunIsolated : Type 0
-RunIsolated = (f : Cnf) (terms : TermsValue) (h : History) (passes : List View)
-    (told : List Telling) (reports : List Report)
-    → Fits terms.layout f → length told ≡ terms.layout.streams
-    → HaveOneHistory f terms.layout h passes
-    → AreIsolated f terms told
-    (λ streams. AreJudgedIn terms (λ s. true) h 1 streams reports) reports
-
--- and so are those of a run on one thread
-abbrev pub SerialIsolated : Type 0
-SerialIsolated = (f : Cnf) (terms : TermsValue) (told : List Telling) (reports : List Report)
-    → Fits terms.layout f → length told ≡ terms.layout.streams
-    → AreIsolated f terms told
-    (λ streams. IsOrdered f terms (λ s. true) streams reports) reports
-
--- a run with threads, and one on one thread, is a run
-abbrev pub ThreadsRun : Type 0
-ThreadsRun = (f : Cnf) (terms : TermsValue) (h : History) (passes : List View) (told : List Telling)
-    (reports : List Report)
-    → length told ≡ terms.layout.streams → HaveOneHistory f terms.layout h passes
-    → StandsOnStreams told (λ streams. AreJudgedIn terms (λ s. true) h 1 streams reports)
-    → IsRun f terms told reports
-
-abbrev pub SerialRun : Type 0
-SerialRun = (f : Cnf) (terms : TermsValue) (told : List Telling) (reports : List Report)
-    → length told ≡ terms.layout.streams
-    → StandsOnStreams told (λ streams. IsOrdered f terms (λ s. true) streams reports)
-    → IsRun f terms told reports
+RunIsolated = (f : Cnf) (terms : TermsValue) (told : List Telling) (reports : List Report)
+    → Fits terms.layout f → AreIsolated f terms told reports
 
 -- of a stream that was stopped early the report tells of a bad line, or that memory ran out: no other ending is right for both ends
 abbrev pub EarlyIsDecided : Type 0

@@ -1,4 +1,4 @@
--- Groups of streams: what holds of their reports whatever the streams outside the group do (this project's own).
+-- What a run is, and its groups of streams: what holds of their reports whatever the streams outside the group do (this project's own).
 use Rattle.std.specs.Prelude.{◌≡◌, ◌+◌, ◌==◌, ◌++◌, ℕ, Bool, true, false, IsTrue, List, [], ◌∷◌, length, Some, MatchOption, if◌then◌else◌}
 use Rattle.std.specs.List.{AllByRecursion, AllZip}
 use Rattle.lrup_model.specs.Formula.{Cnf}
@@ -13,6 +13,24 @@ use Rattle.stream_check.specs.Laws.{IsOfMemory}
 use Rattle.runs.specs.Closed.{IsOfStream, CiteWithin, IsClosed}
 use Rattle.runs.specs.Streams.{Stream, Telling, TermsValue, IsTold}
 use Rattle.runs.specs.Headline.{AreJudgedIn}
+
+-- Runs
+
+-- A run, as far as its first streams go, so many: the readers told streams, and one legal history judges each by its own events, as
+-- its report says.
+pub record IsRunOfFirst (many : ℕ) (formula : Cnf) (terms : TermsValue) (told : List Telling)
+    (reports : List Report) : Type 0 where
+  pub streams : List Stream
+  pub are_told : AllZip IsTold told streams
+  pub count : length streams ≡ many
+  pub history : History
+  pub legal : IsLegal formula terms.layout history
+  pub judged : AreJudgedIn terms (λ s. true) history 1 streams reports
+
+-- What a run is: so it is with all streams of the layout.
+abbrev pub IsRun : Cnf → TermsValue → List Telling → List Report → Type 0
+IsRun formula terms told reports =
+    IsRunOfFirst terms.layout.streams formula terms told reports
 
 -- one stream, as a set
 abbrev pub one : ℕ → ℕ → Bool
@@ -51,15 +69,6 @@ pub record IsGroup (formula : Cnf) (terms : TermsValue) (set : ℕ → Bool) (st
   pub judged : AreJudgedIn terms set history 1 streams reports
   pub memory : NoneOutOfMemory set reports
 
--- The reports are isolated: for every list of streams that the readers told and by which they are judged, and for every
--- closed set of these streams none of whose reports tells that memory ran out, the set's reports are such as it may have alone.
-abbrev pub AreIsolated : Cnf → TermsValue → List Telling → (List Stream → Type 0) → List Report
-    → Type 0
-AreIsolated formula terms told Judged reports =
-    (streams : List Stream) → AllZip IsTold told streams → Judged streams
-    → (set : ℕ → Bool) → IsClosed terms.layout set streams → NoneOutOfMemory set reports
-    → IsGroup formula terms set streams reports
-
 -- a report that stream s may have alone, as a group of this one stream, where these are its bytes and its end
 pub record IsReportAlone (formula : Cnf) (terms : TermsValue) (s : ℕ) (whole : List ℕ)
     (end : StreamEnd) (report : Report) : Type 0 where
@@ -71,18 +80,19 @@ pub record IsReportAlone (formula : Cnf) (terms : TermsValue) (s : ℕ) (whole :
   pub reads : IsReadingOf whole end stream
   pub says : IsOfStream reports s report
 
--- Each stream that is a closed set by itself, and whose report doesn't tell that memory ran out, has no other report than it may
--- have alone: for every list of streams that the readers told and by which they are judged, and for all bytes and any end of
--- which the stream is a reading, every report that it may have alone with these bytes and this end is its report.
-abbrev pub HaveReportsAlone : Cnf → TermsValue → List Telling → (List Stream → Type 0) → List Report
-    → Type 0
-HaveReportsAlone formula terms told Judged reports =
-    (streams : List Stream) → AllZip IsTold told streams → Judged streams
-    → (s : ℕ) (stream : Stream) (report : Report)
-    → IsOfStream streams s stream → IsOfStream reports s report
-    → IsClosed terms.layout (one s) streams → ¬ IsOfMemory report
-    → (whole : List ℕ) (end : StreamEnd) → IsReadingOf whole end stream
-    → (other : Report) → IsReportAlone formula terms s whole end other → other ≡ report
+-- The reports are isolated. In every run that has them each closed set of streams, none of whose reports tells that memory ran out,
+-- has such reports as it may have alone. And a stream that is a closed set by itself, and whose report doesn't tell that memory ran
+-- out, has no other report than it may have alone, with all bytes and any end of which the stream is a reading.
+pub record AreIsolated (formula : Cnf) (terms : TermsValue) (told : List Telling)
+    (reports : List Report) : Type 0 where
+  pub groups : (run : IsRun formula terms told reports) (set : ℕ → Bool)
+      → IsClosed terms.layout set run.streams → NoneOutOfMemory set reports
+      → IsGroup formula terms set run.streams reports
+  pub alone : (run : IsRun formula terms told reports) (s : ℕ) (stream : Stream) (report : Report)
+      → IsOfStream run.streams s stream → IsOfStream reports s report
+      → IsClosed terms.layout (one s) run.streams → ¬ IsOfMemory report
+      → (whole : List ℕ) (end : StreamEnd) → IsReadingOf whole end stream
+      → (other : Report) → IsReportAlone formula terms s whole end other → other ≡ report
 
 -- A run in which the other streams are empty
 
@@ -104,16 +114,3 @@ empty_report = record {
 abbrev pub with_others : {X : Type 0} → (ℕ → Bool) → X → ℕ → List X → List X
 with_others set x s [] = []
 with_others set x s (y ∷ ys) = (if set s then y else x) ∷ with_others set x (s + 1) ys
-
--- Two runs
-
--- What a run promises of its reports, by its clauses `history` and `reports`, or on one thread by `ordered` and the law `SerialRun`: the
--- readers told streams, as many as the layout has, and one legal history judges each by its own events, as its report says.
-pub record IsRun (formula : Cnf) (terms : TermsValue) (told : List Telling)
-    (reports : List Report) : Type 0 where
-  pub streams : List Stream
-  pub are_told : AllZip IsTold told streams
-  pub count : length streams ≡ terms.layout.streams
-  pub history : History
-  pub legal : IsLegal formula terms.layout history
-  pub judged : AreJudgedIn terms (λ s. true) history 1 streams reports

@@ -7,7 +7,6 @@ use Rattle.lrup_model.specs.Event as events
 use Rattle.lrup_model.specs.Event.{Event, History, own}
 use Rattle.lrup_model.specs.State.{state}
 use Rattle.lrup_model.specs.History.{IsLegal}
-use Rattle.lrup_model.specs.Pass.{View}
 use Rattle.lrup_model.specs.Laws.{FindsWithin}
 use Rattle.lrup_text.specs.Lines.{StreamLine, Cut}
 use Rattle.lrup_text.specs.declared.device.StreamEnd.{StreamEnd}
@@ -16,7 +15,7 @@ use Rattle.stream_check.specs.Setting.{Setting}
 use Rattle.stream_check.specs.Standing.{deleted_by}
 use Rattle.stream_check.specs.Judging.{joined, JudgesBlocks}
 use Rattle.runs.specs.Streams.{Stream, Block, events_in, Telling, TermsValue, IsTold, IsOrdered}
-use Rattle.runs.specs.Headline.{HaveOneHistory, AreJudgedIn}
+use Rattle.runs.specs.Headline.{AreJudgedIn}
 use Rattle.runs.specs.Closed.{IsClosed}
 use Rattle.run_laws.specs.Lines.{IsLineBlock, IsOrder}
 use Rattle.run_laws.specs.Premises.{FindsKept, FoundStays, FindsUnretired, OwnersAloneMeetRetired, Cites, SomeLineDeletes, KeepShared, ReadersKeepShared}
@@ -118,10 +117,7 @@ ReadersShare = (p : LayoutValue) (set : ℕ → Bool) (told : List Telling) (str
 
 -- Runs
 
--- The lines of a run with threads are serializable.
+-- The lines of every run are serializable.
 abbrev pub RunSerializable : Type 0
-RunSerializable = (f : Cnf) (terms : TermsValue) (h : History) (passes : List View)
-    (told : List Telling) (reports : List Report)
-    → Fits terms.layout f → length told ≡ terms.layout.streams
-    → HaveOneHistory f terms.layout h passes
-    → IsSerializable f terms told h reports
+RunSerializable = (f : Cnf) (terms : TermsValue) (told : List Telling) (reports : List Report)
+    → Fits terms.layout f → IsSerializable f terms told reports

@@ -10,6 +10,7 @@ use Rattle.lrup_model.specs.HistoryLemmas.{own-all, own-mine, own-none, own-othe
 use Rattle.lrup_model.specs.RunningLemmas.{own-append}
 use Rattle.stream_check.specs.declared.report.Report.{Report}
 use Rattle.stream_check.specs.Judging.{joined}
+use Rattle.runs.specs.EachLemmas.{each_more}
 use Rattle.runs.specs.Headline.{AreJudgedIn}
 use Rattle.runs.specs.StreamLemmas.{blocks-other, blocks-same}
 use Rattle.runs.specs.Streams.{AreJudged, Block, IsBlockWithin, Stream, TermsValue, blocks_of, events_in}
@@ -45,10 +46,6 @@ pub ordered_judged : (terms : TermsValue) (all set : ℕ → Bool) (bs : List Bl
     → AllByRecursion (IsBlockWithin terms.layout all) bs
     → AreJudged terms set (λ t events. events ≡ blocks_of t bs) s streams reports
     → AreJudgedIn terms set (events_in bs) s streams reports
-ordered_judged terms all set bs s [] [] within judged = tt
-ordered_judged terms all set bs s [] (r ∷ rs) within judged = absurd judged
-ordered_judged terms all set bs s (t ∷ ts) [] within judged = absurd judged
-ordered_judged terms all set bs s (t ∷ ts) (r ∷ rs) within judged = (
-  λ member. let j = judged.0 member in (j.0, own-blocks terms.layout all s bs within ∙ ap joined (sym j.1), j.2),
-  ordered_judged terms all set bs (s + 1) ts rs within judged.1,
-)
+ordered_judged terms all set bs s streams reports within judged =
+    each_more s streams reports judged (λ t stream report j member.
+    let by = j member in (by.0, own-blocks terms.layout all t bs within ∙ ap joined (sym by.1), by.2))

@@ -1,14 +1,14 @@
 -- What it means that the lines of a run are serializable (this project's own).
 use Rattle.std.specs.Prelude.{◌≡◌, ◌==◌, ℕ, Bool, true, List, length}
-use Rattle.std.specs.List.{list_any, AllZip}
+use Rattle.std.specs.List.{list_any}
 use Rattle.lrup_model.specs.Cube.{CubeValue}
 use Rattle.lrup_model.specs.Formula.{Cnf}
 use Rattle.lrup_model.specs.Event.{History, published}
 use Rattle.stream_check.specs.declared.report.Report.{Report}
 use Rattle.stream_check.specs.Standing.{is_within}
-use Rattle.runs.specs.Streams.{Stream, Telling, TermsValue, IsTold, IsOrdered, events_in}
-use Rattle.runs.specs.Headline.{AreJudgedIn}
+use Rattle.runs.specs.Streams.{Telling, TermsValue, IsOrdered, events_in}
 use Rattle.runs.specs.Closed.{IsClosed}
+use Rattle.run_laws.specs.Groups.{IsRun}
 use Rattle.run_laws.specs.Premises.{FoundStays}
 
 -- These events come to the verdict of the reports: the empty clause is published exactly if a report says that its stream added
@@ -20,15 +20,15 @@ pub record ComeToVerdict (cube : CubeValue) (history : History)
   pub within : list_any (λ report. report.within) reports
       ≡ list_any (λ entry. is_within cube entry.1) (published history)
 
--- The lines of a run, which has this one history, are serializable: for every list of streams that the readers told and by which
--- the reports are judged, and for every closed set of these streams, of which none found an identity of another stream live that
--- the history leaves retired, the set's lines have one order in which a checker of one thread gives the same reports; and where
--- this holds of all streams together, they have one that comes to the verdict of the reports besides.
-abbrev pub IsSerializable : Cnf → TermsValue → List Telling → History → List Report → Type 0
-IsSerializable formula terms told history reports = (streams : List Stream)
-    → AllZip IsTold told streams → AreJudgedIn terms (λ s. true) history 1 streams reports
-    → ((set : ℕ → Bool) → IsClosed terms.layout set streams
-    → FoundStays formula terms.layout set history → IsOrdered formula terms set streams reports)
-    × (FoundStays formula terms.layout (λ s. true) history
-    → (order : IsOrdered formula terms (λ s. true) streams reports)
+-- The lines are serializable: in every run that has these reports, and for every closed set of its streams, of which none found an
+-- identity of another stream live that the run's history leaves retired, the set's lines have one order in which a checker of one
+-- thread gives the same reports; and where this holds of all streams together, they have one that comes to the verdict of the
+-- reports besides.
+abbrev pub IsSerializable : Cnf → TermsValue → List Telling → List Report → Type 0
+IsSerializable formula terms told reports = (run : IsRun formula terms told reports)
+    → ((set : ℕ → Bool) → IsClosed terms.layout set run.streams
+    → FoundStays formula terms.layout set run.history
+    → IsOrdered formula terms set run.streams reports)
+    × (FoundStays formula terms.layout (λ s. true) run.history
+    → (order : IsOrdered formula terms (λ s. true) run.streams reports)
     × ComeToVerdict terms.cube (events_in order.blocks) reports)

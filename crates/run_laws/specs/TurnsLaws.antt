@@ -8,9 +8,9 @@ use Rattle.lrup_text.specs.declared.device.StreamEnd.{StreamEnd}
 use Rattle.stream_check.specs.declared.report.Report.{Report}
 use Rattle.stream_check.specs.Laws.{IsOfMemory, IsOfFailure}
 use Rattle.runs.specs.Closed.{IsOfStream}
-use Rattle.runs.specs.Streams.{Stream, Telling, TermsValue, StandsOnStreams}
+use Rattle.runs.specs.Streams.{Stream, Telling, TermsValue}
 use Rattle.runs.specs.Turns.{IsByTurns, IsOrderedByTurns}
-use Rattle.run_laws.specs.Groups.{IsReadingOf, NoneOutOfMemory}
+use Rattle.run_laws.specs.Groups.{IsReadingOf, IsRun, NoneOutOfMemory}
 use Rattle.run_laws.specs.Right.{right_report}
 use Rattle.run_laws.specs.Together.{Step, IsRightOrder, lines_by}
 
@@ -49,10 +49,9 @@ NoneCutShort reports = (s : ℕ) (report : Report) → IsOfStream reports s repo
 abbrev pub BytesDecide : Type 0
 BytesDecide = (f : Cnf) (terms : TermsValue) (told other_told : List Telling)
     (reports other_reports : List Report)
-    → length told ≡ terms.layout.streams → length other_told ≡ terms.layout.streams
     → HaveSameBytes told other_told
-    → StandsOnStreams told (λ streams. IsOrderedByTurns f terms streams reports)
-    → StandsOnStreams other_told (λ streams. IsOrderedByTurns f terms streams other_reports)
+    → (a : IsRun f terms told reports) (b : IsRun f terms other_told other_reports)
+    → IsOrderedByTurns f terms a.streams reports → IsOrderedByTurns f terms b.streams other_reports
     → NoneCutShort reports → NoneCutShort other_reports
     → reports ≡ other_reports
 
@@ -66,9 +65,9 @@ HaveJustTexts steps told = (s : ℕ) (telling : Telling) → IsOfStream told s t
 abbrev pub RightByTurns : Type 0
 RightByTurns = (f : Cnf) (terms : TermsValue) (steps : List Step) (told : List Telling)
     (reports : List Report) (s : ℕ) (report : Report)
-    → IsCnf f → Fits terms.layout f → length told ≡ terms.layout.streams
+    → IsCnf f → Fits terms.layout f
     → IsRightOrder f terms.layout steps → IsByTurns (map (λ step. step.stream) steps)
     → HaveJustTexts steps told
-    → StandsOnStreams told (λ streams. IsOrderedByTurns f terms streams reports)
+    → (run : IsRun f terms told reports) → IsOrderedByTurns f terms run.streams reports
     → NoneCutShort reports
     → IsOfStream reports s report → report ≡ right_report terms s (lines_by s steps)

@@ -1,5 +1,5 @@
 //! Laws of groups. Each function does nothing; its contract is the law, which holds of every formula, layout, set and run.
-ghost use Rattle.run_laws.specs.GroupLaws.{BeginningsWithin, ReadersClosed, ClosedIsGroup, OrderedIsGroup, OrderedRestricts, OthersEmpty, AloneHasOneReport, RunIsolated, SerialIsolated, ThreadsRun, SerialRun, EarlyIsDecided, ToldIsReading, FailedIsReading, SameReadingAgrees, SameBytesAgree};
+ghost use Rattle.run_laws.specs.GroupLaws.{BeginningsWithin, ReadersClosed, ClosedIsGroup, OrderedIsGroup, OrderedRestricts, OthersEmpty, AloneHasOneReport, RunIsolated, EarlyIsDecided, ToldIsReading, FailedIsReading, SameReadingAgrees, SameBytesAgree};
 
 use lrup_text::laws::{a_beginning_is_cut_alike, every_stream_is_cut};
 use stream_check::laws::{
@@ -58,29 +58,13 @@ pub fn alone_has_one_report()
     alone_decides();
 }
 
-/// The reports of a run with threads are isolated.
+/// The reports of every run are isolated.
 pub fn run_isolated()
     ensures { RunIsolated }
 {
     closed_is_group();
+    alone_has_one_report();
 }
-
-/// The reports of a run on one thread are isolated.
-pub fn serial_isolated()
-    ensures { SerialIsolated }
-{
-    ordered_is_group();
-}
-
-/// What a run with threads promises of its reports.
-pub fn threads_run()
-    ensures { ThreadsRun }
-{}
-
-/// What a run on one thread promises of its reports.
-pub fn serial_run()
-    ensures { SerialRun }
-{}
 
 /// A stream that was stopped early has a bad line, or memory ran out there.
 pub fn early_is_decided()

@@ -93,7 +93,7 @@ pub fn readers_share()
     beginnings_cite();
 }
 
-/// The lines of a run with threads are serializable.
+/// The lines of every run are serializable.
 pub fn run_serializable()
     ensures { RunSerializable }
 {

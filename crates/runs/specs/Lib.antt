@@ -1,4 +1,6 @@
 pub mod Closed
+pub mod Each
+pub mod EachLemmas
 pub mod Headline
 pub mod Readings
 pub mod Streams

@@ -1,8 +1,13 @@
 -- Which reads gave a run's streams (this project's own).
 use Rattle.std.specs.Prelude.{◌++◌, List, [], ◌∷◌, MatchOption}
-use Rattle.lrup_text.specs.ReadOut.{ReadOut, SourceView}
+use Rattle.lrup_text.specs.declared.device.Source as Source
+use Rattle.lrup_text.specs.ReadOut.{ReadOut, SourceView, source_view}
 use Rattle.lrup_text.specs.Reads.{Gave, ReadsOf}
 use Rattle.runs.specs.Streams.{Stream, IsTold, telling_of}
+
+-- what is known of readers, as their type says it
+abbrev pub readers_view : {R : Type 0} → Source.Ghosts R → SourceView R
+readers_view its = source_view its.left its.has_failed its.reads
 
 -- The stream is what reads of a reader gave, from the first on: its bytes are all that they gave up to the first end or to the read
 -- that failed; or, of one without an end, all that they gave but for `unneeded`.

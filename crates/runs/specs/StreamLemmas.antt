@@ -12,6 +12,7 @@ use Rattle.stream_check.specs.declared.report.Report.{Report}
 use Rattle.stream_check.specs.Setting.{Setting}
 use Rattle.stream_check.specs.Judging.{joined, JudgesBlocks}
 use Rattle.runs.specs.Closed.{IsOfStream}
+use Rattle.runs.specs.EachLemmas.{each_count, zip_count}
 use Rattle.runs.specs.Headline.{AreJudgedIn}
 use Rattle.runs.specs.Readings.{AreRead}
 use Rattle.runs.specs.Streams.{TermsValue, Stream, Telling, telling_of, tellings, IsTold, JudgesStream, Block, blocks_of}
@@ -23,9 +24,7 @@ same_at xs s x y a b = let e : Some x ≡ Some y = sym a.1 ∙ b.1 in cc
 
 pub told_count : (told : List Telling) (streams : List Stream) → AllZip IsTold told streams
     → length streams ≡ length told
-told_count [] [] are_told = refl
-told_count (t ∷ ts) (s ∷ ss) are_told = ap suc (told_count ts ss are_told.1)
-told_count _ _ are_told = absurd are_told
+told_count told streams are_told = zip_count IsTold told streams are_told
 
 -- of readers whose reads gave streams, each tells something
 pub told_as_many : {S : Type 0} (view : SourceView S) (firsts lasts : List S)
@@ -117,7 +116,4 @@ blocks-other block blocks s other = cond-false (eqb block.stream s) (block.event
 pub judged_count : (terms : TermsValue) (set : ℕ → Bool) (h : History) (s : ℕ)
     (streams : List Stream) (reports : List Report) → AreJudgedIn terms set h s streams reports
     → length reports ≡ length streams
-judged_count terms set h s [] [] judged = refl
-judged_count terms set h s [] (r ∷ rs) judged = absurd judged
-judged_count terms set h s (t ∷ ts) [] judged = absurd judged
-judged_count terms set h s (t ∷ ts) (r ∷ rs) judged = ap suc (judged_count terms set h (s + 1) ts rs judged.1)
+judged_count terms set h s streams reports judged = each_count _ s streams reports judged

@@ -1,7 +1,7 @@
 -- What a run's streams told, and in which order of lines their reports hold (this project's own).
-use Rattle.std.specs.Prelude.{◌≡◌, ◌+◌, ◌++◌, ◌==◌, ℕ, Bool, false, IsTrue, List, [], ◌∷◌, Option, IsSome, IfSome, MatchOption, if◌then◌else◌}
+use Rattle.std.specs.Prelude.{◌≡◌, ◌++◌, ◌==◌, ℕ, Bool, false, IsTrue, List, [], ◌∷◌, Option, IsSome, IfSome, MatchOption, if◌then◌else◌}
 use Rattle.std.specs.Io.KnownBytes.{Consumes}
-use Rattle.std.specs.List.{AllByRecursion, AllZip, flat_map}
+use Rattle.std.specs.List.{AllByRecursion, flat_map}
 use Rattle.lrup_model.specs.Formula.{Cnf}
 use Rattle.lrup_model.specs.Cube.{CubeValue}
 use Rattle.lrup_model.specs.Layout.{LayoutValue, IsStream}
@@ -12,6 +12,7 @@ use Rattle.lrup_text.specs.declared.device.StreamEnd.{StreamEnd}
 use Rattle.stream_check.specs.declared.report.Report.{Report}
 use Rattle.stream_check.specs.Setting.{Setting}
 use Rattle.stream_check.specs.Judging.{JudgesBlocks}
+use Rattle.runs.specs.Each.{Each}
 
 -- The bytes by which a stream is judged; those that were read after them, by which it isn't; and how the stream ended: at its end or
 -- at the read that failed, or nothing where the judgement needs no end, as of one that was stopped early.
@@ -57,12 +58,6 @@ JudgesStream setting stream blocks report =
     (end : StreamEnd) → IfSome stream.end (λ known. known ≡ end)
     → JudgesBlocks setting stream.bytes end blocks report
 
--- What the reports of a run stand on: streams, each of which is what its reader told, and of which the judgement holds.
-pub record StandsOnStreams (told : List Telling) (Judged : List Stream → Type 0) : Type 0 where
-  pub streams : List Stream
-  pub are_told : AllZip IsTold told streams
-  pub judged : Judged streams
-
 -- An order of lines
 
 -- all events of one line, and the stream, from 1 on, whose line it is
@@ -101,12 +96,9 @@ setting_of terms s =
 -- as many reports as streams.
 abbrev pub AreJudged : TermsValue → (ℕ → Bool) → (ℕ → List History → Type 0) → ℕ → List Stream
     → List Report → Type 0
-AreJudged terms set AreOwn s [] [] = Unit {0}
-AreJudged terms set AreOwn s (stream ∷ streams) (report ∷ reports) =
-    (IsTrue (set s) → (blocks : List History) × AreOwn s blocks
-    × JudgesStream (setting_of terms s) stream blocks report)
-    × AreJudged terms set AreOwn (s + 1) streams reports
-AreJudged terms set AreOwn s _ _ = ⊥
+AreJudged terms set AreOwn s streams reports =
+    Each (λ t stream report. IsTrue (set t) → (blocks : List History) × AreOwn t blocks
+    × JudgesStream (setting_of terms t) stream blocks report) s streams reports
 
 -- The reports of a set of streams have an order of lines: a legal history of whole lines of these streams, each stream's in
 -- its order, by which each stream is judged so.

@@ -2,9 +2,8 @@
 ghost use Rattle.std.specs.Prelude.{◌≡◌, ◌++◌, ℕ, List, [], false, IfOk, IsSome};
 ghost use Rattle.lrup_model.specs.Event.{History};
 ghost use Rattle.lrup_model.specs.Layout.{IsStream};
-ghost use Rattle.lrup_text.specs.ReadOut.{source_view};
 ghost use Rattle.rtrb.specs.Ring.{sent, received, IsPair};
-ghost use Rattle.runs.specs.Readings.{IsStreamOf};
+ghost use Rattle.runs.specs.Readings.{IsStreamOf, readers_view};
 ghost use Rattle.runs.specs.Streams.{Stream, JudgesStream};
 ghost use Rattle.stream_check.specs.declared.report.Report.{Report};
 ghost use Rattle.stream_check.specs.Checker.{IsNew, checker_state};
@@ -59,18 +58,18 @@ pub fn meet<R: Source + Drop>(sent: &mut Sent<R>, checked: &mut Checked)
         × (Rattle.rtrb.specs.Ring.sent sent.old.producer
         ≡ received checked.old.consumer ++ left) }
     ensures read { (first : R)
-        → SendsAll _ (source_view R.left R.has_failed R.reads) first sent.old.reader
+        → SendsAll _ (readers_view R.Source) first sent.old.reader
         (Rattle.rtrb.specs.Ring.sent sent.old.producer)
         → (stream : Stream) × IsSome stream.end
-        × IsStreamOf (source_view R.left R.has_failed R.reads) first sent.old.reader stream }
+        × IsStreamOf (readers_view R.Source) first sent.old.reader stream }
     ensures judged { (first : R) (v : CheckerValue) (room : ℕ)
         (blocks : List History) (ids : List ℕ) (report : Report)
-        → SendsAll _ (source_view R.left R.has_failed R.reads) first sent.old.reader
+        → SendsAll _ (readers_view R.Source) first sent.old.reader
         (Rattle.rtrb.specs.Ring.sent sent.old.producer)
         → JudgesAtMark v room (received checked.old.consumer) blocks ids report
         → Leaves v.setting [] [] (checker_state v room)
         → (stream : Stream) × IsSome stream.end
-        × IsStreamOf (source_view R.left R.has_failed R.reads) first sent.old.reader stream
+        × IsStreamOf (readers_view R.Source) first sent.old.reader stream
         × JudgesStream v.setting stream blocks report
         × DropsBy v room stream.bytes blocks ids report }
 {

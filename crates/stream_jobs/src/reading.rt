@@ -1,8 +1,8 @@
 //! The job of the thread that reads a stream.
 ghost use Rattle.std.specs.Prelude.{◌≡◌, ◌<◌, [], false, vec_len, IfOk, IfErr};
-ghost use Rattle.lrup_text.specs.ReadOut.{source_view};
 ghost use Rattle.rtrb.specs.Ring.{sent, SameProducer};
 ghost use Rattle.stream_ring.specs.Items.{SendsAll};
+ghost use Rattle.runs.specs.Readings.{readers_view};
 
 use crate::start::wait_for_start;
 use lrup_text::{PIECE, Source};
@@ -65,7 +65,7 @@ pub fn read_when_told<'a, W: Wait, R: Source + Drop>(
 ) -> Result<Sent<R>, OnceToken<'a, bool>>
     ensures leaves { IfErr result (λ token. (token.of ≡ signal.now.id) × (token.value ≡ false)) }
     ensures ring { IfOk result (λ sent. SameProducer job.sender.producer sent.producer) }
-    ensures sent { IfOk result (λ s. SendsAll _ (source_view R.left R.has_failed R.reads)
+    ensures sent { IfOk result (λ s. SendsAll _ (readers_view R.Source)
         job.reader s.reader (sent s.producer)) }
 {
     let token = wait_for_start(wait, signal);

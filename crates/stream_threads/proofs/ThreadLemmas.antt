@@ -20,6 +20,7 @@ use Rattle.stream_threads.specs.Jobs.{AllEnd, AllFinish, AreJobs, FoundValue, Is
 use Rattle.stream_threads.specs.Jobs.{StartedValue, started_with}
 use Rattle.stream_threads.specs.declared.jobs.ThreadFault.{ThreadFault}
 use Rattle.stream_threads.specs.declared.jobs.ThreadFault.TheVariants.{Spawn, Ring}
+use Rattle.runs.specs.EachLemmas.{zip_count}
 use Rattle.runs.specs.Streams.{TermsValue}
 
 -- what was judged at a desk was judged at its pass
@@ -76,10 +77,7 @@ finish_if_ok view found_in jobs ends (Err fault) all is = tt
 
 ends_count : {S : Type 0} (view : SourceView S) (jobs : List (JobsValue S)) (ends : List (Option (FoundValue S))) → AllEnd view jobs ends
     → length ends ≡ length jobs
-ends_count view [] [] all = refl
-ends_count view [] (e ∷ ends) all = absurd all
-ends_count view (j ∷ jobs) [] all = absurd all
-ends_count view (j ∷ jobs) (e ∷ ends) all = omega (arith, ends_count view jobs ends all.1)
+ends_count view jobs ends all = zip_count (IsEndOf view) jobs ends all
 
 -- what was found of each stream before the first of which nothing was
 abbrev EndsAtRing : {S : Type 0} → List (Option (FoundValue S)) → ThreadFault S → Type 0

@@ -1,5 +1,6 @@
 -- The two jobs of a stream, and what comes of them (this project's own).
-use Rattle.std.specs.Prelude.{◌≡◌, ◌+◌, ◌++◌, ℕ, List, [], ◌∷◌, Option, Some, None, IsSome}
+use Rattle.std.specs.Prelude.{◌≡◌, ◌++◌, ℕ, List, [], Option, Some, None, IsSome}
+use Rattle.std.specs.List.{AllZip}
 use Rattle.lrup_model.specs.Event.{History}
 use Rattle.lrup_model.specs.Pass.{PassMoves, pass_place}
 use Rattle.clause_store.specs.Passes.{StoreValue, PassValue, store_of}
@@ -10,6 +11,7 @@ use Rattle.stream_check.specs.DroppedValue.{DroppedValue}
 use Rattle.stream_check.specs.Judging.{joined}
 use Rattle.stream_check.specs.Leaving.{Leaves}
 use Rattle.lrup_text.specs.ReadOut.{SourceView}
+use Rattle.runs.specs.Each.{EachOfThree}
 use Rattle.runs.specs.Readings.{IsStreamOf}
 use Rattle.runs.specs.Streams.{Stream, JudgesStream, TermsValue}
 use Rattle.stream_jobs.specs.Judged.{DropsBy, JudgesAtMark}
@@ -40,10 +42,7 @@ pub record IsJob {S : Type 0} (terms : TermsValue) (s : ℕ) (reader : S) (at : 
 -- those of the streams counted on from s
 abbrev pub AreJobs : {S : Type 0} → TermsValue → ℕ → List S → List PassValue → List (JobsValue S)
     → Type 0
-AreJobs terms s [] [] [] = Unit {0}
-AreJobs terms s (reader ∷ readers) (pass ∷ passes) (jobs ∷ all) =
-    IsJob terms s reader pass jobs × AreJobs terms (s + 1) readers passes all
-AreJobs terms s _ _ _ = ⊥
+AreJobs terms s readers passes all = EachOfThree (IsJob terms) s readers passes all
 
 -- what they give back: the report, the reader, the pass, and the identities that the stream dropped
 pub record FoundValue (S : Type 0) : Type 0 where
@@ -83,9 +82,7 @@ pub record Finishes {S : Type 0} (view : SourceView S) (jobs : JobsValue S)
 -- what was found of each stream, in order
 abbrev pub AllFinish : {S : Type 0} → SourceView S → List (JobsValue S) → List (FoundValue S)
     → Type 0
-AllFinish view [] [] = Unit {0}
-AllFinish view (jobs ∷ all) (found ∷ more) = Finishes view jobs found × AllFinish view all more
-AllFinish view _ _ = ⊥
+AllFinish view all found = AllZip (Finishes view) all found
 
 -- The reader was read to its end or to the read that failed, all that it told was sent, and then the mark; but what was received
 -- is a beginning of that which ends at no mark.
@@ -109,6 +106,4 @@ IsEndOf view jobs None = MissesMark view jobs.reader
 -- what came of each stream, in order
 abbrev pub AllEnd : {S : Type 0} → SourceView S → List (JobsValue S) → List (Option (FoundValue S))
     → Type 0
-AllEnd view [] [] = Unit {0}
-AllEnd view (jobs ∷ all) (end ∷ more) = IsEndOf view jobs end × AllEnd view all more
-AllEnd view _ _ = ⊥
+AllEnd view all ends = AllZip (IsEndOf view) all ends

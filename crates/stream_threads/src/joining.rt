@@ -1,9 +1,9 @@
 //! The threads' joins, and what was found of each stream.
 ghost use Rattle.std.specs.Prelude.{◌≡◌, ◌+◌, ◌++◌, ◌↔◌, ◌<◌, ◌≤◌, true, false, List, Option, [], ◌∷◌, None, Some, IfErr, IfNone, IfOk, IfSome, IsNone, OnOk, length, map, vec_capacity, vec_len};
 ghost use Rattle.std.specs.List.{AllByRecursion};
-ghost use Rattle.lrup_text.specs.ReadOut.{source_view};
 ghost use Rattle.rtrb.specs.Ring.{received, IsPair};
 ghost use Rattle.stream_ring.specs.Items.{EndsBeforeMark, SendsAll};
+ghost use Rattle.runs.specs.Readings.{readers_view};
 ghost use Rattle.stream_threads.specs.Faults.{IsFaultWithin, IsFirstFault, IsRingBehind};
 ghost use Rattle.stream_threads.specs.Jobs.{AllEnd, AllFinish, CanBegin, Finishes, FoundValue, IsEndOf, JobsValue, JudgesAtPass, MissesMark};
 
@@ -109,12 +109,12 @@ fn meet_ends<R: Source + Drop>(mut sent: Sent<R>, checked: CheckedPass) -> Optio
     requires pair { IsPair sent.producer checked.checked.consumer }
     ensures none { IsNone result ↔ IsNone checked.checked.report }
     ensures end { (jobs : JobsValue R)
-        → SendsAll _ (source_view R.left R.has_failed R.reads) jobs.reader
+        → SendsAll _ (readers_view R.Source) jobs.reader
         sent.reader (Rattle.rtrb.specs.Ring.sent sent.producer)
         → IfSome checked.checked.report (JudgesAtPass jobs.checker jobs.pass checked.pass
         (received checked.checked.consumer) checked.checked.dropped.ids)
         → IfNone checked.checked.report (EndsBeforeMark (received checked.checked.consumer))
-        → IsEndOf (source_view R.left R.has_failed R.reads) jobs result }
+        → IsEndOf (readers_view R.Source) jobs result }
 {
     let CheckedPass { mut checked, pass } = checked;
     meet(&mut sent, &mut checked);
@@ -132,7 +132,7 @@ impl<'a, R: Source + Drop, G: Gate + Drop> Started<'a, R, G> {
     fn join<T: Threads>(self, threads: &T, told: &OnceToken<'a, bool>) -> Option<StreamResult<R>>
         requires signal { self.signal ≡ told.now.of }
         requires told { told.now.value ≡ true }
-        ensures { IsEndOf (source_view R.left R.has_failed R.reads) self.entry.jobs result }
+        ensures { IsEndOf (readers_view R.Source) self.entry.jobs result }
     {
         let Started { reading, checking } = self;
         let sent = unless_told_to_leave(reading.join(threads), told);
@@ -152,7 +152,7 @@ fn join_all<'a, T: Threads, R: Source + Drop, G: Gate + Drop>(
     requires signal { AllByRecursion (λ started. started.signal ≡ told.now.of) all.items }
     requires none { ends.items ≡ [] }
     requires room { vec_len all ≤ vec_capacity ends }
-    ensures ends { AllEnd (source_view R.left R.has_failed R.reads)
+    ensures ends { AllEnd (readers_view R.Source)
         (map (λ started. started.jobs) all.entry.items) result.items }
     ensures count { vec_len result ≡ vec_len all.entry }
 {
@@ -202,10 +202,10 @@ fn start_and_join<
     requires begin { AllByRecursion (CanBegin store.now) all.items }
     requires room { vec_len all ≤ room }
     ensures found { IfOk result (λ found.
-        AllFinish (source_view R.left R.has_failed R.reads) all.items found.items) }
+        AllFinish (readers_view R.Source) all.items found.items) }
     ensures fault { IfErr result (IsFaultWithin (vec_len all)) }
     ensures first { IfErr result
-        (IsFirstFault (source_view R.left R.has_failed R.reads) all.items) }
+        (IsFirstFault (readers_view R.Source) all.items) }
 {
     let Room {
         signal,
@@ -263,10 +263,10 @@ pub fn check_all<T: Threads + Wait + Sync, R: Source + Send + Drop, G: Gate + Se
     requires begin { AllByRecursion (CanBegin store.now) all.items }
     requires room { vec_len all ≤ room }
     ensures found { IfOk result (λ found.
-        AllFinish (source_view R.left R.has_failed R.reads) all.items found.items) }
+        AllFinish (readers_view R.Source) all.items found.items) }
     ensures fault { IfErr result (IsFaultWithin (vec_len all)) }
     ensures first { IfErr result
-        (IsFirstFault (source_view R.left R.has_failed R.reads) all.items) }
+        (IsFirstFault (readers_view R.Source) all.items) }
 {
     thread::scope(
         thread::scope_env(),
@@ -275,10 +275,10 @@ pub fn check_all<T: Threads + Wait + Sync, R: Source + Send + Drop, G: Gate + Se
             requires begin { AllByRecursion (CanBegin store.now) all.items }
             requires room { vec_len all ≤ room }
             ensures found { IfOk result (λ found.
-                AllFinish (source_view R.left R.has_failed R.reads) all.items found.items) }
+                AllFinish (readers_view R.Source) all.items found.items) }
             ensures fault { IfErr result (IsFaultWithin (vec_len all)) }
             ensures first { IfErr result
-                (IsFirstFault (source_view R.left R.has_failed R.reads) all.items) }
+                (IsFirstFault (readers_view R.Source) all.items) }
         { start_and_join(scope, threads, store, all, room) },
     )
 }

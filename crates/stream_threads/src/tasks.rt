@@ -2,10 +2,10 @@
 ghost use Rattle.std.specs.Prelude.{◌≡◌, true, false, Ok, IfErr, IfNone, IfOk, IfSome, MatchResult};
 ghost use Rattle.clause_store.specs.Passes.{store_of};
 ghost use Rattle.lrup_model.specs.Pass.{pass_place};
-ghost use Rattle.lrup_text.specs.ReadOut.{source_view};
 ghost use Rattle.rtrb.specs.Ring.{received, SameConsumer, SameProducer};
 ghost use Rattle.stream_check.specs.Checker.{IsReadyAt};
 ghost use Rattle.stream_ring.specs.Items.{EndsBeforeMark, SendsAll};
+ghost use Rattle.runs.specs.Readings.{readers_view};
 ghost use Rattle.stream_threads.specs.Jobs.{JudgesAtPass};
 
 use clause_store::{Desk, Pass, Store};
@@ -33,7 +33,7 @@ pub(crate) struct ReadTask<R: Source + Drop> {
 impl<'a, R: Source + Drop> Promise<Result<Sent<R>, OnceToken<'a, bool>>> for ReadTask<R> {
     ghost kept_by = { λ task end. MatchResult end (λ sent.
         SameProducer task.job.value.sender.producer sent.producer
-        × SendsAll _ (source_view R.left R.has_failed R.reads) task.job.value.reader sent.reader
+        × SendsAll _ (readers_view R.Source) task.job.value.reader sent.reader
         (Rattle.rtrb.specs.Ring.sent sent.producer))
         (λ token. (token.of ≡ task.signal.value.id) × (token.value ≡ false)) };
 }

@@ -4,7 +4,8 @@ use Rattle.std.proofs.lemmas.List.{length-take-le}
 use Rattle.lrup_text.specs.ReadLemmas.{gave_more}
 use Rattle.lrup_text.specs.ReadOut.{SourceView}
 use Rattle.lrup_text.specs.Reads.{Gave}
-use Rattle.command.specs.Commands.{HasBrokenOff, IsFailedRead, readers_view}
+use Rattle.command.specs.Commands.{HasBrokenOff, IsFailedRead}
+use Rattle.runs.specs.Readings.{readers_view}
 use Rattle.command.specs.declared.fault.CommandFault.{CommandFault}
 use Rattle.command.specs.declared.fault.CommandFault.TheVariants as faults
 use Rattle.command.proofs.CheckingLemmas.{err_given}

@@ -1,5 +1,6 @@
 use Rattle.std.proofs.Common.{◌≡◌, ◌+◌, ◌∙◌, None, Some, inl, inr, length, subst}
-use Rattle.command.specs.Commands.{Text, deeds, readers_view}
+use Rattle.command.specs.Commands.{Text, deeds}
+use Rattle.runs.specs.Readings.{readers_view}
 use Rattle.command.specs.Paths.{formula_path}
 use Rattle.command.specs.Rounds.{CarriesCheckpoint, HaveEnded, terms_by}
 use Rattle.command.specs.Running.{StandsBehind}

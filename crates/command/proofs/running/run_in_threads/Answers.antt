@@ -1,22 +1,45 @@
-use Rattle.std.proofs.Common.{length}
+use Rattle.std.proofs.Common.{false, length, refl, subst, sym}
+use Rattle.clause_store.specs.Passes.{views}
+use Rattle.lrup_model.specs.Event.{History}
+use Rattle.lrup_model.specs.Layout.{LayoutValue}
+use Rattle.runs.specs.Headline.{HaveOneHistory, seen_by}
 use Rattle.command.specs.Commands.{terms_on}
-use Rattle.command.proofs.CheckingLemmas.{has_layout}
+use Rattle.command.specs.Running.{IsRunCause}
+use Rattle.command.proofs.CheckingLemmas.{err_given, has_layout, run_cause}
 use Rattle.command.proofs.running.run_in_threads.Goals as goal
 
 pub returns-clause-checked : goal.returns-clause-checked
 returns-clause-checked g c =
     let p = (terms_on c.args.setup.now (length c.args.readers.items)).layout in
-    let reports = c.in_ok-outcome.ensures.reports in
+    let found = c.in_ok-outcome.ensures in
     record {
       layout = has_layout p c.run.result c.in_ok-outcome.outcome c.in_ok-outcome.was c.run.ensures.layout;
       lasts = c.in_ok-outcome.outcome.readers.items;
-      reported = record {
-        streams = reports.streams;
-        are_told = reports.are_told;
-        judged = (reports.judged.0, (_, c.in_ok-outcome.ensures.history.legal, reports.judged.1));
-      };
-      read = reports.judged.2;
-      is_verdict = c.in_ok-outcome.ensures.verdict;
-      sound = c.in_ok-outcome.ensures.sound;
-      sound_under = c.in_ok-outcome.ensures.sound_under;
+      dropped = c.in_ok-outcome.outcome.dropped.items;
+      ran = found.reports.0;
+      is_verdict = found.verdict;
+      sound = found.sound;
+      sound_under = found.sound_under;
     }
+
+pub returns-clause-stands : goal.returns-clause-stands
+returns-clause-stands g c =
+    let outcome = c.in_ok-outcome.outcome in
+    let found = c.in_ok-outcome.ensures in
+    let f = c.args.setup.now.formula.now in
+    let passes = views outcome.passes.items in
+    record {
+      lasts = outcome.readers.items;
+      ran = found.reports.0;
+      layout = found.store.1;
+      has = subst (λ (h : History). HaveOneHistory f outcome.store.layout h passes) (sym found.reports.1)
+          (subst (λ (p : LayoutValue). HaveOneHistory f p (seen_by passes) passes) (sym found.store.1) found.history);
+    }
+
+pub returns-in_err-outcome-clause-cause : goal.returns-in_err-outcome-clause-cause
+returns-in_err-outcome-clause-cause g c =
+    let p = (terms_on c.args.setup.now (length c.args.readers.items)).layout in
+    err_given c.from_residual-in_err-outcome.result _ _ (λ fault same. subst (IsRunCause false p) (sym same)
+    (run_cause false p c.run.result c.in_err-outcome.field-0.0 c.in_err-outcome.was c.run.ensures.layout
+    (λ stream e. (refl, c.run.ensures.spawn stream e)) (λ stream e. (refl, (c.run.ensures.ring stream e).is_stream))))
+    c.from_residual-in_err-outcome.ensures.1

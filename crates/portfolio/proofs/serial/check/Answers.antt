@@ -1,6 +1,6 @@
 use Rattle.std.proofs.Common.{◌∙◌, List, length, map, drop, sym, ap, subst}
 use Rattle.lrup_model.specs.Plain.{Plain}
-use Rattle.lrup_text.specs.ReadOut.{source_view}
+use Rattle.runs.specs.Readings.{readers_view}
 use Rattle.portfolio.specs.Turns.{AreOver, GoesOn, HaveReports, IsRunning}
 use Rattle.portfolio.specs.Working.{WorkerValue}
 use Rattle.portfolio.proofs.TurnsLemmas.{written_back}
@@ -8,7 +8,7 @@ use Rattle.portfolio.proofs.serial.check.Goals as goal
 
 pub take_turns-requires : goal.take_turns-requires
 take_turns-requires g c =
-    let view = source_view g.R.Source.left g.R.Source.has_failed g.R.Source.reads in
+    let view = readers_view g.R.Source in
     record { running = subst (IsRunning view 0 c.args.map) (sym c.deref_mut.ensures.value) c.requires.running }
 
 pub outcome_of-requires-clause-over : goal.outcome_of-requires-clause-over
@@ -20,7 +20,7 @@ outcome_of-requires-clause-over g c =
 
 pub returns-clause-ran : goal.returns-clause-ran
 returns-clause-ran g c =
-    let view = source_view g.R.Source.left g.R.Source.has_failed g.R.Source.reads in
+    let view = readers_view g.R.Source in
     let started = c.args.workers in
     let worked = c.take_turns.new.workers in
     let back = written_back started.len worked (drop (length worked) started.items) (c.take_turns.auto.workers ∙ c.deref_mut.ensures.len) in

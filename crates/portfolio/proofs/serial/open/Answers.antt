@@ -1,6 +1,6 @@
 use Rattle.std.proofs.Common.{◌∙◌, replicate, sym, ap}
 use Rattle.lrup_model.specs.Layout.{LayoutValue}
-use Rattle.lrup_text.specs.ReadOut.{source_view}
+use Rattle.runs.specs.Readings.{readers_view}
 use Rattle.portfolio.proofs.TurnsLemmas.{IsOpened, runs_opened}
 use Rattle.portfolio.proofs.serial.open.Goals as goal
 
@@ -8,7 +8,7 @@ pub returns : goal.returns
 returns g c =
     let f = c.args.formula.now in
     let terms = c.args.terms.now in
-    let view = source_view g.R.Source.left g.R.Source.has_failed g.R.Source.reads in
+    let view = readers_view g.R.Source in
     let opened : IsOpened f terms.layout c.in_ok-map.map = record {
       fits = c.requires.fits;
       layout = c.in_ok-map.ensures.layout ∙ c.layout.ensures;

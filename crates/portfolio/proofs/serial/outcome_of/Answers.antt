@@ -3,7 +3,7 @@ use Rattle.std.specs.Vec.Iter.{into_iter_items}
 use Rattle.lrup_model.specs.ListLemmas.{whole_end}
 use Rattle.stream_check.specs.DroppedValue.{DroppedValue}
 use Rattle.stream_check.specs.declared.report.Report.{Report}
-use Rattle.lrup_text.specs.ReadOut.{source_view}
+use Rattle.runs.specs.Readings.{readers_view}
 use Rattle.portfolio.specs.Outcomes.{verdict_of}
 use Rattle.portfolio.specs.Turns.{AreOver, HaveReports}
 use Rattle.portfolio.specs.Working.{WorkerValue}
@@ -24,7 +24,7 @@ loop-worker-preserved g c =
       whole =
           whole_more now.yielded (into_iter_items now.worker-iterator) (into_iter_items c.next.new.self) _ w steps.0 now.invariant.whole;
       over = over.1;
-      reports = reports_pushed (source_view g.R.Source.left g.R.Source.has_failed g.R.Source.reads) now.yielded now.reports.items
+      reports = reports_pushed (readers_view g.R.Source) now.yielded now.reports.items
           c.push_reserved.new.self.items w parts.result.0 c.push_reserved.ensures.items now.invariant.reports over.0 parts.ensures.report;
       readers = pushed_more (λ (v : WorkerValue g.row.R.Denot). v.reader) now.readers.items c.push_reserved-in-loop-worker.new.self.items
           now.yielded parts.result.1 w

@@ -1,11 +1,11 @@
 use Rattle.std.proofs.Common.{◌≡◌, ◌+◌, ℕ, length, refl, subst, arith}
-use Rattle.lrup_text.specs.ReadOut.{source_view}
+use Rattle.runs.specs.Readings.{readers_view}
 use Rattle.portfolio.specs.Turns.{Runs}
 use Rattle.portfolio.proofs.TurnsLemmas.{goes_twice, over_each, over_more, runs_round, running_on}
 use Rattle.portfolio.proofs.serial.take_round.Goals as goal
 
 pub take_turn-going-requires-clause-running : goal.take_turn-going-requires-clause-running
-take_turn-going-requires-clause-running g c = running_on (source_view g.R.Source.left g.R.Source.has_failed g.R.Source.reads) 0 c.loop-i.i
+take_turn-going-requires-clause-running g c = running_on (readers_view g.R.Source) 0 c.loop-i.i
     c.args.map.now c.loop-i.map c.args.workers.now c.loop-i.workers c.requires.running c.loop-i.invariant.runs
 
 pub loop-i-init : goal.loop-i-init
@@ -19,15 +19,15 @@ loop-i-preserved g c =
     let now = c.loop-i in
     let turn = c.take_turn-going in
     record {
-      runs = goes_twice (source_view g.R.Source.left g.R.Source.has_failed g.R.Source.reads) 0 now.i (now.i + 1) c.args.map.now now.map
+      runs = goes_twice (readers_view g.R.Source) 0 now.i (now.i + 1) c.args.map.now now.map
           turn.new.map c.args.workers.now now.workers turn.new.workers now.invariant.runs turn.ensures.runs;
-      over = λ none. over_more (source_view g.R.Source.left g.R.Source.has_failed g.R.Source.reads) now.i now.going turn.result
+      over = λ none. over_more (readers_view g.R.Source) now.i now.going turn.result
           c.args.workers.now now.workers turn.new.workers none now.invariant.over turn.ensures.over;
     }
 
 pub returns-clause-runs : goal.returns-clause-runs
 returns-clause-runs g c f terms firsts runs =
-    let view = source_view g.R.Source.left g.R.Source.has_failed g.R.Source.reads in
+    let view = readers_view g.R.Source in
     let map = c.loop-i.map in
     let workers = c.loop-i.workers in
     let all : c.loop-i.i ≡ length workers = omega arith in
@@ -36,4 +36,4 @@ returns-clause-runs g c f terms firsts runs =
 
 pub returns-clause-over : goal.returns-clause-over
 returns-clause-over g c none = let over = c.loop-i.invariant.over none in
-    over_each (source_view g.R.Source.left g.R.Source.has_failed g.R.Source.reads) c.loop-i.workers (λ k below. over.1 k (omega arith))
+    over_each (readers_view g.R.Source) c.loop-i.workers (λ k below. over.1 k (omega arith))

@@ -1,11 +1,11 @@
 use Rattle.std.proofs.Common.{◌≡◌, false, true}
-use Rattle.lrup_text.specs.ReadOut.{source_view}
+use Rattle.runs.specs.Readings.{readers_view}
 use Rattle.portfolio.proofs.TurnsLemmas.{running_on}
 use Rattle.portfolio.proofs.serial.take_turns.Goals as goal
 
 pub take_round-requires : goal.take_round-requires
 take_round-requires g c = record {
-  running = running_on (source_view g.R.Source.left g.R.Source.has_failed g.R.Source.reads) 0 0 c.args.map.now c.loop.map c.args.workers.now
+  running = running_on (readers_view g.R.Source) 0 0 c.args.map.now c.loop.map c.args.workers.now
       c.loop.workers c.requires.running c.loop.invariant;
 }
 

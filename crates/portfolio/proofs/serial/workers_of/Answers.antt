@@ -3,7 +3,7 @@ use Rattle.std.specs.Iterator.Adapters.{zip_first}
 use Rattle.std.specs.List.{AllByRecursion}
 use Rattle.std.specs.Vec.Iter.{into_iter_items}
 use Rattle.lrup_model.specs.ListLemmas.{taken_next}
-use Rattle.lrup_text.specs.ReadOut.{source_view}
+use Rattle.runs.specs.Readings.{readers_view}
 use Rattle.portfolio.proofs.TurnsLemmas.{started_pushed}
 use Rattle.portfolio.proofs.serial.workers_of.Goals as goal
 
@@ -20,7 +20,7 @@ loop-reader-preserved g c =
     let pushed = c.push_reserved.ensures in
     record {
       running = running.1;
-      started = started_pushed (source_view g.R.Source.left g.R.Source.has_failed g.R.Source.reads) c.args.terms.now _
+      started = started_pushed (readers_view g.R.Source) c.args.terms.now _
           (λ x. x.0) now.yielded item now.workers.items c.push_reserved.new.self.items c.in_ok-new.field-0 pushed.items
           (omega (arith, now.workers.ok.0, c.len-in-loop-reader.ensures)) now.invariant.started c.in_ok-new.ensures;
       readers = taken_next (λ x. x.0) now.yielded item before rest reader _ steps.0.0 refl now.invariant.readers;

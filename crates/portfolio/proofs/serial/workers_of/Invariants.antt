@@ -2,7 +2,7 @@ use Rattle.std.proofs.Common.{◌≡◌, ◌+◌, ◌++◌, false, map, vec_len,
 use Rattle.std.specs.Iterator.Adapters.{zip_first, zip_second}
 use Rattle.std.specs.List.{AllByRecursion}
 use Rattle.std.specs.Vec.Iter.{into_iter_items, into_iter_len}
-use Rattle.lrup_text.specs.ReadOut.{source_view}
+use Rattle.runs.specs.Readings.{readers_view}
 use Rattle.portfolio.specs.Turns.{AreStarted}
 use Rattle.portfolio.proofs.serial.workers_of.Given as goal
 
@@ -11,7 +11,7 @@ invariant-loop-reader g l =
     let rest = zip_first l.reader-iterator in
     record {
       running : AllByRecursion (λ r. g.R.Source.has_failed r ≡ false) (into_iter_items rest);
-      started : AreStarted (source_view g.R.Source.left g.R.Source.has_failed g.R.Source.reads) l.terms 1
+      started : AreStarted (readers_view g.R.Source) l.terms 1
           (map (λ x. x.0) l.yielded) l.workers.items;
       readers : map (λ x. x.0) l.yielded ++ into_iter_items rest ≡ l.fn.readers.items;
       count : vec_len l.workers + into_iter_len rest ≡ vec_len l.fn.readers;

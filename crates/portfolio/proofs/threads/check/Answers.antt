@@ -1,37 +1,37 @@
 use Rattle.std.proofs.Common.{◌≡◌, ◌+◌, ◌-◌, ℕ, length, take, subst, ap, arith}
 use Rattle.std.specs.Prelude.{IsSomeAnd, slice_get}
-use Rattle.lrup_text.specs.ReadOut.{source_view}
 use Rattle.stream_threads.specs.Faults.{IsFaultWithin, IsFirstFault, fault_stream}
+use Rattle.runs.specs.Readings.{readers_view}
 use Rattle.portfolio.specs.Threads.{WasReadOut, WereGathered}
 use Rattle.portfolio.proofs.HeadlineLemmas.{begin_take, finish_of, finish_count, read_out_of}
 use Rattle.portfolio.proofs.threads.check.Goals as goal
 
 pub outcome_of-requires-clause-store : goal.outcome_of-requires-clause-store
 outcome_of-requires-clause-store g c =
-    finish_of (source_view g.R.Source.left g.R.Source.has_failed g.R.Source.reads) _ c.args.jobs.items c.in-Ok.found.items
+    finish_of (readers_view g.R.Source) _ c.args.jobs.items c.in-Ok.found.items
     c.requires.begin c.in-Ok.ensures.found
 
 pub outcome_of-requires-clause-reports : goal.outcome_of-requires-clause-reports
 outcome_of-requires-clause-reports g c =
-    let count = finish_count (source_view g.R.Source.left g.R.Source.has_failed g.R.Source.reads) c.args.jobs.items
+    let count = finish_count (readers_view g.R.Source) c.args.jobs.items
     c.in-Ok.found.items c.in-Ok.ensures.found in
     omega (arith, count, c.in-Ok.found.ok.0, c.args.jobs.ok.0, c.len.ensures, c.in_ok-room.ensures.reports.1)
 
 pub outcome_of-requires-clause-passes : goal.outcome_of-requires-clause-passes
 outcome_of-requires-clause-passes g c =
-    let count = finish_count (source_view g.R.Source.left g.R.Source.has_failed g.R.Source.reads) c.args.jobs.items
+    let count = finish_count (readers_view g.R.Source) c.args.jobs.items
     c.in-Ok.found.items c.in-Ok.ensures.found in
     omega (arith, count, c.in-Ok.found.ok.0, c.args.jobs.ok.0, c.len.ensures, c.in_ok-room.ensures.met.1)
 
 pub outcome_of-requires-clause-readers : goal.outcome_of-requires-clause-readers
 outcome_of-requires-clause-readers g c =
-    let count = finish_count (source_view g.R.Source.left g.R.Source.has_failed g.R.Source.reads) c.args.jobs.items
+    let count = finish_count (readers_view g.R.Source) c.args.jobs.items
     c.in-Ok.found.items c.in-Ok.ensures.found in
     omega (arith, count, c.in-Ok.found.ok.0, c.args.jobs.ok.0, c.len.ensures, c.in_ok-room.ensures.readers.1)
 
 pub outcome_of-requires-clause-dropped : goal.outcome_of-requires-clause-dropped
 outcome_of-requires-clause-dropped g c =
-    let count = finish_count (source_view g.R.Source.left g.R.Source.has_failed g.R.Source.reads) c.args.jobs.items
+    let count = finish_count (readers_view g.R.Source) c.args.jobs.items
     c.in-Ok.found.items c.in-Ok.ensures.found in
     omega (arith, count, c.in-Ok.found.ok.0, c.args.jobs.ok.0, c.len.ensures, c.in_ok-room.ensures.dropped.1)
 
@@ -60,7 +60,7 @@ returns-in-Err-Spawn-clause-spawn g c = λ stream e.
 -- of the streams before the one that a ring's fault names
 pub outcome_of-before-requires-clause-store : goal.outcome_of-before-requires-clause-store
 outcome_of-before-requires-clause-store g c =
-    let view = source_view g.R.Source.left g.R.Source.has_failed g.R.Source.reads in
+    let view = readers_view g.R.Source in
     let found = c.in-Err-Ring.found.items in
     let jobs = c.args.jobs.items in
     let before = subst (IsFirstFault view jobs) c.in-Err-Ring.field-0-is c.in-Err-Ring.ensures.first in
@@ -98,7 +98,7 @@ returns-in-Err-Ring-clause-ring g c = λ stream e.
 pub returns-in-Err-Ring-clause-first : goal.returns-in-Err-Ring-clause-first
 returns-in-Err-Ring-clause-first g c = λ stream e.
     let here : c.len-in-Err-Ring.result + 1 ≡ stream = cc in
-    let view = source_view g.R.Source.left g.R.Source.has_failed g.R.Source.reads in
+    let view = readers_view g.R.Source in
     let jobs = c.args.jobs.items in
     let found = c.in-Err-Ring.found.items in
     let before = subst (IsFirstFault view jobs) c.in-Err-Ring.field-0-is c.in-Err-Ring.ensures.first in
@@ -124,7 +124,7 @@ returns-in-Err-Ring-clause-first g c = λ stream e.
 pub returns-in-Err-Ring-clause-read_out : goal.returns-in-Err-Ring-clause-read_out
 returns-in-Err-Ring-clause-read_out g c = λ stream e.
     let here : c.len-in-Err-Ring.result + 1 ≡ stream = cc in
-    let view = source_view g.R.Source.left g.R.Source.has_failed g.R.Source.reads in
+    let view = readers_view g.R.Source in
     let jobs = c.args.jobs.items in
     let first = subst (IsFirstFault view jobs) c.in-Err-Ring.field-0-is c.in-Err-Ring.ensures.first in
     let count : length c.in-Err-Ring.found.items ≡ stream - 1 =

@@ -1,6 +1,6 @@
 use Rattle.std.proofs.Common.{◌∙◌, sym, ap, arith}
 use Rattle.lrup_model.specs.Layout.{LayoutValue}
-use Rattle.lrup_text.specs.ReadOut.{source_view}
+use Rattle.runs.specs.Readings.{readers_view}
 use Rattle.portfolio.proofs.HeadlineLemmas.{run_ready}
 use Rattle.portfolio.proofs.threads.open.Goals as goal
 
@@ -11,7 +11,7 @@ jobs_of-requires-clause-passes g c =
 
 pub returns : goal.returns
 returns g c =
-    let view = source_view g.R.Source.left g.R.Source.has_failed g.R.Source.reads in
+    let view = readers_view g.R.Source in
     let opened = c.in_ok-store in
     let jobs = c.in_ok-jobs.jobs in
     record {

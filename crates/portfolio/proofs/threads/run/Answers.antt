@@ -2,8 +2,7 @@ use Rattle.std.proofs.Common.{◌-◌, ◌∙◌, length, sym, subst, ap}
 use Rattle.std.proofs.lemmas.Result.{IfOk-weaker}
 use Rattle.clause_store.specs.Passes.{AreOf, StoreValue}
 use Rattle.lrup_model.specs.Layout.{Fits, IsLayout, LayoutValue}
-use Rattle.lrup_text.specs.ReadOut.{source_view}
-use Rattle.run_laws.specs.ReportLemmas.{reports_alone}
+use Rattle.runs.specs.Readings.{readers_view}
 use Rattle.runs.specs.Streams.{TermsValue}
 use Rattle.portfolio.specs.Outcomes.{terms_of}
 use Rattle.portfolio.specs.ResultLemmas.{if_both}
@@ -11,7 +10,7 @@ use Rattle.portfolio.specs.Threads.{IsBegun}
 use Rattle.portfolio.proofs.CubeLemmas.{sound_under_run}
 use Rattle.portfolio.proofs.HeadlineLemmas.{can_begin, no_fault, sound_run, stream_within}
 use Rattle.portfolio.proofs.HeadlineLemmas.{is_memory, none_of_layout, not_layout, terms_made}
-use Rattle.portfolio.proofs.HeadlineLemmas.{run_before, run_dropped, run_history, run_isolated, run_read_out, run_reports, run_serializable}
+use Rattle.portfolio.proofs.HeadlineLemmas.{run_before, run_history, run_read_out, run_reports}
 use Rattle.portfolio.proofs.threads.run.Given as given
 use Rattle.portfolio.proofs.threads.run.Goals as goal
 use Rattle.portfolio.proofs.threads.run.Goals.{In_ok-store}
@@ -43,7 +42,7 @@ open-requires-clause-streams g c =
 
 pub check-requires-clause-begin : goal.check-requires-clause-begin
 check-requires-clause-begin g c κs within =
-    can_begin (source_view g.R.Source.left g.R.Source.has_failed g.R.Source.reads)
+    can_begin (readers_view g.R.Source)
     (begun g (goal.at.check-requires-clause-begin g c).In_ok-store)
 
 pub returns-clause-layout : goal.returns-clause-layout
@@ -63,105 +62,62 @@ returns-in_err-store-clause-layout g c = λ fault. (
 pub returns-clause-spawn : goal.returns-clause-spawn
 returns-clause-spawn g c = λ stream e.
     let begun = begun g (goal.at.returns-clause-spawn g c).In_ok-store in
-    let view = source_view g.R.Source.left g.R.Source.has_failed g.R.Source.reads in
+    let view = readers_view g.R.Source in
     let wanted = terms_of c.args.options c.args.cube.now c.args.formula.now (length c.args.readers.items) in
     stream_within view {terms = wanted} begun stream (c.check.ensures.spawn stream e)
 
 pub returns-clause-ring : goal.returns-clause-ring
 returns-clause-ring g c = λ stream e.
     let begun = begun g (goal.at.returns-clause-ring g c).In_ok-store in
-    let view = source_view g.R.Source.left g.R.Source.has_failed g.R.Source.reads in
+    let view = readers_view g.R.Source in
     let wanted = terms_of c.args.options c.args.cube.now c.args.formula.now (length c.args.readers.items) in
-    stream_within view {terms = wanted} begun stream (c.check.ensures.ring stream e)
-
-pub returns-clause-first : goal.returns-clause-first
-returns-clause-first g c = λ stream e.
-    let begun = begun g (goal.at.returns-clause-first g c).In_ok-store in
-    let view = source_view g.R.Source.left g.R.Source.has_failed g.R.Source.reads in
-    let wanted = terms_of c.args.options c.args.cube.now c.args.formula.now (length c.args.readers.items) in
-    run_before view {terms = wanted} begun (stream - 1) (c.check.ensures.first stream e)
-
-pub returns-clause-read_out : goal.returns-clause-read_out
-returns-clause-read_out g c = λ stream e.
-    let view = source_view g.R.Source.left g.R.Source.has_failed g.R.Source.reads in
-    let wanted = terms_of c.args.options c.args.cube.now c.args.formula.now (length c.args.readers.items) in
-    let begun = begun g (goal.at.returns-clause-read_out g c).In_ok-store in
-    run_read_out view {terms = wanted} begun (stream - 1) (c.check.ensures.read_out stream e)
+    record {
+      is_stream = stream_within view {terms = wanted} begun stream (c.check.ensures.ring stream e);
+      before = run_before view {terms = wanted} begun (stream - 1) (c.check.ensures.first stream e);
+      read_out = run_read_out view {terms = wanted} begun (stream - 1) (c.check.ensures.read_out stream e);
+    }
 
 pub returns-clause-history : goal.returns-clause-history
 returns-clause-history g c =
     let begun = begun g (goal.at.returns-clause-history g c).In_ok-store in
-    let view = source_view g.R.Source.left g.R.Source.has_failed g.R.Source.reads in
     let wanted = terms_of c.args.options c.args.cube.now c.args.formula.now (length c.args.readers.items) in
-    IfOk-weaker c.check.result _ _ (λ outcome found. run_history view {terms = wanted} begun _ _ _ _ found)
+    IfOk-weaker c.check.result _ _ (λ outcome found. run_history (readers_view g.R.Source) {terms = wanted} begun _ _ _ _ found)
     c.check.ensures.found
 
 pub returns-clause-reports : goal.returns-clause-reports
 returns-clause-reports g c =
     let begun = begun g (goal.at.returns-clause-reports g c).In_ok-store in
-    let view = source_view g.R.Source.left g.R.Source.has_failed g.R.Source.reads in
     let wanted = terms_of c.args.options c.args.cube.now c.args.formula.now (length c.args.readers.items) in
-    IfOk-weaker c.check.result _ _
-    (λ outcome found. run_reports view {terms = wanted} begun _ _ _ _ found)
+    IfOk-weaker c.check.result _ _ (λ outcome found. run_reports (readers_view g.R.Source) {terms = wanted} begun _ _ _ _ found)
     c.check.ensures.found
 
+-- the premise of the laws is the layout of the formula and the readers
 pub returns-clause-isolated : goal.returns-clause-isolated
 returns-clause-isolated g c =
     let begun = begun g (goal.at.returns-clause-isolated g c).In_ok-store in
-    let view = source_view g.R.Source.left g.R.Source.has_failed g.R.Source.reads in
-    let wanted = terms_of c.args.options c.args.cube.now c.args.formula.now (length c.args.readers.items) in
-    IfOk-weaker c.check.result _ _
-    (λ outcome found. run_isolated view {terms = wanted} begun c.run_isolated.ensures _ _ _ _ found)
+    IfOk-weaker c.check.result _ _ (λ outcome found. c.run_isolated.ensures _ _ _ outcome.reports.items begun.fits)
     c.check.ensures.found
-
-pub returns-clause-alone : goal.returns-clause-alone
-returns-clause-alone g c =
-    IfOk-weaker c.check.result _ _ (λ outcome isolated. reports_alone c.alone_has_one_report.ensures _ _ _ _ _ isolated)
-    (returns-clause-isolated g c)
 
 pub returns-clause-serializable : goal.returns-clause-serializable
 returns-clause-serializable g c =
     let begun = begun g (goal.at.returns-clause-serializable g c).In_ok-store in
-    let view = source_view g.R.Source.left g.R.Source.has_failed g.R.Source.reads in
-    let wanted = terms_of c.args.options c.args.cube.now c.args.formula.now (length c.args.readers.items) in
-    IfOk-weaker c.check.result _ _
-    (λ outcome found. run_serializable view {terms = wanted} begun c.run_serializable.ensures _ _ _ _ found)
-    c.check.ensures.found
-
-pub returns-clause-dropped : goal.returns-clause-dropped
-returns-clause-dropped g c =
-    let begun = begun g (goal.at.returns-clause-dropped g c).In_ok-store in
-    let view = source_view g.R.Source.left g.R.Source.has_failed g.R.Source.reads in
-    let wanted = terms_of c.args.options c.args.cube.now c.args.formula.now (length c.args.readers.items) in
-    IfOk-weaker c.check.result _ _
-    (λ outcome found. outcome.dropped.ok.0 ∙ run_dropped view {terms = wanted} begun _ _ _ _ found)
+    IfOk-weaker c.check.result _ _ (λ outcome found. c.run_serializable.ensures _ _ _ outcome.reports.items begun.fits)
     c.check.ensures.found
 
 pub returns-clause-store : goal.returns-clause-store
 returns-clause-store g c =
-    if_both c.check.result c.check.ensures.of c.check.ensures.kept (λ outcome of kept.
-    subst (λ (store : StoreValue). AreOf store outcome.passes.items) (sym kept) of)
-
-pub returns-clause-kept : goal.returns-clause-kept
-returns-clause-kept g c =
-    let begun = begun g (goal.at.returns-clause-kept g c).In_ok-store in
-    IfOk-weaker c.check.result _ _
-    (λ outcome kept. ap (λ (store : StoreValue). store.layout) kept ∙ begun.store_is) c.check.ensures.kept
+    let begun = begun g (goal.at.returns-clause-store g c).In_ok-store in
+    if_both c.check.result c.check.ensures.of c.check.ensures.kept (λ outcome of kept. (
+      subst (λ (store : StoreValue). AreOf store outcome.passes.items) (sym kept) of,
+      ap (λ (store : StoreValue). store.layout) kept ∙ begun.store_is,
+    ))
 
 pub returns-clause-sound : goal.returns-clause-sound
 returns-clause-sound g c =
-    let view = source_view g.R.Source.left g.R.Source.has_failed g.R.Source.reads in
-    let wanted = terms_of c.args.options c.args.cube.now c.args.formula.now (length c.args.readers.items) in
-    let begun = begun g (goal.at.returns-clause-sound g c).In_ok-store in
-    if_both c.check.result c.check.ensures.found c.check.ensures.verdict (λ outcome found verdict.
-    let reports = run_reports view {terms = wanted} begun _ _ _ _ found in
-    sound_run _ wanted _ reports.streams _ _ (run_history view {terms = wanted} begun _ _ _ _ found).legal reports.judged.1 verdict)
+    if_both c.check.result (returns-clause-reports g c) c.check.ensures.verdict (λ outcome reports verdict.
+    sound_run _ _ _ _ outcome.verdict reports.0.run verdict)
 
 pub returns-clause-sound_under : goal.returns-clause-sound_under
 returns-clause-sound_under g c =
-    let view = source_view g.R.Source.left g.R.Source.has_failed g.R.Source.reads in
-    let wanted = terms_of c.args.options c.args.cube.now c.args.formula.now (length c.args.readers.items) in
-    let begun = begun g (goal.at.returns-clause-sound_under g c).In_ok-store in
-    if_both c.check.result c.check.ensures.found c.check.ensures.verdict (λ outcome found verdict.
-    let reports = run_reports view {terms = wanted} begun _ _ _ _ found in
-    sound_under_run _ wanted _ reports.streams _ _ (run_history view {terms = wanted} begun _ _ _ _ found).legal reports.judged.1 verdict)
+    if_both c.check.result (returns-clause-reports g c) c.check.ensures.verdict (λ outcome reports verdict.
+    sound_under_run _ _ _ _ outcome.verdict reports.0.run verdict)

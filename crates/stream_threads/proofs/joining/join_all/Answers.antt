@@ -2,7 +2,7 @@ use Rattle.std.proofs.Common.{◌≡◌, [], ◌∷◌, List, map, arith, refl, 
 use Rattle.std.specs.List.{AllByRecursion}
 use Rattle.std.proofs.lemmas.List.{map-append}
 use Rattle.std.specs.Vec.Iter.{into_iter_items}
-use Rattle.lrup_text.specs.ReadOut.{source_view}
+use Rattle.runs.specs.Readings.{readers_view}
 use Rattle.stream_threads.specs.Jobs.{AllEnd, JobsValue, StartedValue}
 use Rattle.stream_threads.proofs.ThreadLemmas.{all_end-more, moved_more}
 use Rattle.stream_threads.proofs.joining.join_all.Goals as goal
@@ -12,7 +12,7 @@ loop-started-preserved g c =
     let now = c.loop-started in
     let pushed = c.push_reserved.ensures in
     let steps = c.in-Some.ensures.steps in
-    let view = source_view g.R.Source.left g.R.Source.has_failed g.R.Source.reads in
+    let view = readers_view g.R.Source in
     let one = c.in-Some.started in
     let signal : AllByRecursion (λ (one : StartedValue g.row.R.Denot). one.signal ≡ c.args.told.now.of)
     (one ∷ into_iter_items c.next.new.self) =

@@ -1,7 +1,6 @@
 use Rattle.std.proofs.Common.{List, ℕ, ◌∙◌, sym, ap, subst}
 use Rattle.lrup_model.specs.Pass.{pass_place}
-use Rattle.lrup_text.specs.ReadOut.{source_view}
-use Rattle.runs.specs.Readings.{IsStreamOf}
+use Rattle.runs.specs.Readings.{IsStreamOf, readers_view}
 use Rattle.stream_check.specs.DroppedValue.{DroppedValue}
 use Rattle.stream_jobs.specs.Judged.{DropsBy}
 use Rattle.stream_threads.specs.Jobs.{IsEndOf, MissesMark}
@@ -20,7 +19,7 @@ returns-clause-end g c jobs sent judged no_mark =
           let dropped = ap (λ (d : DroppedValue). d.ids) (sym c.meet.ensures.dropped) in (
             met.0,
             met.1,
-            subst (λ r. IsStreamOf (source_view g.R.Source.left g.R.Source.has_failed g.R.Source.reads) jobs.reader r met.0) same met.2,
+            subst (λ r. IsStreamOf (readers_view g.R.Source) jobs.reader r met.0) same met.2,
             met.3,
             subst (λ (ids : List ℕ). DropsBy jobs.checker (pass_place jobs.pass.view).room met.0.bytes e.blocks ids c.in_ok-report.report)
                 dropped met.4,
@@ -30,7 +29,7 @@ returns-clause-end g c jobs sent judged no_mark =
 -- what was received is a beginning of what was sent, and ends at no mark
 pub returns-in_err-report-clause-end : goal.returns-in_err-report-clause-end
 returns-in_err-report-clause-end g c jobs sent judged no_mark =
-    let view = source_view g.R.Source.left g.R.Source.has_failed g.R.Source.reads in
+    let view = readers_view g.R.Source in
     let read = c.meet.ensures.read jobs.reader sent in
     let begun = c.meet.ensures.beginning in
     let missed : MissesMark view jobs.reader = record {

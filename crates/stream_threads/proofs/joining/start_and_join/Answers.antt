@@ -1,6 +1,6 @@
 use Rattle.std.proofs.Common.{◌≡◌, ℕ, List, length, vec_capacity, vec_len, ◌∙◌, sym, arith, subst, eqb-true}
 use Rattle.std.specs.List.{AllByRecursion}
-use Rattle.lrup_text.specs.ReadOut.{source_view}
+use Rattle.runs.specs.Readings.{readers_view}
 use Rattle.stream_threads.specs.Jobs.{AllEnd, JobsValue, StartedValue}
 use Rattle.stream_threads.proofs.ThreadLemmas.{finish_if_ok, first_fault, first_within}
 use Rattle.stream_threads.proofs.ThreadLemmas.{jobs_started, none_to_find, one_signal, started_count}
@@ -35,7 +35,7 @@ all_found-requires-clause-room g c =
 
 pub returns-then-is_empty-clause-found : goal.returns-then-is_empty-clause-found
 returns-then-is_empty-clause-found g c =
-    let view = source_view g.R.Source.left g.R.Source.has_failed g.R.Source.reads in
+    let view = readers_view g.R.Source in
     let all = c.start_all_reading.new.started in
     let started = c.in_default-start_all_reading.ensures.started ∙ c.in_default.ensures.started in
     let count = started_count c.room.inside.signal.now.id c.args.all.items all.items started in
@@ -45,7 +45,7 @@ returns-then-is_empty-clause-found g c =
 
 pub returns-clause-found : goal.returns-clause-found
 returns-clause-found g c =
-    let view = source_view g.R.Source.left g.R.Source.has_failed g.R.Source.reads in
+    let view = readers_view g.R.Source in
     let started = c.in_default-start_all_reading.ensures.started ∙ c.in_default.ensures.started in
     let same = jobs_started c.room.inside.signal.now.id c.args.all.items _ started in
     let ends =
@@ -54,7 +54,7 @@ returns-clause-found g c =
 
 pub returns-clause-fault : goal.returns-clause-fault
 returns-clause-fault g c =
-    let view = source_view g.R.Source.left g.R.Source.has_failed g.R.Source.reads in
+    let view = readers_view g.R.Source in
     let started = c.in_default-start_all_reading.ensures.started ∙ c.in_default.ensures.started in
     let same = jobs_started c.room.inside.signal.now.id c.args.all.items _ started in
     let ends =
@@ -64,7 +64,7 @@ returns-clause-fault g c =
 
 pub returns-clause-first : goal.returns-clause-first
 returns-clause-first g c =
-    let view = source_view g.R.Source.left g.R.Source.has_failed g.R.Source.reads in
+    let view = readers_view g.R.Source in
     let started = c.in_default-start_all_reading.ensures.started ∙ c.in_default.ensures.started in
     let same = jobs_started c.room.inside.signal.now.id c.args.all.items _ started in
     let ends =

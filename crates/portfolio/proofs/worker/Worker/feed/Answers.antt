@@ -1,5 +1,5 @@
 use Rattle.std.proofs.Common.{◌≡◌, ◌+◌, ◌-◌, ◌∙◌, None, ap, subst, take, drop}
-use Rattle.lrup_text.specs.ReadOut.{source_view}
+use Rattle.runs.specs.Readings.{readers_view}
 use Rattle.portfolio.specs.Working.{WorkerValue, WorksOn}
 use Rattle.portfolio.proofs.WorkingLemmas.{worker_of, works_fed, unread_split}
 use Rattle.portfolio.proofs.worker.Worker.feed.Goals as goal
@@ -14,7 +14,7 @@ returns-clause-works g c =
     let going : w.checker.ending ≡ None = ap (λ (v : WorkerValue g.row.R.Denot). v.checker.ending) c.self.view_is ∙ c.requires.going in
     let rest = take (w.to - (w.from + used)) (drop (w.from + used) w.buffer.items) in
     let split = unread_split w.buffer.items c.deref.result.now w.from w.to used c.deref.ensures.value c.feed-progress.ensures.used in
-    let view = source_view g.R.Source.left g.R.Source.has_failed g.R.Source.reads in
+    let view = readers_view g.R.Source in
     let fed = works_fed view w.reader _ _ rest w.checker c.feed-progress.new.self p.room q.room left.0
     (c.self.invariant.running going) split going c.feed-progress.ensures.setting left.3 in (
       left.0,

@@ -3,9 +3,9 @@ use Rattle.std.proofs.KnownBytes.{Consumes-nil}
 use Rattle.lrup_model.specs.Cube.{CubeValue}
 use Rattle.lrup_model.specs.Layout.{LayoutValue}
 use Rattle.lrup_text.specs.ReadLemmas.{gave_none}
-use Rattle.lrup_text.specs.ReadOut.{source_view}
 use Rattle.stream_check.specs.declared.report.Ending.{Ending}
 use Rattle.stream_check.specs.Checker.{IsNew}
+use Rattle.runs.specs.Readings.{readers_view}
 use Rattle.portfolio.specs.Working.{WorksBy}
 use Rattle.portfolio.proofs.worker.Worker.new.Goals as goal
 
@@ -15,7 +15,7 @@ returns g c =
     let s = c.args.stream in
     let first = c.args.reader in
     let v = c.in_ok-new.field-0 in
-    let view = source_view g.R.Source.left g.R.Source.has_failed g.R.Source.reads in
+    let view = readers_view g.R.Source in
     let made : IsNew terms.layout terms.cube s terms.tries v =
     subst (λ (p : LayoutValue). IsNew p terms.cube s terms.tries v) c.layout.ensures
     (subst (λ (cube : CubeValue). IsNew c.layout.result.now cube s terms.tries v) c.cube.ensures

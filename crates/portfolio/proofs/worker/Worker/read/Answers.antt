@@ -4,7 +4,8 @@ use Rattle.std.specs.Vec.{with_items}
 use Rattle.std.proofs.lemmas.List.{length-take-le, with_items_is}
 use Rattle.std.proofs.KnownBytes.{Consumes-nil, Consumes-kept}
 use Rattle.lrup_text.specs.declared.device.StreamEnd.TheVariants as stream_ends
-use Rattle.lrup_text.specs.ReadOut.{EndsSo, source_view}
+use Rattle.lrup_text.specs.ReadOut.{EndsSo}
+use Rattle.runs.specs.Readings.{readers_view}
 use Rattle.portfolio.specs.Working.{WorkerValue, WorksOn}
 use Rattle.portfolio.proofs.WorkingLemmas.{worker_of, works_read, works_over, none_between}
 use Rattle.portfolio.proofs.worker.Worker.read.Goals as goal
@@ -18,7 +19,7 @@ returns-in-Ok-eq0-clause-works g c room =
     let old = g.R.Source.left w.reader in
     let new = g.R.Source.left c.read.new.self in
     let has = g.R.Source.has_failed c.read.new.self in
-    let view = source_view g.R.Source.left g.R.Source.has_failed g.R.Source.reads in
+    let view = readers_view g.R.Source in
     let reader = c.read.new.self in
     let rest = take (w.to - w.from) (drop w.from (with_items w.buffer c.read.new.buffer).items) in
     let read = c.in-Ok-eq0.ensures.bytes in
@@ -40,7 +41,7 @@ returns-in-Ok-clause-works g c room =
     let old = g.R.Source.left w.reader in
     let new = g.R.Source.left c.read.new.self in
     let has = g.R.Source.has_failed c.read.new.self in
-    let view = source_view g.R.Source.left g.R.Source.has_failed g.R.Source.reads in
+    let view = readers_view g.R.Source in
     let reader = c.read.new.self in
     let going : w.checker.ending ≡ None = ap (λ (v : WorkerValue g.row.R.Denot). v.checker.ending) c.self.view_is ∙ c.requires in
     let taken : take (w.to - w.from) (drop w.from w.buffer.items) ≡ [] = none_between w.buffer.items w.from w.to c.if-self.false in
@@ -62,7 +63,7 @@ returns-in-Err-clause-works g c room =
     let old = g.R.Source.left w.reader in
     let new = g.R.Source.left c.read.new.self in
     let has = g.R.Source.has_failed c.read.new.self in
-    let view = source_view g.R.Source.left g.R.Source.has_failed g.R.Source.reads in
+    let view = readers_view g.R.Source in
     let reader = c.read.new.self in
     let rest = take (w.to - w.from) (drop w.from (with_items w.buffer c.read.new.buffer).items) in
     let going : w.checker.ending ≡ None = ap (λ (v : WorkerValue g.row.R.Denot). v.checker.ending) c.self.view_is ∙ c.requires in

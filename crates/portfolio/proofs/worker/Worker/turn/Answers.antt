@@ -5,7 +5,7 @@ use Rattle.stream_check.specs.Judging.{joined}
 use Rattle.stream_check.specs.declared.progress.CheckTurn.{CheckTurn}
 use Rattle.stream_check.specs.declared.progress.CheckTurn.TheVariants as turns
 use Rattle.stream_check.specs.Checker.{AreBlocksOf}
-use Rattle.lrup_text.specs.ReadOut.{source_view}
+use Rattle.runs.specs.Readings.{readers_view}
 use Rattle.portfolio.specs.Working.{AreBlocksOfTurn, WorkerValue, WorksOn}
 use Rattle.portfolio.proofs.WorkingLemmas.{over_without, turn_blocks, works_append, works_none, works_turn}
 use Rattle.portfolio.proofs.worker.Worker.turn.Goals as goal
@@ -17,7 +17,7 @@ loop-init g c = record {
   setting = refl;
   works = (
     g.met.M.ClauseMap.moves_none c.args.map.now,
-    works_none (source_view g.R.Source.left g.R.Source.has_failed g.R.Source.reads) c.args.self.now
+    works_none (readers_view g.R.Source) c.args.self.now
         (g.M.ClauseMap.place c.args.map.now).room,
   );
 }
@@ -34,7 +34,7 @@ returns-then-ne-clause-works g c =
       fed.0,
       g.met.M.ClauseMap.moves_append start mid end [] (joined fed.0) old.0 fed.1,
       turn_blocks c.feed.result c.feed.new.self.checker.ending fed.0 differs c.feed.ensures.over fed.2,
-      works_turn (source_view g.R.Source.left g.R.Source.has_failed g.R.Source.reads) c.args.self.now c.loop.self
+      works_turn (readers_view g.R.Source) c.args.self.now c.loop.self
           c.read.new.self c.feed.new.self (g.M.ClauseMap.place start).room room (g.M.ClauseMap.place end).room [] fed.0 old.1
           (c.read.ensures.works room) fed.3,
     )
@@ -43,7 +43,7 @@ pub returns-then-not-read-clause-works : goal.returns-then-not-read-clause-works
 returns-then-not-read-clause-works g c =
     let start = c.args.map.now in
     let old = c.loop.invariant.works in
-    let view = source_view g.R.Source.left g.R.Source.has_failed g.R.Source.reads in
+    let view = readers_view g.R.Source in
     let room = (g.M.ClauseMap.place c.loop.map).room in
     let over : IsSome c.read.new.self.checker.ending = search rules in (
       [],
@@ -63,7 +63,7 @@ loop-preserved g c =
     let end = c.feed.new.map in
     let old = c.loop.invariant.works in
     let fed = c.feed.ensures.works in
-    let view = source_view g.R.Source.left g.R.Source.has_failed g.R.Source.reads in
+    let view = readers_view g.R.Source in
     let room = (g.M.ClauseMap.place mid).room in
     let more : c.feed.result ≡ turns.More = search rules in
     let none : fed.0 ≡ [] = subst (λ (turn : CheckTurn). AreBlocksOf turn fed.0) more fed.2 in

@@ -1,6 +1,6 @@
 use Rattle.std.proofs.Common.{◌≡◌, [], None}
 use Rattle.stream_check.specs.Checker.{IsReadyAt}
-use Rattle.lrup_text.specs.ReadOut.{source_view}
+use Rattle.runs.specs.Readings.{readers_view}
 use Rattle.portfolio.specs.Working.{WorksOn}
 use Rattle.portfolio.proofs.worker.Worker.turn.Given as goal
 
@@ -13,5 +13,5 @@ invariant-loop g l =
       ready : IsReadyAt l.self.checker q;
       setting : l.self.checker.setting ≡ l.fn.self.checker.setting;
       works : g.M.ClauseMap.moves l.fn.map l.map []
-          × WorksOn (source_view g.R.Source.left g.R.Source.has_failed g.R.Source.reads) l.fn.self p.room [] l.self q.room;
+          × WorksOn (readers_view g.R.Source) l.fn.self p.room [] l.self q.room;
     }

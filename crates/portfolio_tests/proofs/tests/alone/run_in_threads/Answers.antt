@@ -2,9 +2,7 @@ use Rattle.portfolio_tests.proofs.AloneLemmas.{two_ordered, has_order}
 use Rattle.portfolio_tests.proofs.tests.alone.run_in_threads.Goals as goal
 
 pub returns : goal.returns
-returns g c stays =
+returns g c =
     let ran = c.in_ok-outcome.ensures in
-    let stands = ran.reports in
-    let order = two_ordered _ _ _ _ _ _ _ c.usual_options.ensures c.empty.ensures c.in_ok-formula.ensures c.in_ok-readers.ensures.two
-    (ran.serializable stands.streams stands.are_told stands.judged.1).1 in
-    has_order _ _ _ (order stays) ran.verdict
+    has_order _ _ _ _ (two_ordered _ _ _ _ _ _ _ c.usual_options.ensures c.empty.ensures c.in_ok-formula.ensures
+    c.in_ok-readers.ensures.two (ran.serializable, ran.reports.0.run, ran.reports.1)) ran.verdict

@@ -4,20 +4,18 @@ use Rattle.test_support.specs.declared.devices.Pieces.{Pieces}
 use Rattle.lrup_text.specs.ReadOut.{source_view}
 use Rattle.runs.specs.Closed.{IsOfStream}
 use Rattle.portfolio.specs.ResultLemmas.{if_both}
-use Rattle.portfolio_tests.proofs.AloneLemmas.{two_isolated, two_alone, report_alone}
+use Rattle.portfolio_tests.proofs.AloneLemmas.{two_isolated, report_alone}
 use Rattle.portfolio_tests.proofs.tests.alone.said_by_turns.Goals as goal
 
 pub returns : goal.returns
 returns g c =
     let ran = c.in_ok-outcome.ensures in
     let view = source_view (λ (r : Pieces). Some r.left.now) (λ r. r.failed) (λ _ _ _ _. Unit {0}) in
-    let stands = ran.ordered in
     if_both c.first_report.result c.first_report.ensures.report c.first_report.ensures.failed
     (λ report says fine.
     report_alone c.readers_closed.ensures c.told_is_reading.ensures view c.in_ok-readers.readers.items c.in_ok-outcome.outcome.readers.items
-    c.args.first.now _ _ report stands.streams
-    (two_isolated _ _ _ _ _ _ _ c.usual_options.ensures c.empty.ensures c.in_ok-formula.ensures c.in_ok-readers.ensures.two ran.isolated)
-    (two_alone _ _ _ _ _ _ _ c.usual_options.ensures c.empty.ensures c.in_ok-formula.ensures c.in_ok-readers.ensures.two ran.alone)
-    stands.are_told stands.judged.1 stands.judged.0.order c.requires c.in_ok-readers.ensures.first
+    c.args.first.now _ report
+    (two_isolated view _ _ _ _ _ _ _ c.usual_options.ensures c.empty.ensures c.in_ok-formula.ensures c.in_ok-readers.ensures.two
+    (ran.isolated, ran.ordered.0.run, ran.ordered.0.read)) c.requires c.in_ok-readers.ensures.first
     (subst (λ (readers : List Pieces). IsOfStream (map (λ r. r.failed) readers) 1 false) c.deref-2.ensures.value fine)
     (subst (λ (reports : List Report). IsOfStream reports 1 report) c.deref.ensures.value says))

@@ -1,5 +1,5 @@
 use Rattle.std.proofs.Common.{subst}
-use Rattle.lrup_text.specs.ReadOut.{source_view}
+use Rattle.runs.specs.Readings.{readers_view}
 use Rattle.stream_threads.specs.Jobs.{IsEndOf, JobsValue, StartedValue}
 use Rattle.stream_threads.proofs.ThreadLemmas.{if_stayed}
 use Rattle.stream_threads.proofs.jobs.Started.join.Goals as goal
@@ -7,7 +7,7 @@ use Rattle.stream_threads.proofs.jobs.Started.join.Goals as goal
 -- what each thread was started with is what it promised of
 pub returns : goal.returns
 returns g c =
-    let view = source_view g.R.Source.left g.R.Source.has_failed g.R.Source.reads in
+    let view = readers_view g.R.Source in
     let reading = c.self.inside.reading.promise in
     let checking = c.self.inside.checking.promise in
     let jobs : JobsValue g.row.R.Denot =
