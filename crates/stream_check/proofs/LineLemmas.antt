@@ -278,4 +278,4 @@ stops_import old free left id lits es fault judged =
 -- a good addition's identity is above the last one
 pub above_last : (c : Setting) (st : Standing) (id : ℕ) (lits : List ℤ) (hints : List ℕ) (es : History)
     → JudgesAddition c st id lits hints es Good → st.last < id
-above_last c st id lits hints es j = elim j [ inl bad ↦ absurd (let e : Good ≡ Bad 0 _ = bad.1.1 in cc) | inr next ↦ next.0.1 ]
+above_last c st id lits hints es j = j.1.above

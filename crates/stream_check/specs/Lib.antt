@@ -19,6 +19,7 @@ pub mod Reducing
 pub mod Finding
 pub mod CubeLemmas
 pub mod AdditionLemmas
+pub mod EventLemmas
 pub mod StandingLemmas
 pub mod StoppingLemmas
 pub mod ReportLemmas
