@@ -395,11 +395,12 @@ other."""
 RIGHT_PHRASES: Rows = [
     ("A line is right if [FORMAT](FORMAT.md) allows it", """[[IsRightLine]], by the [[Database]] that the lines before it left,
      from the formula's clauses on: [[AreRight: IsRightLine layout s base line × AreRight layout s (after_line base line) lines]],
-     [[first_database]]. An addition: [[IsRightAddition: owns : Owns layout s id]], [[IsRightAddition: above : base.last < id]],
-     [[IsRightAddition: literals : AllByRecursion (λ l. nat_abs l ≤ layout.vars) lits]], [[IsRightAddition: room : length (distinct lits)
-     ≤ base.free]], where what is deleted gives no room back; its hints have clauses there, [[IsRightAddition: named : AllZip
-     (λ hint clause. base.clauses hint ≡ Some clause) hints hinted]], which show it, [[IsRightAddition: shown : Accepts (distinct
-     lits) hinted]], and it is no
+     [[first_database]]. An addition is valid, by the relation by which streams are judged, too ([[JudgesAddition]]):
+     [[IsValidAddition: owns : Owns layout stream id]], [[IsValidAddition: above : context.last < id]],
+     [[IsValidAddition: literals : AllByRecursion (λ l. nat_abs l ≤ layout.vars) lits]], [[IsValidAddition: room : length (distinct lits)
+     ≤ context.free]], where what is deleted gives no room back; its hints have clauses there, [[database_context: Names = AllZip
+     (λ hint clause. base.clauses hint ≡ Some clause)]], which show it, [[IsValidAddition: shown : Accepts (distinct
+     lits) clauses]], and it is no
      tautology ([[Accepts]]). A deletion: [[IsRightDeletion: there : AllByRecursion (λ id. IsSome (base.clauses id)) ids]], each once.
      An import: [[IsRightImport: there : base.clauses id ≡ Some clause]], not the stream's own, with the same literals. The limits are
      [[IsWithinLimits]]. Whether this is LRAT's replay without RAT is for a reader to judge. It is stricter than usual checkers: a
