@@ -1,6 +1,6 @@
 -- One line in two histories: where it is good in the one, it is good in the other, or lacks a clause of another stream.
-use Rattle.std.proofs.Common.{◌≡◌, ◌⊎◌, ◌++◌, ℕ, zero, suc, ℤ, neg_ℤ, Bool, List, [], ◌∷◌, length, replicate, Result, Ok, Err, inl, inr, refl}
-use Rattle.std.proofs.Common.{sym, ap, subst, ◌∙◌, append_assoc, append-nil}
+use Rattle.std.proofs.Common.{◌≡◌, ◌⊎◌, ◌++◌, ℕ, zero, suc, ℤ, neg_ℤ, Bool, List, [], ◌∷◌, length, replicate, Result, Ok, Err, inl, inr}
+use Rattle.std.proofs.Common.{refl, sym, ap, subst, ◌∙◌, append_assoc, append-nil}
 use Rattle.std.specs.Prelude.{◌↔◌}
 use Rattle.std.specs.List.{AllByRecursion}
 use Rattle.std.proofs.lemmas.Bool.{true≢false}
@@ -24,13 +24,13 @@ use Rattle.stream_check.specs.Additions.{AreFound, FailsBy, FailsHints, JudgesAd
 use Rattle.stream_check.specs.Asking.{AsksAt, answer_of, LooksUp}
 use Rattle.stream_check.specs.Checking.{IsFetch, IsRetire}
 use Rattle.stream_check.specs.Deletions.{DeletesAt, JudgesDeletion}
-use Rattle.stream_check.specs.EventLemmas.{found_hold, IsAny, all_any, asked_more}
+use Rattle.stream_check.specs.EventLemmas.{found_all, addition_all, import_all}
 use Rattle.stream_check.specs.Imports.{JudgesImport}
 use Rattle.stream_check.specs.Judging.{JudgesLine}
 use Rattle.stream_check.specs.Setting.{Setting, side_of}
 use Rattle.stream_check.specs.Standing.{Standing, additions_of}
 use Rattle.stream_check.specs.Verdicts.{LineVerdict, Good, Bad, Fails}
-use Rattle.run_laws.proofs.KindLemmas.{all_retire, addition_all, import_all, identities_all}
+use Rattle.run_laws.proofs.KindLemmas.{all_retire, identities_all}
 use Rattle.run_laws.proofs.SwapLemmas.{identity_of}
 
 -- Fair events
@@ -109,8 +109,10 @@ IsThatOrLacks c Mine h d answer = (answer ≡ Ok d) ⊎ ((fault : Fault) × (ans
 foreign_agree : (c : Setting) (Mine Theirs : ℕ → Clause → Type 0) (m : State) (h : ℕ) (rest left : History) (d : Clause) (r : Reply)
     → FindAlike c Mine Theirs → side_of c h ≡ sides.Foreign → IsAsked c Mine m h (events.live d) rest → IsAsked c Theirs m h r left
     → IsThatOrLacks c Mine h d (answer_of h r)
-foreign_agree c Mine Theirs m h rest left d events.vacant alike is mine theirs = inr (faults.Missing h, refl, (is, mine.found is, inl refl))
-foreign_agree c Mine Theirs m h rest left d events.retired alike is mine theirs = inr (faults.Retired h, refl, (is, mine.found is, inr refl))
+foreign_agree c Mine Theirs m h rest left d events.vacant alike is mine theirs =
+    inr (faults.Missing h, refl, (is, mine.found is, inl refl))
+foreign_agree c Mine Theirs m h rest left d events.retired alike is mine theirs =
+    inr (faults.Retired h, refl, (is, mine.found is, inr refl))
 foreign_agree c Mine Theirs m h rest left d (events.live e) alike is mine theirs =
     inl (ap (λ (x : Clause). Ok x) (sym (alike h d e is (mine.found is) (theirs.found is))))
 
@@ -165,7 +167,8 @@ fails_not deleted fault es f = let e : Good ≡ Bad deleted fault = f.1 in cc
 
 lacks_it : (c : Setting) (Mine : ℕ → Clause → Type 0) (h : ℕ) (d : Clause) (its fault : Fault) → fault ≡ its → IsLackOf c Mine h d its
     → Lacks c Mine fault
-lacks_it c Mine h d its fault same lack = (h, d, lack.0, lack.1, elim lack.2 [ inl none ↦ inl (same ∙ none) | inr gone ↦ inr (same ∙ gone) ])
+lacks_it c Mine h d its fault same lack =
+    (h, d, lack.0, lack.1, elim lack.2 [ inl none ↦ inl (same ∙ none) | inr gone ↦ inr (same ∙ gone) ])
 
 by_agrees : (c : Setting) (Mine : ℕ → Clause → Type 0) (gone : ℕ → Bool) (n : List ℤ) (d : Clause) (ds : List Clause) (h : ℕ)
     (hints : List ℕ) (rest : History) (answer : Result Clause Fault) (es : History) (fault : Fault) (A : List ℤ → Type 0)
@@ -296,19 +299,12 @@ published-retires (events.fetch s id r ∷ es) all = absurd all.0
 published-retires (events.publish s id d r ∷ es) all = absurd all.0
 published-retires (events.retire s id r ∷ es) all = published-retires es all.1
 
-found_fetches : (c : Setting) (gone : ℕ → Bool) (hints : List ℕ) (ds : List Clause) (es : History) → AreFound c gone hints ds es
-    → AllByRecursion IsFetch es
-found_fetches c gone hints ds es found =
-    subst (AllByRecursion IsFetch) (append-nil es)
-    (found_hold c (AllByRecursion IsFetch) tt IsAny (λ h asked rest r any asks ends all. asked_more IsFetch c h asked rest r (λ x. tt) asks
-    all) gone hints ds es [] (all_any hints) found tt)
-
 pub good_runs : (c : Setting) (st : Standing) (m : State) (id : ℕ) (lits : List ℤ) (hints : List ℕ) (es : History)
     → JudgesAddition c st id lits hints es Good → run m es ≡ after m (published_by c id lits)
 good_runs c st m id lits hints es (fetches, good, is) =
     ap (run m) is ∙ run-append m fetches (published_by c id lits ∷ [])
     ∙ ap (λ (n : State). after n (published_by c id lits)) (run-fetches m fetches
-    (found_fetches c st.gone hints good.clauses fetches good.named))
+    (found_all c IsFetch (λ h r. tt) st.gone hints good.clauses fetches good.named))
 
 pub line_leaves : (c : Setting) (Mine Theirs : ℕ → Clause → Type 0) (m : State) (st : Standing) (line : StreamLine) (fs es : History)
     → AreFair c Mine m fs → AreFair c Theirs m es → JudgesLine c st line fs Good → JudgesLine c st line es Good → run m fs ≡ run m es
@@ -325,7 +321,7 @@ pub good_publishes : (c : Setting) (st : Standing) (line : StreamLine) (es : His
 good_publishes c st (Addition id lits hints) es (fetches, good, is) =
     ap published is ∙ published-append fetches (published_by c id lits ∷ [])
     ∙ ap (λ (x : List (ℕ × Clause)). x ++ published (published_by c id lits ∷ [])) (published-fetches fetches
-    (found_fetches c st.gone hints good.clauses fetches good.named))
+    (found_all c IsFetch (λ h r. tt) st.gone hints good.clauses fetches good.named))
 good_publishes c st (Deletion lead ids) es judged =
     published-retires es (identities_all c IsRetire st.gone [] ids es Good (all_retire c.stream ids) judged)
 good_publishes c st (Import id lits) es judged = published-fetches es (import_all c IsFetch (λ h r. tt) st id lits es Good judged)

@@ -1,18 +1,16 @@
 -- What the events of a line are: a deletion only retires, and no other line does.
-use Rattle.std.proofs.Common.{ℕ, ℤ, Bool, List, [], ◌∷◌, ◌≡◌}
+use Rattle.std.proofs.Common.{ℕ, Bool, List, [], ◌∷◌}
 use Rattle.std.specs.Prelude.{IsTrue}
 use Rattle.std.specs.List.{AllByRecursion}
 use Rattle.lrup_model.specs.Event as events
-use Rattle.lrup_model.specs.Event.{Event, History, Reply}
+use Rattle.lrup_model.specs.Event.{Event, History}
 use Rattle.lrup_model.specs.declared.clause_map.Retired.{Retired}
 use Rattle.lrup_text.specs.Lines.{StreamLine, Addition, Deletion, Import}
 use Rattle.stream_check.specs.Setting.{Setting}
 use Rattle.stream_check.specs.Standing.{Standing, deleted_by}
-use Rattle.stream_check.specs.Verdicts.{LineVerdict, Good}
-use Rattle.stream_check.specs.Additions.{JudgesAddition, published_by}
+use Rattle.stream_check.specs.Verdicts.{LineVerdict}
 use Rattle.stream_check.specs.Deletions.{JudgesDeletion}
-use Rattle.stream_check.specs.EventLemmas.{addition_holds, import_holds, identities_hold, IsAny, all_any, asked_more}
-use Rattle.stream_check.specs.Imports.{JudgesImport}
+use Rattle.stream_check.specs.EventLemmas.{identities_hold, addition_all, import_all}
 use Rattle.stream_check.specs.Judging.{JudgesLine}
 use Rattle.stream_check.specs.Checking.{IsRetire}
 use Rattle.run_laws.specs.Lines.{RetiresLast}
@@ -25,21 +23,6 @@ pub identities_all : (c : Setting) (P : Event → Type 0) (gone : ℕ → Bool) 
 identities_all c P gone earlier ids es v each judged =
     identities_hold c (AllByRecursion P) tt (λ id. (r : Retired) → P (events.retire c.stream id r))
     (λ id rest retires all. (retires _, all)) (λ id retires. (retires _, tt)) gone earlier ids es v each judged
-
-module _ (c : Setting) (P : Event → Type 0) (fetches : (id : ℕ) (r : Reply) → P (events.fetch c.stream id r)) where
-  -- what holds of the fetches of an addition, and of its publish if it is good, holds of its events
-  pub addition_all : (id : ℕ) (lits : List ℤ) (v : LineVerdict) → (v ≡ Good → P (published_by c id lits)) → (st : Standing)
-      (hints : List ℕ) (es : History) → JudgesAddition c st id lits hints es v → AllByRecursion P es
-  addition_all id lits v publishes st hints es judged =
-      addition_holds c (AllByRecursion P) tt IsAny (λ h asked rest r any asks ends all. asked_more P c h asked rest r (fetches h) asks all)
-      st id lits hints es v (λ good. (publishes good, tt)) (all_any hints) judged
-
-  -- what holds of the fetches of an import holds of its events
-  pub import_all : (st : Standing) (id : ℕ) (lits : List ℤ) (es : History) (v : LineVerdict) → JudgesImport c st id lits es v
-      → AllByRecursion P es
-  import_all st id lits es v judged =
-      import_holds c (AllByRecursion P) tt IsAny (λ h asked rest r any asks ends all. asked_more P c h asked rest r (fetches h) asks all)
-      st id lits es v tt judged
 
 -- Retires
 

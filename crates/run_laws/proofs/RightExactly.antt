@@ -45,7 +45,7 @@ use Rattle.run_laws.specs.Right.{IsRightImport}
 use Rattle.run_laws.specs.RightLaws.{EndedIsRight}
 use Rattle.run_laws.proofs.AloneLemmas.{alone_judged, own-one}
 use Rattle.run_laws.proofs.BlameLines.{IsNearSide, AreFair, IsAsked, asked_fair, fails_not, good_runs}
-use Rattle.run_laws.proofs.KindLemmas.{import_all}
+use Rattle.stream_check.specs.EventLemmas.{import_all}
 use Rattle.run_laws.proofs.BlameStreams.{fair_front, fair_back, near_fair, Anything, all_anything, has_ended}
 use Rattle.run_laws.proofs.RightLines.{side_by, formulas_side, own_side, formulas_near, not_or, not_same, neither}
 use Rattle.run_laws.proofs.VerdictLemmas.{or_none}
@@ -110,7 +110,8 @@ found_named f c Found m base st [] (d ∷ ds) fetches tail a within found fair =
 found_named f c Found m base st (h ∷ hints) [] fetches tail a within found fair = absurd found
 found_named f c Found m base st (h ∷ hints) (d ∷ ds) fetches tail a within found fair =
     let was = found_live c st.gone h found.0 d found.3 in
-    let cut : fetches ++ tail ≡ found.0 ++ (found.1 ++ tail) = ap (λ (x : History). x ++ tail) found.2 ∙ append_assoc found.0 found.1 tail in
+    let cut : fetches ++ tail ≡ found.0 ++ (found.1 ++ tail) =
+    ap (λ (x : History). x ++ tail) found.2 ∙ append_assoc found.0 found.1 tail in
     let here : IsAsked c Found m h (events.live d) (found.1 ++ tail) =
     asked_fair (side_of c h) c Found m h found.0 (found.1 ++ tail) (events.live d) refl was.1 (subst (AreFair c Found m) cut fair) in
     let near = near_or_outside c h within.0 (not_outside c h found.0 d was.1) in (

@@ -38,7 +38,8 @@ found_sound f c gone [] (d ∷ ds) es found all = absurd found
 found_sound f c gone (h ∷ hints) [] es found all = absurd found
 found_sound f c gone (h ∷ hints) (d ∷ ds) es found all =
     let parts = all_front (FindsSound f) found.0 found.1 (subst (AllByRecursion (FindsSound f)) found.2 all) in
-    (live_sound (side_of c h) f c h found.0 d (found_live c gone h found.0 d found.3).1 parts.0, found_sound f c gone hints ds found.1 found.4 parts.1)
+    let here = found_live c gone h found.0 d found.3 in
+    (live_sound (side_of c h) f c h found.0 d here.1 parts.0, found_sound f c gone hints ds found.1 found.4 parts.1)
 
 pub good_follows : PropagationSound → GoodFollows
 good_follows sound f c st id lits hints es good all =

@@ -19,15 +19,11 @@ use Rattle.stream_check.specs.declared.fault.Fault.TheVariants as faults
 use Rattle.stream_check.specs.Setting.{Setting}
 use Rattle.stream_check.specs.Asking.{LooksUp}
 use Rattle.stream_check.specs.Additions.{AreFound, Misleads, FailsHints}
-use Rattle.stream_check.specs.Checking.{IsPlaceOf, IsFetch, Shows, excess_of}
+use Rattle.stream_check.specs.Checking.{IsPlaceOf, Shows, excess_of}
 
 -- one more at the end
 pub replicate-more : (k : ℕ) (e : Event) → replicate k e ++ e ∷ [] ≡ replicate (k + 1) e
 replicate-more k e = replicate-append-replicate k 1 e
-
-pub fetches-append : (es fs : History) → AllByRecursion IsFetch es → AllByRecursion IsFetch fs → AllByRecursion IsFetch (es ++ fs)
-fetches-append [] fs h k = k
-fetches-append (e ∷ es) fs h k = (h.0, fetches-append es fs h.1 k)
 
 -- a clip that is known follows, as the place before sees it
 pub derived_before : (p q : Place) (es : History) (clip : ClipValue) → Tells p q es → IsKnown q clip → AllFollow q

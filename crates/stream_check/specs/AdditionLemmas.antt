@@ -77,7 +77,8 @@ pub no_help : (n : List ℤ) (d : Clause) (ds : List Clause) (c : Setting) (gone
 no_help n d [] c gone h hints es fault refutes found (inl neither) = neither.0 refutes
 no_help n d [] c gone h hints es fault refutes found (inr excess) =
     let none = sym (no_hints_left c gone hints es found) ∙ excess.3 in cc
-no_help n d (e ∷ ds) c gone h hints es fault refutes found (inl neither) = neither.1 refutes.0 refutes.1
+no_help n d (e ∷ ds) c gone h hints es fault refutes found (inl neither) =
+    neither.1 refutes.0 refutes.1
 no_help n d (e ∷ ds) c gone h hints es fault refutes found (inr excess) =
     refutes.1.not_false (excess.0 refutes.0 refutes.1.here)
 

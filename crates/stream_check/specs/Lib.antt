@@ -20,6 +20,7 @@ pub mod Finding
 pub mod CubeLemmas
 pub mod AdditionLemmas
 pub mod EventLemmas
+pub mod MappingLemmas
 pub mod StandingLemmas
 pub mod StoppingLemmas
 pub mod ReportLemmas

@@ -1,8 +1,7 @@
 use Rattle.std.proofs.Common.{◌≡◌, length, true}
-use Rattle.std.specs.List.{AllByRecursion}
 use Rattle.lrup_model.specs.Event.{History}
 use Rattle.stream_check.specs.Standing.{is_among}
-use Rattle.stream_check.specs.Checking.{IsFetch, KeepsClause}
+use Rattle.stream_check.specs.Checking.{KeepsClause}
 use Rattle.stream_check.proofs.TryLemmas.{HasLed}
 use Rattle.stream_check.proofs.hints.try_hints.Given as goal
 
@@ -12,7 +11,7 @@ invariant-hints g l =
     record {
       ready : l.marks.ready ≡ true;
       kept : KeepsClause l.initial.marks l.marks;
-      led : (es : History) × g.M.ClauseMap.moves l.initial.map l.map es × AllByRecursion IsFetch es
+      led : (es : History) × g.M.ClauseMap.moves l.initial.map l.map es
           × HasLed l.state.setting (is_among l.state.dropped.ids) f l.initial.marks.falses l.hints l.marks.falses l.left es;
     }
 

@@ -9,7 +9,9 @@ use Rattle.lrup_model.specs.Distinct.{distinct}
 use Rattle.propagate.specs.Marks.{Propagation}
 use Rattle.stream_check.specs.Standing.{Standing}
 use Rattle.stream_check.specs.Additions.{published_by, FailsHints}
+use Rattle.stream_check.specs.Checking.{IsFetch}
 use Rattle.stream_check.specs.Checker.{standing_at}
+use Rattle.stream_check.specs.EventLemmas.{found_all}
 use Rattle.stream_check.proofs.AddLemmas.{owns_at, still_at, room_stays, clause_is, shown_is, publishable, still_vacant, published_is}
 use Rattle.stream_check.proofs.AddLemmas.{fails_before, fails_behind, valid_is}
 use Rattle.stream_check.proofs.addition.Buffers.add.Goals as goal
@@ -21,7 +23,6 @@ returns-in_err-admit-clause-judged g c =
     rw (given.1, given.2) (
       [],
       g.met.M.ClauseMap.moves_none c.args.map.now,
-      tt,
       (
         refl,
         fails_before c.args.state.now.setting st c.args.id c.args.lits.now c.in_err-admit.field-0.0 _ c.in_err-admit.ensures.admitted,
@@ -36,12 +37,11 @@ returns-in_err-try_hints-clause-judged g c =
     let shown = c.in_err-try_hints.ensures.shown in
     let fault = c.in_err-try_hints.field-0.0 in
     let fails : FailsHints s st.gone (distinct c.args.lits.now) c.args.hints.now shown.0 fault =
-    subst (λ n. FailsHints s st.gone n c.args.hints.now shown.0 fault) (ap (λ (m : Propagation). m.falses) admits.marks_are) shown.3 in
+    subst (λ n. FailsHints s st.gone n c.args.hints.now shown.0 fault) (ap (λ (m : Propagation). m.falses) admits.marks_are) shown.2 in
     let given = err_from_is_err_and c.from_residual-in_err-try_hints.result c.from_residual-in_err-try_hints.ensures.1 in
     rw (given.1, given.2) (
       shown.0,
       shown.1,
-      shown.2,
       (refl, fails_behind s st c.args.id c.args.lits.now shown.0 fault _ c.admit.new.self.marks admits fails),
     )
 
@@ -77,7 +77,7 @@ publish-requires-clause-clause g c =
     let is = clause_is s st c.args.id c.args.lits.now c.admit.new.self.marks c.try_hints.new.marks c.clause.result.now admits
     c.try_hints.ensures.kept c.clause.ensures in
     let good =
-    shown_is s st st.gone p.caller.formula c.args.id c.args.lits.now c.args.hints.now c.admit.new.self.marks shown.0 admits shown.3 in
+    shown_is s st st.gone p.caller.formula c.args.id c.args.lits.now c.args.hints.now c.admit.new.self.marks shown.0 admits shown.2 in
     subst (IsPublishable q.caller.formula) (sym is)
     (publishable s p q st st.gone shown.0 c.args.id c.args.lits.now c.args.hints.now c.admit.new.self.marks accepted_follows tells admits
     c.requires.count good)
@@ -93,7 +93,8 @@ publish-requires-clause-room g c =
     let tells = g.met.M.ClauseMap.moves_tells c.args.map.now c.try_hints.new.map shown.0 shown.1 in
     let is = clause_is s st c.args.id c.args.lits.now c.admit.new.self.marks c.try_hints.new.marks c.clause.result.now admits
     c.try_hints.ensures.kept c.clause.ensures in
-    omega (arith, ap length is, room_stays p q shown.0 tells shown.2, admits.fits)
+    let quiet = found_all s IsFetch (λ h r. tt) st.gone c.args.hints.now shown.2.0 shown.0 shown.2.4 in
+    omega (arith, ap length is, room_stays p q shown.0 tells quiet, admits.fits)
 
 pub unreachable-requires : goal.unreachable-requires
 unreachable-requires g c =
@@ -103,8 +104,8 @@ unreachable-requires g c =
     let shown = c.in_ok-try_hints.ensures.shown in
     let tells = g.met.M.ClauseMap.moves_tells c.args.map.now c.try_hints.new.map shown.0 shown.1 in
     let done : c.publish.result ≡ publishing.Done =
-    c.publish.ensures.done.1 (still_vacant c.args.state.now.setting p q shown.0 c.args.state.now.last c.args.id c.requires.at tells shown.2
-    c.requires.vacant admits.owns admits.above) in
+    c.publish.ensures.done.1 (still_vacant c.args.state.now.setting p q shown.0 c.args.state.now.last c.args.id c.requires.at tells
+    (found_all c.args.state.now.setting IsFetch (λ h r. tt) _ _ shown.2.0 shown.0 shown.2.4) c.requires.vacant admits.owns admits.above) in
     let taken = c.in-Taken.is in
     cc
 
@@ -120,7 +121,7 @@ returns-clause-judged g c =
     let is = clause_is s st c.args.id c.args.lits.now c.admit.new.self.marks c.try_hints.new.marks c.clause.result.now admits
     c.try_hints.ensures.kept c.clause.ensures in
     let good =
-    shown_is s st st.gone p.caller.formula c.args.id c.args.lits.now c.args.hints.now c.admit.new.self.marks shown.0 admits shown.3 in
+    shown_is s st st.gone p.caller.formula c.args.id c.args.lits.now c.args.hints.now c.admit.new.self.marks shown.0 admits shown.2 in
     let e : Event = published_by s c.args.id c.args.lits.now in
     let last : g.M.ClauseMap.moves c.try_hints.new.map c.publish.new.self (e ∷ []) =
     subst (g.M.ClauseMap.moves c.try_hints.new.map c.publish.new.self)
@@ -128,6 +129,5 @@ returns-clause-judged g c =
     c.publish.ensures.event in (
       shown.0 ++ e ∷ [],
       g.met.M.ClauseMap.moves_append c.args.map.now c.try_hints.new.map c.publish.new.self shown.0 (e ∷ []) shown.1 last,
-      (shown.0, shown.2, refl),
       (shown.0, valid_is s st p.caller.formula c.args.id c.args.lits.now c.args.hints.now shown.0 c.admit.new.self.marks admits good, refl),
     )

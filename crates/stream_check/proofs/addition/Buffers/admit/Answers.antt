@@ -103,6 +103,7 @@ returns-clause-admitted g c =
       literals = variables_within s.layout.vars lits within;
       fits = fits;
       clause = is_clause;
-      consistent = subst (λ (d : Clause). ¬ IsTautology d) same (on_ok c.begin.result _ c.if-is_err.ensures.value c.begin.ensures.consistent);
+      consistent =
+          subst (λ (d : Clause). ¬ IsTautology d) same (on_ok c.begin.result _ c.if-is_err.ensures.value c.begin.ensures.consistent);
       marks_are = marks;
     }

@@ -25,7 +25,6 @@ returns-then-not-make_literals-clause-judged g c =
     (literals_within s.layout.vars c.args.lits.now c.requires.nonzero all)))) in (
       [],
       g.met.M.ClauseMap.moves_none c.args.map.now,
-      tt,
       bad_literal s st c.args.id c.args.lits.now (sym c.shares.ensures ∙ c.if-not-shares.false) no,
     )
 
@@ -41,9 +40,8 @@ returns-in_err-clip-clause-judged g c =
     let given = err_from_is_err_and c.from_residual.result c.from_residual.ensures.1 in (
       looked.0,
       looked.1,
-      looked.2,
       rw (given.1, given.2) (import_unfound s st c.args.id lits (sym c.shares.ensures ∙ c.if-not-shares.false)
-          (variables_within s.layout.vars lits within) looked.0 c.in_err-clip.field-0.0 looked.3),
+          (variables_within s.layout.vars lits within) looked.0 c.in_err-clip.field-0.0 looked.2),
     )
 
 pub returns-clause-judged : goal.returns-clause-judged
@@ -63,9 +61,8 @@ returns-clause-judged g c =
     g.met.M.ClauseMap.moves_append c.args.map.now c.look_up.new.map c.same.new.map looked.0 [] looked.1 c.same.ensures.event in (
       looked.0,
       subst (g.M.ClauseMap.moves c.args.map.now c.same.new.map) (append-nil looked.0) moved,
-      looked.2,
       import_same s st c.args.id lits (sym c.shares.ensures ∙ c.if-not-shares.false) (variables_within s.layout.vars lits within) looked.0
-          (clip_clause q c.in_ok-clip.clip) looked.3 same,
+          (clip_clause q c.in_ok-clip.clip) looked.2 same,
     )
 
 pub returns-then-not-same-clause-judged : goal.returns-then-not-same-clause-judged
@@ -85,7 +82,6 @@ returns-then-not-same-clause-judged g c =
     g.met.M.ClauseMap.moves_append c.args.map.now c.look_up.new.map c.same.new.map looked.0 [] looked.1 c.same.ensures.event in (
       looked.0,
       subst (g.M.ClauseMap.moves c.args.map.now c.same.new.map) (append-nil looked.0) moved,
-      looked.2,
       import_differs s st c.args.id lits (sym c.shares.ensures ∙ c.if-not-shares.false) (variables_within s.layout.vars lits within)
-          looked.0 (clip_clause q c.in_ok-clip.clip) looked.3 other,
+          looked.0 (clip_clause q c.in_ok-clip.clip) looked.2 other,
     )
