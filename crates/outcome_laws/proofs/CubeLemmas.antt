@@ -1,5 +1,5 @@
 -- A stream under a cube, and without one.
-use Rattle.std.proofs.Common.{◌≡◌, ◌∙◌, ℕ, ℤ, neg_ℤ, Bool, List, [], ◌∷◌, ◌++◌, length, Result, Ok, Err, inl, inr, sym, ap}
+use Rattle.std.proofs.Common.{◌≡◌, ◌∙◌, ℕ, Bool, List, [], ◌∷◌, ◌++◌, Result, inl, inr, refl, sym, ap}
 use Rattle.lrup_model.specs.Clause.{Clause}
 use Rattle.lrup_model.specs.Event.{History, Reply}
 use Rattle.lrup_text.specs.Lines.{StreamLine, Deletion}
@@ -10,7 +10,7 @@ use Rattle.stream_check.specs.declared.report.Report.{Report}
 use Rattle.stream_check.specs.declared.setting.Side.{Side}
 use Rattle.stream_check.specs.declared.setting.Side.TheVariants as sides
 use Rattle.stream_check.specs.Setting.{Setting, side_of}
-use Rattle.stream_check.specs.Standing.{Standing, standing_of, additions_of}
+use Rattle.stream_check.specs.Standing.{standing_of, additions_of}
 use Rattle.stream_check.specs.Verdicts.{LineVerdict, Good, Bad}
 use Rattle.stream_check.specs.Asking.{AsksAt, LooksUp}
 use Rattle.stream_check.specs.MappingLemmas.{LooksOn, line_maps}
