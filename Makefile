@@ -30,8 +30,8 @@ STREAMS ?= $(addprefix examples/bmc-four.,1 2 3 4)
 OPTIONS ?= --tries 1000000
 
 .PHONY: run build install examples live checkpoints rounds demo solver exact trim explain solve solver-test filter-test trim-test
-.PHONY: explain-test solve-test neighbours sweep leaks instructions audit tables pages test toolchain c-and-python libcadical beside-it
-.PHONY: mpicxx help try deb dist quick edits packages warnings builds
+.PHONY: explain-test solve-test neighbours sweep leaks instructions audit definitions promises tables pages test toolchain c-and-python
+.PHONY: libcadical beside-it mpicxx help try deb dist quick edits packages warnings builds shown
 
 help:
 	@awk -f gate/help.awk $(firstword $(MAKEFILE_LIST))
@@ -170,6 +170,9 @@ warnings: c-and-python ## check: that C compiles without a warning, and each hea
 builds: c-and-python ## check: that C and C++ are compiled with the flags that are said, and again what has changed
 	@python3 tests/builds.py
 
+shown: $(BUILT) solver exact trim explain ## check: run each command that the pages show, and compare what it writes
+	@python3 tests/shown.py $(PROGRAM)
+
 solver-test: $(BUILT) solver ## check: the example solver's streams, of one to eight solvers, and of some that are killed
 	@python3 tests/example_solver.py $(PROGRAM) $(SOLVER)
 
@@ -210,15 +213,23 @@ leaks: $(BUILT) c-and-python ## measure: memory that isn't given back, by valgri
 instructions: $(BUILT) c-and-python ## measure: how many instructions lines take, by valgrind, beside what they took
 	@python3 gate/instructions.py $(PROGRAM)
 
-# These pages have what one must read to believe status 0 and 8, and whole runs.
-audit: ## check: write docs/AUDIT.md and docs/AUDIT-RUNS.md anew from the sources
+# These pages have what you must read to believe status 0 and 8, and the theorems on whole runs.
+audit: ## check: write docs/AUDIT.md and docs/THEOREMS.md anew from the sources
 	@python3 gate/audit.py
+
+# For looking up; no page of the repository.
+definitions: ## check: write out/definitions.md, all contracts and definitions under the theorems
+	@python3 gate/audit.py --definitions
+
+# A list that docs/PROMISES.md has in words.
+promises: ## check: list what each function of CRATE=name, or of all crates, promises, and the edits that turn it
+	@python3 gate/promises.py $(CRATE)
 
 # Of docs/interface.txt, and of what --help says.
 tables: ## check: write the tables of USING and lrupd.1 anew
 	@python3 gate/tables.py
 
-# Fails unless the two pages and the tables are what the sources give, and DEFINITIONS has their counts; docs/interface.txt has the
+# Fails unless the two pages and the tables are what the sources give, and TRUST has their count; docs/interface.txt has the
 # faults and causes of the definitions; names in backticks and links in the documents lead somewhere; clauses and definitions are
 # within 100 columns, proofs within 140, and each lemma stands once.
 pages: c-and-python ## check: the documents, against the sources and each other; needs no prover
@@ -226,6 +237,7 @@ pages: c-and-python ## check: the documents, against the sources and each other;
 	@python3 gate/tables.py --check
 	@python3 gate/style.py
 	@python3 gate/prose.py
+	@python3 gate/promises.py > /dev/null
 
 # With dpkg-deb and dpkg-dev.
 deb: ## use: a Debian package of what make install installs, with the pages for users and the examples, in out/
@@ -254,14 +266,15 @@ packages: ## check: install, as root, Debian's packages that the tests want
 # solver's streams and the filter's, mutated proofs, faulty streams, trimmed ones, lrup-solve, a proof beside hostile streams, each call
 # of the system refused in turn, of the program and of tests, memory given back, and the instructions that lines take. The last line is
 # rt's own, 'N passed, M failed'.
-# Side by side, those that take longest first, and two more than there are cores, since most of them wait now and then; what each
-# one prints comes when it has ended.
+# Tests of programs run side by side, those that take longest first, and two more than there are cores, since most of them wait now and
+# then; what each one prints comes when it has ended. That each has a rule is seen before the proofs begin.
 TESTS := lrup_solve_rounds sweep filter_mutants lrup_solve lrup_solve_solvers filter_rounds explain-test trim-test lrup_solve_front \
 	lrup_solve_mpi lrup_solve_inputs lrup_solve_kept lrup_solve_kills leaks filter_chains filter_streams filter_solvers checkpoints rounds \
 	examples solver-test instructions neighbours live warnings builds shown
 SIDE_BY_SIDE := --output-sync=target -j $(shell expr $$(nproc) + 2)
 test: SHELL := /bin/bash
 test: toolchain pages solver exact trim explain ## check: the gate, 25 to 100 minutes: every proof, edit and test; has to pass before a push
+	@$(MAKE) -n BUILT= MPI= $(TESTS) > /dev/null
 	@rm -f $(dir $(SOLVE))lrupd; set -o pipefail; log=$$(mktemp); trap 'rm -f "$$log"' EXIT; SECONDS=0; \
 	$(RT) ci | tee "$$log" && proved=$$SECONDS && $(MAKE) --no-print-directory $(SIDE_BY_SIDE) BUILT= MPI= $(TESTS) && \
 	echo "rt ci took $$proved seconds, and the tests of programs $$((SECONDS - proved))" && tail -n 1 "$$log"

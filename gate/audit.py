@@ -1,16 +1,17 @@
 #!/usr/bin/env python3
-"""Writes docs/AUDIT.md, what one has to read to believe status 0 and 8 and checkpoints, and docs/AUDIT-RUNS.md, the same for whole
-runs.
+"""Writes docs/AUDIT.md, what you have to read to believe status 0 and 8 and checkpoints, and docs/THEOREMS.md, the theorems on
+whole runs, sentence by sentence.
 
-    python3 gate/audit.py            writes the pages
-    python3 gate/audit.py --check    fails where a page isn't what the sources give, or DEFINITIONS has other counts
-    python3 gate/audit.py --bare     lists the definitions that have no comment
+    python3 gate/audit.py                  writes both pages
+    python3 gate/audit.py --definitions    writes out/definitions.md, all definitions under the theorems
+    python3 gate/audit.py --check          fails if a page isn't what the sources give, or TRUST has another count
+    python3 gate/audit.py --bare           lists the definitions that have no comment
 
 It begins at clauses of contracts and follows the names, by the files that bring them in, down to the libraries that the
 toolchain comes with. Each definition stands there word for word, with the comment above it, after the one that first uses it. It
 fails at a name of which it doesn't know what it stands for, so that no definition is left out; at a name of a library that
-GLOSSES lacks; where a definition or a clause hasn't the words that a text says it has; and where README's guarantee, or the
-theorem of PROOFS, lacks a phrase that is said to be one of it.
+GLOSSES lacks; if a definition or a clause hasn't the words that a text says it has; if README's guarantee lacks a phrase, or TRUST a
+theorem, that a page has; and if a page is longer than it may be.
 
 audit_sources.py reads the sources, and audit_texts.py has the English.
 """
@@ -19,6 +20,8 @@ from __future__ import annotations
 import re
 import sys
 import textwrap
+from os.path import relpath
+from pathlib import Path
 from typing import Dict, List, Match, Optional, Sequence, Set, Tuple, Union
 
 sys.dont_write_bytecode = True
@@ -46,8 +49,8 @@ class Page:
     page has."""
 
     def __init__(self, file: str, blocks: Sequence[Block], other: Optional[Page] = None, cited: Sequence[Thing] = (),
-                 last: str = "") -> None:
-        self.file, self.path, self.blocks, self.other, self.last = file, DOCS / file, blocks, other, last
+                 last: str = "", folder: Path = DOCS) -> None:
+        self.file, self.path, self.blocks, self.other, self.last = file, folder / file, blocks, other, last
         self.anchors: Dict[Key, str] = {}
         self.wrong: List[str] = []
         slugs: Dict[str, int] = {}
@@ -67,7 +70,7 @@ class Page:
         if thing.key() in self.anchors:
             return "#" + self.anchors[thing.key()]
         if self.other and thing.key() in self.other.anchors:
-            return f"{self.other.file}#{self.other.anchors[thing.key()]}"
+            return f"{relpath(self.other.path, self.path.parent)}#{self.other.anchors[thing.key()]}"
         if thing.key() in self.cited:
             return f"../{thing.path.relative_to(ROOT)}"
         self.wrong.append(f"{self.file}: '{thing.name}' stands on no page")
@@ -93,15 +96,15 @@ class Page:
         elif words not in " ".join(" ".join(texts).split()):
             self.wrong.append(f"{self.file}: {said.split(': ')[0]} doesn't say '{words}'")
         if clauses:
-            listed = ", ".join(f"`{clause}`" for clause in clauses[:-1]) + " and " * (len(clauses) > 1) + f"`{clauses[-1]}`"
-            place = f"clause{'s' * (len(clauses) > 1)} {listed} of {place}"
+            links = [f"[`{found[0].name}.{clause}`]({self.target(found[0])})" for clause in clauses]
+            place = " and ".join([", ".join(links[:-1])] * (len(links) > 1) + links[-1:])
         return f"`{words}` in {place}" if words else place
 
     def text(self) -> str:
         texts: List[str] = []
         for block in self.blocks:
             if isinstance(block, str):
-                texts.append(laid_out(re.sub(r"\[\[(.*?)\]\](?!\])", self.reference, block, flags=re.S)))
+                texts.append(self.placed(laid_out(re.sub(r"\[\[(.*?)\]\](?!\])", self.reference, block, flags=re.S))))
                 continue
             used = dict.fromkeys(thing.key() for thing in block.used()[0])
             things = {thing.key(): thing for thing in block.used()[0]}
@@ -111,6 +114,10 @@ class Page:
             place = f"[{block.crate}](../{block.path.relative_to(ROOT)})" + (": " if links else "") + links
             texts.append(f"### `{block.name}`\n\n```{block.language}\n{self.shown(block)}\n```\n\n{place}")
         return "\n\n".join(texts) + "\n" + self.last
+
+    def placed(self, text: str) -> str:
+        """A text whose links to other pages lead there from this page's folder, too."""
+        return re.sub(r"\]\((\w+\.md)", lambda link: f"]({relpath(DOCS / link[1], self.path.parent)}", text)
 
     def shown(self, block: Thing) -> str:
         """The text of a thing; before the first definition of a file that has a grammar, the grammar."""
@@ -152,9 +159,22 @@ def phrase_by_phrase(said: str, rows: Rows) -> Tuple[str, str]:
     """A sentence, and its phrases, each with what carries it."""
     for phrase, _ in rows:
         if phrase not in said:
-            sys.exit(f"audit: README and PROOFS don't say '{phrase}' in '{said}'")
-    quoted = f"> {said[0].upper()}{said[1:].removesuffix('.')}."
-    return quoted, "\n".join(f"- **{phrase}**: {text}" for phrase, text in rows)
+            sys.exit(f"audit: README doesn't say '{phrase}' in '{said}'")
+    return f"> {said[0].upper()}{said[1:].removesuffix('.')}.", items(rows)
+
+
+def items(rows: Rows) -> str:
+    """Phrases, each with what carries it."""
+    ends = [re.fullmatch(r"(.*?)([,;]?)", phrase) for phrase, _ in rows]
+    return "\n".join(f"- **{end[1]}**{end[2] or ':' * (not end[1].endswith('.'))} {text}" for end, (_, text) in zip(ends, rows))
+
+
+def statement(theorem: str) -> str:
+    """What TRUST says of a theorem, and its exception."""
+    row = re.search(rf"^\| {theorem} \| (.*?) \| (.*?) ?\|$", (DOCS / "TRUST.md").read_text(), re.M)
+    if not row:
+        sys.exit(f"audit: TRUST has no row of the theorem '{theorem}'")
+    return f"> {row[1]}." + (f" This holds unless {row[2]}." if row[2] else "")
 
 
 # The pages, put together.
@@ -178,23 +198,24 @@ def audit_page() -> Tuple[Page, List[Definition]]:
     placed: Dict[Key, Thing] = {}
     first = top_down(by_mention(command.named_by(["sound"]) + [rust_type("command", "Files")], sound[1]), placed)
     more = top_down(by_mention(command.named_by(["sound_under"]), under[1]), placed)
-    chained = phrase_by_phrase(sentence("docs/PROOFS.md", "Runs can be chained."), english.CHECKPOINT_PHRASES)
+    chained = items(english.CHECKPOINT_ROWS)
     kept = [rust_type("command", "Machine"), rust_type("lrup_text", "Sink")]
     laws = [Law(f"checkpoint/src/laws.rt: {name}") for name in "files_refute files_refute_under".split()]
     linked = [thing for thing in closure(command.named_by(["saved"])) if thing.name in english.LINKED]
     placed.update({thing.key(): thing for thing in linked})
-    last = top_down(by_mention(command.named_by(["saved"]) + kept + of_all(laws), chained[1]), placed)
-    things = [command, *first, *more, *laws, *last]
-    count = str(len(definitions_of(first)))
+    last = top_down(by_mention(command.named_by(["saved"]) + kept + of_all(laws), chained), placed)
+    things = [command, *first, *more, *last]
+    crates = ", ".join(f"{count} of `{crate}`" for crate, count in by_crate(definitions_of(first)))
+    count = english.STATUS_0_COUNT.replace("{count}", str(len(definitions_of(first)))).replace("{crates}", crates)
     return Page("AUDIT.md", [
-        english.AUDIT_TOP, sound[0], english.SIGNATURE, command, sound[1], english.ACCOUNT,
-        english.AUDIT_HOW.replace("{count}", count).replace("{twins}", twins(things)), *first,
-        english.STATUS_8_TOP, *under, f"{len(definitions_of(more))} definitions more.", *more,
-        english.CHECKPOINTS_TOP, *chained, english.CHECKPOINTS_ACCOUNT, *laws,
-        f"{len(definitions_of(last))} definitions more.", *last,
+        english.AUDIT_TOP, english.AUDIT_HOW.replace("{twins}", twins(things)),
+        english.STATUS_0, sound[0], english.SIGNATURE, command, sound[1], english.ACCOUNT, count, *first,
+        english.STATUS_8_TOP, *under, *more,
+        english.CHECKPOINTS_TOP, chained, english.CHECKPOINTS_ACCOUNT, *last,
         english.AUDIT_LIBRARIES, libraries(things, []), english.TRUST], cited=[
             arguments, check, Law("command_line/src/laws.rt: plain_words"), Law("dimacs/src/laws.rt: one_formula"),
-            Law("outcome_laws/src/laws.rt: outcomes_refute"), Law("outcome_laws/src/laws.rt: outcomes_refute_under"), *linked,
+            Law("outcome_laws/src/laws.rt: outcomes_refute"), Law("outcome_laws/src/laws.rt: outcomes_refute_under"),
+            *laws, *linked,
         ], last=front()), definitions_of(first)
 
 
@@ -218,7 +239,8 @@ class Runs:
         self.store_laws, self.group_laws = laws(english.STORE_LAWS), laws(english.GROUP_LAWS)
         self.right_laws, self.program_laws = laws(english.RIGHT_LAWS), laws(english.PROGRAM_LAWS)
         self.ends = Contract("command/src/program.rt: command", ["ends"], commented=False)
-        self.texts = [phrase_by_phrase(sentence("docs/PROOFS.md", mark), rows) for mark, rows in english.RUNS_PASSAGES]
+        self.theorems = [block for number, (name, top, rows, account) in enumerate(english.THEOREMS, 1)
+                         for block in (f"## {number}. {name}", statement(name), top, items(rows), account) if block]
 
     def linked(self, placed: Dict[Key, Thing]) -> List[Thing]:
         """The things of the program and its laws to which the page links in the sources."""
@@ -227,11 +249,11 @@ class Runs:
 
     def definitions(self, placed: Dict[Key, Thing]) -> List[Block]:
         """The definitions, under a title for each part of them."""
-        run, phrases = self.run, "\n".join(phrases for _, phrases in self.texts)
+        run, phrases = self.run, "\n".join(self.theorems)
         sections = {
             "the history": run.named_by(["history"]), "the calls of the store": of_all(self.store + self.store_laws),
             "the reports": run.named_by(["reports"]),
-            "isolated groups": run.named_by(["isolated", "alone"]) + of_all(self.group_laws),
+            "isolated groups": run.named_by(["isolated"]) + of_all(self.group_laws),
             "serializable lines": run.named_by(["serializable"]), "right proofs": of_all(self.right_laws),
             "rounds": [thing for thing in closure(of_all([self.ends])) if is_of_rounds(thing)],
             "the program": [thing for thing in of_all(self.program_laws) if thing.crate == "outcome_laws"],
@@ -242,29 +264,28 @@ class Runs:
         return blocks
 
 
-def runs_page(audit: Page) -> Tuple[Page, Contract]:
-    """The page on whole runs, and the contract that it is about."""
+def runs_pages(audit: Page) -> Tuple[Page, Page]:
+    """The pages on whole runs: the theorems, and the definitions under them, which aren't kept in the repository."""
     runs = Runs()
-    run, texts = runs.run, runs.texts
     placed = {thing.key(): thing for thing in [*audit.things, *runs.traits]}
     linked = runs.linked(placed)
     placed.update({thing.key(): thing for thing in linked})
     definitions = runs.definitions(placed)
     bare_laws = [*runs.store_laws, *runs.group_laws, *runs.right_laws]
-    things = [run, runs.serial, *runs.store, *runs.asked, *runs.traits, *bare_laws, runs.ends, *runs.program_laws]
+    things = [runs.run, runs.serial, *runs.store, *runs.asked, *runs.traits, *bare_laws, runs.ends, *runs.program_laws]
     things += [block for block in definitions if not isinstance(block, str)]
-    count = f"{len(definitions_of(things))} definitions stand here; they use {len(definitions_of(shared(things, audit)))} of AUDIT."
-    blocks = [
-        english.RUNS_TOP, *texts[0], english.ISOLATION_TOP, *texts[1], english.SERIALIZABLE_TOP, *texts[2],
-        english.SERIALIZABLE_VERDICT, english.RIGHT_TOP, *texts[3], english.ROUNDS_TOP, *texts[4], english.ROUNDS_ACCOUNT,
-        english.RUNS_HOW.replace("{constructors}", constructors(things)).replace("{twins}", twins(things)).strip(),
-        english.CONTRACTS, run, runs.serial, english.CALLS, *runs.store, english.ASKED, *runs.traits, *runs.asked,
-        english.LAWS, *bare_laws, english.PROGRAM, runs.ends, *runs.program_laws, count, *definitions,
-        english.RUNS_LIBRARIES, libraries(things, [audit])]
-    blocks[0] = english.RUNS_TOP.replace("{contents}", contents(blocks))
     below = Contract("stream_threads/src/joining.rt: check_all", ["found"])
-    finishes = specs("stream_threads", "Jobs").definitions["Finishes"]
-    return Page("AUDIT-RUNS.md", blocks, other=audit, cited=[below, finishes, *linked]), run
+    cited = [below, specs("stream_threads", "Jobs").definitions["Finishes"], *linked]
+    blocks = [
+        english.DEFINITIONS_TOP,
+        english.RUNS_HOW.replace("{constructors}", constructors(things)).replace("{twins}", twins(things)).strip(),
+        english.CONTRACTS, runs.run, runs.serial, english.CALLS, *runs.store, english.ASKED, *runs.traits, *runs.asked,
+        english.LAWS, *bare_laws, english.PROGRAM, runs.ends, *runs.program_laws, *definitions,
+        english.RUNS_LIBRARIES, libraries(things, [audit])]
+    blocks[0] = english.DEFINITIONS_TOP.replace("{contents}", contents(blocks))
+    top = english.RUNS_TOP.replace("{count}", str(len(definitions_of(things)))).replace("{contents}", contents(runs.theorems))
+    return (Page("THEOREMS.md", [top, *runs.theorems], other=audit, cited=[*things, *cited]),
+            Page("definitions.md", blocks, other=audit, cited=cited, folder=ROOT / "out"))
 
 
 def laws(places: Sequence[str]) -> List[Contract]:
@@ -284,12 +305,6 @@ def is_linked(thing: Thing) -> bool:
 
 def is_of_rounds(thing: Thing) -> bool:
     return thing.crate == "command" and thing.path.name in ("Rounds.antt", "Paths.antt")
-
-
-def shared(things: Sequence[Thing], page: Page) -> List[Thing]:
-    """The things of another page that these use."""
-    used = {thing.key(): thing for user in things for thing in user.used()[0]}
-    return [thing for key, thing in used.items() if key in page.anchors]
 
 
 def glosses() -> Dict[str, str]:
@@ -337,8 +352,8 @@ def constructors(things: Sequence[Thing]) -> str:
                 for thing in definition.file.resolve(word, member):
                     types.setdefault(word, set()).add(thing.name)
     said = [f"`{word}.` of {' or '.join(f'`{name}`' for name in sorted(types[word]))}" for word in sorted(types)]
-    return f"""- **Constructors.** Where a dot stands in front of one, the name before it tells its type, as the file brings it in:
-        {", ".join(said)}. Without a dot it is of the type that the signature has at its place."""
+    return f"""- **Constructors.** If a dot stands in front of a constructor, the name before the dot tells its type:
+        {", ".join(said)}. Without a dot its type is the one that the signature has at its place."""
 
 
 def twins(things: Sequence[Thing]) -> str:
@@ -359,15 +374,10 @@ def twins(things: Sequence[Thing]) -> str:
     return f"- **One name for two things.** {'; '.join(said)}." if said else ""
 
 
-def stale_counts(sound: Sequence[Definition], run: Contract) -> List[str]:
-    """The counts that DEFINITIONS lacks."""
-    under = definitions_of(top_down(run.used()[0], {}))
-    both = len({definition.key() for definition in sound} & {definition.key() for definition in under})
-    wanted = [f"These are {len(sound)},", f"takes {len(under)} definitions, of which {both} stand behind status 0 too"]
-    wanted += [f"| `{crate}` | {count}: " for crate, count in by_crate(sound)]
-    wanted += [f"{count} of `{crate}`" for crate, count in by_crate(under) if crate in ("runs", "run_laws")]
-    text = " ".join((DOCS / "DEFINITIONS.md").read_text().split())
-    return [f"docs/DEFINITIONS.md doesn't say '{phrase}'" for phrase in wanted if phrase not in text]
+def stale_counts(sound: Sequence[Definition]) -> List[str]:
+    """The count that TRUST lacks."""
+    wanted = f"all {len(sound)} definitions of status 0"
+    return [] if wanted in " ".join((DOCS / "TRUST.md").read_text().split()) else [f"docs/TRUST.md doesn't say '{wanted}'"]
 
 
 def by_crate(definitions: Sequence[Definition]) -> List[Tuple[str, int]]:
@@ -399,28 +409,31 @@ def stale_pages(texts: Dict[Page, str]) -> List[str]:
     return [f"docs/{file} isn't what the sources give: run make audit" for file in stale]
 
 
+def too_long(page: Page, text: str) -> List[str]:
+    counted, most = len(text.removesuffix(page.last).split()), english.MOST_WORDS[page.file]
+    return [f"docs/{page.file} has {counted} words, and may have {most}"] if counted > most else []
+
+
 def main(words: Sequence[str]) -> None:
     audit, sound = audit_page()
-    runs, run = runs_page(audit)
-    pages = [audit, runs]
-    texts = {page: page.text() for page in pages}
-    wrong = doubts(pages) + unexplained(pages) + [line for page in pages for line in page.wrong]
-    counted = len(texts[audit].removesuffix(audit.last).split())
-    if counted > english.MOST_WORDS:
-        wrong.append(f"docs/AUDIT.md has {counted} words but for the front, and may have {english.MOST_WORDS}")
+    theorems, definitions = runs_pages(audit)
+    pages, kept = [audit, definitions], [audit, theorems]
+    texts = {page: page.text() for page in [*kept, definitions]}
+    wrong = doubts(pages) + unexplained(pages) + [line for page in texts for line in page.wrong]
+    wrong += [line for page in kept for line in too_long(page, texts[page])]
     if words == ["--check"] and not wrong:
-        wrong = stale_counts(sound, run) + stale_pages(texts)
+        wrong = stale_counts(sound) + stale_pages({page: texts[page] for page in kept})
     if wrong:
         sys.exit("\n".join(wrong))
     if words == ["--bare"]:
         print("\n".join(without_comment(pages)))
-    elif words not in ([], ["--check"]):
+    elif words not in ([], ["--check"], ["--definitions"]):
         sys.exit(__doc__)
-    elif not words:
-        for page, text in texts.items():
-            page.path.write_text(text)
-            each = ", ".join(f"{count} of {crate}" for crate, count in by_crate(definitions_of(page.things)))
-            print(f"docs/{page.file}: {len(text.split())} words, {len(definitions_of(page.things))} definitions: {each}")
+    elif words != ["--check"]:
+        for page in kept if not words else [definitions]:
+            page.path.parent.mkdir(exist_ok=True)
+            page.path.write_text(texts[page])
+            print(f"{page.path.relative_to(ROOT)}: {len(texts[page].split())} words, {len(definitions_of(page.things))} definitions")
 
 
 if __name__ == "__main__":

@@ -5,7 +5,7 @@
 
 rt lets one run at a time into a crate and those below it, and nearly all stand on lrup_model. So each library is proved in a lane:
 a folder with copies of its sources and of the libraries below, into which its out/ is moved for that time. Those with the longest
-way to the program come first, by the seconds of the table in CONTRIBUTING. Where a build is broken off, the next one goes on with
+way to the program come first, by SECONDS. Where a build is broken off, the next one goes on with
 what was proved. At the end `rt run` proves and runs the program. It knows by sums which libraries are proved, and proves any other
 again: nothing rests on what stands here.
 """
@@ -34,7 +34,11 @@ GB_EACH = 3.5  # with four jobs; the most that was seen is 3.3
 
 LINES = {line.split(":")[0]: line for line in (ROOT / "crates.txt").read_text().splitlines() if ":" in line}
 USES = {name: [word for word in line.split() if word in LINES] for name, line in LINES.items()}  # of the repository
-SECONDS = dict(re.findall(r"^\| `(\w+)` \| (\d+)", (ROOT / "CONTRIBUTING.md").read_text(), re.M))
+# Processor seconds of a crate's proofs from nothing, as rt ci spent them on four cores.
+SECONDS = {
+    "lrup_model": 90, "dimacs": 80, "lrup_text": 180, "propagate": 65, "stream_check": 180, "idwords": 60, "clause_store": 60,
+    "checkpoint": 70, "portfolio": 330, "stream_ring": 80, "stream_jobs": 100, "stream_threads": 205, "runs": 20, "run_laws": 35,
+    "command_line": 95, "command": 180, "lrupd": 80}
 
 
 def below(name):
@@ -45,7 +49,7 @@ ALL = {PROGRAM, *below(PROGRAM)}
 
 
 def seconds(*names):
-    return sum(int(SECONDS.get(name, 60)) for name in names)
+    return sum(SECONDS.get(name, 60) for name in names)
 
 
 def way(name):
@@ -56,7 +60,8 @@ def way(name):
 def is_young(name):
     """Whether the library is younger than its sources. If it doesn't fit them all the same, `rt run` will see that."""
     stamp = CRATES / name / "out/rlib/stamp"
-    files = [file for crate in {name, *below(name)} for part in PARTS for file in (CRATES / crate / part).rglob("*")]
+    parts = [CRATES / crate / part for crate in {name, *below(name)} for part in PARTS]
+    files = [file for part in parts for file in part.rglob("*") if file.suffix != ".md"]
     return stamp.is_file() and stamp.stat().st_mtime > max(file.stat().st_mtime for file in files)
 
 

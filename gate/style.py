@@ -5,7 +5,7 @@
 
 It lists names in backticks, in the documents, that don't exist; lines of clauses and of definitions beyond 100 columns, and of
 proofs beyond 140; lemmas that are stated twice; names that mean one thing in one crate and another in another; where the picture of
-the crates isn't what crates.txt says; targets of the Makefile that CONTRIBUTING doesn't list as `make help` does; links in the
+the crates isn't what crates.txt says; targets of the Makefile that `make help` doesn't list; links in the
 documents that lead nowhere; edits that the gate leaves out, and that don't fit their sources; whether the logic of README is the one of the `rt` on the
 PATH, if there is one; and whether `lrupd --version` says what the file VERSION does. The last line has the counts, and the status
 is 1 where one of them isn't 0.
@@ -32,8 +32,8 @@ PROOF_COLUMNS = 140
 # What stands in backticks and isn't of this repository: the toolchain's, the system's, other programs', and what a text makes up.
 FOREIGN = set("""
 ANTT.md CONTRACTS.md SHORTER_PROOFS.md BUILD.bazel start_lib start_io proves untested --only
-cadical libcadical-dev yosys -j -v -q --plain --no-binary pv socat ssh madvise
-veth docker0 btl_tcp_if_include --host oob_tcp_keepalive_time oob_tcp_keepalive_intvl oob_tcp_keepalive_probes plm_rsh_agent
+cadical libcadical-dev yosys -j -v -q --plain --no-binary socat ssh
+veth --host plm_rsh_agent
 %formula %proof :init :goal formula.cnf ten.cnf proof.lrat core.cnf kept/command
 GLIBC_TUNABLES=glibc.malloc.hugetlb=1
 group1 group2 my_lemma run_ serial_ worker_ XValue OPTIONS=--serial LIMIT=900
@@ -213,27 +213,18 @@ def wrong_arrows():
             yield f"{shown(page)}: the picture {what} {crate} --> {name}"
 
 
-# The Makefile's lines in CONTRIBUTING.
+# The Makefile's targets.
 
 UNLISTED = {"help", "toolchain", "c-and-python", "libcadical", "mpicxx", "beside-it"}
 
 
 def unlisted_targets():
-    """Those that `make help` leaves out, and its lines that CONTRIBUTING hasn't, or has beyond them."""
+    """Those that `make help` leaves out."""
     words = ["make", "-s", "--no-print-directory", "help"]
     says = subprocess.run(words, cwd=ROOT, capture_output=True, text=True, check=True).stdout
     for name in re.findall(r"^([a-z-]+):(?! [A-Z]+ :=)", (ROOT / "Makefile").read_text(), re.M):
         if name not in UNLISTED and f"  make {name} " not in says:
             yield f"Makefile: make help says nothing of {name}: its line lacks ' ## KIND: WHAT IT DOES'"
-    page = ROOT / "CONTRIBUTING.md"
-    block = re.search(r"^    \$ make help\n((?:    .+\n)*)", page.read_text(), re.M)
-    told = re.sub(r"^    ", "", block[1], flags=re.M).splitlines() if block else []
-    for what, lines, others in (("lacks", says.splitlines(), told), ("has, and make help doesn't print,", told, says.splitlines())):
-        for line in lines:
-            if line not in others:
-                yield f"{shown(page)}: {what} '{line}'"
-    if not block or sorted(told) == sorted(says.splitlines()) and told != says.splitlines():
-        yield f"{shown(page)}: the lines of make help stand in another order"
 
 
 # The logic that all is proved in.
@@ -380,7 +371,7 @@ def names_of(span):
 def unknown_names():
     sources = Sources()
     targets = re.findall(r"^([a-z-]+):", (ROOT / "Makefile").read_text(), re.M)
-    pages = [path for path in files(r".*\.md") if path.name not in ("AUDIT.md", "AUDIT-RUNS.md")]   # made of the sources
+    pages = [path for path in files(r".*\.md") if path.name not in ("AUDIT.md", "THEOREMS.md")]   # made of the sources
     for path, number, span in ((path, *found) for path in pages for found in spans(path)):
         words = names_of(span) if span not in FOREIGN and not span.startswith("rt ") else []
         unknown = [word for word in words if word not in FOREIGN and not sources.has(word)]
@@ -427,7 +418,7 @@ def main():
               ("lines of definitions too wide", wide_definitions), ("lines of proofs too wide", wide_proofs),
               ("statements of lemmas more than once", repeated_statements), ("names with two meanings", names_with_two_meanings),
               ("arrows that are wrong", wrong_arrows),
-              ("targets and lines of make help that differ", unlisted_targets), ("links that lead nowhere", dead_links),
+              ("targets that make help lacks", unlisted_targets), ("links that lead nowhere", dead_links),
               ("edits that don't fit", misfits),
               ("other logics", other_logics), ("other versions", other_versions)]
     counts = []

@@ -1,12 +1,13 @@
 #!/usr/bin/env python3
-"""Writes the tables of faults and causes in USING, and those of options, statuses and faults in the manual page lrupd.1.
+"""Writes the tables of faults, causes and limits in USING, and those of options, statuses and faults in the manual page lrupd.1.
 
     python3 gate/tables.py            writes them
     python3 gate/tables.py --check    fails where one isn't what the sources give
 
 The sources are docs/interface.txt, and of the options the program's own texts, crates/command_line/src/help.rt. Each table stands
 between a comment that has its name and says what it is made from, and one that says where it ends. It fails if docs/interface.txt
-and the program have other options, or the definitions other texts of faults and causes.
+and the program have other options, or the definitions other texts of faults and causes; if FORMAT names other faults; and if a page
+lacks a limit or a default that docs/interface.txt says it has, as the code has it.
 """
 import re
 import sys
@@ -20,7 +21,10 @@ HELP = ROOT / "crates" / "command_line" / "src" / "help.rt"
 FAULTS = ROOT / "crates" / "stream_check" / "specs" / "Faults.antt"
 CAUSES = [ROOT / "crates" / "command" / "specs" / "Faults.antt", ROOT / "crates" / "lrup_model" / "specs" / "Layout.antt"]
 COLUMNS = 79  # of the manual page
-FIELDS: Dict[str, List[str]] = {"option": [], "status": ["meaning", "says"], "fault": ["meaning", "cause"]}
+FORMAT = ROOT / "docs" / "FORMAT.md"
+NUMBER = r"(UINT64_C\(1\) << \d+|[\d_]+)"
+FIELDS: Dict[str, List[str]] = {"option": [], "status": ["meaning", "says"], "fault": ["meaning", "cause"],
+                                "limit": ["from", "pages"], "default": ["from", "pages"]}
 MAY_BE_MISSING = ["says", "cause"]
 
 Entry = Dict[str, str]
@@ -114,6 +118,47 @@ def sizes() -> str:
     return " ".join(program_texts()["EXAMPLE"].split("\n\n")[0].split())
 
 
+# Limits and defaults.
+
+
+def number_at(place: str) -> int:
+    """The number that a file has once in the place of a question mark: `tools/exact/stream.h DIGITS = ?`."""
+    name, _, text = place.partition(" ")
+    found = re.findall(rf"(?<!\w){re.escape(text)}".replace(r"\?", NUMBER), (ROOT / name).read_text())
+    if len(found) != 1:
+        sys.exit(f"tables: docs/interface.txt: {name} has '{text}' {len(found)} times")
+    power = found[0].partition("<< ")[2]
+    return 1 << int(power) if power else int(found[0].replace("_", ""))
+
+
+def figure_of(entry: Entry) -> int:
+    """The number of a limit or a default, which is one in all files that have it."""
+    found = {number_at(f"{name} {text}") for name, text in re.findall(r"(\S+) `([^`]+)`", entry["from"])}
+    if len(found) != 1:
+        sys.exit(f"tables: not one number in {entry['from']}: {sorted(found)}")
+    return found.pop()
+
+
+def spellings(number: int) -> List[str]:
+    """With commas or without, and in MiB or GiB."""
+    units = [f"{number >> power} {unit}" for power, unit in ((20, "MiB"), (30, "GiB")) if number % (1 << power) == 0]
+    return [f"{number:,}", str(number), *units]
+
+
+def without_figure() -> Iterator[str]:
+    """The pages that lack a figure which they should have, or a fault of the format."""
+    for entry in entries("limit") + entries("default"):
+        number = figure_of(entry)
+        shown = "|".join(rf"(?<![\d,.]){spelling}(?!,?\d)" for spelling in spellings(number))
+        for page in entry["pages"].split(", "):
+            if not re.search(shown, " ".join((ROOT / page).read_text().split())):
+                yield f"{page} lacks {number:,}: {entry.get('limit') or entry.get('default')}"
+    section = FORMAT.read_text().partition("## Faults\n")[2].partition("\n## ")[0]
+    named = {span for span in re.findall("`([^`]+)`", section) if not re.fullmatch(r"H|--\w+|lrup[\w-]+", span)}
+    for fault in sorted(named ^ {entry["fault"] for entry in entries("fault")}):
+        yield f"docs/FORMAT.md and docs/interface.txt: one of both lacks the fault `{fault}`"
+
+
 # Markdown.
 
 
@@ -129,6 +174,10 @@ def cause_table() -> str:
 def fault_table() -> str:
     rows = [[f"`{entry['fault']}`", entry["meaning"], entry.get("cause", "")] for entry in faults()]
     return table(["Fault", "Meaning", "Usual cause"], rows)
+
+
+def limit_table() -> str:
+    return table(["Limit", "Value"], [[entry["limit"], f"{figure_of(entry):,}"] for entry in entries("limit")])
 
 
 # The manual page, in mdoc.
@@ -185,7 +234,7 @@ def synopsis() -> str:
 
 Part = Callable[[], str]
 PARTS: Dict[str, Dict[str, Part]] = {
-    "docs/USING.md": {"faults": fault_table, "causes": cause_table},
+    "docs/USING.md": {"faults": fault_table, "causes": cause_table, "limits": limit_table},
     "docs/lrupd.1": {
         "synopsis": synopsis,
         "options": lambda: items([(option.head, marked(option.text)) for option in options()]),
@@ -223,6 +272,9 @@ def main(words: Sequence[str]) -> None:
         sys.exit("\n".join(f"{name} has other tables than docs/interface.txt and help.rt: run make tables" for name in stale))
     for name in stale:
         (ROOT / name).write_text(written_anew(name, PARTS[name]))
+    lacking = list(without_figure())
+    if lacking:
+        sys.exit("\n".join(lacking))
 
 
 if __name__ == "__main__":

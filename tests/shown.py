@@ -28,6 +28,7 @@ PAGES: List[Tuple[str, Sequence[str], Sequence[str]]] = [
     ("docs/USING.md", ["random 150 1 > formula.cnf"], ["cadical", "cryptominisat5"]),
     ("docs/EMITTING.md", ["examples/bmc.cnf > formula.cnf", "examples/bmc.lrup > proof"], []),
     ("docs/TRUST.md", ["random 150 1 > formula.cnf"], []),
+    ("examples/README.md", [], ["yosys"]),
     ("examples/planning/README.md", [], []),
     ("examples/lemma/README.md", [], []),
     ("examples/fifo/README.md", [], ["yosys"]),

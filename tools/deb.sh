@@ -20,7 +20,7 @@ documents=$root/usr/share/doc/lrupd
 mkdir -p "$documents/examples" "$root/DEBIAN"
 cp "$top/README.md" "$top"/docs/USING.md "$top"/docs/FORMAT.md "$top"/docs/EMITTING.md "$top"/docs/TRUST.md "$documents"
 cp "$top"/examples/README.md "$top"/examples/*.cnf "$top"/examples/*.cube "$top"/examples/*.lrup "$top"/examples/*.[1-4] \
-    "$top"/examples/*.out "$top"/examples/chain.py "$documents/examples"
+    "$top"/examples/*.out "$top"/examples/chain.py "$top"/examples/*.awk "$documents/examples"
 gzip -9nc "$top/CHANGELOG.md" > "$documents/changelog.gz"
 for file in "$top"/LICENSE* "$top"/COPYING* "$top"/copyright; do
     [ ! -f "$file" ] || cat "$file" >> "$documents/copyright"

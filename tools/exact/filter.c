@@ -9,10 +9,10 @@ enum { DEAD_WORDS = 1 << 15 };      // so many at least are given back
 enum { WORDS_OF_A_STEP = 1 << 11 };  // that filter_check goes through
 
 // One that is a tautology is never unit.
-static void make_known(Filter *filter, Place place) {
-    if (clause_at(&filter->clauses, place)->flags & TAUTOLOGY) return;
-    PUSH(&filter->propagation.waiting, place);
-    if (!filter->frat) clauses_keep_set(&filter->clauses, place);
+static void make_known(Filter *filter, ClauseRef ref) {
+    if (clause_at(&filter->clauses, ref)->flags & TAUTOLOGY) return;
+    PUSH(&filter->propagation.waiting, ref);
+    if (!filter->frat) clauses_keep_set(&filter->clauses, ref);
 }
 
 // With FRAT the formula's clauses have names as the proof tells them, and else by their order. Of the formula two numbers stay. In
@@ -27,9 +27,9 @@ void filter_open(Filter *filter, bool frat) {
     for (size_t k = 0; k < formula->clauses; k++) {
         formula_clause(formula, k, literals);
         bool tautology = literals_clash(literals->items, literals->length);
-        Place place = clauses_add(&filter->clauses, k + 1, literals->items, literals->length, tautology);
-        if (!frat) clauses_name(&filter->clauses, k + 1, place);
-        make_known(filter, place);
+        ClauseRef ref = clauses_add(&filter->clauses, k + 1, literals->items, literals->length, tautology);
+        if (!frat) clauses_name(&filter->clauses, k + 1, ref);
+        make_known(filter, ref);
     }
     literals->length = 0;
     if (frat) clauses_keep_sets(&filter->clauses);
@@ -39,7 +39,7 @@ void filter_open(Filter *filter, bool frat) {
 
 void filter_name_formula(Filter *filter) {
     uint64_t name = 0;
-    for (Place place = 0; (place = clauses_after(&filter->clauses, place)) != 0;) clauses_name(&filter->clauses, ++name, place);
+    for (ClauseRef ref = 0; (ref = clauses_after(&filter->clauses, ref)) != 0;) clauses_name(&filter->clauses, ++name, ref);
     filter->frat = false;
 }
 
@@ -48,7 +48,7 @@ static uint64_t owner(const Filter *filter, uint64_t identity) {
 }
 
 // The literals of a step, each once, and marked. False where the formula doesn't have one of the variables.
-static bool take(Filter *filter, const int64_t *numbers, size_t length, bool *tautology) {
+static bool mark_literals(Filter *filter, const int64_t *numbers, size_t length, bool *tautology) {
     unsigned char *marks = filter->hints.marks;
     int64_t variables = filter->formula.variables;
     Literals *literals = &filter->literals;
@@ -65,37 +65,37 @@ static bool take(Filter *filter, const int64_t *numbers, size_t length, bool *ta
     return true;
 }
 
-static void release(Filter *filter) {
+static void unmark_literals(Filter *filter) {
     for (size_t k = 0; k < filter->literals.length; k++) filter->hints.marks[filter->literals.items[k]] = OPEN;
     filter->literals.length = 0;
 }
 
-static bool take_or_stop(Filter *filter, const int64_t *numbers, size_t length) {
+static bool mark_or_stop(Filter *filter, const int64_t *numbers, size_t length) {
     bool tautology;
-    if (!take(filter, numbers, length, &tautology)) stop("a variable that the formula doesn't have");
+    if (!mark_literals(filter, numbers, length, &tautology)) stop("a variable that the formula doesn't have");
     return tautology;
 }
 
 // The clause of this name, where another stream derived it, or 0.
-static Place find_other(Filter *filter, int64_t name) {
+static ClauseRef find_other(Filter *filter, int64_t name) {
     uint64_t identity = (uint64_t)name;
     if (filter->frat || name <= (int64_t)filter->formula.clauses) return 0;
     Other *other = others_find(&filter->others, owner(filter, identity));
     if (other == NULL) return 0;
-    Place place = other_clause(other, &filter->clauses, identity);
-    if (place == 0) return 0;
-    clauses_name(&filter->clauses, identity, place);
-    make_known(filter, place);
-    return place;
+    ClauseRef ref = other_clause(other, &filter->clauses, identity);
+    if (ref == 0) return 0;
+    clauses_name(&filter->clauses, identity, ref);
+    make_known(filter, ref);
+    return ref;
 }
 
-static inline Place find(Filter *filter, int64_t name) {
-    Place place = clauses_named(&filter->clauses, (uint64_t)name);
-    return place != 0 || filter->others.length == 0 ? place : find_other(filter, name);
+static inline ClauseRef find(Filter *filter, int64_t name) {
+    ClauseRef ref = clauses_named(&filter->clauses, (uint64_t)name);
+    return ref != 0 || filter->others.length == 0 ? ref : find_other(filter, name);
 }
 
 static Found try_hints(Filter *filter, const Addition *addition) {
-    Places *given = &filter->given;
+    ClauseRefs *given = &filter->given;
     RESERVE(given, addition->hinted);
     for (size_t k = 0; k < addition->hinted; k++) {
         given->items[k] = find(filter, addition->hints[k]);
@@ -128,7 +128,7 @@ static bool has_identities(const Filter *filter, const Addition *addition) {
     return !addition->named || filter->frat || filter->hooks || is_alone || (filter->renumbered && !filter->keeps_identities);
 }
 
-static Place add_clause(Filter *filter, uint64_t identity) {
+static ClauseRef add_clause(Filter *filter, uint64_t identity) {
     assert(identity > filter->last && identity > filter->formula.clauses && owner(filter, identity) == filter->stream);
     filter->last = identity;
     return clauses_add(&filter->clauses, identity, filter->literals.items, filter->literals.length, false);
@@ -141,10 +141,10 @@ static void write_line(const Filter *filter) {
     write_numbers(filter->chain.items, filter->chain.length);
 }
 
-Place filter_write_line(Filter *filter, uint64_t identity) {
-    Place place = add_clause(filter, identity);
+ClauseRef filter_write_line(Filter *filter, uint64_t identity) {
+    ClauseRef ref = add_clause(filter, identity);
     write_line(filter);
-    return place;
+    return ref;
 }
 
 static void write_addition(Filter *filter, const Addition *addition, Found found) {
@@ -162,7 +162,7 @@ static void write_addition(Filter *filter, const Addition *addition, Found found
 // A chain by unit propagation. A round may end at each line that comes before it.
 static void look_for_chain(Filter *filter, bool has_lemmas) {
     Propagation *propagation = &filter->propagation;
-    Place conflict = propagation_conflict(propagation, &filter->literals);
+    ClauseRef conflict = propagation_conflict(propagation, &filter->literals);
     if (conflict == 0)
         stop("no conflict by unit propagation: a RAT step, which lrupd doesn't check, or a clause that doesn't follow");
     if (filter->literals.length > LITERALS_OF_A_LINE) stop("longer than a line may be");
@@ -205,9 +205,9 @@ static void derive(Filter *filter, const Addition *addition) {
     filter->refuted = filter->literals.length == 0 && has_identities(filter, addition);
     uint64_t identity = new_identity(filter, addition);
     filter->renumbered |= addition->named && addition->name != (int64_t)identity;
-    Place place = add_clause(filter, identity);
-    if (addition->named) clauses_name(&filter->clauses, (uint64_t)addition->name, place);
-    make_known(filter, place);
+    ClauseRef ref = add_clause(filter, identity);
+    if (addition->named) clauses_name(&filter->clauses, (uint64_t)addition->name, ref);
+    make_known(filter, ref);
     write_addition(filter, addition, found);
     if (filter->hooks) filter->hooks->derived(filter);
     forget_lemmas(filter);
@@ -218,12 +218,12 @@ void filter_add(Filter *filter, const Addition *addition) {
     int64_t least = 0;
     for (size_t k = 0; k < addition->hinted; k++) least = addition->hints[k] < least ? addition->hints[k] : least;
     if (least < 0) stop("a RAT step (negative hints), which lrupd doesn't check: switch off the techniques that make them");
-    bool tautology = take_or_stop(filter, addition->literals, addition->length);
+    bool tautology = mark_or_stop(filter, addition->literals, addition->length);
     if (addition->named && clauses_named(&filter->clauses, (uint64_t)addition->name) != 0)
         stop("the identity %lld a second time", (long long)addition->name);
     if (!tautology && !filter->refuted) derive(filter, addition);
     filter->marked = false;
-    release(filter);
+    unmark_literals(filter);
     CHECK(filter_check(filter));
 }
 
@@ -252,31 +252,31 @@ void filter_import(Filter *filter, int64_t identity, const int64_t *literals, si
     if (filter->refuted) return;
     if (identity < 1 || (identity > formula && owner(filter, (uint64_t)identity) == filter->stream))
         stop("an import of %lld, which is no clause of the formula or of another stream", (long long)identity);
-    bool tautology = take_or_stop(filter, literals, length);
+    bool tautology = mark_or_stop(filter, literals, length);
     if (length > LITERALS_OF_A_LINE) stop("longer than a line may be");
     if (identity > formula && filter->renumbered && !filter->keeps_identities)
         stop("an import, and the proof's identities aren't those of its stream");
     filter->keeps_identities |= identity > formula;
-    Place place = find(filter, identity);
-    if (clauses_named(&filter->dropped, (uint64_t)identity) != 0 || (place == 0 && identity <= formula))
+    ClauseRef ref = find(filter, identity);
+    if (clauses_named(&filter->dropped, (uint64_t)identity) != 0 || (ref == 0 && identity <= formula))
         stop("an import of %lld, which was deleted", (long long)identity);
-    if (place == 0) {
-        place = clauses_add(&filter->clauses, (uint64_t)identity, filter->literals.items, filter->literals.length, tautology);
-        clauses_name(&filter->clauses, (uint64_t)identity, place);
-        make_known(filter, place);
-    } else if (!same_literals(filter, clause_at(&filter->clauses, place))) {
+    if (ref == 0) {
+        ref = clauses_add(&filter->clauses, (uint64_t)identity, filter->literals.items, filter->literals.length, tautology);
+        clauses_name(&filter->clauses, (uint64_t)identity, ref);
+        make_known(filter, ref);
+    } else if (!same_literals(filter, clause_at(&filter->clauses, ref))) {
         stop("the literals of the import aren't those of the clause %lld", (long long)identity);
     }
-    release(filter);
+    unmark_literals(filter);
     write_import((uint64_t)identity, literals, length);
 }
 
 // As an import, but that the proof has no name for the clause.
 void filter_take_over(Filter *filter, uint64_t identity, const int64_t *literals, size_t length) {
-    bool tautology = take_or_stop(filter, literals, length);
+    bool tautology = mark_or_stop(filter, literals, length);
     if (length > LITERALS_OF_A_LINE) stop("longer than a line may be");
     make_known(filter, clauses_add(&filter->clauses, identity, filter->literals.items, filter->literals.length, tautology));
-    release(filter);
+    unmark_literals(filter);
     write_import(identity, literals, length);
 }
 
@@ -294,9 +294,9 @@ static void give_back(Filter *filter) {
 }
 
 // One that literals rest on for good may be needed again, and stays.
-static void delete(Filter *filter, Place place) {
-    uint64_t identity = clause_at(&filter->clauses, place)->identity;
-    clauses_delete(&filter->clauses, place);
+static void delete(Filter *filter, ClauseRef ref) {
+    uint64_t identity = clause_at(&filter->clauses, ref)->identity;
+    clauses_delete(&filter->clauses, ref);
     if (filter->keeps_clauses) return;
     PUSH(&filter->chain, identity);
     if (identity <= filter->formula.clauses || owner(filter, identity) == filter->stream) return;
@@ -328,33 +328,33 @@ void filter_delete(Filter *filter, const int64_t *names, size_t length) {
     if (filter->propagation.used) propagation_settle(&filter->propagation);
     filter->chain.length = 0;
     for (size_t k = 0; k < length; k++) {
-        Place place = clauses_named(&filter->clauses, (uint64_t)names[k]);
-        if (place == 0) continue;
-        bool needed = propagation_needs(&filter->propagation, place);
+        ClauseRef ref = clauses_named(&filter->clauses, (uint64_t)names[k]);
+        if (ref == 0) continue;
+        bool needed = propagation_needs(&filter->propagation, ref);
         if (!needed || filter->frat) clauses_forget_name(&filter->clauses, (uint64_t)names[k]);
-        if (!needed) delete(filter, place);
+        if (!needed) delete(filter, ref);
     }
     filter_write_deletion(filter);
 }
 
 // The clause of these literals that isn't taken already, or 0.
-static Place take_set(Filter *filter, const int64_t *literals, size_t length) {
+static ClauseRef take_set(Filter *filter, const int64_t *literals, size_t length) {
     bool tautology;
-    Place place = 0;
-    if (take(filter, literals, length, &tautology))
-        place = clauses_take_set(&filter->clauses, filter->literals.items, filter->literals.length, filter->hints.marks);
-    release(filter);
-    return place;
+    ClauseRef ref = 0;
+    if (mark_literals(filter, literals, length, &tautology))
+        ref = clauses_take_set(&filter->clauses, filter->literals.items, filter->literals.length, filter->hints.marks);
+    unmark_literals(filter);
+    return ref;
 }
 
 void filter_delete_literals(Filter *filter, const int64_t *literals, size_t length) {
     if (filter->refuted) return;
     if (filter->clauses.sets == NULL) clauses_keep_sets(&filter->clauses);
     propagation_settle(&filter->propagation);
-    Place place = take_set(filter, literals, length);
+    ClauseRef ref = take_set(filter, literals, length);
     filter->chain.length = 0;
-    if (place == 0 || propagation_needs(&filter->propagation, place)) return;
-    delete(filter, place);
+    if (ref == 0 || propagation_needs(&filter->propagation, ref)) return;
+    delete(filter, ref);
     filter_write_deletion(filter);
 }
 
@@ -362,14 +362,14 @@ void filter_delete_literals(Filter *filter, const int64_t *literals, size_t leng
 
 void filter_original(Filter *filter, int64_t name, const int64_t *literals, size_t length) {
     if (clauses_named(&filter->clauses, (uint64_t)name) != 0) stop("the identity %lld a second time", (long long)name);
-    Place place = take_set(filter, literals, length);
-    if (place == 0) stop("an original clause that the formula doesn't have, or not so often");
-    clauses_name(&filter->clauses, (uint64_t)name, place);
+    ClauseRef ref = take_set(filter, literals, length);
+    if (ref == 0) stop("an original clause that the formula doesn't have, or not so often");
+    clauses_name(&filter->clauses, (uint64_t)name, ref);
 }
 
 // Pairs of an old name and a new one, all at once.
 void filter_rename(Filter *filter, const int64_t *pairs, size_t length) {
-    Places *given = &filter->given;
+    ClauseRefs *given = &filter->given;
     given->length = 0;
     for (size_t k = 0; k + 1 < length; k += 2) {
         PUSH(given, clauses_named(&filter->clauses, (uint64_t)pairs[k]));
@@ -388,8 +388,8 @@ void filter_rename(Filter *filter, const int64_t *pairs, size_t length) {
 // An identity that the proof names is the stream's, as long as it gave no other one.
 static void identities_check(const Filter *filter) {
     const Clauses *clauses = &filter->clauses;
-    for (Place place = 0; (place = clauses_after(clauses, place)) != 0;) {
-        uint64_t identity = clause_at(clauses, place)->identity;
+    for (ClauseRef ref = 0; (ref = clauses_after(clauses, ref)) != 0;) {
+        uint64_t identity = clause_at(clauses, ref)->identity;
         assert(identity > 0);
         assert(identity <= filter->formula.clauses || owner(filter, identity) != filter->stream || identity <= filter->last);
     }

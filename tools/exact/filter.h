@@ -47,10 +47,10 @@ struct Filter {
     Hints hints;
     Clauses dropped;                // names alone, of clauses of other streams that were deleted
     Literals literals;              // of the step, each once
-    Places given;
+    ClauseRefs given;
     Identities chain;
     Literals spare, left;           // of a lemma; of a clause, what it isn't rid of
-    Places lemmas;                  // that only the line that comes next needs
+    ClauseRefs lemmas;              // that only the line that comes next needs
     Weight *weights;                // by variable; all 0 but while a chain is split. NULL: none was
 };
 
@@ -79,7 +79,7 @@ void filter_delete_literals(Filter *filter, const int64_t *literals, size_t leng
 void filter_original(Filter *filter, int64_t name, const int64_t *literals, size_t length);
 void filter_rename(Filter *filter, const int64_t *pairs, size_t length);
 void filter_write_deletion(Filter *filter);                     // of the identities of the chain
-Place filter_write_line(Filter *filter, uint64_t identity);     // of the literals and the chain: the clause
+ClauseRef filter_write_line(Filter *filter, uint64_t identity); // of the literals and the chain: the clause
 uint64_t filter_next_identity(const Filter *filter);
 
 #endif

@@ -9,8 +9,8 @@
 
 enum { OPEN, GIVEN, TOUCHED, WANTED };      // of a literal that isn't open, that it is false
 
-typedef struct { Place clause; Literal literal; } Step;     // unit: the literal is false from there on
-typedef struct { Place clause; uint32_t cursor, next[2]; Literal watched[2]; } Held;
+typedef struct { ClauseRef clause; Literal literal; } Step; // unit: the literal is false from there on
+typedef struct { ClauseRef clause; uint32_t cursor, next[2]; Literal watched[2]; } Held;
 
 typedef struct {
     const Clauses *clauses;
@@ -24,7 +24,7 @@ typedef struct {
 typedef enum { NO_CHAIN, SOME_CHAIN, SAME_CHAIN } Found;
 
 void hints_open(Hints *hints, const Clauses *clauses, int variables);
-Found hints_chain(Hints *hints, const Places *given, Identities *chain);
+Found hints_chain(Hints *hints, const ClauseRefs *given, Identities *chain);
 void hints_check(const Hints *hints, int variables);         // while no step is looked at
 
 #endif

@@ -17,19 +17,19 @@ _Static_assert((int)MOST_NEEDED <= (int)LITERALS_OF_A_LINE, "a lemma has as many
 typedef struct { size_t position, hints, open, met, marked; } Cut;
 
 // What follows from the clause and all that it rests on, but for what is assumed: in a line of its own.
-static Place write_lemma(Filter *filter, Place place) {
+static ClauseRef write_lemma(Filter *filter, ClauseRef ref) {
     Propagation *propagation = &filter->propagation;
     Literals literals = filter->literals;
     bool marked = filter->marked;
     filter->literals = filter->spare;
     filter->literals.length = propagation->needed.length = 0;
     filter->marked = filter->keeps_identities = false;
-    propagation_need(propagation, place, &filter->literals);
+    propagation_need(propagation, ref, &filter->literals);
     propagation_need_all(propagation, &filter->literals);
     if (propagation->needed.length > MOST_NEEDED || filter->literals.length > LITERALS_OF_A_LINE) stop("longer than a line may be");
     if (filter->hooks) filter->hooks->derives(filter);
-    propagation_chain(propagation, place, &filter->chain);
-    Place lemma = filter_write_line(filter, filter_next_identity(filter));
+    propagation_chain(propagation, ref, &filter->chain);
+    ClauseRef lemma = filter_write_line(filter, filter_next_identity(filter));
     if (filter->hooks) filter->hooks->derived(filter);
     filter->spare = filter->literals;
     filter->literals = literals;
@@ -41,17 +41,17 @@ static Place write_lemma(Filter *filter, Place place) {
 static void give_lemma(Filter *filter, int variable) {
     Propagation *propagation = &filter->propagation;
     propagation->seen[variable] = ASSUMED;
-    Place lemma = write_lemma(filter, propagation->reasons[variable]);
+    ClauseRef lemma = write_lemma(filter, propagation->reasons[variable]);
     propagation->seen[variable] = UNSEEN;
     propagation->reasons[variable] = lemma;
     if (propagation->positions[variable] >= propagation->root) PUSH(&filter->lemmas, lemma);
 }
 
 // What follows from the clause where some literals are left to it, as the lemma's own.
-static Place write_shorter(Filter *filter, Place place) {
+static ClauseRef write_shorter(Filter *filter, ClauseRef ref) {
     Literals *left = &filter->left;
     propagation_see(&filter->propagation, left, ASSUMED);
-    Place shorter = write_lemma(filter, place);
+    ClauseRef shorter = write_lemma(filter, ref);
     propagation_see(&filter->propagation, left, UNSEEN);
     left->length = 0;
     PUSH(&filter->lemmas, shorter);
@@ -59,16 +59,16 @@ static Place write_shorter(Filter *filter, Place place) {
 }
 
 // The clause without as many of its false literals as a line has hints for. Each of them has a lemma; its own literal is true.
-static Place shorten(Filter *filter, Place place, int own) {
+static ClauseRef shorten(Filter *filter, ClauseRef ref, int own) {
     Propagation *propagation = &filter->propagation;
-    const Clause *clause = clause_at(&filter->clauses, place);
+    const Clause *clause = clause_at(&filter->clauses, ref);
     Literals *left = &filter->left;
     size_t found = 0;
     for (unsigned k = 0; k < clause->length; k++) {
         int variable = variable_of(clause->literals[k]);
         if (propagation->seen[variable] == UNSEEN && (variable == own || ++found > MOST_NEEDED)) PUSH(left, clause->literals[k]);
     }
-    return write_shorter(filter, place);
+    return write_shorter(filter, ref);
 }
 
 // Cuts.
@@ -78,9 +78,9 @@ static bool has_unit(const Filter *filter, int variable) {
 }
 
 // One more clause: what it needs that nothing behind it did. A unit clause is a hint in each line that needs it.
-static void extend(Filter *filter, Place place, Cut *cut) {
+static void extend(Filter *filter, ClauseRef ref, Cut *cut) {
     Propagation *propagation = &filter->propagation;
-    const Clause *clause = clause_at(&filter->clauses, place);
+    const Clause *clause = clause_at(&filter->clauses, ref);
     cut->hints++;
     for (unsigned k = 0; k < clause->length; k++) {
         int variable = variable_of(clause->literals[k]);
@@ -104,7 +104,7 @@ static bool is_better(const Cut *cut, const Cut *best) {
 }
 
 // From there back along the trail. True where all fits into one line, and else there is a best cut, or none, without hints.
-static bool find_cut(Filter *filter, Place conflict, size_t position, Cut *best) {
+static bool find_cut(Filter *filter, ClauseRef conflict, size_t position, Cut *best) {
     const Propagation *propagation = &filter->propagation;
     Cut cut = { .position = position };
     *best = (Cut){0};
@@ -140,7 +140,7 @@ static void forget_marks(Propagation *propagation) {
 }
 
 // The conflict, or a shorter one. False where what is left of the chain doesn't fit into a line.
-static bool cut_chain(Filter *filter, Place *conflict) {
+static bool cut_chain(Filter *filter, ClauseRef *conflict) {
     Cut best = { .position = filter->propagation.trail.length };
     for (;;) {
         bool fits = find_cut(filter, *conflict, best.position, &best);
@@ -154,9 +154,9 @@ static bool cut_chain(Filter *filter, Place *conflict) {
 // Lemmas of literals.
 
 // On how many literals the clause rests, and how many hints show all of them, and the clause.
-static uint64_t hints_for(const Filter *filter, Place place, int own, size_t floor, size_t *needed) {
+static uint64_t hints_for(const Filter *filter, ClauseRef ref, int own, size_t floor, size_t *needed) {
     const Propagation *propagation = &filter->propagation;
-    const Clause *clause = clause_at(&filter->clauses, place);
+    const Clause *clause = clause_at(&filter->clauses, ref);
     uint64_t hints = 1;
     *needed = 0;
     for (unsigned k = 0; k < clause->length; k++) {
@@ -170,28 +170,28 @@ static uint64_t hints_for(const Filter *filter, Place place, int own, size_t flo
 
 // The clause, or a shorter one, after lemmas for what takes too many hints: so all fits into a line. What lies below the floor has unit
 // clauses.
-static Place fit(Filter *filter, Place place, int own, size_t floor, uint32_t *hints) {
+static ClauseRef fit(Filter *filter, ClauseRef ref, int own, size_t floor, uint32_t *hints) {
     const Propagation *propagation = &filter->propagation;
     size_t needed;
-    uint64_t all = hints_for(filter, place, own, floor, &needed);
+    uint64_t all = hints_for(filter, ref, own, floor, &needed);
     if (all > IDENTITIES_OF_A_LINE) {
         size_t share = needed < MOST_NEEDED ? MOST_NEEDED / needed : 1;
-        for (unsigned k = 0; k < clause_at(&filter->clauses, place)->length; k++) {
-            int variable = variable_of(clause_at(&filter->clauses, place)->literals[k]);
+        for (unsigned k = 0; k < clause_at(&filter->clauses, ref)->length; k++) {
+            int variable = variable_of(clause_at(&filter->clauses, ref)->literals[k]);
             if (variable == own || propagation->seen[variable] != UNSEEN || propagation->positions[variable] < floor) continue;
             if (filter->weights[variable].hints <= share) continue;
             give_lemma(filter, variable);
             filter->weights[variable].hints = 1;
         }
-        while ((all = hints_for(filter, place, own, floor, &needed)) > IDENTITIES_OF_A_LINE) place = shorten(filter, place, own);
+        while ((all = hints_for(filter, ref, own, floor, &needed)) > IDENTITIES_OF_A_LINE) ref = shorten(filter, ref, own);
     }
     *hints = (uint32_t)all;
-    return place;
+    return ref;
 }
 
-static void use(Filter *filter, Place place, int own, size_t floor) {
+static void use(Filter *filter, ClauseRef ref, int own, size_t floor) {
     const Propagation *propagation = &filter->propagation;
-    const Clause *clause = clause_at(&filter->clauses, place);
+    const Clause *clause = clause_at(&filter->clauses, ref);
     for (unsigned k = 0; k < clause->length; k++) {
         int variable = variable_of(clause->literals[k]);
         if (variable == own || propagation->seen[variable] != UNSEEN || propagation->positions[variable] < floor) continue;
@@ -200,7 +200,7 @@ static void use(Filter *filter, Place place, int own, size_t floor) {
 }
 
 // Of all that the conflict needs on the trail from the floor on.
-static void count_uses(Filter *filter, Place conflict, size_t floor) {
+static void count_uses(Filter *filter, ClauseRef conflict, size_t floor) {
     const Propagation *propagation = &filter->propagation;
     use(filter, conflict, NONE, floor);
     for (size_t position = propagation->trail.length; position-- > floor;) {
@@ -224,7 +224,7 @@ static void weigh(Filter *filter, size_t floor, size_t worth) {
 }
 
 // The conflict, or a shorter one, whose chain fits into a line.
-static Place split(Filter *filter, Place conflict, size_t floor, size_t worth) {
+static ClauseRef split(Filter *filter, ClauseRef conflict, size_t floor, size_t worth) {
     const Propagation *propagation = &filter->propagation;
     uint32_t hints;
     if (cut_chain(filter, &conflict)) return conflict;
@@ -240,7 +240,7 @@ static Place split(Filter *filter, Place conflict, size_t floor, size_t worth) {
 // For what the trace missed, and what that rests on, in the order of the trail.
 static void give_units(Filter *filter) {
     Propagation *propagation = &filter->propagation;
-    Places *missing = &propagation->missing, *needed = &propagation->needed;
+    Positions *missing = &propagation->missing, *needed = &propagation->needed;
     needed->length = 0;
     for (size_t k = 0; k < missing->length; k++) {
         PUSH(needed, missing->items[k]);
@@ -251,7 +251,7 @@ static void give_units(Filter *filter) {
     for (size_t k = 0; k < needed->length; k++) PUSH(missing, needed->items[k]);
     for (size_t k = 0; k < missing->length; k++) {
         int variable = variable_of(propagation->trail.items[missing->items[k]]);
-        Place *reason = &propagation->reasons[variable];
+        ClauseRef *reason = &propagation->reasons[variable];
         if (clause_at(&filter->clauses, *reason)->length == 1) continue;
         while (clause_at(&filter->clauses, *reason)->length > IDENTITIES_OF_A_LINE) *reason = shorten(filter, *reason, variable);
         give_lemma(filter, variable);
@@ -259,7 +259,7 @@ static void give_units(Filter *filter) {
 }
 
 // After a trace.
-Place lemmas_for(Filter *filter, Place conflict) {
+ClauseRef lemmas_for(Filter *filter, ClauseRef conflict) {
     Propagation *propagation = &filter->propagation;
     size_t hints = filter->chain.length + propagation->missing.length;
     if (propagation->missing.length > 0) give_units(filter);

@@ -4,7 +4,7 @@
 
 #include "filter.h"
 
-Place lemmas_for(Filter *filter, Place conflict);       // so that the chain of this conflict fits into a line: it, or another one
+ClauseRef lemmas_for(Filter *filter, ClauseRef conflict);       // so that the chain of this conflict fits into a line: it, or another one
 void lemmas_refute(Filter *filter);                     // the root has a conflict
 
 #endif

@@ -36,8 +36,8 @@ static void keep(Other *other, const Words *words) {
     other->last = (uint64_t)numbers[0];
     size_t length = literals_sort(literals->items, literals->length);
     bool tautology = literals_clash(literals->items, length);
-    Place place = clauses_add(&other->clauses, other->last, literals->items, length, tautology);
-    clauses_name(&other->clauses, other->last, place);
+    ClauseRef ref = clauses_add(&other->clauses, other->last, literals->items, length, tautology);
+    clauses_name(&other->clauses, other->last, ref);
 }
 
 static void read_to(Other *other, uint64_t identity) {
@@ -51,14 +51,14 @@ static void read_to(Other *other, uint64_t identity) {
 }
 
 // Its clause, once, handed over to these; 0 where it has none of this identity.
-Place other_clause(Other *other, Clauses *clauses, uint64_t identity) {
+ClauseRef other_clause(Other *other, Clauses *clauses, uint64_t identity) {
     read_to(other, identity);
-    Place place = clauses_named(&other->clauses, identity);
-    if (place == 0) return 0;
-    const Clause *clause = clause_at(&other->clauses, place);
-    Place taken = clauses_add(clauses, identity, clause->literals, clause->length, clause->flags & TAUTOLOGY);
+    ClauseRef ref = clauses_named(&other->clauses, identity);
+    if (ref == 0) return 0;
+    const Clause *clause = clause_at(&other->clauses, ref);
+    ClauseRef taken = clauses_add(clauses, identity, clause->literals, clause->length, clause->flags & TAUTOLOGY);
     clauses_forget_name(&other->clauses, identity);
-    clauses_delete(&other->clauses, place);
+    clauses_delete(&other->clauses, ref);
     if (other->clauses.dead > DEAD_WORDS && 2 * other->clauses.dead > other->clauses.used)
         clauses_end_move(&other->clauses, clauses_begin_move(&other->clauses));
     return taken;

@@ -22,6 +22,6 @@ typedef struct { Other *items; size_t length, capacity; } Others;
 
 void others_open(Others *others, const char *word, int variables);
 Other *others_find(const Others *others, uint64_t number);
-Place other_clause(Other *other, Clauses *clauses, uint64_t identity);
+ClauseRef other_clause(Other *other, Clauses *clauses, uint64_t identity);
 
 #endif

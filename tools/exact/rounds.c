@@ -24,8 +24,8 @@ void round_delete(Filter *filter, const Identities *kept) {
     uint64_t formula = filter->formula.clauses, first = formula + filter->stream;
     uint64_t own = filter->last ? (filter->last - first) / filter->streams + 1 : 0;
     unsigned char *marks = zeroed(formula + own, 1);
-    for (Place place = 0; (place = clauses_after(&filter->clauses, place)) != 0;)
-        mark(filter, marks, clause_at(&filter->clauses, place)->identity);
+    for (ClauseRef ref = 0; (ref = clauses_after(&filter->clauses, ref)) != 0;)
+        mark(filter, marks, clause_at(&filter->clauses, ref)->identity);
     for (size_t k = 0; k < kept->length; k++) mark(filter, marks, kept->items[k]);
     filter->chain.length = 0;
     for (uint64_t k = 0; k < formula + own; k++)
@@ -38,8 +38,8 @@ void round_delete(Filter *filter, const Identities *kept) {
 uint64_t round_clauses(const Filter *filter, uint64_t *literals) {
     uint64_t count = 0;
     *literals = 0;
-    for (Place place = 0; (place = clauses_after(&filter->clauses, place)) != 0; count++)
-        *literals += clause_at(&filter->clauses, place)->length;
+    for (ClauseRef ref = 0; (ref = clauses_after(&filter->clauses, ref)) != 0; count++)
+        *literals += clause_at(&filter->clauses, ref)->length;
     return count;
 }
 
@@ -54,8 +54,8 @@ void round_make_room(const Filter *filter, bool (*has_room)(uint64_t literals), 
 
 // Goes on with what was saved, as another stream. Names of the proof that were identities aren't any more.
 void round_begin(Filter *filter, const Checkpoint *checkpoint, uint64_t stream, uint64_t streams) {
-    for (Place place = 0; (place = clauses_after(&filter->clauses, place)) != 0;) {
-        Clause *clause = clause_at(&filter->clauses, place);
+    for (ClauseRef ref = 0; (ref = clauses_after(&filter->clauses, ref)) != 0;) {
+        Clause *clause = clause_at(&filter->clauses, ref);
         uint64_t new_one = checkpoint_place(checkpoint, clause->identity);
         assert(new_one <= checkpoint->old.length);
         if (new_one == 0) stop("lrupd hasn't saved the clause %llu, which the solver has", (unsigned long long)clause->identity);

@@ -10,21 +10,21 @@
 typedef struct {
     Propagation propagation;
     Clauses clauses;
-    Places hints, chain;        // as they are given; what is taken so far
+    ClauseRefs hints, chain;    // as they are given; what is taken so far
     signed char *values;        // by literal, as the chain so far makes them
     unsigned char *needed;      // by variable; all 0 but while clauses are brought
     bool is_found;
 } Search;
 
 // One that comes first wherever there is a choice, as recent ones do, or not.
-static Place take(Search *search, uint64_t identity, const Literal *literals, size_t length, bool comes_first) {
-    Place place = clauses_add(&search->clauses, identity, literals, length, false);
-    if (!comes_first) clause_at(&search->clauses, place)->flags = length > MANY ? LONG : 0;
-    PUSH(&search->propagation.waiting, place);
-    return place;
+static ClauseRef take(Search *search, uint64_t identity, const Literal *literals, size_t length, bool comes_first) {
+    ClauseRef ref = clauses_add(&search->clauses, identity, literals, length, false);
+    if (!comes_first) clause_at(&search->clauses, ref)->flags = length > MANY ? LONG : 0;
+    PUSH(&search->propagation.waiting, ref);
+    return ref;
 }
 
-static Place take_known(Search *search, const Replay *replay, uint64_t identity, bool comes_first) {
+static ClauseRef take_known(Search *search, const Replay *replay, uint64_t identity, bool comes_first) {
     const Clause *clause = clause_at(&replay->store, clause_of(replay, identity));
     return take(search, identity, clause->literals, clause->length, comes_first);
 }
@@ -62,8 +62,8 @@ static void open_search(Search *search, const Replay *replay, const Stream *stre
 // The chain.
 
 // How many of its literals aren't false, and the last of these.
-static unsigned open_literals(const Search *search, Place place, Literal *open) {
-    const Clause *clause = clause_at(&search->clauses, place);
+static unsigned open_literals(const Search *search, ClauseRef ref, Literal *open) {
+    const Clause *clause = clause_at(&search->clauses, ref);
     unsigned count = 0;
     for (unsigned k = 0; k < clause->length; k++) {
         if (search->values[clause->literals[k]] < 0) continue;
@@ -74,11 +74,11 @@ static unsigned open_literals(const Search *search, Place place, Literal *open) 
 }
 
 // Where it is unit, or the conflict, which ends the chain.
-static void put(Search *search, Place place) {
+static void put(Search *search, ClauseRef ref) {
     Literal open = 0;
-    unsigned count = open_literals(search, place, &open);
+    unsigned count = open_literals(search, ref, &open);
     if (search->is_found || count > 1 || (count == 1 && search->values[open] > 0)) return;
-    PUSH(&search->chain, place);
+    PUSH(&search->chain, ref);
     search->is_found = count == 0;
     if (count == 0) return;
     search->values[open] = 1;
@@ -92,8 +92,8 @@ static bool is_wanted(const Search *search, Literal literal) {
 
 static size_t position_of(const Search *search, Literal literal) { return search->propagation.positions[variable_of(literal)]; }
 
-static void want(Search *search, Place place, Literal left, size_t *behind) {
-    const Clause *clause = clause_at(&search->clauses, place);
+static void want(Search *search, ClauseRef ref, Literal left, size_t *behind) {
+    const Clause *clause = clause_at(&search->clauses, ref);
     for (unsigned k = 0; k < clause->length; k++) {
         if (!is_wanted(search, clause->literals[k]) || clause->literals[k] == left) continue;
         search->needed[variable_of(clause->literals[k])] = 1;
@@ -102,10 +102,10 @@ static void want(Search *search, Place place, Literal left, size_t *behind) {
 }
 
 // All that makes its literals false, but for one that is left, as far as propagation does, in the order in which it does.
-static void bring(Search *search, Place place, Literal left) {
+static void bring(Search *search, ClauseRef ref, Literal left) {
     const Propagation *propagation = &search->propagation;
     size_t behind = 0;          // the last position
-    want(search, place, left, &behind);
+    want(search, ref, left, &behind);
     for (size_t position = behind; position-- > 0;)
         if (search->needed[variable_of(propagation->trail.items[position])])
             want(search, reason_at(propagation, position), CONFLICT, &behind);
@@ -117,8 +117,8 @@ static void bring(Search *search, Place place, Literal left) {
 }
 
 // For which literal a hint will be unit: the one that propagation doesn't make false, or else the last one that it does.
-static Literal left_by(const Search *search, Place place) {
-    const Clause *clause = clause_at(&search->clauses, place);
+static Literal left_by(const Search *search, ClauseRef ref) {
+    const Clause *clause = clause_at(&search->clauses, ref);
     Literal open = CONFLICT, last = CONFLICT;
     for (unsigned k = 0; k < clause->length; k++) {
         Literal literal = clause->literals[k];
@@ -137,7 +137,7 @@ static Literal left_by(const Search *search, Place place) {
 
 // Backwards, from the conflict.
 static void collect(Search *search, Identities *hints) {
-    Places *chain = &search->chain;
+    ClauseRefs *chain = &search->chain;
     size_t first = chain->length;
     for (size_t k = chain->length; k-- > 0;) {
         const Clause *clause = clause_at(&search->clauses, chain->items[k]);
@@ -154,8 +154,8 @@ static void collect(Search *search, Identities *hints) {
 // Of all clauses that the line may cite, those without a true literal. Hints stand there twice.
 static size_t count_open(const Search *search) {
     size_t count = 0;
-    for (Place place = clauses_after(&search->clauses, 0); place != 0; place = clauses_after(&search->clauses, place)) {
-        const Clause *clause = clause_at(&search->clauses, place);
+    for (ClauseRef ref = clauses_after(&search->clauses, 0); ref != 0; ref = clauses_after(&search->clauses, ref)) {
+        const Clause *clause = clause_at(&search->clauses, ref);
         unsigned k = 0;
         while (k < clause->length && search->propagation.values[clause->literals[k]] <= 0) k++;
         count += k == clause->length && !(clause->flags & RECENT);
@@ -177,13 +177,13 @@ Chain chain_find(const Replay *replay, const Stream *stream, uint64_t also) {
     Search search;
     open_search(&search, replay, stream, also);
     for (size_t k = 0; k < search.hints.length && !search.is_found; k++) {
-        Place hint = search.hints.items[k];
+        ClauseRef hint = search.hints.items[k];
         Literal left = left_by(&search, hint);
         if (left == NEITHER) continue;
         bring(&search, hint, left);
         put(&search, hint);
     }
-    Place conflict = search.propagation.conflict;
+    ClauseRef conflict = search.propagation.conflict;
     if (conflict && !search.is_found) {
         bring(&search, conflict, CONFLICT);
         put(&search, conflict);

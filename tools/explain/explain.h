@@ -23,7 +23,7 @@ typedef struct {
 } Fault;
 
 typedef struct {
-    Place clause;           // 0: there is none
+    ClauseRef clause;       // 0: there is none
     bool deleted;
     uint64_t line;
 } Known;
@@ -49,7 +49,7 @@ typedef struct {
     Clauses store;                      // each clause that there is or was, with the literals as they were written, each once
     uint32_t round;
     uint64_t clauses, literals;         // that the round begins with
-    Place *first;                       // these
+    ClauseRef *first;                   // these
     Origin *origins;                    // of these; NULL in round 1
     Row row;
     uint64_t last;                      // identity
@@ -72,7 +72,7 @@ static inline Literal literal_of(int64_t written) { return (Literal)(written > 0
 // judge.c
 Stream *owner_of(const Replay *replay, uint64_t identity);                  // of one above the formula's
 Known *known_of(const Replay *replay, uint64_t identity);                   // of one up to the last
-Place clause_of(const Replay *replay, uint64_t identity);                   // also of a deleted one; 0: none
+ClauseRef clause_of(const Replay *replay, uint64_t identity);               // also of a deleted one; 0: none
 bool is_dropped(const Stream *stream, uint64_t identity);                   // by the stream, and not its own
 bool is_usable(const Replay *replay, const Stream *stream, uint64_t identity);  // in a line of the stream: neither dropped nor deleted
 bool is_foreign(const Replay *replay, const Stream *stream, uint64_t identity); // of another stream
@@ -80,7 +80,7 @@ bool is_awaited(const Replay *replay, uint64_t identity);                   // i
 uint64_t last_derived(const Replay *replay);                                // of all streams, or the formula's last
 uint64_t next_identity(const Replay *replay, const Stream *stream);
 enum { CONFLICT = -1, NEITHER = -2 };
-Literal unit_of(const Replay *replay, Place place);                         // or these
+Literal unit_of(const Replay *replay, ClauseRef ref);                       // or these
 Fault judge(Replay *replay, Stream *stream, const Reading *line);           // the values stay until they are forgotten
 void forget_values(Replay *replay);
 

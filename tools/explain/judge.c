@@ -21,7 +21,7 @@ static bool is_own(const Replay *replay, const Stream *stream, uint64_t identity
     return is_derived(replay, identity) && owner_of(replay, identity) == stream;
 }
 
-Place clause_of(const Replay *replay, uint64_t identity) {
+ClauseRef clause_of(const Replay *replay, uint64_t identity) {
     if (identity <= replay->clauses) return replay->first[identity - 1];
     return identity <= replay->last ? known_of(replay, identity)->clause : 0;
 }
@@ -59,8 +59,8 @@ void forget_values(Replay *replay) {
     replay->trail.length = 0;
 }
 
-Literal unit_of(const Replay *replay, Place place) {
-    const Clause *clause = clause_at(&replay->store, place);
+Literal unit_of(const Replay *replay, ClauseRef ref) {
+    const Clause *clause = clause_at(&replay->store, ref);
     Literal unit = CONFLICT;
     for (unsigned k = 0; k < clause->length; k++) {
         Literal literal = clause->literals[k];
@@ -179,8 +179,8 @@ static void add(Replay *replay, Stream *stream, const Reading *line) {
     literals.length = 0;
     while (length < replay->trail.length && replay->reasons[variable_of(replay->trail.items[length])] == 0) length++;
     for (size_t k = 0; k < length; k++) PUSH(&literals, complement_of(replay->trail.items[k]));
-    Place place = clauses_add(&replay->store, line->identity, literals.items, length, false);
-    *known_of(replay, line->identity) = (Known){ .clause = place, .line = stream->lines + 1 };
+    ClauseRef ref = clauses_add(&replay->store, line->identity, literals.items, length, false);
+    *known_of(replay, line->identity) = (Known){ .clause = ref, .line = stream->lines + 1 };
     stream->last = line->identity;
     stream->room -= length;
     replay->refuted |= length == 0;

@@ -179,7 +179,7 @@ static bool is_carried(const Replay *replay, uint64_t identity) {
 // Their identities are their places from then on.
 static void carry(Replay *replay) {
     Clauses store = {0};
-    struct { Place *items; size_t length, capacity; } places = {0};
+    struct { ClauseRef *items; size_t length, capacity; } places = {0};
     struct { Origin *items; size_t length, capacity; } origins = {0};
     uint64_t last = last_derived(replay);
     replay->literals = 0;

@@ -82,7 +82,7 @@ static char sign_of(const Replay *replay, Literal literal, uint32_t place) {
     return replay->values[literal] < 0 ? 'F' : '?';
 }
 
-static void tell_clause(const Replay *replay, Place clause_place, uint32_t place) {
+static void tell_clause(const Replay *replay, ClauseRef clause_place, uint32_t place) {
     const Clause *clause = clause_at(&replay->store, clause_place);
     int width = 0;
     for (unsigned k = 0; k < clause->length && k < MOST_SHOWN; k++)
@@ -94,7 +94,7 @@ static void tell_clause(const Replay *replay, Place clause_place, uint32_t place
 
 static void tell_hint(const Replay *replay, size_t place, const char *word, uint32_t reason) {
     uint64_t hint = (uint64_t)replay->line.cited[place];
-    Place clause = clause_of(replay, hint);
+    ClauseRef clause = clause_of(replay, hint);
     printf("  %7llu  %-9s", (Printed)hint, word);
     if (clause) tell_clause(replay, clause, reason);
     else printf("%-*s  ", CLAUSE_WIDTH, "-");
