@@ -340,7 +340,8 @@ RIGHT_TOP = """The theorems above speak of the reports that came. These laws say
 RIGHT_ROWS: Rows = [
     ("A line is right by the formula and the lines before it.", """[[IsRightLine]] holds with the [[Database]] that these
      lines leave. An addition has an own identity above the last one, literals over the variables, and room. Its hints name
-     clauses that are there, and these show its clause ([[Accepts]]). A deletion names clauses that are there, each once
+     clauses that are there ([[database_context]]), and these show its clause ([[Accepts]]). By the same relation,
+     [[IsValidAddition]], streams are judged. A deletion names clauses that are there, each once
      ([[IsRightDeletion: there : AllByRecursion (λ id. IsSome (base.clauses id)) ids]]). An import has the literals of a
      clause that is there and isn't the stream's own ([[IsRightImport: there : base.clauses id ≡ Some clause]])."""),
     ("Whether that is LRAT without RAT, a reader has to judge.", """[EMITTING](EMITTING.md#what-differs-from-lrat) has the

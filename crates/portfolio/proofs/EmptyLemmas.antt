@@ -23,8 +23,8 @@ use Rattle.stream_check.specs.declared.fault.Fault.TheVariants as faults
 use Rattle.stream_check.specs.declared.report.Report.{Report}
 use Rattle.stream_check.specs.Setting.{Setting}
 use Rattle.stream_check.specs.Standing.{Standing, additions_of}
-use Rattle.stream_check.specs.Verdicts.{Good, Bad, Fails}
-use Rattle.stream_check.specs.Additions.{AtConflict, AtReply, JudgesHints, published_by}
+use Rattle.stream_check.specs.Verdicts.{Good}
+use Rattle.stream_check.specs.Additions.{published_by}
 use Rattle.stream_check.specs.Judging.{JudgesLine, AreGood, joined, JudgesBlocks}
 use Rattle.stream_check.specs.ReportLemmas.{said_empty}
 use Rattle.run_laws.specs.PublishLemmas.{publishes_empty}
@@ -61,42 +61,12 @@ module _ (p : Event → Bool) where
 
 -- ---- the publish of a good addition
 
-pub fails_not : (fault : Fault) (es : History) → Fails 0 fault es Good → ⊥
-fails_not fault es f = let e : Good ≡ Bad 0 fault = f.1 in cc
-
-module _ (p : Event → Bool) (c : Setting) (gone : ℕ → Bool) (published : Event) (passes : p published ≡ true) where
-  at_conflict : (hints : List ℕ) (es : History) → AtConflict hints published es Good → list_any p es ≡ true
-  at_conflict [] es at = ap (list_any p) at.0 ∙ or_left (p published) false passes
-  at_conflict (h ∷ hints) es at = absurd (fails_not (faults.Excess h) es at)
-
-  at_reply : (reply : Reply) (n : List ℤ) (h : ℕ) (hints : List ℕ) (es : History) (A : List ℤ → Type 0)
-      → ((m : List ℤ) → A m → list_any p es ≡ true)
-      → AtReply reply n h hints published es Good A → list_any p es ≡ true
-  at_reply events.vacant n h hints es A next at = absurd (fails_not (faults.Missing h) es at)
-  at_reply events.retired n h hints es A next at = absurd (fails_not (faults.Retired h) es at)
-  at_reply (events.live d) n h hints es A next (inl conflict) = at_conflict hints es conflict.1
-  at_reply (events.live d) n h hints es A next (inr (inl unit)) = next _ unit.2
-  at_reply (events.live d) n h hints es A next (inr (inr neither)) = absurd (fails_not (faults.NotUnit h) es neither.2)
-
-  -- hints that show the clause are followed by its publish
-  pub hints_publish : (n : List ℤ) (hints : List ℕ) (es : History) → JudgesHints c gone published n hints es Good → list_any p es ≡ true
-  hints_publish n [] es judged = absurd (fails_not faults.NoConflict es judged)
-  hints_publish n (h ∷ hints) es (inl bad) = absurd (fails_not (faults.Dropped h) es bad.1)
-  hints_publish n (h ∷ hints) es (inr good) =
-      let a = good.1 in
-      ap (list_any p) a.events
-      ∙ any_back p a.asked a.rest (at_reply a.reply n h hints a.rest (λ m. JudgesHints c gone published m hints a.rest Good)
-      (λ m k. hints_publish m hints a.rest k) a.next)
-
 -- a good addition whose publish passes
 addition_publishes : (p : Event → Bool) (c : Setting) (st : Standing) (id : ℕ) (lits : List ℤ) (hints : List ℕ) (es : History)
     → JudgesLine c st (Addition id lits hints) es Good → p (published_by c id lits) ≡ true → list_any p es ≡ true
-addition_publishes p c st id lits hints es (inl bad) passes = absurd (fails_not faults.Identity es bad.1)
-addition_publishes p c st id lits hints es (inr (a, inl bad)) passes = absurd (fails_not faults.Literal es bad.1)
-addition_publishes p c st id lits hints es (inr (a, inr (b, inl bad))) passes = absurd (fails_not faults.Tautology es bad.1)
-addition_publishes p c st id lits hints es (inr (a, inr (b, inr (d, inl bad)))) passes = absurd (fails_not faults.NoRoom es bad.1)
-addition_publishes p c st id lits hints es (inr (a, inr (b, inr (d, inr (e, judged))))) passes =
-    hints_publish p c st.gone (published_by c id lits) passes _ hints es judged
+addition_publishes p c st id lits hints es good passes =
+    let last = published_by c id lits in
+    ap (list_any p) good.2 ∙ any_back p good.0 (last ∷ []) (or_left (p last) false passes)
 
 -- ---- the lines of a stream
 

@@ -15,7 +15,7 @@ use Rattle.lrup_text.specs.Laws.{EmptyCut, OneCut, OneFirstLine, RefusedStays}
 use Rattle.lrup_text.specs.Lines.{StreamLine, line_text}
 use Rattle.stream_check.specs.declared.setting.Side.TheVariants as sides
 use Rattle.stream_check.specs.Judging.{EndsAfter, joined}
-use Rattle.stream_check.specs.Laws.{EndJudged, FreshLeft, GoodExactlyIf, GoodLineTaken}
+use Rattle.stream_check.specs.Laws.{EndJudged, FreshLeft, GoodLineTaken}
 use Rattle.stream_check.specs.ReportLemmas.{joined-append}
 use Rattle.stream_check.specs.Setting.{Setting, side_of}
 use Rattle.runs.specs.Streams.{setting_of}
@@ -60,13 +60,13 @@ all_nothing f c h fits legal calls (events.retire s id r ∷ es) there = (tt, al
 
 -- In a run
 
-pub right_begins : GoodExactlyIf → PropagationSound → GoodLineTaken → FreshLeft → EndJudged → EmptyCut → OneCut → OneFirstLine
+pub right_begins : PropagationSound → GoodLineTaken → FreshLeft → EndJudged → EmptyCut → OneCut → OneFirstLine
     → RefusedStays → RightBegins
-right_begins good sound taken fresh ends empty_cut one_cut first refused
+right_begins sound taken fresh ends empty_cut one_cut first refused
     f terms s bytes lines told telling reports report cnf fits stream right run here entry says =
     let c = setting_of terms s in
     let texts = flat_map line_text lines in
-    let alone = right_judged good sound taken fresh ends empty_cut one_cut f terms s texts lines cnf fits stream
+    let alone = right_judged sound taken fresh ends empty_cut one_cut f terms s texts lines cnf fits stream
     (record { text = refl; fits = right.fits; right = right.right }) in
     let g = alone.0.history in
     let w = alone.0.judges.judges in
@@ -96,7 +96,7 @@ right_begins good sound taken fresh ends empty_cut one_cut first refused
     (own-all s g alone.1 ∙ alone.0.judges.events ∙ ap joined w.split ∙ joined-append w.front w.back) mine) in
     let also : AreFair c Anything (opening f) (joined (j.front ++ j.back)) =
     subst (AreFair c Anything (opening f)) (read.events ∙ ap joined j.split) theirs in
-    elim (lines_go_on good first refused c Nothing Anything
+    elim (lines_go_on first refused c Nothing Anything
     (λ id d e foreign mine theirs. absurd mine) [] w.lines j.lines w.front j.front j.back
     (opening f) j.rest read.reads.left right.more read.reads.end (length lines) report
     (omega (arith, ap (λ (ls : List StreamLine). length ls) same)) w.good j.good j.ends w.fits j.fits begins read.reads.ended ours also) [

@@ -25,7 +25,7 @@ use Rattle.stream_check.specs.declared.report.Ending.TheVariants as endings
 use Rattle.stream_check.specs.declared.report.Report.{Report}
 use Rattle.stream_check.specs.declared.setting.Side.TheVariants as sides
 use Rattle.stream_check.specs.Judging.{EndsAfter, joined, JudgesBlocks}
-use Rattle.stream_check.specs.Laws.{CitedFetched, GoodExactlyIf, IsOfMemory, IsOfFailure}
+use Rattle.stream_check.specs.Laws.{CitedFetched, IsOfMemory, IsOfFailure}
 use Rattle.stream_check.specs.ReportLemmas.{additions-append, joined-append, split_first}
 use Rattle.stream_check.specs.Setting.{Setting}
 use Rattle.stream_check.specs.Standing.{additions_of}
@@ -154,7 +154,7 @@ read_in f terms told reports r s whole telling report here entry says =
           is.ends is.needed j.2;
     }
 
-module _ (law : GoodExactlyIf) (first : OneFirstLine) (refused : RefusedStays) (cited : CitedFetched) where
+module _ (first : OneFirstLine) (refused : RefusedStays) (cited : CitedFetched) where
   -- the one history judges a closed set of streams; the readers of the other run begin with their bytes
   module _ (f : Cnf) (terms : TermsValue) (set : ℕ → Bool) (g : History) (streams : List Stream) (reports : List Report)
       (told : List Telling)
@@ -236,9 +236,9 @@ module _ (law : GoodExactlyIf) (first : OneFirstLine) (refused : RefusedStays) (
         let lines = w.judges.lines in
         let also = read.reads.judges.lines in
         let published_here : published (own g t) ≡ additions_of lines =
-        ap published w.events ∙ stream_publishes law c w.stream.bytes w.end w.blocks w.report w.judges in
+        ap published w.events ∙ stream_publishes c w.stream.bytes w.end w.blocks w.report w.judges in
         let published_there : published (own r.history t) ≡ additions_of also =
-        ap published read.events ∙ stream_publishes law c read.bytes read.reads.end read.blocks its.1.report read.reads.judges in
+        ap published read.events ∙ stream_publishes c read.bytes read.reads.end read.blocks its.1.report read.reads.judges in
         let here : IsIn (id, x) (additions_of lines) = subst (IsIn (id, x)) published_here (own_has f p g t id x fits legal owns mine) in
         let there : IsIn (id, d) (additions_of also) =
         subst (IsIn (id, d)) published_there (own_has f p r.history t id d fits r.legal owns theirs) in
@@ -307,7 +307,7 @@ module _ (law : GoodExactlyIf) (first : OneFirstLine) (refused : RefusedStays) (
         (subst (AreFair c Mine (opening f)) (w.events ∙ ap joined w.judges.split ∙ joined-append w.judges.front w.judges.back) mine) in
         let also : AreFair c Theirs (opening f) (joined (j.front ++ j.back)) =
         subst (AreFair c Theirs (opening f)) (o.read.events ∙ ap joined j.split) theirs in
-        lines_go_on law first refused c Mine Theirs (find_alike s) [] w.judges.lines j.lines w.judges.front j.front j.back
+        lines_go_on first refused c Mine Theirs (find_alike s) [] w.judges.lines j.lines w.judges.front j.front j.back
         (opening f) j.rest o.read.reads.left
         (w.judges.rest ++ more) o.read.reads.end (length w.judges.lines) o.report
         (omega arith) w.judges.good j.good j.ends w.judges.fits j.fits
@@ -393,8 +393,8 @@ module _ (law : GoodExactlyIf) (first : OneFirstLine) (refused : RefusedStays) (
                 inr (subst (LacksOfAnother c) its_other (length w.judges.lines, (lacks.1, lacks.2, lacks.4, lacks.5, lacks.6)))
           ]
 
-pub no_false_blame : GoodExactlyIf → OneFirstLine → RefusedStays → OneFault → EmptyPending → CitedFetched → NoFalseBlame
-no_false_blame law first refused one_fault empty cited f terms set h streams reports told others s stream telling report other
+pub no_false_blame : OneFirstLine → RefusedStays → OneFault → EmptyPending → CitedFetched → NoFalseBlame
+no_false_blame first refused one_fault empty cited f terms set h streams reports told others s stream telling report other
     fits count legal judged closed member at says ended run bytes here entry =
-    same_report law first refused cited f terms set h streams reports told others fits count legal judged closed run bytes one_fault empty
+    same_report first refused cited f terms set h streams reports told others fits count legal judged closed run bytes one_fault empty
     s stream telling report other member at says ended here entry

@@ -1,17 +1,15 @@
 -- One line in two histories: where it is good in the one, it is good in the other, or lacks a clause of another stream.
-use Rattle.std.proofs.Common.{◌≡◌, ◌⊎◌, ◌++◌, ℕ, zero, suc, ℤ, neg_ℤ, Bool, List, [], ◌∷◌, length, replicate, inl, inr, refl, sym, ap}
-use Rattle.std.proofs.Common.{subst, ◌∙◌, append_assoc}
+use Rattle.std.proofs.Common.{◌≡◌, ◌⊎◌, ◌++◌, ℕ, zero, suc, ℤ, neg_ℤ, Bool, List, [], ◌∷◌, length, replicate, Result, Ok, Err, inl, inr}
+use Rattle.std.proofs.Common.{refl, sym, ap, subst, ◌∙◌, append_assoc, append-nil}
 use Rattle.std.specs.Prelude.{◌↔◌}
 use Rattle.std.specs.List.{AllByRecursion}
 use Rattle.std.proofs.lemmas.Bool.{true≢false}
 use Rattle.lrup_model.specs.Clause.{Clause, Has}
 use Rattle.lrup_model.specs.Distinct.{distinct}
-use Rattle.lrup_model.specs.DistinctLemmas.{IsTautology-in_distinct}
 use Rattle.lrup_model.specs.Event as events
 use Rattle.lrup_model.specs.Event.{Event, History, Reply, published}
 use Rattle.lrup_model.specs.HistoryLemmas.{published-append}
 use Rattle.lrup_model.specs.Laws.{HasClause}
-use Rattle.lrup_model.specs.ListLemmas.{All-append}
 use Rattle.lrup_model.specs.Propagation.{Refutes}
 use Rattle.lrup_model.specs.RunningLemmas.{run-append}
 use Rattle.lrup_model.specs.State.{State, Slot, absent, live, retired, IsRetired, after, run, Answers}
@@ -21,19 +19,18 @@ use Rattle.stream_check.specs.declared.fault.Fault.{Fault}
 use Rattle.stream_check.specs.declared.fault.Fault.TheVariants as faults
 use Rattle.stream_check.specs.declared.setting.Side.{Side}
 use Rattle.stream_check.specs.declared.setting.Side.TheVariants as sides
-use Rattle.stream_check.specs.AdditionLemmas.{run-fetches}
-use Rattle.stream_check.specs.Additions.{AtConflict, AtReply, JudgesHints, JudgesAddition, published_by}
-use Rattle.stream_check.specs.Asking.{AsksAt, Asks}
+use Rattle.stream_check.specs.AdditionLemmas.{run-fetches, valid_passes, found_live, no_help, refutes_on}
+use Rattle.stream_check.specs.Additions.{AreFound, FailsBy, FailsHints, JudgesAddition, published_by}
+use Rattle.stream_check.specs.Asking.{AsksAt, answer_of, LooksUp}
 use Rattle.stream_check.specs.Checking.{IsFetch, IsRetire}
 use Rattle.stream_check.specs.Deletions.{DeletesAt, JudgesDeletion}
-use Rattle.stream_check.specs.Finding.{AreFound, IsGoodAddition}
-use Rattle.stream_check.specs.Imports.{AtImported, JudgesImport}
+use Rattle.stream_check.specs.EventLemmas.{found_all, addition_all, import_all}
+use Rattle.stream_check.specs.Imports.{JudgesImport}
 use Rattle.stream_check.specs.Judging.{JudgesLine}
-use Rattle.stream_check.specs.Laws.{GoodExactlyIf}
 use Rattle.stream_check.specs.Setting.{Setting, side_of}
 use Rattle.stream_check.specs.Standing.{Standing, additions_of}
 use Rattle.stream_check.specs.Verdicts.{LineVerdict, Good, Bad, Fails}
-use Rattle.run_laws.proofs.KindLemmas.{all_retire, asked_all, addition_all, import_all, identities_all}
+use Rattle.run_laws.proofs.KindLemmas.{all_retire, identities_all}
 use Rattle.run_laws.proofs.SwapLemmas.{identity_of}
 
 -- Fair events
@@ -101,180 +98,129 @@ same_clause absent d e a b = absurd a
 same_clause (live x) d e a b = sym a ∙ b
 same_clause (retired x) d e a b = sym a ∙ b
 
--- the reply is this clause, or the identity is another stream's, where it was found, and nothing is there, or nothing any more
-abbrev IsThatOrLacks : Setting → (ℕ → Clause → Type 0) → ℕ → Clause → Reply → Type 0
-IsThatOrLacks c Mine h d r = (r ≡ events.live d) ⊎ ((side_of c h ≡ sides.Foreign) × Mine h d × ((r ≡ events.vacant) ⊎ (r ≡ events.retired)))
+-- this is the fault of an identity of another stream, where the clause was found, and nothing is there, or nothing any more
+abbrev IsLackOf : Setting → (ℕ → Clause → Type 0) → ℕ → Clause → Fault → Type 0
+IsLackOf c Mine h d fault = (side_of c h ≡ sides.Foreign) × Mine h d × ((fault ≡ faults.Missing h) ⊎ (fault ≡ faults.Retired h))
+
+-- the look-up comes to this clause, or lacks it
+abbrev IsThatOrLacks : Setting → (ℕ → Clause → Type 0) → ℕ → Clause → Result Clause Fault → Type 0
+IsThatOrLacks c Mine h d answer = (answer ≡ Ok d) ⊎ ((fault : Fault) × (answer ≡ Err fault) × IsLackOf c Mine h d fault)
 
 foreign_agree : (c : Setting) (Mine Theirs : ℕ → Clause → Type 0) (m : State) (h : ℕ) (rest left : History) (d : Clause) (r : Reply)
     → FindAlike c Mine Theirs → side_of c h ≡ sides.Foreign → IsAsked c Mine m h (events.live d) rest → IsAsked c Theirs m h r left
-    → IsThatOrLacks c Mine h d r
-foreign_agree c Mine Theirs m h rest left d events.vacant alike is mine theirs = inr (is, mine.found is, inl refl)
-foreign_agree c Mine Theirs m h rest left d events.retired alike is mine theirs = inr (is, mine.found is, inr refl)
+    → IsThatOrLacks c Mine h d (answer_of h r)
+foreign_agree c Mine Theirs m h rest left d events.vacant alike is mine theirs =
+    inr (faults.Missing h, refl, (is, mine.found is, inl refl))
+foreign_agree c Mine Theirs m h rest left d events.retired alike is mine theirs =
+    inr (faults.Retired h, refl, (is, mine.found is, inr refl))
 foreign_agree c Mine Theirs m h rest left d (events.live e) alike is mine theirs =
-    inl (ap (λ (x : Clause). events.live x) (sym (alike h d e is (mine.found is) (theirs.found is))))
+    inl (ap (λ (x : Clause). Ok x) (sym (alike h d e is (mine.found is) (theirs.found is))))
 
 replies_agree : (side : Side) (c : Setting) (Mine Theirs : ℕ → Clause → Type 0) (m : State) (h : ℕ) (rest left : History) (d : Clause)
     (r : Reply) (asked : History)
     → FindAlike c Mine Theirs → side_of c h ≡ side → AsksAt side c h asked (events.live d) → IsAsked c Mine m h (events.live d) rest
-    → IsAsked c Theirs m h r left → IsThatOrLacks c Mine h d r
+    → IsAsked c Theirs m h r left → IsThatOrLacks c Mine h d (answer_of h r)
 replies_agree sides.Formula c Mine Theirs m h rest left d r asked alike is asks mine theirs =
     let near : IsNearSide (side_of c h) = subst IsNearSide (sym is) tt in
-    inl (fetch_live m c.stream h d r (mine.near near) (theirs.near near))
+    inl (ap (answer_of h) (fetch_live m c.stream h d r (mine.near near) (theirs.near near)))
 replies_agree sides.Own c Mine Theirs m h rest left d r asked alike is asks mine theirs =
     let near : IsNearSide (side_of c h) = subst IsNearSide (sym is) tt in
-    inl (fetch_live m c.stream h d r (mine.near near) (theirs.near near))
+    inl (ap (answer_of h) (fetch_live m c.stream h d r (mine.near near) (theirs.near near)))
 replies_agree sides.Foreign c Mine Theirs m h rest left d r asked alike is asks mine theirs =
     foreign_agree c Mine Theirs m h rest left d r alike is mine theirs
 replies_agree sides.Outside c Mine Theirs m h rest left d r asked alike is asks mine theirs =
     absurd (let no : events.live d ≡ events.vacant = asks.1 in cc)
 
+-- a clause that a look-up found in the one history, and what the same look-up comes to in the other
+record LooksAlike (c : Setting) (Mine Theirs : ℕ → Clause → Type 0) (m : State) (h : ℕ) (d : Clause) (answer : Result Clause Fault)
+    (rest left : History) : Type 0 where
+  that : IsThatOrLacks c Mine h d answer
+  mine : AreFair c Mine m rest
+  theirs : AreFair c Theirs m left
+
+looks_agree : (c : Setting) (Mine Theirs : ℕ → Clause → Type 0) (m : State) (gone : ℕ → Bool) (h : ℕ) (fs asked rest es also left : History)
+    (d : Clause) (answer : Result Clause Fault)
+    → FindAlike c Mine Theirs → fs ≡ asked ++ rest → es ≡ also ++ left → AreFair c Mine m fs → AreFair c Theirs m es
+    → LooksUp c gone h asked (Ok d) → LooksUp c gone h also answer → LooksAlike c Mine Theirs m h d answer rest left
+looks_agree c Mine Theirs m gone h fs asked rest es also left d answer alike one two mine theirs found (inl dropped) =
+    absurd (true≢false (sym dropped.0 ∙ (found_live c gone h asked d found).0))
+looks_agree c Mine Theirs m gone h fs asked rest es also left d answer alike one two mine theirs found (inr other) =
+    let was = found_live c gone h asked d found in
+    let here = asked_fair (side_of c h) c Mine m h asked rest (events.live d) refl was.1 (subst (AreFair c Mine m) one mine) in
+    let there = asked_fair (side_of c h) c Theirs m h also left other.1 refl other.2 (subst (AreFair c Theirs m) two theirs) in
+    record {
+      that = subst (IsThatOrLacks c Mine h d) (sym other.3)
+          (replies_agree (side_of c h) c Mine Theirs m h rest left d other.1 asked alike refl was.1 here there);
+      mine = here.later;
+      theirs = there.later;
+    }
+
 -- Hints
 
--- the line is good, or lacks a clause of another stream, which was found
-abbrev pub IsGoodOrLacks : Setting → (ℕ → Clause → Type 0) → LineVerdict → Type 0
-IsGoodOrLacks c Mine v = (v ≡ Good) ⊎ ((h : ℕ) × (d : Clause) × (side_of c h ≡ sides.Foreign) × Mine h d
-    × ((v ≡ Bad 0 (faults.Missing h)) ⊎ (v ≡ Bad 0 (faults.Retired h))))
+-- the fault is that of a clause of another stream that was found
+abbrev pub Lacks : Setting → (ℕ → Clause → Type 0) → Fault → Type 0
+Lacks c Mine fault = (h : ℕ) × (d : Clause) × (side_of c h ≡ sides.Foreign) × Mine h d
+    × ((fault ≡ faults.Missing h) ⊎ (fault ≡ faults.Retired h))
 
 pub fails_not : (deleted : ℕ) (fault : Fault) (es : History) → Fails deleted fault es Good → ⊥
 fails_not deleted fault es f = let e : Good ≡ Bad deleted fault = f.1 in cc
 
-live_agrees : (c : Setting) (Mine : ℕ → Clause → Type 0) (n : List ℤ) (d : Clause) (ds : List Clause) (h : ℕ) (hints : List ℕ) (e : Event)
-    (es : History) (v : LineVerdict) (A : List ℤ → Type 0)
-    → Refutes n (d ∷ ds) → (ds ≡ [] → hints ≡ [])
-    → ((l : ℤ) → Refutes (n ++ neg_ℤ l ∷ []) ds → A (n ++ neg_ℤ l ∷ []) → IsGoodOrLacks c Mine v)
-    → AtReply (events.live d) n h hints e es v A → IsGoodOrLacks c Mine v
-live_agrees c Mine n d [] h hints e es v A refutes ends next (inl conflict) =
-    let at = subst (λ (hs : List ℕ). AtConflict hs e es v) (ends refl) conflict.1 in inl at.1
-live_agrees c Mine n d [] h hints e es v A refutes ends next (inr (inl unit)) = absurd (unit.1.not_false (refutes unit.0 unit.1.here))
-live_agrees c Mine n d [] h hints e es v A refutes ends next (inr (inr neither)) = absurd (neither.0 refutes)
-live_agrees c Mine n d (x ∷ ds) h hints e es v A refutes ends next (inl conflict) =
-    absurd (refutes.1.not_false (conflict.0 refutes.0 refutes.1.here))
-live_agrees c Mine n d (x ∷ ds) h hints e es v A refutes ends next (inr (inl unit)) =
-    elim (refutes.1.others unit.0 unit.1.here) [
-      | inl same ↦ next unit.0 (subst (λ (l : ℤ). Refutes (n ++ neg_ℤ l ∷ []) (x ∷ ds)) (sym same) refutes.2) unit.2
-      | inr there ↦ absurd (unit.1.not_false there)
+lacks_it : (c : Setting) (Mine : ℕ → Clause → Type 0) (h : ℕ) (d : Clause) (its fault : Fault) → fault ≡ its → IsLackOf c Mine h d its
+    → Lacks c Mine fault
+lacks_it c Mine h d its fault same lack =
+    (h, d, lack.0, lack.1, elim lack.2 [ inl none ↦ inl (same ∙ none) | inr gone ↦ inr (same ∙ gone) ])
+
+by_agrees : (c : Setting) (Mine : ℕ → Clause → Type 0) (gone : ℕ → Bool) (n : List ℤ) (d : Clause) (ds : List Clause) (h : ℕ)
+    (hints : List ℕ) (rest : History) (answer : Result Clause Fault) (es : History) (fault : Fault) (A : List ℤ → Type 0)
+    → Refutes n (d ∷ ds) → AreFound c gone hints ds rest
+    → ((l : ℤ) → Refutes (n ++ neg_ℤ l ∷ []) ds → A (n ++ neg_ℤ l ∷ []) → Lacks c Mine fault)
+    → IsThatOrLacks c Mine h d answer → FailsBy answer n h hints es fault A → Lacks c Mine fault
+by_agrees c Mine gone n d ds h hints rest answer es fault A refutes found next (inl that) fails =
+    elim (subst (λ (x : Result Clause Fault). FailsBy x n h hints es fault A) that fails) [
+      | inl unit ↦ next unit.0 (refutes_on n d ds unit.0 refutes unit.1) unit.2
+      | inr misleads ↦ absurd (no_help n d ds c gone h hints rest fault refutes found misleads.1)
     ]
-live_agrees c Mine n d (x ∷ ds) h hints e es v A refutes ends next (inr (inr neither)) = absurd (neither.1 refutes.0 refutes.1)
+by_agrees c Mine gone n d ds h hints rest answer es fault A refutes found next (inr (its, is, lack)) fails =
+    lacks_it c Mine h d its fault (subst (λ (x : Result Clause Fault). FailsBy x n h hints es fault A) is fails).1 lack
 
-reply_agrees : (c : Setting) (Mine : ℕ → Clause → Type 0) (n : List ℤ) (d : Clause) (ds : List Clause) (h : ℕ) (hints : List ℕ) (e : Event)
-    (r : Reply) (es : History) (v : LineVerdict) (A : List ℤ → Type 0)
-    → Refutes n (d ∷ ds) → (ds ≡ [] → hints ≡ [])
-    → ((l : ℤ) → Refutes (n ++ neg_ℤ l ∷ []) ds → A (n ++ neg_ℤ l ∷ []) → IsGoodOrLacks c Mine v)
-    → IsThatOrLacks c Mine h d r → AtReply r n h hints e es v A → IsGoodOrLacks c Mine v
-reply_agrees c Mine n d ds h hints e r es v A refutes ends next (inl that) at =
-    live_agrees c Mine n d ds h hints e es v A refutes ends next (subst (λ (x : Reply). AtReply x n h hints e es v A) that at)
-reply_agrees c Mine n d ds h hints e r es v A refutes ends next (inr (foreign, was, inl none)) at =
-    let fails = subst (λ (x : Reply). AtReply x n h hints e es v A) none at in inr (h, d, foreign, was, inl fails.1)
-reply_agrees c Mine n d ds h hints e r es v A refutes ends next (inr (foreign, was, inr gone)) at =
-    let fails = subst (λ (x : Reply). AtReply x n h hints e es v A) gone at in inr (h, d, foreign, was, inr fails.1)
-
-none_left : (c : Setting) (gone : ℕ → Bool) (hints : List ℕ) (ds : List Clause) (es : History) → AreFound c gone hints ds es
-    → ds ≡ [] → hints ≡ []
-none_left c gone [] ds es found none = refl
-none_left c gone (h ∷ hints) [] es found none = absurd found
-none_left c gone (h ∷ hints) (d ∷ ds) es found none = absurd (let no : d ∷ ds ≡ [] = none in cc)
-
-hints_agree : (c : Setting) (Mine Theirs : ℕ → Clause → Type 0) (m : State) (gone : ℕ → Bool) (e : Event) (n : List ℤ) (hints : List ℕ)
-    (ds : List Clause) (fetches tail es : History) (v : LineVerdict)
+hints_agree : (c : Setting) (Mine Theirs : ℕ → Clause → Type 0) (m : State) (gone : ℕ → Bool) (n : List ℤ) (hints : List ℕ)
+    (ds : List Clause) (fetches tail es : History) (fault : Fault)
     → FindAlike c Mine Theirs → AreFound c gone hints ds fetches → Refutes n ds → AreFair c Mine m (fetches ++ tail) → AreFair c Theirs m es
-    → JudgesHints c gone e n hints es v → IsGoodOrLacks c Mine v
-hints_agree c Mine Theirs m gone e n [] [] fetches tail es v alike found refutes mine theirs judged = absurd refutes
-hints_agree c Mine Theirs m gone e n [] (d ∷ ds) fetches tail es v alike found refutes mine theirs judged = absurd found
-hints_agree c Mine Theirs m gone e n (h ∷ hints) [] fetches tail es v alike found refutes mine theirs judged = absurd found
-hints_agree c Mine Theirs m gone e n (h ∷ hints) (d ∷ ds) fetches tail es v alike found refutes mine theirs (inl bad) =
-    absurd (bad.0 found.0)
-hints_agree c Mine Theirs m gone e n (h ∷ hints) (d ∷ ds) fetches tail es v alike found refutes mine theirs (inr good) =
-    let a = good.1 in
-    let asked = found.1.0 in
-    let rest = found.1.1 in
-    let cut : fetches ++ tail ≡ asked ++ (rest ++ tail) = ap (λ (x : History). x ++ tail) found.1.2 ∙ append_assoc asked rest tail in
-    let here : IsAsked c Mine m h (events.live d) (rest ++ tail) =
-    asked_fair (side_of c h) c Mine m h asked (rest ++ tail) (events.live d) refl found.1.3 (subst (AreFair c Mine m) cut mine) in
-    let there : IsAsked c Theirs m h a.reply a.rest =
-    asked_fair (side_of c h) c Theirs m h a.asked a.rest a.reply refl a.asks (subst (AreFair c Theirs m) a.events theirs) in
-    reply_agrees c Mine n d ds h hints e a.reply a.rest v (λ p. JudgesHints c gone e p hints a.rest v) refutes
-    (none_left c gone hints ds rest found.1.4)
-    (λ l more next. hints_agree c Mine Theirs m gone e
-    (n ++ neg_ℤ l ∷ []) hints ds rest tail a.rest v alike found.1.4 more here.later there.later next)
-    (replies_agree (side_of c h) c Mine Theirs m h (rest ++ tail) a.rest d a.reply asked alike refl found.1.3 here there) a.next
-
--- Additions
-
-addition_agrees : (c : Setting) (Mine Theirs : ℕ → Clause → Type 0) (m : State) (st : Standing) (id : ℕ) (lits : List ℤ) (hints : List ℕ)
-    (fs es : History) (v : LineVerdict)
-    → FindAlike c Mine Theirs → IsGoodAddition c st id lits hints fs → AreFair c Mine m fs → AreFair c Theirs m es
-    → JudgesAddition c st id lits hints es v → IsGoodOrLacks c Mine v
-addition_agrees c Mine Theirs m st id lits hints fs es v alike good mine theirs (inl bad) = absurd (bad.0 (good.owns, good.above))
-addition_agrees c Mine Theirs m st id lits hints fs es v alike good mine theirs (inr (a, inl bad)) = absurd (bad.0 good.literals)
-addition_agrees c Mine Theirs m st id lits hints fs es v alike good mine theirs (inr (a, inr (b, inl bad))) =
-    absurd (bad.0 (λ t. good.accepts.0 (IsTautology-in_distinct lits t)))
-addition_agrees c Mine Theirs m st id lits hints fs es v alike good mine theirs (inr (a, inr (b, inr (d, inl bad)))) =
-    absurd (bad.0 good.room)
-addition_agrees c Mine Theirs m st id lits hints fs es v alike good mine theirs (inr (a, inr (b, inr (d, inr (e, judged))))) =
-    hints_agree c Mine Theirs m st.gone (published_by c id lits) (distinct lits) hints good.clauses good.fetches
-    (published_by c id lits ∷ []) es v
-    alike good.found good.accepts.1 (subst (AreFair c Mine m) good.published mine) theirs judged
+    → FailsHints c gone n hints es fault → Lacks c Mine fault
+hints_agree c Mine Theirs m gone n [] [] fetches tail es fault alike found refutes mine theirs fails = absurd refutes
+hints_agree c Mine Theirs m gone n [] (d ∷ ds) fetches tail es fault alike found refutes mine theirs fails = absurd found
+hints_agree c Mine Theirs m gone n (h ∷ hints) [] fetches tail es fault alike found refutes mine theirs fails = absurd found
+hints_agree c Mine Theirs m gone n (h ∷ hints) (d ∷ ds) fetches tail es fault alike found refutes mine theirs fails =
+    let both = looks_agree c Mine Theirs m gone h (fetches ++ tail) found.0 (found.1 ++ tail) es fails.0 fails.1 d fails.3 alike
+    (ap (λ (x : History). x ++ tail) found.2 ∙ append_assoc found.0 found.1 tail) fails.2 mine theirs found.3 fails.4 in
+    by_agrees c Mine gone n d ds h hints found.1 fails.3 fails.1 fault (λ p. FailsHints c gone p hints fails.1 fault) refutes found.4
+    (λ l more next. hints_agree c Mine Theirs m gone (n ++ neg_ℤ l ∷ []) hints ds found.1 tail fails.1 fault alike found.4 more both.mine
+    both.theirs next) both.that fails.5
 
 -- Imports
 
--- of a good import a clause was found that has its literals
-pub record FindsImport (c : Setting) (id : ℕ) (lits : List ℤ) (fs : History) : Type 0 where
-  pub clause : Clause
-  pub asked : History
-  pub rest : History
-  pub is : fs ≡ asked ++ rest
-  pub asks : Asks c id asked (events.live clause)
-  pub same : (l : ℤ) → Has clause l ↔ Has lits l
-
-found_import : (c : Setting) (id : ℕ) (lits : List ℤ) (fs asked rest : History) (r : Reply)
-    → fs ≡ asked ++ rest → Asks c id asked r → AtImported r id lits rest Good → FindsImport c id lits fs
-found_import c id lits fs asked rest events.vacant is asks at = absurd (fails_not 0 (faults.Missing id) rest at)
-found_import c id lits fs asked rest events.retired is asks at = absurd (fails_not 0 (faults.Retired id) rest at)
-found_import c id lits fs asked rest (events.live d) is asks (inl bad) = absurd (fails_not 0 (faults.Differs id) rest bad.1)
-found_import c id lits fs asked rest (events.live d) is asks (inr good) =
-    record { clause = d; asked = asked; rest = rest; is = is; asks = asks; same = good.0 }
-
-pub good_import : (c : Setting) (st : Standing) (id : ℕ) (lits : List ℤ) (fs : History) → JudgesImport c st id lits fs Good
-    → FindsImport c id lits fs
-good_import c st id lits fs (inl bad) = absurd (fails_not 0 faults.Identity fs bad.1)
-good_import c st id lits fs (inr (a, inl bad)) = absurd (fails_not 0 faults.Literal fs bad.1)
-good_import c st id lits fs (inr (a, inr (b, inl bad))) = absurd (fails_not 0 (faults.Dropped id) fs bad.1)
-good_import c st id lits fs (inr (a, inr (b, inr (d, found)))) =
-    found_import c id lits fs found.asked found.rest found.reply found.events found.asks found.next
-
-imported_agrees : (c : Setting) (Mine : ℕ → Clause → Type 0) (id : ℕ) (lits : List ℤ) (d : Clause) (r : Reply) (es : History)
-    (v : LineVerdict)
-    → ((l : ℤ) → Has d l ↔ Has lits l) → IsThatOrLacks c Mine id d r → AtImported r id lits es v → IsGoodOrLacks c Mine v
-imported_agrees c Mine id lits d r es v same (inr (foreign, was, inl none)) at =
-    let fails = subst (λ (x : Reply). AtImported x id lits es v) none at in inr (id, d, foreign, was, inl fails.1)
-imported_agrees c Mine id lits d r es v same (inr (foreign, was, inr gone)) at =
-    let fails = subst (λ (x : Reply). AtImported x id lits es v) gone at in inr (id, d, foreign, was, inr fails.1)
-imported_agrees c Mine id lits d r es v same (inl that) at = elim (subst (λ (x : Reply). AtImported x id lits es v) that at) [
-  | inl bad ↦ absurd (bad.0 same)
-  | inr good ↦ inl good.1.1
-]
-
 import_agrees : (c : Setting) (Mine Theirs : ℕ → Clause → Type 0) (m : State) (st : Standing) (id : ℕ) (lits : List ℤ) (fs es : History)
-    (v : LineVerdict)
+    (deleted : ℕ) (fault : Fault)
     → FindAlike c Mine Theirs → JudgesImport c st id lits fs Good → AreFair c Mine m fs → AreFair c Theirs m es
-    → JudgesImport c st id lits es v → IsGoodOrLacks c Mine v
-import_agrees c Mine Theirs m st id lits fs es v alike (inl bad) mine theirs judged = absurd (fails_not 0 faults.Identity fs bad.1)
-import_agrees c Mine Theirs m st id lits fs es v alike (inr (a, inl bad)) mine theirs judged = absurd (fails_not 0 faults.Literal fs bad.1)
-import_agrees c Mine Theirs m st id lits fs es v alike (inr (a, inr (b, inl bad))) mine theirs judged =
-    absurd (fails_not 0 (faults.Dropped id) fs bad.1)
-import_agrees c Mine Theirs m st id lits fs es v alike (inr (a, inr (b, inr good))) mine theirs (inl bad) = absurd (bad.0 a)
-import_agrees c Mine Theirs m st id lits fs es v alike (inr (a, inr (b, inr good))) mine theirs (inr (x, inl bad)) = absurd (bad.0 b)
-import_agrees c Mine Theirs m st id lits fs es v alike (inr (a, inr (b, inr good))) mine theirs (inr (x, inr (y, inl bad))) =
-    absurd (bad.0 good.0)
-import_agrees c Mine Theirs m st id lits fs es v alike (inr (a, inr (b, inr good))) mine theirs (inr (x, inr (y, inr (z, found)))) =
-    let was : FindsImport c id lits fs = good_import c st id lits fs (inr (a, inr (b, inr good))) in
-    let here = asked_fair (side_of c id) c Mine m id was.asked was.rest (events.live was.clause) refl was.asks
-    (subst (AreFair c Mine m) was.is mine) in
-    let there = asked_fair (side_of c id) c Theirs m id found.asked found.rest found.reply refl found.asks
-    (subst (AreFair c Theirs m) found.events theirs) in
-    imported_agrees c Mine id lits was.clause found.reply found.rest v was.same
-    (replies_agree (side_of c id) c Mine Theirs m id was.rest found.rest was.clause found.reply was.asked alike refl was.asks here there)
-    found.next
+    → JudgesImport c st id lits es (Bad deleted fault) → Lacks c Mine fault
+import_agrees c Mine Theirs m st id lits fs es deleted fault alike good mine theirs (none, inl bad) = absurd (bad.0 good.shared)
+import_agrees c Mine Theirs m st id lits fs es deleted fault alike good mine theirs (none, inr (a, inl bad)) = absurd (bad.0 good.literals)
+import_agrees c Mine Theirs m st id lits fs es deleted fault alike good mine theirs (none, inr (a, inr (b, inl unfound))) =
+    let both = looks_agree c Mine Theirs m st.gone id fs fs [] es es [] good.clause (Err fault) alike (sym (append-nil fs))
+    (sym (append-nil es)) mine theirs good.found unfound in
+    elim both.that [
+      | inl that ↦ absurd (cc)
+      | inr lack ↦ lacks_it c Mine id good.clause lack.0 fault (let is = lack.1 in cc) lack.2
+    ]
+import_agrees c Mine Theirs m st id lits fs es deleted fault alike good mine theirs (none, inr (a, inr (b, inr differs))) =
+    let both = looks_agree c Mine Theirs m st.gone id fs fs [] es es [] good.clause (Ok differs.0) alike (sym (append-nil fs))
+    (sym (append-nil es)) mine theirs good.found differs.1 in
+    elim both.that [
+      | inl that ↦
+          let same : good.clause ≡ differs.0 = cc in
+          absurd (differs.2 (subst (λ (x : Clause). (l : ℤ) → Has x l ↔ Has lits l) same good.same))
+      | inr lack ↦ absurd (let is = lack.1 in cc)
+    ]
 
 -- Deletions
 
@@ -327,16 +273,17 @@ deletion_agrees c Mine Theirs m gone earlier (id ∷ ids) fs es v mine theirs on
 
 -- Lines
 
-pub line_agrees : GoodExactlyIf
-    → (c : Setting) (Mine Theirs : ℕ → Clause → Type 0) (m : State) (st : Standing) (line : StreamLine) (fs es : History) (v : LineVerdict)
-    → FindAlike c Mine Theirs → AreFair c Mine m fs → AreFair c Theirs m es → JudgesLine c st line fs Good → JudgesLine c st line es v
-    → IsGoodOrLacks c Mine v
-line_agrees law c Mine Theirs m st (Addition id lits hints) fs es v alike mine theirs one other =
-    addition_agrees c Mine Theirs m st id lits hints fs es v alike ((law c st id lits hints fs).0 one) mine theirs other
-line_agrees law c Mine Theirs m st (Deletion lead ids) fs es v alike mine theirs one other =
-    inl (deletion_agrees c Mine Theirs m st.gone [] ids fs es v mine theirs one other).0
-line_agrees law c Mine Theirs m st (Import id lits) fs es v alike mine theirs one other =
-    import_agrees c Mine Theirs m st id lits fs es v alike one mine theirs other
+pub line_agrees : (c : Setting) (Mine Theirs : ℕ → Clause → Type 0) (m : State) (st : Standing) (line : StreamLine) (fs es : History)
+    (deleted : ℕ) (fault : Fault)
+    → FindAlike c Mine Theirs → AreFair c Mine m fs → AreFair c Theirs m es → JudgesLine c st line fs Good
+    → JudgesLine c st line es (Bad deleted fault) → Lacks c Mine fault
+line_agrees c Mine Theirs m st (Addition id lits hints) fs es deleted fault alike mine theirs (fetches, good, is) other =
+    hints_agree c Mine Theirs m st.gone (distinct lits) hints good.clauses fetches (published_by c id lits ∷ []) es fault alike good.named
+    good.shown.1 (subst (AreFair c Mine m) is mine) theirs (valid_passes c st fetches id lits hints es fault _ good other.1)
+line_agrees c Mine Theirs m st (Deletion lead ids) fs es deleted fault alike mine theirs one other =
+    let good = (deletion_agrees c Mine Theirs m st.gone [] ids fs es (Bad deleted fault) mine theirs one other).0 in absurd (cc)
+line_agrees c Mine Theirs m st (Import id lits) fs es deleted fault alike mine theirs one other =
+    import_agrees c Mine Theirs m st id lits fs es deleted fault alike one mine theirs other
 
 -- What a good line leaves and publishes
 
@@ -352,45 +299,32 @@ published-retires (events.fetch s id r ∷ es) all = absurd all.0
 published-retires (events.publish s id d r ∷ es) all = absurd all.0
 published-retires (events.retire s id r ∷ es) all = published-retires es all.1
 
-found_fetches : (c : Setting) (gone : ℕ → Bool) (hints : List ℕ) (ds : List Clause) (es : History) → AreFound c gone hints ds es
-    → AllByRecursion IsFetch es
-found_fetches c gone [] [] es found = subst (AllByRecursion IsFetch) (sym found) tt
-found_fetches c gone [] (d ∷ ds) es found = absurd found
-found_fetches c gone (h ∷ hints) [] es found = absurd found
-found_fetches c gone (h ∷ hints) (d ∷ ds) es found =
-    subst (AllByRecursion IsFetch) (sym found.1.2)
-    (All-append IsFetch found.1.0 found.1.1 (asked_all c IsFetch (λ id r. tt) (side_of c h) h found.1.0 (events.live d) found.1.3)
-    (found_fetches c gone hints ds found.1.1 found.1.4))
-
 pub good_runs : (c : Setting) (st : Standing) (m : State) (id : ℕ) (lits : List ℤ) (hints : List ℕ) (es : History)
-    → IsGoodAddition c st id lits hints es → run m es ≡ after m (published_by c id lits)
-good_runs c st m id lits hints es good =
-    ap (run m) good.published ∙ run-append m good.fetches (published_by c id lits ∷ [])
-    ∙ ap (λ (n : State). after n (published_by c id lits)) (run-fetches m good.fetches
-    (found_fetches c st.gone hints good.clauses good.fetches good.found))
+    → JudgesAddition c st id lits hints es Good → run m es ≡ after m (published_by c id lits)
+good_runs c st m id lits hints es (fetches, good, is) =
+    ap (run m) is ∙ run-append m fetches (published_by c id lits ∷ [])
+    ∙ ap (λ (n : State). after n (published_by c id lits)) (run-fetches m fetches
+    (found_all c IsFetch (λ h r. tt) st.gone hints good.clauses fetches good.named))
 
-pub line_leaves : GoodExactlyIf
-    → (c : Setting) (Mine Theirs : ℕ → Clause → Type 0) (m : State) (st : Standing) (line : StreamLine) (fs es : History)
+pub line_leaves : (c : Setting) (Mine Theirs : ℕ → Clause → Type 0) (m : State) (st : Standing) (line : StreamLine) (fs es : History)
     → AreFair c Mine m fs → AreFair c Theirs m es → JudgesLine c st line fs Good → JudgesLine c st line es Good → run m fs ≡ run m es
-line_leaves law c Mine Theirs m st (Addition id lits hints) fs es mine theirs one other =
-    good_runs c st m id lits hints fs ((law c st id lits hints fs).0 one)
-    ∙ sym (good_runs c st m id lits hints es ((law c st id lits hints es).0 other))
-line_leaves law c Mine Theirs m st (Deletion lead ids) fs es mine theirs one other =
+line_leaves c Mine Theirs m st (Addition id lits hints) fs es mine theirs one other =
+    good_runs c st m id lits hints fs one ∙ sym (good_runs c st m id lits hints es other)
+line_leaves c Mine Theirs m st (Deletion lead ids) fs es mine theirs one other =
     ap (run m) (deletion_agrees c Mine Theirs m st.gone [] ids fs es Good mine theirs one other).1
-line_leaves law c Mine Theirs m st (Import id lits) fs es mine theirs one other =
+line_leaves c Mine Theirs m st (Import id lits) fs es mine theirs one other =
     run-fetches m fs (import_all c IsFetch (λ h r. tt) st id lits fs Good one)
     ∙ sym (run-fetches m es (import_all c IsFetch (λ h r. tt) st id lits es Good other))
 
-pub good_publishes : GoodExactlyIf → (c : Setting) (st : Standing) (line : StreamLine) (es : History) → JudgesLine c st line es Good
+pub good_publishes : (c : Setting) (st : Standing) (line : StreamLine) (es : History) → JudgesLine c st line es Good
     → published es ≡ additions_of (line ∷ [])
-good_publishes law c st (Addition id lits hints) es judged =
-    let good : IsGoodAddition c st id lits hints es = (law c st id lits hints es).0 judged in
-    ap published good.published ∙ published-append good.fetches (published_by c id lits ∷ [])
-    ∙ ap (λ (x : List (ℕ × Clause)). x ++ published (published_by c id lits ∷ [])) (published-fetches good.fetches
-    (found_fetches c st.gone hints good.clauses good.fetches good.found))
-good_publishes law c st (Deletion lead ids) es judged =
+good_publishes c st (Addition id lits hints) es (fetches, good, is) =
+    ap published is ∙ published-append fetches (published_by c id lits ∷ [])
+    ∙ ap (λ (x : List (ℕ × Clause)). x ++ published (published_by c id lits ∷ [])) (published-fetches fetches
+    (found_all c IsFetch (λ h r. tt) st.gone hints good.clauses fetches good.named))
+good_publishes c st (Deletion lead ids) es judged =
     published-retires es (identities_all c IsRetire st.gone [] ids es Good (all_retire c.stream ids) judged)
-good_publishes law c st (Import id lits) es judged = published-fetches es (import_all c IsFetch (λ h r. tt) st id lits es Good judged)
+good_publishes c st (Import id lits) es judged = published-fetches es (import_all c IsFetch (λ h r. tt) st id lits es Good judged)
 
 pub bad_publishes : (c : Setting) (st : Standing) (line : StreamLine) (es : History) (deleted : ℕ) (fault : Fault)
     → JudgesLine c st line es (Bad deleted fault) → published es ≡ []

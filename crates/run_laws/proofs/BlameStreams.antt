@@ -33,13 +33,13 @@ use Rattle.stream_check.specs.declared.report.Report.{Report}
 use Rattle.stream_check.specs.declared.setting.Side.TheVariants as sides
 use Rattle.stream_check.specs.Judging.{JudgesLine, AreGood, EndsAfter, at_bad_line, at_bad_text, at_memory, at_end, ending_at, joined}
 use Rattle.stream_check.specs.Judging.{report_of, JudgesBlocks}
-use Rattle.stream_check.specs.Laws.{GoodExactlyIf, IsOfMemory, IsOfFailure}
+use Rattle.stream_check.specs.Laws.{IsOfMemory, IsOfFailure}
 use Rattle.stream_check.specs.ReportLemmas.{additions-append, joined-append, split_first}
 use Rattle.stream_check.specs.Setting.{Setting, side_of}
 use Rattle.stream_check.specs.Standing.{standing_of, additions_of, capped, deleted_by, is_within}
 use Rattle.stream_check.specs.Verdicts.{Good, Bad}
 use Rattle.run_laws.specs.Right.{IsCutOffIn, TellsAtLeast}
-use Rattle.run_laws.proofs.BlameLines.{IsNearSide, IsFoundIn, AreFair, FindAlike, IsGoodOrLacks, line_agrees, line_leaves, good_publishes}
+use Rattle.run_laws.proofs.BlameLines.{IsNearSide, IsFoundIn, AreFair, FindAlike, Lacks, line_agrees, line_leaves, good_publishes}
 use Rattle.run_laws.proofs.BlameLines.{bad_publishes, deletes_publish}
 use Rattle.run_laws.proofs.JudgedLemmas.{parts}
 use Rattle.run_laws.proofs.RightLines.{side_by}
@@ -181,7 +181,7 @@ left_published m (events.retire s j retiring.Done ∷ es) id d has = elim (left_
   ]
 ]
 
-module _ (law : GoodExactlyIf) (c : Setting) where
+module _ (c : Setting) where
   good_lines_publish : (before lines : List StreamLine) (blocks : List History) → AreGood c before lines blocks
       → published (joined blocks) ≡ additions_of lines
   good_lines_publish before [] [] good = refl
@@ -189,7 +189,7 @@ module _ (law : GoodExactlyIf) (c : Setting) where
   good_lines_publish before (line ∷ lines) [] good = absurd good
   good_lines_publish before (line ∷ lines) (block ∷ blocks) good =
       published-append block (joined blocks)
-      ∙ ap (λ (x : List (ℕ × Clause)). x ++ published (joined blocks)) (good_publishes law c (standing_of c before) line block good.0)
+      ∙ ap (λ (x : List (ℕ × Clause)). x ++ published (joined blocks)) (good_publishes c (standing_of c before) line block good.0)
       ∙ ap (λ (x : List (ℕ × Clause)). additions_of (line ∷ []) ++ x) (good_lines_publish (before ++ line ∷ []) lines blocks good.1)
       ∙ sym (additions-append (line ∷ []) lines)
 
@@ -260,17 +260,14 @@ IsBlameless c Mine count report = IsCutOffIn count report ⊎ LacksFound c Mine 
 abbrev pub GoesOn : List StreamLine → List StreamLine → Type 0
 GoesOn lines all = (later : List StreamLine) × (all ≡ lines ++ later)
 
-module _ (law : GoodExactlyIf) (first : OneFirstLine) (refused : RefusedStays) (c : Setting) (Mine Theirs : ℕ → Clause → Type 0)
+module _ (first : OneFirstLine) (refused : RefusedStays) (c : Setting) (Mine Theirs : ℕ → Clause → Type 0)
     (alike : FindAlike c Mine Theirs) where
-  lacks : (deleted n count : ℕ) (fault : Fault) (report : Report) → n ≤ count → report.ending ≡ endings.Bad n fault
-      → IsGoodOrLacks c Mine (Bad deleted fault) → LacksFound c Mine count report
-  lacks deleted n count fault report below says (inl good) = absurd (let no : Bad deleted fault ≡ Good = good in cc)
-  lacks deleted n count fault report below says (inr (h, d, foreign, was, inl missing)) =
-      let is : fault ≡ faults.Missing h = let e : Bad deleted fault ≡ Bad 0 (faults.Missing h) = missing in cc in
-      (d, n, h, was, below, foreign, inl (says ∙ ap (λ (x : Fault). endings.Bad n x) is))
-  lacks deleted n count fault report below says (inr (h, d, foreign, was, inr gone)) =
-      let is : fault ≡ faults.Retired h = let e : Bad deleted fault ≡ Bad 0 (faults.Retired h) = gone in cc in
-      (d, n, h, was, below, foreign, inr (says ∙ ap (λ (x : Fault). endings.Bad n x) is))
+  lacks : (n count : ℕ) (fault : Fault) (report : Report) → n ≤ count → report.ending ≡ endings.Bad n fault → Lacks c Mine fault
+      → LacksFound c Mine count report
+  lacks n count fault report below says (h, d, foreign, was, inl missing) =
+      (d, n, h, was, below, foreign, inl (says ∙ ap (λ (x : Fault). endings.Bad n x) missing))
+  lacks n count fault report below says (h, d, foreign, was, inr gone) =
+      (d, n, h, was, below, foreign, inr (says ∙ ap (λ (x : Fault). endings.Bad n x) gone))
 
   -- where a whole line is left, the stream didn't come to its end
   at_its_end : (line : StreamLine) (later rest left : List ℕ) (end : StreamEnd) (before : List StreamLine) (n count : ℕ) (report : Report)
@@ -293,8 +290,8 @@ module _ (law : GoodExactlyIf) (first : OneFirstLine) (refused : RefusedStays) (
       (sym is ∙ ap (λ (b : List ℕ). b ++ left) text ∙ append_assoc (line_text other) more left) in
       let here : AreFair c Theirs m block =
       fair_front c Theirs m block [] (subst (λ (x : List History). AreFair c Theirs m (joined x)) is_one theirs) in
-      inr (lacks deleted (capped (length before + 1)) count fault report (omega (arith, below)) (ap (λ (r : Report). r.ending) says)
-      (line_agrees law c Mine Theirs m (standing_of c before) line fs block (Bad deleted fault) alike mine here good
+      inr (lacks (capped (length before + 1)) count fault report (omega (arith, below)) (ap (λ (r : Report). r.ending) says)
+      (line_agrees c Mine Theirs m (standing_of c before) line fs block deleted fault alike mine here good
       (subst (λ (l : StreamLine). JudgesLine c (standing_of c before) l block (Bad deleted fault)) (sym same.0) bad)))
   at_line before line later rest left end fs back m count report below limits is none good mine theirs
       (at_bad_text fault text no_block says) =
@@ -340,7 +337,7 @@ module _ (law : GoodExactlyIf) (first : OneFirstLine) (refused : RefusedStays) (
       let judged : JudgesLine c (standing_of c before) line g Good =
       subst (λ (l : StreamLine). JudgesLine c (standing_of c before) l g Good) (sym same.0) also.0 in
       let leaves : run m f ≡ run m g =
-      line_leaves law c Mine Theirs m (standing_of c before) line f g (fair_front c Mine m f (joined fs) mine)
+      line_leaves c Mine Theirs m (standing_of c before) line f g (fair_front c Mine m f (joined fs) mine)
       (fair_front c Theirs m g (joined (front ++ back)) theirs) good.0 judged in
       elim (lines_go_on (before ++ line ∷ []) lines others fs front back (run m f) rest left more end count report
       (omega (arith, below, length-append before (line ∷ []))) good.1

@@ -45,7 +45,7 @@ lines_near : (f : Cnf) (p : LayoutValue) (s : ℕ) (lines : List StreamLine) (ba
     → AllByRecursion (λ line. AllByRecursion (IsOwnedWithin p (one s)) (cited_by line)) lines
 lines_near f p s [] base near right = tt
 lines_near f p s (Addition id lits hints ∷ lines) base near right = (
-  named_near p s base hints right.0.hinted near right.0.named,
+  named_near p s base hints right.0.clauses near right.0.named,
   lines_near f p s lines (after_line base (Addition id lits hints))
       (λ j d is. elim (cases_eq j id) [
         | inl same ↦ owned_near p s j (subst (Owns p s) (sym same) right.0.owns)

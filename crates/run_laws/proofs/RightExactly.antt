@@ -23,14 +23,13 @@ use Rattle.lrup_text.specs.declared.device.StreamEnd.TheVariants as stream_ends
 use Rattle.stream_check.specs.declared.fault.Fault.TheVariants as faults
 use Rattle.stream_check.specs.declared.setting.Side.{Side}
 use Rattle.stream_check.specs.declared.setting.Side.TheVariants as sides
-use Rattle.stream_check.specs.AdditionLemmas.{run-fetches}
-use Rattle.stream_check.specs.Additions.{published_by}
-use Rattle.stream_check.specs.Laws.{cited_by, GoodExactlyIf, OverStays}
+use Rattle.stream_check.specs.AdditionLemmas.{run-fetches, found_live}
+use Rattle.stream_check.specs.Additions.{AreFound, IsValidAddition, published_by, JudgesAddition}
+use Rattle.stream_check.specs.Laws.{cited_by, OverStays}
 use Rattle.stream_check.specs.Checking.{IsFetch}
 use Rattle.stream_check.specs.Judging.{JudgesLine, AreGood, joined}
 use Rattle.stream_check.specs.Asking.{AsksAt, Asks}
 use Rattle.stream_check.specs.Deletions.{DeletesAt, JudgesDeletion}
-use Rattle.stream_check.specs.Finding.{AreFound, IsGoodAddition}
 use Rattle.stream_check.specs.Imports.{JudgesImport}
 use Rattle.stream_check.specs.Leaving.{SameStanding, standing_after}
 use Rattle.stream_check.specs.ReportLemmas.{joined-append}
@@ -41,12 +40,12 @@ use Rattle.stream_check.specs.Verdicts.{Good}
 use Rattle.runs.specs.Streams.{setting_of}
 use Rattle.runs.specs.Closed.{IsOwnedWithin}
 use Rattle.run_laws.specs.Groups.{one}
-use Rattle.run_laws.specs.Right.{Database, first_database, after_line, AreRight, AreDistinct, IsRightAddition, IsRightDeletion}
+use Rattle.run_laws.specs.Right.{Database, first_database, after_line, database_context, AreRight, AreDistinct, IsRightDeletion}
 use Rattle.run_laws.specs.Right.{IsRightImport}
 use Rattle.run_laws.specs.RightLaws.{EndedIsRight}
 use Rattle.run_laws.proofs.AloneLemmas.{alone_judged, own-one}
-use Rattle.run_laws.proofs.BlameLines.{IsNearSide, AreFair, IsAsked, asked_fair, FindsImport, good_import, fails_not, good_runs}
-use Rattle.run_laws.proofs.KindLemmas.{import_all}
+use Rattle.run_laws.proofs.BlameLines.{IsNearSide, AreFair, IsAsked, asked_fair, fails_not, good_runs}
+use Rattle.stream_check.specs.EventLemmas.{import_all}
 use Rattle.run_laws.proofs.BlameStreams.{fair_front, fair_back, near_fair, Anything, all_anything, has_ended}
 use Rattle.run_laws.proofs.RightLines.{side_by, formulas_side, own_side, formulas_near, not_or, not_same, neither}
 use Rattle.run_laws.proofs.VerdictLemmas.{or_none}
@@ -110,29 +109,29 @@ found_named f c Found m base st [] [] fetches tail a within found fair = tt
 found_named f c Found m base st [] (d ∷ ds) fetches tail a within found fair = absurd found
 found_named f c Found m base st (h ∷ hints) [] fetches tail a within found fair = absurd found
 found_named f c Found m base st (h ∷ hints) (d ∷ ds) fetches tail a within found fair =
-    let asked = found.1.0 in
-    let rest = found.1.1 in
-    let cut : fetches ++ tail ≡ asked ++ (rest ++ tail) = ap (λ (x : History). x ++ tail) found.1.2 ∙ append_assoc asked rest tail in
-    let here : IsAsked c Found m h (events.live d) (rest ++ tail) =
-    asked_fair (side_of c h) c Found m h asked (rest ++ tail) (events.live d) refl found.1.3 (subst (AreFair c Found m) cut fair) in
-    let near = near_or_outside c h within.0 (not_outside c h asked d found.1.3) in (
-      a.there h d near (here.near near) found.0,
-      found_named f c Found m base st hints ds rest tail a within.1 found.1.4 here.later,
+    let was = found_live c st.gone h found.0 d found.3 in
+    let cut : fetches ++ tail ≡ found.0 ++ (found.1 ++ tail) =
+    ap (λ (x : History). x ++ tail) found.2 ∙ append_assoc found.0 found.1 tail in
+    let here : IsAsked c Found m h (events.live d) (found.1 ++ tail) =
+    asked_fair (side_of c h) c Found m h found.0 (found.1 ++ tail) (events.live d) refl was.1 (subst (AreFair c Found m) cut fair) in
+    let near = near_or_outside c h within.0 (not_outside c h found.0 d was.1) in (
+      a.there h d near (here.near near) was.0,
+      found_named f c Found m base st hints ds found.1 tail a within.1 found.4 here.later,
     )
 
 pub right_addition : (f : Cnf) (c : Setting) (Found : ℕ → Clause → Type 0) (m : State) (base : Database) (st : Standing) (id : ℕ)
     (lits : List ℤ) (hints : List ℕ) (es : History)
-    → Mirrors f c base st m → AllByRecursion (IsOwnedWithin c.layout (one c.stream)) hints → IsGoodAddition c st id lits hints es
-    → AreFair c Found m es → IsRightAddition c.layout c.stream base id lits hints
-right_addition f c Found m base st id lits hints es a within good fair = record {
+    → Mirrors f c base st m → AllByRecursion (IsOwnedWithin c.layout (one c.stream)) hints → JudgesAddition c st id lits hints es Good
+    → AreFair c Found m es → IsValidAddition c.layout c.stream (database_context base) id lits hints
+right_addition f c Found m base st id lits hints es a within (fetches, good, is) fair = record {
   owns = good.owns;
   above = omega (arith, a.last, good.above);
   literals = good.literals;
   room = omega (arith, a.free, good.room);
-  hinted = good.clauses;
-  named = found_named f c Found m base st hints good.clauses good.fetches (published_by c id lits ∷ []) a within good.found
-      (subst (AreFair c Found m) good.published fair);
-  shown = good.accepts;
+  clauses = good.clauses;
+  named = found_named f c Found m base st hints good.clauses fetches (published_by c id lits ∷ []) a within good.named
+      (subst (AreFair c Found m) is fair);
+  shown = good.shown;
 }
 
 -- the parts of what is gone one line further
@@ -151,16 +150,15 @@ own_kept c st next line j same owns kept =
 pub addition_mirrors : (f : Cnf) (c : Setting) (m : State) (base : Database) (before : List StreamLine) (id : ℕ) (lits : List ℤ)
     (hints : List ℕ) (es : History)
     → Mirrors f c base (standing_of c before) m → JudgesLine c (standing_of c before) (Addition id lits hints) es Good
-    → IsGoodAddition c (standing_of c before) id lits hints es
     → Mirrors f c (after_line base (Addition id lits hints)) (standing_of c (before ++ Addition id lits hints ∷ [])) (run m es)
-addition_mirrors f c m base before id lits hints es a judged good =
+addition_mirrors f c m base before id lits hints es a judged =
     let line = Addition id lits hints in
     let next = standing_of c (before ++ line ∷ []) in
     let standing = standing_of-snoc c before line es judged in
     let clause = distinct lits in
     let st = standing_of c before in
     subst (Mirrors f c (after_line base line) (standing_of c (before ++ line ∷ [])))
-    (sym (good_runs c st m id lits hints es good)) (record {
+    (sym (good_runs c st m id lits hints es judged)) (record {
       last = sym standing.last;
       free = omega (arith, standing.free, sum_by-cons (λ (x : ℕ × Clause). length x.1) (id, clause) [], a.free);
       there = λ j d near is kept. elim (cases_eq j id) [
@@ -173,7 +171,7 @@ addition_mirrors f c m base before id lits hints es a judged good =
             ∙ a.there j d near (sym (put-other m id (live clause) j other) ∙ is) (was_kept c st next line j standing kept).0
       ];
       formulas = λ j is. put-other m id (live clause) j (λ same.
-          let no : owners.Formula ≡ owners.Stream c.stream = sym is ∙ ap (owner c.layout) same ∙ good.owns in cc) ∙ a.formulas j is;
+          let no : owners.Formula ≡ owners.Stream c.stream = sym is ∙ ap (owner c.layout) same ∙ judged.1.owns in cc) ∙ a.formulas j is;
       own = λ j owns. own_kept c st next line j standing owns (a.own j owns);
     })
 
@@ -405,28 +403,20 @@ deletion_mirrors f c Found m base before lead ids es a within fair judged =
 
 -- Imports
 
-import_formula : (c : Setting) (st : Standing) (id : ℕ) (lits : List ℤ) (es : History) → JudgesImport c st id lits es Good
-    → (is_shared (side_of c id) ≡ true) × (st.gone id ≡ false)
-import_formula c st id lits es (inl bad) = absurd (fails_not 0 faults.Identity es bad.1)
-import_formula c st id lits es (inr (a, inl bad)) = absurd (fails_not 0 faults.Literal es bad.1)
-import_formula c st id lits es (inr (a, inr (b, inl bad))) = absurd (fails_not 0 (faults.Dropped id) es bad.1)
-import_formula c st id lits es (inr (a, inr (b, inr (d, found)))) = (a, d)
-
 pub right_import : (f : Cnf) (c : Setting) (Found : ℕ → Clause → Type 0) (m : State) (base : Database) (st : Standing) (id : ℕ)
     (lits : List ℤ) (es : History)
     → Fits c.layout f → Mirrors f c base st m → IsOwnedWithin c.layout (one c.stream) id → AreFair c Found m es
     → JudgesImport c st id lits es Good → IsRightImport c.layout c.stream base id lits
 right_import f c Found m base st id lits es fits a within fair judged =
-    let tests = import_formula c st id lits es judged in
-    let found : FindsImport c id lits es = good_import c st id lits es judged in
-    let near = near_or_outside c id within (not_outside c id found.asked found.clause found.asks) in
-    let here = asked_fair (side_of c id) c Found m id found.asked found.rest (events.live found.clause) refl found.asks
-    (subst (AreFair c Found m) found.is fair) in
+    let was = found_live c st.gone id es judged.clause judged.found in
+    let near = near_or_outside c id within (not_outside c id es judged.clause was.1) in
+    let here = asked_fair (side_of c id) c Found m id es [] (events.live judged.clause) refl was.1
+    (subst (AreFair c Found m) (sym (append-nil es)) fair) in
     record {
-      other = λ owns. true≢false (sym tests.0 ∙ ap is_shared (own_side c id owns));
-      clause = found.clause;
-      there = a.there id found.clause near (here.near near) tests.1;
-      same = found.same;
+      other = λ owns. true≢false (sym judged.shared ∙ ap is_shared (own_side c id owns));
+      clause = judged.clause;
+      there = a.there id judged.clause near (here.near near) was.0;
+      same = judged.same;
     }
 
 pub import_mirrors : (f : Cnf) (c : Setting) (m n : State) (base : Database) (before : List StreamLine) (id : ℕ)
@@ -448,34 +438,34 @@ import_mirrors f c m n base before id lits es judged same a =
 
 -- All lines
 
-lines_right : GoodExactlyIf → (f : Cnf) (c : Setting) (Found : ℕ → Clause → Type 0) → Fits c.layout f
+lines_right : (f : Cnf) (c : Setting) (Found : ℕ → Clause → Type 0) → Fits c.layout f
     → (before lines : List StreamLine) (blocks : List History) (base : Database) (m : State)
     → Mirrors f c base (standing_of c before) m → AreGood c before lines blocks → AreFair c Found m (joined blocks)
     → AllByRecursion (CitesNear c) lines → AllByRecursion (DeletesNear c) lines → AreRight c.layout c.stream base lines
-lines_right law f c Found fits before [] blocks base m a good fair cites deletes = tt
-lines_right law f c Found fits before (line ∷ lines) [] base m a good fair cites deletes = absurd good
-lines_right law f c Found fits before (Addition id lits hints ∷ lines) (block ∷ blocks) base m a good fair cites deletes =
+lines_right f c Found fits before [] blocks base m a good fair cites deletes = tt
+lines_right f c Found fits before (line ∷ lines) [] base m a good fair cites deletes = absurd good
+lines_right f c Found fits before (Addition id lits hints ∷ lines) (block ∷ blocks) base m a good fair cites deletes =
     let line = Addition id lits hints in
     let here : AreFair c Found m block = fair_front c Found m block (joined blocks) fair in
-    let is : IsGoodAddition c (standing_of c before) id lits hints block = (law c (standing_of c before) id lits hints block).0 good.0 in (
-      right_addition f c Found m base (standing_of c before) id lits hints block a cites.0 is here,
-      lines_right law f c Found fits (before ++ line ∷ []) lines blocks (after_line base line) (run m block)
-          (addition_mirrors f c m base before id lits hints block a good.0 is) good.1
+    let st = standing_of c before in (
+      right_addition f c Found m base st id lits hints block a cites.0 good.0 here,
+      lines_right f c Found fits (before ++ line ∷ []) lines blocks (after_line base line) (run m block)
+          (addition_mirrors f c m base before id lits hints block a good.0) good.1
           (fair_back c Found m block (joined blocks) fair) cites.1 deletes.1,
     )
-lines_right law f c Found fits before (Deletion lead ids ∷ lines) (block ∷ blocks) base m a good fair cites deletes =
+lines_right f c Found fits before (Deletion lead ids ∷ lines) (block ∷ blocks) base m a good fair cites deletes =
     let line = Deletion lead ids in
     let here : AreFair c Found m block = fair_front c Found m block (joined blocks) fair in (
       right_deletion f c Found m base (standing_of c before) ids block a deletes.0 here good.0,
-      lines_right law f c Found fits (before ++ line ∷ []) lines blocks (after_line base line) (run m block)
+      lines_right f c Found fits (before ++ line ∷ []) lines blocks (after_line base line) (run m block)
           (deletion_mirrors f c Found m base before lead ids block a deletes.0 here good.0) good.1
           (fair_back c Found m block (joined blocks) fair) cites.1 deletes.1,
     )
-lines_right law f c Found fits before (Import id lits ∷ lines) (block ∷ blocks) base m a good fair cites deletes =
+lines_right f c Found fits before (Import id lits ∷ lines) (block ∷ blocks) base m a good fair cites deletes =
     let line = Import id lits in
     let here : AreFair c Found m block = fair_front c Found m block (joined blocks) fair in (
       right_import f c Found m base (standing_of c before) id lits block fits a cites.0.0 here good.0,
-      lines_right law f c Found fits (before ++ line ∷ []) lines blocks (after_line base line) (run m block)
+      lines_right f c Found fits (before ++ line ∷ []) lines blocks (after_line base line) (run m block)
           (import_mirrors f c m (run m block) base before id lits block good.0
           (run-fetches m block (import_all c IsFetch (λ h r. tt) (standing_of c before) id lits block Good good.0)) a)
           good.1 (fair_back c Found m block (joined blocks) fair) cites.1 deletes.1,
@@ -494,8 +484,8 @@ first_mirrors f c fits = record {
   own = λ id owns. neither false (is_shared (side_of c id)) refl;
 }
 
-pub ended_is_right : GoodExactlyIf → OverStays → OneCut → EmptyCut → EndedIsRight
-ended_is_right law stays one_cut empty_cut f terms s bytes report fits cites deletes alone ended =
+pub ended_is_right : OverStays → OneCut → EmptyCut → EndedIsRight
+ended_is_right stays one_cut empty_cut f terms s bytes report fits cites deletes alone ended =
     let c = setting_of terms s in
     let g = alone.alone in
     let j = alone_judged stays f terms s alone.streams alone.reports bytes stream_ends.Ended alone.stream report g alone.at
@@ -523,7 +513,7 @@ ended_is_right law stays one_cut empty_cut f terms s bytes report fits cites del
       record {
         text = text;
         fits = its.fits;
-        right = lines_right law f c Anything fits [] its.lines its.front (first_database f terms.layout) (opening f)
+        right = lines_right f c Anything fits [] its.lines its.front (first_database f terms.layout) (opening f)
             (first_mirrors f c fits) its.good front cited deleted;
       },
     )

@@ -23,7 +23,7 @@ use Rattle.stream_check.specs.declared.report.Ending.TheVariants as endings
 use Rattle.stream_check.specs.declared.report.Report.{Report}
 use Rattle.stream_check.specs.CheckerValue.{report_of_tally}
 use Rattle.stream_check.specs.Judging.{joined, ending_at, report_of, JudgesBlocks}
-use Rattle.stream_check.specs.Laws.{AloneDecides, CountsWithin, DecidedBeforeFailure, EndJudged, FreshLeft, GoodExactlyIf, GoodLineTaken}
+use Rattle.stream_check.specs.Laws.{AloneDecides, CountsWithin, DecidedBeforeFailure, EndJudged, FreshLeft, GoodLineTaken}
 use Rattle.stream_check.specs.Laws.{IsOfMemory}
 use Rattle.stream_check.specs.Leaving.{Holding, Going, Leaves, standing_after, tally_after}
 use Rattle.stream_check.specs.Setting.{Setting, side_of, is_shared}
@@ -103,11 +103,11 @@ next_holding c old line = record {
   line = capped (old.line + 1);
 }
 
-lines_go : GoodExactlyIf → PropagationSound → GoodLineTaken → (f : Cnf) (c : Setting) → Fits c.layout f → 0 < c.layout.streams
+lines_go : PropagationSound → GoodLineTaken → (f : Cnf) (c : Setting) → Fits c.layout f → 0 < c.layout.streams
     → (lines : List StreamLine) (base : Database) (m : State) (bytes : List ℕ) (blocks : List History) (old : Holding)
     → old.pending ≡ [] → Agrees f c.layout c.stream base old.standing m → AllByRecursion IsWithinLimits lines
     → AreRight c.layout c.stream base lines → Leaves c bytes blocks (Going old) → LinesGo f c base m bytes blocks lines
-lines_go good sound taken f c fits some [] base m bytes blocks old pending a limits right leaves = record {
+lines_go sound taken f c fits some [] base m bytes blocks old pending a limits right leaves = record {
   more = [];
   legal = tt;
   callers = tt;
@@ -117,15 +117,15 @@ lines_go good sound taken f c fits some [] base m bytes blocks old pending a lim
   leaves = subst (λ (b : List ℕ). Leaves c b (blocks ++ []) (Going old)) (sym (append-nil bytes))
       (subst (λ (b : List History). Leaves c bytes b (Going old)) (sym (append-nil blocks)) leaves);
 }
-lines_go good sound taken f c fits some (line ∷ lines) base m bytes blocks old pending a limits right leaves =
-    let goes : Goes f c base old.standing m line = line_goes good sound f c base old.standing m line fits some a limits.0 right.0 in
+lines_go sound taken f c fits some (line ∷ lines) base m bytes blocks old pending a limits right leaves =
+    let goes : Goes f c base old.standing m line = line_goes sound f c base old.standing m line fits some a limits.0 right.0 in
     let new = next_holding c old line in
     let left : Leaves c (bytes ++ line_text line) (blocks ++ goes.block ∷ []) (Going new) =
     taken c bytes (line_text line) blocks goes.block old new line leaves
     (limits.0, ap (λ (p : List ℕ). p ++ line_text line) pending) goes.judged
     (record { tally = refl; standing = record { last = refl; free = refl; gone = λ id. refl }; pending = refl; line = refl }) in
     let rest : LinesGo f c (after_line base line) (run m goes.block) (bytes ++ line_text line) (blocks ++ goes.block ∷ []) lines =
-    lines_go good sound taken f c fits some lines (after_line base line) (run m goes.block) (bytes ++ line_text line)
+    lines_go sound taken f c fits some lines (after_line base line) (run m goes.block) (bytes ++ line_text line)
     (blocks ++ goes.block ∷ []) new
     refl goes.next limits.1 right.1 left in
     record {
@@ -205,7 +205,7 @@ ended_report ends empty_cut one_cut terms s lines more holding pending limits le
     ∙ ap (λ (ls : List StreamLine). report_of c ls 0 endings.Ended) same.0 in
     subst (JudgesBlocks c texts stream_ends.Ended more) says (ends c texts more holding stream_ends.Ended leaves)
 
-module _ (good : GoodExactlyIf) (sound : PropagationSound) (taken : GoodLineTaken) (fresh : FreshLeft) (ends : EndJudged)
+module _ (sound : PropagationSound) (taken : GoodLineTaken) (fresh : FreshLeft) (ends : EndJudged)
     (empty_cut : EmptyCut) (one_cut : OneCut) where
   -- a legal history of its own judges it so
   pub right_judged : (f : Cnf) (terms : TermsValue) (s : ℕ) (bytes : List ℕ) (lines : List StreamLine)
@@ -226,7 +226,7 @@ module _ (good : GoodExactlyIf) (sound : PropagationSound) (taken : GoodLineTake
         line = refl;
       }) in
       let on : LinesGo f c (first_database f terms.layout) (opening f) [] [] lines =
-      lines_go good sound taken f c fits (omega (arith, stream.0, stream.1)) lines (first_database f terms.layout)
+      lines_go sound taken f c fits (omega (arith, stream.0, stream.1)) lines (first_database f terms.layout)
       (opening f) [] [] first refl
       (first_agrees f c cnf fits) right.fits right.right left in
       let texts = flat_map line_text lines in

@@ -29,12 +29,10 @@ use Rattle.lrup_text.specs.Lines.{StreamLine, Addition, Deletion, Import, IsWith
 use Rattle.stream_check.specs.declared.setting.Side.{Side}
 use Rattle.stream_check.specs.declared.setting.Side.TheVariants as sides
 use Rattle.stream_check.specs.AdditionLemmas.{literals_within}
-use Rattle.stream_check.specs.Additions.{published_by}
+use Rattle.stream_check.specs.Additions.{AreFound, IsValidAddition, published_by}
 use Rattle.stream_check.specs.Asking.{AsksAt, Asks}
 use Rattle.stream_check.specs.Deletions.{DeletesAt, DropsThen, JudgesDeletion}
-use Rattle.stream_check.specs.Finding.{AreFound}
 use Rattle.stream_check.specs.Judging.{JudgesLine}
-use Rattle.stream_check.specs.Laws.{GoodExactlyIf}
 use Rattle.stream_check.specs.Leaving.{standing_after}
 use Rattle.stream_check.specs.Setting.{Setting, side_of, is_shared}
 use Rattle.stream_check.specs.Standing.{Standing, is_among}
@@ -42,7 +40,7 @@ use Rattle.stream_check.specs.Verdicts.{Good}
 use Rattle.run_laws.proofs.VerdictLemmas.{or_none}
 use Rattle.run_laws.specs.Together.{is_own, beside_line}
 use Rattle.run_laws.proofs.SwapLemmas.{mine_or_not}
-use Rattle.run_laws.specs.Right.{Database, after_line, IsRightAddition, AreDistinct, IsRightDeletion, IsRightImport, IsRightLine}
+use Rattle.run_laws.specs.Right.{Database, after_line, database_context, AreDistinct, IsRightDeletion, IsRightImport, IsRightLine}
 
 -- Whose an identity is
 
@@ -160,7 +158,7 @@ finds f c base st m (h ∷ hints) (d ∷ ds) some a named =
     let e = events.fetch c.stream h (events.live d) in
     record {
       fetches = e ∷ rest.fetches;
-      found = (a.kept h d named.0, (e ∷ [], rest.fetches, refl, asks_once c h d known, rest.found));
+      found = (e ∷ [], rest.fetches, refl, inr (a.kept h d named.0, events.live d, asks_once c h d known, refl), rest.found);
       legal = (a.there h d named.0, is_identity c.layout h some known, rest.legal);
       callers = (refl, rest.callers);
       still = rest.still;
@@ -190,17 +188,17 @@ pub not_callers : (s t : ℕ) (es : History) → t ≢ s → AllByRecursion (λ 
 not_callers s t [] other all = tt
 not_callers s t (e ∷ es) other all = (λ same. other (sym same ∙ all.0), not_callers s t es other all.1)
 
-addition_goes : GoodExactlyIf → PropagationSound → (f : Cnf) (c : Setting) (base : Database) (st : Standing) (m : State)
+addition_goes : PropagationSound → (f : Cnf) (c : Setting) (base : Database) (st : Standing) (m : State)
     (id : ℕ) (lits : List ℤ) (hints : List ℕ)
     → Fits c.layout f → 0 < c.layout.streams → Agrees f c.layout c.stream base st m → IsWithinLimits (Addition id lits hints)
-    → IsRightAddition c.layout c.stream base id lits hints → Goes f c base st m (Addition id lits hints)
-addition_goes good sound f c base st m id lits hints fits some a limits right =
-    let found : Finds f c st.gone m hints right.hinted = finds f c base st m hints right.hinted some a right.named in
+    → IsValidAddition c.layout c.stream (database_context base) id lits hints → Goes f c base st m (Addition id lits hints)
+addition_goes sound f c base st m id lits hints fits some a limits right =
+    let found : Finds f c st.gone m hints right.clauses = finds f c base st m hints right.clauses some a right.named in
     let e = published_by c id lits in
     let clause = distinct lits in
     let is_clause : IsClause f.vars clause = subst (λ (n : ℕ). IsClause n clause) fits.vars
     (IsClause-distinct c.layout.vars lits (literals_within c.layout.vars lits limits.1.each right.literals)) in
-    let follows : Follows f clause = sound f clause right.hinted found.sound right.shown in
+    let follows : Follows f clause = sound f clause right.clauses found.sound right.shown in
     let after : run m (found.fetches ++ e ∷ []) ≡ put m id (live clause) =
     run-append m found.fetches (e ∷ []) ∙ ap (λ (n : State). run n (e ∷ [])) found.still in
     let absent_there : m id ≡ absent = a.vacant id right.owns right.above in
@@ -220,17 +218,19 @@ addition_goes good sound f c base st m id lits hints fits some a limits right =
     λ j x d same is. (let found_there : Some clause ≡ Some d = sym (cond-true (eqb j id) (Some clause) x (eq-eqb j id same)) ∙ is in cc) in
     record {
       block = block;
-      judged = (good c st id lits hints block).1 (record {
-        owns = right.owns;
-        above = omega (arith, a.last, right.above);
-        literals = right.literals;
-        room = omega (arith, a.free, right.room);
-        clauses = right.hinted;
-        fetches = found.fetches;
-        found = found.found;
-        accepts = right.shown;
-        published = refl;
-      });
+      judged = (
+        found.fetches,
+        record {
+          owns = right.owns;
+          above = omega (arith, a.last, right.above);
+          literals = right.literals;
+          room = omega (arith, a.free, right.room);
+          clauses = right.clauses;
+          named = found.found;
+          shown = right.shown;
+        },
+        refl,
+      );
       legal = legal;
       callers = callers;
       room = omega (arith, sum_by-append size_of found.fetches (e ∷ []), sum_by-cons size_of e [], found.size, right.room);
@@ -531,25 +531,15 @@ import_goes f c base st m id lits fits some a right =
     let e = events.fetch c.stream id (events.live d) in
     record {
       block = e ∷ [];
-      judged = inr (
-        not_own c id known right.other,
-        inr (
-          All-from_Has (λ l. nat_abs l ≤ c.layout.vars) lits (λ l has.
-              let within = All-Has (IsLiteral f.vars) d l (a.sound id d right.there).0.literals ((right.same l).1 has) in
-              omega (arith, within.1, fits.vars)),
-          inr (
-            a.kept id d right.there,
-            record {
-              asked = e ∷ [];
-              reply = events.live d;
-              rest = [];
-              events = refl;
-              asks = asks_once c id d known;
-              next = inr (right.same, (refl, refl));
-            },
-          ),
-        ),
-      );
+      judged = record {
+        shared = not_own c id known right.other;
+        literals = All-from_Has (λ l. nat_abs l ≤ c.layout.vars) lits (λ l has.
+            let within = All-Has (IsLiteral f.vars) d l (a.sound id d right.there).0.literals ((right.same l).1 has) in
+            omega (arith, within.1, fits.vars));
+        clause = d;
+        found = inr (a.kept id d right.there, events.live d, asks_once c id d known, refl);
+        same = right.same;
+      };
       legal = (a.there id d right.there, is_identity c.layout id some known, tt);
       callers = (refl, tt);
       room = omega (arith, sum_by-cons size_of e []);
@@ -568,10 +558,10 @@ import_goes f c base st m id lits fits some a right =
     }
 
 -- a right line goes on
-pub line_goes : GoodExactlyIf → PropagationSound → (f : Cnf) (c : Setting) (base : Database) (st : Standing) (m : State) (line : StreamLine)
+pub line_goes : PropagationSound → (f : Cnf) (c : Setting) (base : Database) (st : Standing) (m : State) (line : StreamLine)
     → Fits c.layout f → 0 < c.layout.streams → Agrees f c.layout c.stream base st m → IsWithinLimits line
     → IsRightLine c.layout c.stream base line → Goes f c base st m line
-line_goes good sound f c base st m (Addition id lits hints) fits some a limits right =
-    addition_goes good sound f c base st m id lits hints fits some a limits right
-line_goes good sound f c base st m (Deletion lead ids) fits some a limits right = deletion_goes f c base st m lead ids a right
-line_goes good sound f c base st m (Import id lits) fits some a limits right = import_goes f c base st m id lits fits some a right
+line_goes sound f c base st m (Addition id lits hints) fits some a limits right =
+    addition_goes sound f c base st m id lits hints fits some a limits right
+line_goes sound f c base st m (Deletion lead ids) fits some a limits right = deletion_goes f c base st m lead ids a right
+line_goes sound f c base st m (Import id lits) fits some a limits right = import_goes f c base st m id lits fits some a right

@@ -11,7 +11,7 @@ use Rattle.lrup_text.specs.declared.device.StreamEnd.TheVariants as stream_ends
 use Rattle.stream_check.specs.declared.report.Ending.TheVariants as endings
 use Rattle.stream_check.specs.declared.report.Report.{Report}
 use Rattle.stream_check.specs.Judging.{JudgesBlocks}
-use Rattle.stream_check.specs.Laws.{BlocksGoAlike, DecidedBeforeFailure, EndJudged, FreshLeft, GoodExactlyIf, GoodLineTaken, IsOfMemory}
+use Rattle.stream_check.specs.Laws.{BlocksGoAlike, DecidedBeforeFailure, EndJudged, FreshLeft, GoodLineTaken, IsOfMemory}
 use Rattle.stream_check.specs.Laws.{LegalNeverFork, OneReport}
 use Rattle.runs.specs.Closed.{IsOfStream}
 use Rattle.runs.specs.Streams.{Block, blocks_of, TermsValue, setting_of}
@@ -49,14 +49,14 @@ right_order_by_turns f terms steps order is turns = record {
   turns = subst IsByTurns (sym is.streams) turns;
 }
 
-pub right_by_turns : GoodExactlyIf → PropagationSound → GoodLineTaken → FreshLeft → EndJudged → EmptyCut → OneCut
+pub right_by_turns : PropagationSound → GoodLineTaken → FreshLeft → EndJudged → EmptyCut → OneCut
     → DecidedBeforeFailure → OneReport → LegalNeverFork → BlocksGoAlike → RightByTurns
 unfolding right_order_by_turns
-right_by_turns good sound taken fresh ends empty_cut one_cut decided one forks alike f terms steps told reports s report cnf fits
+right_by_turns sound taken fresh ends empty_cut one_cut decided one forks alike f terms steps told reports s report cnf fits
     right turns texts x a fine says =
     let n = terms.layout.streams in
     let said : ℕ → Report = λ t. right_report terms t (lines_by t steps) in
-    let found = right_ordered good sound taken fresh ends empty_cut one_cut f terms steps cnf fits right in
+    let found = right_ordered sound taken fresh ends empty_cut one_cut f terms steps cnf fits right in
     let b = right_order_by_turns f terms steps found.0 found.1 turns in
     let many : length x.streams ≡ n = x.count in
     let count : length told ≡ n = sym (told_count told x.streams x.are_told) ∙ many in

@@ -21,7 +21,7 @@ use Rattle.lrup_text.specs.Lines.{StreamLine, Addition, Deletion, Import, IsWith
 use Rattle.lrup_text.specs.declared.device.StreamEnd.TheVariants as stream_ends
 use Rattle.stream_check.specs.declared.report.Report.{Report}
 use Rattle.stream_check.specs.Judging.{joined, JudgesBlocks}
-use Rattle.stream_check.specs.Laws.{cited_by, CitedFetched, EndJudged, FreshLeft, GoodExactlyIf, GoodLineTaken}
+use Rattle.stream_check.specs.Laws.{cited_by, CitedFetched, EndJudged, FreshLeft, GoodLineTaken}
 use Rattle.stream_check.specs.Leaving.{Holding, Going, Leaves}
 use Rattle.stream_check.specs.Standing.{is_among, standing_of}
 use Rattle.runs.specs.Closed.{IsOfStream, IsOwnedWithin, CiteWithin, IsClosed}
@@ -85,7 +85,7 @@ beside_free p s base (Import id lits) = refl
 not_eqb : (a b : ℕ) → eqb a b ≡ false → a ≢ b
 not_eqb a b test same = true≢false (sym (eq-eqb a b same) ∙ test)
 
-module _ (good : GoodExactlyIf) (sound : PropagationSound) (taken : GoodLineTaken) (f : Cnf) (terms : TermsValue)
+module _ (sound : PropagationSound) (taken : GoodLineTaken) (f : Cnf) (terms : TermsValue)
     (fits : Fits terms.layout f) where
   -- the stream whose line it is
   on_with : (step : Step) (base : Database) (m : State) (track : Track) → 0 < terms.layout.streams → IsWithinLimits step.line
@@ -205,7 +205,7 @@ module _ (good : GoodExactlyIf) (sound : PropagationSound) (taken : GoodLineTake
       let s = step.stream in
       let some : 0 < terms.layout.streams = omega (arith, streams.0.0, streams.0.1) in
       let g : Goes f (setting_of terms s) (bases s) (tracks s).holding.standing m step.line =
-      line_goes good sound f (setting_of terms s) (bases s) (tracks s).holding.standing m step.line fits some
+      line_goes sound f (setting_of terms s) (bases s) (tracks s).holding.standing m step.line fits some
       (on s).agrees limits.0 right.0 in
       let later : AllGo (after_step terms.layout step bases) (run m g.block) (tracks_after terms step g.block tracks) steps =
       steps_go steps (after_step terms.layout step bases) (run m g.block)
@@ -261,7 +261,7 @@ named_within p set base (h ∷ hints) (d ∷ ds) within named = (within h d name
 line_cites : (p : LayoutValue) (set : ℕ → Bool) (s : ℕ) (base : Database) (line : StreamLine)
     → ((id : ℕ) (d : Clause) → base.clauses id ≡ Some d → IsOwnedWithin p set id)
     → IsRightLine p s base line → AllByRecursion (IsOwnedWithin p set) (cited_by line)
-line_cites p set s base (Addition id lits hints) within right = named_within p set base hints right.hinted within right.named
+line_cites p set s base (Addition id lits hints) within right = named_within p set base hints right.clauses within right.named
 line_cites p set s base (Deletion lead ids) within right = tt
 line_cites p set s base (Import id lits) within right = (within id right.clause right.there, tt)
 
@@ -420,7 +420,7 @@ pub record IsOrderOf (f : Cnf) (terms : TermsValue) (steps : List Step) (order :
   pub judged : (t : ℕ) → JudgesBlocks (setting_of terms t) (flat_map line_text (lines_by t steps)) stream_ends.Ended (blocks_of t order)
       (right_report terms t (lines_by t steps))
 
-module _ (good : GoodExactlyIf) (sound : PropagationSound) (taken : GoodLineTaken) (fresh : FreshLeft) (ends : EndJudged)
+module _ (sound : PropagationSound) (taken : GoodLineTaken) (fresh : FreshLeft) (ends : EndJudged)
     (empty_cut : EmptyCut) (one_cut : OneCut) where
   pub right_ordered : (f : Cnf) (terms : TermsValue) (steps : List Step) → IsCnf f → Fits terms.layout f → IsRightOrder f terms.layout steps
       → (order : List Block) × IsOrderOf f terms steps order
@@ -436,8 +436,8 @@ module _ (good : GoodExactlyIf) (sound : PropagationSound) (taken : GoodLineTake
           line = 1;
         };
       } in
-      let all : AllGo good sound taken f terms fits (λ t. first_database f p) (opening f) first steps =
-      steps_go good sound taken f terms fits steps (λ t. first_database f p) (opening f) first right.streams right.fits right.right
+      let all : AllGo sound taken f terms fits (λ t. first_database f p) (opening f) first steps =
+      steps_go sound taken f terms fits steps (λ t. first_database f p) (opening f) first right.streams right.fits right.right
       (λ t. record {
         pending = refl;
         agrees = first_agrees f (setting_of terms t) cnf fits;
@@ -509,7 +509,7 @@ module _ (good : GoodExactlyIf) (sound : PropagationSound) (taken : GoodLineTake
       let c = setting_of terms s in
       let j : AreJudgedTogether f terms set steps = judged_together f terms set steps cnf fits order members in
       let place = report_place f terms told reports r s report says in
-      let on = tells_on good first refused cited f terms set j.history (each_from n 1 (text_stream steps))
+      let on = tells_on first refused cited f terms set j.history (each_from n 1 (text_stream steps))
       (each_from n 1 (its_report terms steps)) told reports
       fits (each_count n 1 (text_stream steps)) j.legal j.judged j.closed r (have_bytes terms.layout set steps told texts)
       s (its_report terms steps s) report member (each_place n s (its_report terms steps) place.0 place.1) refl says in

@@ -22,16 +22,15 @@ use Rattle.stream_check.specs.Setting.{Setting}
 use Rattle.stream_check.specs.Standing.{Standing, standing_of, additions_of, is_within}
 use Rattle.stream_check.specs.Verdicts.{Good, Bad}
 use Rattle.stream_check.specs.Additions.{published_by}
-use Rattle.stream_check.specs.Finding.{IsGoodAddition}
+use Rattle.stream_check.specs.EventLemmas.{addition_all, import_all}
 use Rattle.stream_check.specs.Judging.{JudgesLine, AreGood, EndsAfter, at_bad_line, at_bad_text, at_memory, at_end, joined, JudgesBlocks}
-use Rattle.stream_check.specs.Laws.{GoodExactlyIf}
 use Rattle.stream_check.specs.ReportLemmas.{additions-append, said_empty, said_within, joined-append}
 use Rattle.runs.specs.Streams.{Stream, JudgesStream, Block, blocks_of, events_in, IsBlockWithin, AreJudged, TermsValue, setting_of}
 use Rattle.runs.specs.Streams.{IsOrdered}
 use Rattle.runs.specs.StreamLemmas.{blocks-same, blocks-other, some_end}
 use Rattle.run_laws.specs.PublishLemmas.{publishes_empty, publishes_within, published_some}
 use Rattle.run_laws.specs.OrderLaws.{ClosedOrdered, AllClosed, AllOrdered}
-use Rattle.run_laws.proofs.KindLemmas.{addition_all, import_all, identities_all}
+use Rattle.run_laws.proofs.KindLemmas.{identities_all}
 
 -- Truth values
 
@@ -92,7 +91,7 @@ module _ (passes : Event → Bool) where
   quiet_none [] all = refl
   quiet_none (e ∷ es) all = or_none (passes e) (list_any passes es) all.0 (quiet_none es all.1)
 
-module _ (law : GoodExactlyIf) (c : Setting) (passes : Event → Bool) (adds : ℕ × Clause → Bool) (says : Report → Bool)
+module _ (c : Setting) (passes : Event → Bool) (adds : ℕ × Clause → Bool) (says : Report → Bool)
     (tells : Tells c passes adds says) where
   quiet_retires : (ids : List ℕ) → AllByRecursion (λ id. (r : Retired) → IsQuiet passes (events.retire c.stream id r)) ids
   quiet_retires [] = tt
@@ -104,12 +103,11 @@ module _ (law : GoodExactlyIf) (c : Setting) (passes : Event → Bool) (adds : �
   good_line st (Addition id lits hints) es judged =
       elim (cases_Bool (adds (id, distinct lits))) [
         | inl is ↦
-            let good : IsGoodAddition c st id lits hints es = (law c st id lits hints es).0 judged in
             let last : list_any passes (published_by c id lits ∷ []) ≡ true
             = or_left (passes (published_by c id lits)) false (tells.publishes_added id lits ∙ is) in
-            ap (list_any passes) good.published
-            ∙ list_any-append passes good.fetches (published_by c id lits ∷ [])
-            ∙ or_right (list_any passes good.fetches) (list_any passes (published_by c id lits ∷ [])) last
+            ap (list_any passes) judged.2
+            ∙ list_any-append passes judged.0 (published_by c id lits ∷ [])
+            ∙ or_right (list_any passes judged.0) (list_any passes (published_by c id lits ∷ [])) last
             ∙ sym (or_left (adds (id, distinct lits)) false is)
         | inr none ↦
             quiet_none passes es (addition_all c (IsQuiet passes) tells.fetches_none id lits Good
@@ -229,7 +227,7 @@ module _ (passes : Event → Bool) where
 
 -- Reports
 
-module _ (law : GoodExactlyIf) (terms : TermsValue) (order : List Block) (passes : Event → Bool) (adds : ℕ × Clause → Bool)
+module _ (terms : TermsValue) (order : List Block) (passes : Event → Bool) (adds : ℕ × Clause → Bool)
     (says : Report → Bool)
     (tells : (s : ℕ) → Tells (setting_of terms s) passes adds says) where
   told_by : (s : ℕ) (stream : Stream) (report : Report)
@@ -239,7 +237,7 @@ module _ (law : GoodExactlyIf) (terms : TermsValue) (order : List Block) (passes
       let way : (end : StreamEnd) × JudgesBlocks (setting_of terms s) stream.bytes end (blocks_of s order) report
       = some_end (setting_of terms s) stream (blocks_of s order) report
       (subst (λ (bs : List History). JudgesStream (setting_of terms s) stream bs report) judged.1 judged.2) in
-      stream_tells law (setting_of terms s) passes adds says (tells s) stream.bytes way.0 (blocks_of s order) report way.1
+      stream_tells (setting_of terms s) passes adds says (tells s) stream.bytes way.0 (blocks_of s order) report way.1
 
   said_published : (s : ℕ) (streams : List Stream) (reports : List Report)
       → AreJudged terms (λ t. true) (λ t events. events ≡ blocks_of t order) s streams reports
@@ -288,17 +286,17 @@ module _ (law : GoodExactlyIf) (terms : TermsValue) (order : List Block) (passes
       published_said 1 streams reports judged (s - 1) (omega (arith, first, last, count))
       (subst (λ (t : ℕ). list_any passes (joined (blocks_of t order)) ≡ true) here found.2))
 
-pub all_ordered : GoodExactlyIf → ClosedOrdered → AllClosed → AllOrdered
-all_ordered law closed_ordered all_closed f terms h streams reports fits count legal judged stays =
+pub all_ordered : ClosedOrdered → AllClosed → AllOrdered
+all_ordered closed_ordered all_closed f terms h streams reports fits count legal judged stays =
     let order : IsOrdered f terms (λ s. true) streams reports
     = closed_ordered f terms (λ s. true) h streams reports fits count legal judged (all_closed terms.layout streams) stays in (
       order,
       record {
         empty =
-            reports_tell law terms order.blocks publishes_empty adds_empty (λ report. report.empty) (λ s. empty_tells (setting_of terms s))
+            reports_tell terms order.blocks publishes_empty adds_empty (λ report. report.empty) (λ s. empty_tells (setting_of terms s))
             streams reports count order.within order.judged
             ∙ published_some (λ c. length c == 0) (events_in order.blocks);
-        within = reports_tell law terms order.blocks (publishes_within terms.cube) (adds_within terms.cube) (λ report. report.within)
+        within = reports_tell terms order.blocks (publishes_within terms.cube) (adds_within terms.cube) (λ report. report.within)
             (λ s. within_tells (setting_of terms s))
             streams reports count order.within order.judged
             ∙ published_some (is_within terms.cube) (events_in order.blocks);

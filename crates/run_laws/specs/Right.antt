@@ -2,16 +2,16 @@
 -- database of clauses, as LRAT proofs are (Cruz-Filipe et al., CADE 2017), without RAT. This project's own are identities by
 -- residue, each above those before it, room and imports; and that no hint comes after the conflict, and nothing is deleted that
 -- isn't there. All is read off the lines: there is no history here, and no checker.
-use Rattle.std.specs.Prelude.{◌≡◌, ◌⊎◌, ◌↔◌, ◌≤◌, ◌<◌, ◌-◌, ◌==◌, ◌&&◌, ◌++◌, ℕ, ℤ, nat_abs, nat_lt, nat_le, false, IsTrue, List, [], ◌∷◌, length, Option, None, Some, IsSome, if◌then◌else◌}
+use Rattle.std.specs.Prelude.{◌≡◌, ◌⊎◌, ◌↔◌, ◌≤◌, ◌-◌, ◌==◌, ◌&&◌, ◌++◌, ℕ, ℤ, nat_lt, nat_le, false, IsTrue, List, [], ◌∷◌, length, Option, None, Some, IsSome, if◌then◌else◌}
 use Rattle.std.specs.List.{AllByRecursion, AllZip, Any, flat_map}
 use Rattle.lrup_model.specs.Clause.{Clause, Has}
 use Rattle.lrup_model.specs.Distinct.{distinct}
 use Rattle.lrup_model.specs.Formula.{Cnf, clause_at}
 use Rattle.lrup_model.specs.Layout.{LayoutValue, Owns}
-use Rattle.lrup_model.specs.Propagation.{Accepts}
 use Rattle.lrup_text.specs.Lines.{StreamLine, Addition, Deletion, Import, IsWithinLimits, line_text}
 use Rattle.stream_check.specs.declared.report.Ending.TheVariants as endings
 use Rattle.stream_check.specs.declared.report.Report.{Report}
+use Rattle.stream_check.specs.Additions.{Context, IsValidAddition}
 use Rattle.stream_check.specs.Standing.{is_among}
 use Rattle.stream_check.specs.Judging.{report_of}
 use Rattle.runs.specs.Streams.{TermsValue, setting_of}
@@ -48,17 +48,13 @@ after_line base (Deletion lead ids) = record {
 }
 after_line base (Import id lits) = base
 
--- An addition is right: its identity is the stream's own, and above the last; its literals are over the variables; there is room
--- for its clause; its hints name clauses that are there; and these show its clause, which is no tautology, by propagation.
-pub record IsRightAddition (layout : LayoutValue) (s : ℕ) (base : Database) (id : ℕ) (lits : List ℤ)
-    (hints : List ℕ) : Type 0 where
-  pub owns : Owns layout s id
-  pub above : base.last < id
-  pub literals : AllByRecursion (λ l. nat_abs l ≤ layout.vars) lits
-  pub room : length (distinct lits) ≤ base.free
-  pub hinted : List Clause
-  pub named : AllZip (λ hint clause. base.clauses hint ≡ Some clause) hints hinted
-  pub shown : Accepts (distinct lits) hinted
+-- what an addition after these lines stands on: its hints name the clauses that are there
+abbrev pub database_context : Database → Context
+database_context base = record {
+  last = base.last;
+  free = base.free;
+  Names = AllZip (λ hint clause. base.clauses hint ≡ Some clause);
+}
 
 -- no number stands twice
 abbrev pub AreDistinct : List ℕ → Type 0
@@ -81,7 +77,8 @@ pub record IsRightImport (layout : LayoutValue) (s : ℕ) (base : Database) (id 
 
 -- a line of stream s is right, after lines that left this database
 abbrev pub IsRightLine : LayoutValue → ℕ → Database → StreamLine → Type 0
-IsRightLine layout s base (Addition id lits hints) = IsRightAddition layout s base id lits hints
+IsRightLine layout s base (Addition id lits hints) =
+    IsValidAddition layout s (database_context base) id lits hints
 IsRightLine layout s base (Deletion lead ids) = IsRightDeletion base ids
 IsRightLine layout s base (Import id lits) = IsRightImport layout s base id lits
 

@@ -4,9 +4,7 @@ ghost use Rattle.run_laws.specs.OrderLaws.{JudgedBlocks, DeletedRetired, LinesOr
 
 use lrup_model::laws::{among_keeps_own, among_members, restriction_legal};
 use lrup_text::laws::{a_beginning_is_cut_alike, bytes_begin_with_one_line, every_stream_is_cut};
-use stream_check::laws::{
-    cited_fetched, early_events, good_exactly_if, reduced_stream, vacant_tries_again,
-};
+use stream_check::laws::{cited_fetched, early_events, reduced_stream, vacant_tries_again};
 
 /// The blocks by which a stream is judged are like those of lines.
 pub fn judged_blocks()
@@ -55,7 +53,6 @@ pub fn all_ordered()
 {
     closed_ordered();
     all_closed();
-    good_exactly_if();
 }
 
 /// The premise on what is found live says the same by events as by the last state.

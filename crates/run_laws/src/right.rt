@@ -11,7 +11,7 @@ use lrup_text::laws::{
 };
 use stream_check::laws::{
     alone_decides, cited_fetched, counts_within, decided_before_failure, end_judged, fresh_left,
-    good_exactly_if, good_line_taken, over_stays,
+    good_line_taken, over_stays,
 };
 
 /// A right stream cites only its own clauses and the formula's.
@@ -25,7 +25,6 @@ pub fn right_cite_within()
 pub fn right_accepted()
     ensures { RightAccepted }
 {
-    good_exactly_if();
     propagation_sound();
     good_line_taken();
     fresh_left();
@@ -46,7 +45,6 @@ pub fn right_has_one_report()
 pub fn right_reported()
     ensures { RightReported }
 {
-    good_exactly_if();
     propagation_sound();
     good_line_taken();
     fresh_left();
@@ -65,7 +63,6 @@ pub fn right_reported()
 pub fn right_begins()
     ensures { RightBegins }
 {
-    good_exactly_if();
     propagation_sound();
     good_line_taken();
     fresh_left();
@@ -80,7 +77,6 @@ pub fn right_begins()
 pub fn right_counted()
     ensures { RightCounted }
 {
-    good_exactly_if();
     propagation_sound();
     good_line_taken();
     fresh_left();
@@ -94,7 +90,6 @@ pub fn right_counted()
 pub fn ended_is_right()
     ensures { EndedIsRight }
 {
-    good_exactly_if();
     over_stays();
     a_stream_is_cut_in_one_way();
     no_bytes_have_no_lines();
@@ -111,7 +106,6 @@ pub fn right_empty()
 pub fn no_false_blame()
     ensures { NoFalseBlame }
 {
-    good_exactly_if();
     bytes_begin_with_one_line();
     a_refused_text_holds_no_line();
     a_text_has_one_fault();
@@ -125,7 +119,6 @@ pub fn no_false_blame()
 pub fn together_begins()
     ensures { TogetherBegins }
 {
-    good_exactly_if();
     propagation_sound();
     good_line_taken();
     fresh_left();
@@ -142,7 +135,6 @@ pub fn together_begins()
 pub fn right_together()
     ensures { RightTogether }
 {
-    good_exactly_if();
     propagation_sound();
     good_line_taken();
     fresh_left();

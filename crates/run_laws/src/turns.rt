@@ -4,8 +4,8 @@ ghost use Rattle.run_laws.specs.TurnsLaws.{BytesDecide, RightByTurns, TurnsDecid
 use lrup_model::laws::propagation_sound;
 use lrup_text::laws::{a_stream_is_cut_in_one_way, no_bytes_have_no_lines};
 use stream_check::laws::{
-    blocks_go_alike, decided_before_failure, end_judged, fresh_left, good_exactly_if,
-    good_line_taken, legal_never_fork, one_report, over_stays,
+    blocks_go_alike, decided_before_failure, end_judged, fresh_left, good_line_taken,
+    legal_never_fork, one_report, over_stays,
 };
 
 /// Streams that are readings of the same bytes and ends have one order by turns, and the same reports, unless memory ran out.
@@ -33,7 +33,6 @@ pub fn bytes_decide()
 pub fn right_by_turns()
     ensures { RightByTurns }
 {
-    good_exactly_if();
     propagation_sound();
     good_line_taken();
     fresh_left();

@@ -1,30 +1,28 @@
 -- An addition that is checked and published.
 use Rattle.std.proofs.Common.{◌≡◌, ◌≤◌, ◌<◌, ℕ, ℤ, nat_abs, Bool, true, false, cond, List, [], ◌∷◌, length, Ok, refl, sym, ap, subst, ◌∙◌}
-use Rattle.std.proofs.Common.{arith}
-use Rattle.std.specs.Prelude.{not, ◌==◌}
-use Rattle.std.specs.Ordering.{int_eq}
+use Rattle.std.proofs.Common.{inr, arith}
+use Rattle.std.specs.Prelude.{◌==◌}
 use Rattle.std.specs.List.{AllByRecursion, sum_by}
-use Rattle.std.proofs.lemmas.List.Filters.{length-filter_both}
 use Rattle.lrup_model.specs.Literal.{IsLiteral}
 use Rattle.lrup_model.specs.Clause.{Clause, IsClause}
 use Rattle.lrup_model.specs.Formula.{Cnf}
 use Rattle.lrup_model.specs.Layout.{LayoutValue, Owns}
 use Rattle.lrup_model.specs.Event as events
 use Rattle.lrup_model.specs.Event.{Event, History, own, published, spent, stream_of}
-use Rattle.lrup_model.specs.State.{State, absent, run}
+use Rattle.lrup_model.specs.State.{State, absent}
 use Rattle.lrup_model.specs.History.{IsPublishable, max_line_literals}
 use Rattle.lrup_model.specs.Place.{Caller, Place, Tells, IsVacantAbove}
 use Rattle.lrup_model.specs.declared.clause_map.Published.{Published}
 use Rattle.lrup_model.specs.declared.clause_map.Published.TheVariants as publishing
 use Rattle.lrup_model.specs.Laws.{PropagationSound}
-use Rattle.lrup_text.specs.Lines.{IsStreamLiteral}
 use Rattle.lrup_model.specs.Distinct.{distinct}
-use Rattle.lrup_model.specs.DistinctLemmas.{length-distinct}
+use Rattle.lrup_model.specs.DistinctLemmas.{IsTautology-in_distinct, length-distinct}
 use Rattle.propagate.specs.Marks.{Propagation}
+use Rattle.stream_check.specs.declared.fault.Fault.{Fault}
 use Rattle.stream_check.specs.Setting.{Setting}
 use Rattle.stream_check.specs.Standing.{Standing}
-use Rattle.stream_check.specs.AdditionLemmas.{run-fetches}
-use Rattle.stream_check.specs.Additions.{published_by}
+use Rattle.stream_check.specs.AdditionLemmas.{run-fetches, before_maps}
+use Rattle.stream_check.specs.Additions.{context_of, IsValidAddition, BeforeHints, published_by}
 use Rattle.stream_check.specs.Checking.{IsPlaceOf, IsFetch, KeepsClause, Shows}
 use Rattle.stream_check.specs.Checker.{Admits}
 
@@ -108,3 +106,39 @@ published_is c p q es id clause lits r at tells is done =
     ap (λ (s : ℕ). events.publish s id clause r ∷ []) (ap (λ (x : Caller). x.stream) tells.caller ∙ at.stream)
     ∙ ap (λ (d : Clause). events.publish c.stream id d r ∷ []) is
     ∙ ap (λ (x : Published). events.publish c.stream id (distinct lits) x ∷ []) done
+
+-- What the addition comes to
+
+-- a condition before those of the hints is violated
+pub fails_before : (c : Setting) (st : Standing) (id : ℕ) (lits : List ℤ) (fault : Fault) (A : Type 0) → BeforeHints c st id lits [] fault ⊥
+    → BeforeHints c st id lits [] fault A
+fails_before c st id lits fault A fails = before_maps c st id lits [] [] fault ⊥ A (λ e. e) (λ no. absurd no) fails
+
+-- the hints decide
+pub fails_behind : (c : Setting) (st : Standing) (id : ℕ) (lits : List ℤ) (es : History) (fault : Fault) (A : Type 0) (marks : Propagation)
+    → Admits c st id lits marks → A → BeforeHints c st id lits es fault A
+fails_behind c st id lits es fault A marks admits next =
+    inr (
+      (admits.owns, admits.above),
+      inr (
+        admits.literals,
+        inr (
+          (λ t. admits.consistent (IsTautology-in_distinct lits t)),
+          inr (admits.fits, next),
+        ),
+      ),
+    )
+
+-- the addition is valid
+pub valid_is : (c : Setting) (st : Standing) (f : Cnf) (id : ℕ) (lits : List ℤ) (hints : List ℕ) (es : History) (marks : Propagation)
+    → Admits c st id lits marks → Shows c st.gone f (distinct lits) hints es (Ok tt)
+    → IsValidAddition c.layout c.stream (context_of c st es) id lits hints
+valid_is c st f id lits hints es marks admits shown = record {
+  owns = admits.owns;
+  above = admits.above;
+  literals = admits.literals;
+  room = admits.fits;
+  clauses = shown.0;
+  named = shown.4;
+  shown = shown.2;
+}

@@ -1,29 +1,31 @@
 -- Two judgements of one line, of events that never fork, agree.
-use Rattle.std.proofs.Common.{◌≡◌, ◌<◌, ◌≤◌, ℕ, ℤ, neg_ℤ, nat_abs, Bool, true, false, List, [], ◌∷◌, ◌++◌, length, inl, inr, refl, sym, ap}
+use Rattle.std.proofs.Common.{◌≡◌, ℕ, ℤ, neg_ℤ, Bool, List, [], ◌∷◌, ◌++◌, length, Result, Ok, Err, inl, inr, refl, sym, ap}
 use Rattle.std.proofs.Common.{subst, ◌∙◌, append_assoc}
-use Rattle.std.specs.List.{AllByRecursion}
-use Rattle.lrup_model.specs.Clause.{Clause, IsTautology}
-use Rattle.lrup_model.specs.Layout.{Owns}
+use Rattle.std.specs.Prelude.{◌↔◌}
+use Rattle.std.proofs.lemmas.Bool.{true≢false}
+use Rattle.lrup_model.specs.Clause.{Clause, Has}
 use Rattle.lrup_model.specs.Event as events
-use Rattle.lrup_model.specs.Event.{Event, History, Reply}
-use Rattle.lrup_model.specs.Propagation.{IsConflict, IsUnit}
+use Rattle.lrup_model.specs.Event.{History}
+use Rattle.lrup_model.specs.Propagation.{IsUnit, Refutes}
 use Rattle.lrup_model.specs.declared.clause_map.Retired.TheVariants as retiring
 use Rattle.lrup_text.specs.Lines.{StreamLine, Addition, Deletion, Import}
 use Rattle.lrup_model.specs.Distinct.{distinct}
+use Rattle.propagate.specs.HintLemmas.{unit_is_unique, unit_is_no_conflict}
 use Rattle.stream_check.specs.declared.fault.Fault.{Fault}
 use Rattle.stream_check.specs.declared.fault.Fault.TheVariants as faults
 use Rattle.stream_check.specs.declared.setting.Side.{Side}
 use Rattle.stream_check.specs.declared.setting.Side.TheVariants as sides
-use Rattle.stream_check.specs.Setting.{Setting, side_of, is_shared}
+use Rattle.stream_check.specs.Setting.{Setting, side_of}
 use Rattle.stream_check.specs.Standing.{Standing}
-use Rattle.stream_check.specs.Verdicts.{LineVerdict, Fails, Test}
-use Rattle.stream_check.specs.Asking.{AsksThen}
-use Rattle.stream_check.specs.Additions.{AtConflict, AtReply, JudgesHints, published_by, JudgesAddition}
+use Rattle.stream_check.specs.Verdicts.{LineVerdict, Good, Bad, Fails, Violates}
+use Rattle.stream_check.specs.Asking.{answer_of, LooksUp}
+use Rattle.stream_check.specs.Additions.{AreFound, Misleads, FailsBy, FailsHints, published_by, JudgesAddition}
+use Rattle.stream_check.specs.AdditionLemmas.{valid_passes, no_help, refutes_on}
 use Rattle.stream_check.specs.Deletions.{RetiresThen, DropsThen, DeletesAt, JudgesDeletion}
-use Rattle.stream_check.specs.Imports.{AtImported, JudgesImport}
+use Rattle.stream_check.specs.Imports.{JudgesImport}
 use Rattle.stream_check.specs.Judging.{JudgesLine}
 use Rattle.stream_check.specs.Forks.{NeverFork}
-use Rattle.stream_check.proofs.ForkLemmas.{same_asked, never_fork_behind}
+use Rattle.stream_check.proofs.ForkLemmas.{same_asked, never_fork_turned, never_fork_behind}
 
 pub record Agree (es : History) (v : LineVerdict) (fs : History) (w : LineVerdict) : Type 0 where
   pub events : es ≡ fs
@@ -33,99 +35,142 @@ fails_agree : (deleted : ℕ) (fault : Fault) (es fs : History) (v w : LineVerdi
     → Agree es v fs w
 fails_agree deleted fault es fs v w a b = record { events = a.0 ∙ sym b.0; verdict = a.1 ∙ sym b.1 }
 
-test_agree : (Holds : Type 0) (fault : Fault) (es fs : History) (v w : LineVerdict) (A B : Type 0) → (A → B → Agree es v fs w)
-    → Test Holds fault es v A → Test Holds fault fs w B → Agree es v fs w
-test_agree Holds fault es fs v w A B next a b = elim a [
-  | inl bad ↦ elim b [ inl worse ↦ fails_agree 0 fault es fs v w bad.1 worse.1 | inr holds ↦ absurd (bad.0 holds.0) ]
-  | inr good ↦ elim b [ inl bad ↦ absurd (bad.0 good.0) | inr holds ↦ next good.1 holds.1 ]
-]
+-- the same events, and the same fault
+abbrev SameFault : History → Fault → History → Fault → Type 0
+SameFault es v fs w = (es ≡ fs) × (v ≡ w)
 
-conflict_agree : (hints : List ℕ) (published : Event) (es fs : History) (v w : LineVerdict) → AtConflict hints published es v
-    → AtConflict hints published fs w → Agree es v fs w
-conflict_agree [] published es fs v w a b = record { events = a.0 ∙ sym b.0; verdict = a.1 ∙ sym b.1 }
-conflict_agree (h ∷ hints) published es fs v w a b = fails_agree 0 (faults.Excess h) es fs v w a b
+violates_agree : (Holds : Type 0) (its : Fault) (es fs : History) (v w : Fault) (A B : Type 0) → (A → B → SameFault es v fs w)
+    → Violates Holds its es v A → Violates Holds its fs w B → SameFault es v fs w
+violates_agree Holds its es fs v w A B next (inl bad) (inl worse) = (bad.1 ∙ sym worse.1, bad.2 ∙ sym worse.2)
+violates_agree Holds its es fs v w A B next (inl bad) (inr holds) = absurd (bad.0 holds.0)
+violates_agree Holds its es fs v w A B next (inr good) (inl bad) = absurd (bad.0 good.0)
+violates_agree Holds its es fs v w A B next (inr good) (inr holds) = next good.1 holds.1
 
-one_unit : (n : List ℤ) (d : Clause) (l k : ℤ) → IsUnit n d l → IsUnit n d k → l ≡ k
-one_unit n d l k a b = elim (b.others l a.here) [ inl same ↦ same | inr is_false ↦ absurd (a.not_false is_false) ]
+both_bad : (m n : ℕ) (v w : Fault) (es fs : History) → m ≡ 0 → n ≡ 0 → SameFault es v fs w → Agree es (Bad m v) fs (Bad n w)
+both_bad m n v w es fs one two same =
+    record { events = same.0; verdict = ap (λ k. Bad k v) (one ∙ sym two) ∙ ap (λ f. Bad n f) same.1 }
 
-no_conflict : (n : List ℤ) (d : Clause) (l : ℤ) → IsUnit n d l → ¬ IsConflict n d
-no_conflict n d l unit conflict = unit.not_false (conflict l unit.here)
+-- Look-ups
 
-clause_agree : (n : List ℤ) (d : Clause) (h : ℕ) (hints : List ℕ) (published : Event) (es fs : History) (v w : LineVerdict)
-    (A B : List ℤ → Type 0)
-    → ((m : List ℤ) → A m → B m → Agree es v fs w)
-    → AtReply (events.live d) n h hints published es v A → AtReply (events.live d) n h hints published fs w B → Agree es v fs w
-clause_agree n d h hints published es fs v w A B next a b = elim a [
-  | inl one ↦ elim b [
-    | inl two ↦ conflict_agree hints published es fs v w one.1 two.1
-    | inr rest ↦ elim rest [ inl two ↦ absurd (no_conflict n d two.0 two.1 one.0) | inr two ↦ absurd (two.0 one.0) ]
-  ]
-  | inr rest ↦ elim rest [
-    | inl one ↦ elim b [
-      | inl two ↦ absurd (no_conflict n d one.0 one.1 two.0)
-      | inr rest ↦ elim rest [
-        | inl two ↦ next (n ++ neg_ℤ one.0 ∷ []) one.2 (subst (λ l. B (n ++ neg_ℤ l ∷ [])) (one_unit n d two.0 one.0 two.1 one.1) two.2)
-        | inr two ↦ absurd (two.1 one.0 one.1)
-      ]
-    ]
-    | inr one ↦ elim b [
-      | inl two ↦ absurd (one.0 two.0)
-      | inr rest ↦ elim rest [ inl two ↦ absurd (one.1 two.0 two.1) | inr two ↦ fails_agree 0 (faults.NotUnit h) es fs v w one.2 two.2 ]
-    ]
-  ]
-]
+-- of one identity, and what comes after them
+record LookedAlike (a : History) (x : Result Clause Fault) (b : History) (y : Result Clause Fault) (q r : History) : Type 0 where
+  asked : a ≡ b
+  answer : x ≡ y
+  behind : NeverFork q r
 
-reply_agree : (x : Reply) (n : List ℤ) (h : ℕ) (hints : List ℕ) (published : Event) (es fs : History) (v w : LineVerdict)
-    (A B : List ℤ → Type 0)
-    → ((m : List ℤ) → A m → B m → Agree es v fs w)
-    → AtReply x n h hints published es v A → AtReply x n h hints published fs w B → Agree es v fs w
-reply_agree events.vacant n h hints published es fs v w A B next a b = fails_agree 0 (faults.Missing h) es fs v w a b
-reply_agree (events.live d) n h hints published es fs v w A B next a b = clause_agree n d h hints published es fs v w A B next a b
-reply_agree events.retired n h hints published es fs v w A B next a b = fails_agree 0 (faults.Retired h) es fs v w a b
+looks_agree : (c : Setting) (gone : ℕ → Bool) (h : ℕ) (a b q r : History) (x y : Result Clause Fault) → LooksUp c gone h a x
+    → LooksUp c gone h b y → NeverFork (a ++ q) (b ++ r) → (a ≡ b) × (x ≡ y)
+looks_agree c gone h a b q r x y (inl one) (inl two) never = (one.1 ∙ sym two.1, one.2 ∙ sym two.2)
+looks_agree c gone h a b q r x y (inl one) (inr two) never = absurd (true≢false (sym one.0 ∙ two.0))
+looks_agree c gone h a b q r x y (inr one) (inl two) never = absurd (true≢false (sym two.0 ∙ one.0))
+looks_agree c gone h a b q r x y (inr one) (inr two) never =
+    let same = same_asked c h a b q r one.1 two.1 one.2 two.2 never in (same.0, one.3 ∙ ap (answer_of h) same.1 ∙ sym two.3)
 
--- after the events of one hint
-asks_agree : (c : Setting) (h : ℕ) (es fs q r : History) (v w : LineVerdict) (A B : Reply → History → Type 0)
-    → ((x : Reply) (rest left : History) → NeverFork (rest ++ q) (left ++ r) → A x rest → B x left → Agree rest v left w)
-    → AsksThen c h es A → AsksThen c h fs B → NeverFork (es ++ q) (fs ++ r) → Agree es v fs w
-asks_agree c h es fs q r v w A B next a b never =
-    let long =
-    subst (λ e. NeverFork (e ++ q) ((b.asked ++ b.rest) ++ r)) a.events (subst (λ e. NeverFork (es ++ q) (e ++ r)) b.events never) in
-    let split = subst (λ e. NeverFork e (b.asked ++ (b.rest ++ r))) (append_assoc a.asked a.rest q)
-    (subst (λ e. NeverFork ((a.asked ++ a.rest) ++ q) e) (append_assoc b.asked b.rest r) long) in
-    let same = same_asked c h a.asked b.asked (a.rest ++ q) (b.rest ++ r) a.reply b.reply a.asks b.asks split in
-    let behind = never_fork_behind a.asked (a.rest ++ q) (b.rest ++ r)
-    (subst (λ e. NeverFork (a.asked ++ (a.rest ++ q)) (e ++ (b.rest ++ r))) (sym same.0) split) in
-    let later = next a.reply a.rest b.rest behind a.next (subst (λ x. B x b.rest) (sym same.1) b.next) in
+after_looks : (c : Setting) (gone : ℕ → Bool) (h : ℕ) (es a rest fs b left q r : History) (x y : Result Clause Fault)
+    → es ≡ a ++ rest → fs ≡ b ++ left → LooksUp c gone h a x → LooksUp c gone h b y → NeverFork (es ++ q) (fs ++ r)
+    → LookedAlike a x b y (rest ++ q) (left ++ r)
+after_looks c gone h es a rest fs b left q r x y one two first second never =
+    let split = subst (λ e. NeverFork e (b ++ (left ++ r))) (ap (λ e. e ++ q) one ∙ append_assoc a rest q)
+    (subst (NeverFork (es ++ q)) (ap (λ e. e ++ r) two ∙ append_assoc b left r) never) in
+    let same = looks_agree c gone h a b (rest ++ q) (left ++ r) x y first second split in
     record {
-      events = a.events ∙ ap (λ e. e ++ a.rest) same.0 ∙ ap (λ e. b.asked ++ e) later.events ∙ sym b.events;
-      verdict = later.verdict;
+      asked = same.0;
+      answer = same.1;
+      behind = never_fork_behind a (rest ++ q) (left ++ r)
+          (subst (λ e. NeverFork (a ++ (rest ++ q)) (e ++ (left ++ r))) (sym same.0) split);
     }
 
-hints_agree : (c : Setting) (gone : ℕ → Bool) (published : Event) (n : List ℤ) (hints : List ℕ) (es fs q r : History) (v w : LineVerdict)
-    → JudgesHints c gone published n hints es v → JudgesHints c gone published n hints fs w → NeverFork (es ++ q) (fs ++ r)
-    → Agree es v fs w
-hints_agree c gone published n [] es fs q r v w a b never = fails_agree 0 faults.NoConflict es fs v w a b
-hints_agree c gone published n (h ∷ hints) es fs q r v w a b never =
-    test_agree (gone h ≡ false) (faults.Dropped h) es fs v w
-    (AsksThen c h es (λ x rest. AtReply x n h hints published rest v (λ m. JudgesHints c gone published m hints rest v)))
-    (AsksThen c h fs (λ x rest. AtReply x n h hints published rest w (λ m. JudgesHints c gone published m hints rest w)))
-    (λ one two. asks_agree c h es fs q r v w
-    (λ x rest. AtReply x n h hints published rest v (λ m. JudgesHints c gone published m hints rest v))
-    (λ x rest. AtReply x n h hints published rest w (λ m. JudgesHints c gone published m hints rest w))
-    (λ x rest left behind s t. reply_agree x n h hints published rest left v w
-    (λ m. JudgesHints c gone published m hints rest v) (λ m. JudgesHints c gone published m hints left w)
-    (λ m k l. hints_agree c gone published m hints rest left q r v w k l behind) s t)
-    one two never)
-    a b
+-- Hints
+
+-- found both times
+found_agree : (c : Setting) (gone : ℕ → Bool) (hints : List ℕ) (ds es : List Clause) (a b q r : History) → AreFound c gone hints ds a
+    → AreFound c gone hints es b → NeverFork (a ++ q) (b ++ r) → a ≡ b
+found_agree c gone [] [] [] a b q r one two never = one ∙ sym two
+found_agree c gone [] (d ∷ ds) es a b q r one two never = absurd one
+found_agree c gone [] ds (e ∷ es) a b q r one two never = absurd two
+found_agree c gone (h ∷ hints) [] es a b q r one two never = absurd one
+found_agree c gone (h ∷ hints) ds [] a b q r one two never = absurd two
+found_agree c gone (h ∷ hints) (d ∷ ds) (e ∷ es) a b q r one two never =
+    let same = after_looks c gone h a one.0 one.1 b two.0 two.1 q r (Ok d) (Ok e) one.2 two.2 one.3 two.3 never in
+    one.2 ∙ ap (λ x. x ++ one.1) same.asked
+    ∙ ap (λ x. two.0 ++ x) (found_agree c gone hints ds es one.1 two.1 q r one.4 two.4 same.behind) ∙ sym two.2
+
+-- found, where they refute, and failed
+never_both : (c : Setting) (gone : ℕ → Bool) (n : List ℤ) (hints : List ℕ) (ds : List Clause) (a b q r : History) (fault : Fault)
+    → AreFound c gone hints ds a → Refutes n ds → FailsHints c gone n hints b fault → NeverFork (a ++ q) (b ++ r) → ⊥
+never_both c gone n [] [] a b q r fault found refutes fails never = refutes
+never_both c gone n [] (d ∷ ds) a b q r fault found refutes fails never = found
+never_both c gone n (h ∷ hints) [] a b q r fault found refutes fails never = found
+never_both c gone n (h ∷ hints) (d ∷ ds) a b q r fault found refutes fails never =
+    let same = after_looks c gone h a found.0 found.1 b fails.0 fails.1 q r (Ok d) fails.3 found.2 fails.2 found.3 fails.4 never in
+    let by = subst (λ (x : Result Clause Fault). FailsBy x n h hints fails.1 fault (λ m. FailsHints c gone m hints fails.1 fault))
+    (sym same.answer) fails.5 in
+    elim by [
+      | inl unit ↦ never_both c gone (n ++ neg_ℤ unit.0 ∷ []) hints ds found.1 fails.1 q r fault found.4 (refutes_on n d ds unit.0 refutes
+          unit.1) unit.2 same.behind
+      | inr misleads ↦ no_help n d ds c gone h hints found.1 fault refutes found.4 misleads.1
+    ]
+
+misleads_agree : (n : List ℤ) (d : Clause) (h : ℕ) (hints : List ℕ) (v w : Fault) → Misleads n d h hints v → Misleads n d h hints w → v ≡ w
+misleads_agree n d h hints v w (inl one) (inl two) = one.2 ∙ sym two.2
+misleads_agree n d h hints v w (inl one) (inr two) = absurd (one.0 two.0)
+misleads_agree n d h hints v w (inr one) (inl two) = absurd (two.0 one.0)
+misleads_agree n d h hints v w (inr one) (inr two) =
+    let same = sym one.3 ∙ two.3 in let next : one.1 ≡ two.1 = cc in one.4 ∙ ap (λ i. faults.Excess i) next ∙ sym two.4
+
+misleads_never : (n : List ℤ) (d : Clause) (h : ℕ) (hints : List ℕ) (fault : Fault) (l : ℤ) → IsUnit n d l → Misleads n d h hints fault → ⊥
+misleads_never n d h hints fault l unit (inl neither) = neither.1 l unit
+misleads_never n d h hints fault l unit (inr excess) = unit_is_no_conflict n d l unit excess.0
+
+by_agree : (answer : Result Clause Fault) (n : List ℤ) (h : ℕ) (hints : List ℕ) (es fs : History) (v w : Fault) (A B : List ℤ → Type 0)
+    → ((m : List ℤ) → A m → B m → SameFault es v fs w)
+    → FailsBy answer n h hints es v A → FailsBy answer n h hints fs w B → SameFault es v fs w
+by_agree (Err its) n h hints es fs v w A B next a b = (a.0 ∙ sym b.0, a.1 ∙ sym b.1)
+by_agree (Ok d) n h hints es fs v w A B next (inl one) (inl two) =
+    next (n ++ neg_ℤ one.0 ∷ []) one.2 (subst (λ l. B (n ++ neg_ℤ l ∷ [])) (unit_is_unique n d two.0 one.0 two.1 one.1) two.2)
+by_agree (Ok d) n h hints es fs v w A B next (inl one) (inr two) = absurd (misleads_never n d h hints w one.0 one.1 two.1)
+by_agree (Ok d) n h hints es fs v w A B next (inr one) (inl two) = absurd (misleads_never n d h hints v two.0 two.1 one.1)
+by_agree (Ok d) n h hints es fs v w A B next (inr one) (inr two) =
+    (one.0 ∙ sym two.0, misleads_agree n d h hints v w one.1 two.1)
+
+-- failed both times
+hints_agree : (c : Setting) (gone : ℕ → Bool) (n : List ℤ) (hints : List ℕ) (es fs q r : History) (v w : Fault)
+    → FailsHints c gone n hints es v → FailsHints c gone n hints fs w → NeverFork (es ++ q) (fs ++ r) → SameFault es v fs w
+hints_agree c gone n [] es fs q r v w a b never = (a.0 ∙ sym b.0, a.1 ∙ sym b.1)
+hints_agree c gone n (h ∷ hints) es fs q r v w a b never =
+    let same = after_looks c gone h es a.0 a.1 fs b.0 b.1 q r a.3 b.3 a.2 b.2 a.4 b.4 never in
+    let later = by_agree a.3 n h hints a.1 b.1 v w (λ m. FailsHints c gone m hints a.1 v) (λ m. FailsHints c gone m hints b.1 w)
+    (λ m k l. hints_agree c gone m hints a.1 b.1 q r v w k l same.behind) a.5
+    (subst (λ x. FailsBy x n h hints b.1 w (λ m. FailsHints c gone m hints b.1 w)) (sym same.answer) b.5) in
+    (a.2 ∙ ap (λ e. e ++ a.1) same.asked ∙ ap (λ e. b.0 ++ e) later.0 ∙ sym b.2, later.1)
+
+-- Additions
+
+-- where one is good, the other isn't bad
+good_agrees : (c : Setting) (st : Standing) (id : ℕ) (lits : List ℤ) (hints : List ℕ) (es fs q r : History) (deleted : ℕ) (fault : Fault)
+    → JudgesAddition c st id lits hints es Good → JudgesAddition c st id lits hints fs (Bad deleted fault) → NeverFork (es ++ q) (fs ++ r)
+    → ⊥
+good_agrees c st id lits hints es fs q r deleted fault a b never =
+    never_both c st.gone (distinct lits) hints a.1.clauses a.0 fs _ r fault a.1.named a.1.shown.1
+    (valid_passes c st a.0 id lits hints fs fault _ a.1 b.1)
+    (subst (λ e. NeverFork e (fs ++ r)) (ap (λ e. e ++ q) a.2 ∙ append_assoc a.0 (published_by c id lits ∷ []) q) never)
 
 addition_agrees : (c : Setting) (st : Standing) (id : ℕ) (lits : List ℤ) (hints : List ℕ) (es fs q r : History) (v w : LineVerdict)
     → JudgesAddition c st id lits hints es v → JudgesAddition c st id lits hints fs w → NeverFork (es ++ q) (fs ++ r) → Agree es v fs w
-addition_agrees c st id lits hints es fs q r v w a b never =
-    test_agree (Owns c.layout c.stream id × (st.last < id)) faults.Identity es fs v w _ _
-    (λ a b. test_agree (AllByRecursion (λ l. nat_abs l ≤ c.layout.vars) lits) faults.Literal es fs v w _ _
-    (λ a b. test_agree (¬ IsTautology lits) faults.Tautology es fs v w _ _
-    (λ a b. test_agree (length (distinct lits) ≤ st.free) faults.NoRoom es fs v w _ _
-    (λ a b. hints_agree c st.gone (published_by c id lits) (distinct lits) hints es fs q r v w a b never) a b) a b) a b) a b
+addition_agrees c st id lits hints es fs q r Good Good a b never =
+    let last = published_by c id lits ∷ [] in
+    let behind = subst (λ e. NeverFork e (b.0 ++ (last ++ r))) (ap (λ e. e ++ q) a.2 ∙ append_assoc a.0 last q)
+    (subst (NeverFork (es ++ q)) (ap (λ e. e ++ r) b.2 ∙ append_assoc b.0 last r) never) in
+    let same = found_agree c st.gone hints a.1.clauses b.1.clauses a.0 b.0 (last ++ q) (last ++ r) a.1.named b.1.named behind in
+    record { events = a.2 ∙ ap (λ e. e ++ last) same ∙ sym b.2; verdict = refl }
+addition_agrees c st id lits hints es fs q r Good (Bad deleted fault) a b never =
+    absurd (good_agrees c st id lits hints es fs q r deleted fault a b never)
+addition_agrees c st id lits hints es fs q r (Bad deleted fault) Good a b never =
+    absurd (good_agrees c st id lits hints fs es r q deleted fault b a (never_fork_turned (es ++ q) (fs ++ r) never))
+addition_agrees c st id lits hints es fs q r (Bad m v) (Bad n w) a b never =
+    both_bad m n v w es fs a.0 b.0 (violates_agree _ _ es fs v w _ _ (λ a b. violates_agree _ _ es fs v w _ _
+    (λ a b. violates_agree _ _ es fs v w _ _ (λ a b. violates_agree _ _ es fs v w _ _
+    (λ a b. hints_agree c st.gone (distinct lits) hints es fs q r v w a b never) a b) a b) a b) a.1 b.1)
 
 drops_agree : (gone : ℕ → Bool) (earlier : List ℕ) (id : ℕ) (es fs : History) (v w : LineVerdict) (A B : History → Type 0)
     → (A es → B fs → Agree es v fs w) → DropsThen gone earlier id es v A → DropsThen gone earlier id fs w B → Agree es v fs w
@@ -182,23 +227,44 @@ identities_agree c gone earlier (id ∷ ids) es fs q r v w a b never =
     (λ rest left behind one two. identities_agree c gone (earlier ++ id ∷ []) ids rest left q r v w one two behind)
     a b never
 
-imported_agree : (x : Reply) (id : ℕ) (lits : List ℤ) (es fs : History) (v w : LineVerdict) → AtImported x id lits es v
-    → AtImported x id lits fs w → Agree es v fs w
-imported_agree events.vacant id lits es fs v w a b = fails_agree 0 (faults.Missing id) es fs v w a b
-imported_agree (events.live d) id lits es fs v w a b =
-    test_agree _ (faults.Differs id) es fs v w _ _ (λ a b. record { events = a.0 ∙ sym b.0; verdict = a.1 ∙ sym b.1 }) a b
-imported_agree events.retired id lits es fs v w a b = fails_agree 0 (faults.Retired id) es fs v w a b
+-- Imports
+
+-- where one is good, the other isn't bad
+import_good : (c : Setting) (st : Standing) (id : ℕ) (lits : List ℤ) (es fs q r : History) (deleted : ℕ) (fault : Fault)
+    → JudgesImport c st id lits es Good → JudgesImport c st id lits fs (Bad deleted fault) → NeverFork (es ++ q) (fs ++ r) → ⊥
+import_good c st id lits es fs q r deleted fault a (none, inl bad) never = bad.0 a.shared
+import_good c st id lits es fs q r deleted fault a (none, inr (shared, inl bad)) never = bad.0 a.literals
+import_good c st id lits es fs q r deleted fault a (none, inr (shared, inr (within, inl unfound))) never =
+    let same = looks_agree c st.gone id es fs q r (Ok a.clause) (Err fault) a.found unfound never in
+    let answer = same.1 in cc
+import_good c st id lits es fs q r deleted fault a (none, inr (shared, inr (within, inr differs))) never =
+    let same = looks_agree c st.gone id es fs q r (Ok a.clause) (Ok differs.0) a.found differs.1 never in
+    let answer = same.1 in
+    let clause : a.clause ≡ differs.0 = cc in
+    differs.2 (subst (λ (d : Clause). (l : ℤ) → Has d l ↔ Has lits l) clause a.same)
 
 import_agrees : (c : Setting) (st : Standing) (id : ℕ) (lits : List ℤ) (es fs q r : History) (v w : LineVerdict)
     → JudgesImport c st id lits es v → JudgesImport c st id lits fs w → NeverFork (es ++ q) (fs ++ r) → Agree es v fs w
-import_agrees c st id lits es fs q r v w a b never =
-    test_agree (is_shared (side_of c id) ≡ true) faults.Identity es fs v w _ _
-    (λ a b. test_agree (AllByRecursion (λ l. nat_abs l ≤ c.layout.vars) lits) faults.Literal es fs v w _ _
-    (λ a b. test_agree (st.gone id ≡ false) (faults.Dropped id) es fs v w
-    (AsksThen c id es (λ x rest. AtImported x id lits rest v))
-    (AsksThen c id fs (λ x rest. AtImported x id lits rest w))
-    (λ a b. asks_agree c id es fs q r v w (λ x rest. AtImported x id lits rest v) (λ x rest. AtImported x id lits rest w)
-    (λ x rest left behind s t. imported_agree x id lits rest left v w s t) a b never) a b) a b) a b
+import_agrees c st id lits es fs q r Good Good a b never =
+    record { events = (looks_agree c st.gone id es fs q r (Ok a.clause) (Ok b.clause) a.found b.found never).0; verdict = refl }
+import_agrees c st id lits es fs q r Good (Bad deleted fault) a b never =
+    absurd (import_good c st id lits es fs q r deleted fault a b never)
+import_agrees c st id lits es fs q r (Bad deleted fault) Good a b never =
+    absurd (import_good c st id lits fs es r q deleted fault b a (never_fork_turned (es ++ q) (fs ++ r) never))
+import_agrees c st id lits es fs q r (Bad m v) (Bad n w) a b never =
+    both_bad m n v w es fs a.0 b.0 (violates_agree _ _ es fs v w _ _ (λ a b. violates_agree _ _ es fs v w _ _ (λ a b. elim a [
+      | inl one ↦ elim b [
+        | inl two ↦
+            let same = looks_agree c st.gone id es fs q r (Err v) (Err w) one two never in
+            let answer = same.1 in let fault : v ≡ w = cc in (same.0, fault)
+        | inr two ↦ absurd (let same = looks_agree c st.gone id es fs q r (Err v) (Ok two.0) one two.1 never in let answer = same.1 in cc)
+      ]
+      | inr one ↦ elim b [
+        | inl two ↦ absurd (let same = looks_agree c st.gone id es fs q r (Ok one.0) (Err w) one.1 two never in let answer = same.1 in cc)
+        | inr two ↦
+            ((looks_agree c st.gone id es fs q r (Ok one.0) (Ok two.0) one.1 two.1 never).0, one.3 ∙ sym two.3)
+      ]
+    ]) a b) a.1 b.1)
 
 -- one line, after the same lines, whatever events come after
 pub line_agrees : (c : Setting) (st : Standing) (line : StreamLine) (es fs q r : History) (v w : LineVerdict)

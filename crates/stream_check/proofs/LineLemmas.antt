@@ -20,13 +20,14 @@ use Rattle.stream_check.specs.declared.stream_state.StreamState.{StreamState}
 use Rattle.stream_check.specs.declared.line_stop.LineStop.{LineStop}
 use Rattle.stream_check.specs.declared.line_stop.LineStop.TheVariants as stops
 use Rattle.stream_check.specs.Setting.{Setting, side_of, is_shared}
-use Rattle.stream_check.specs.Standing.{Standing, capped, is_among, is_within}
+use Rattle.stream_check.specs.Standing.{capped, is_among, is_within}
 use Rattle.stream_check.specs.Verdicts.{Good, Bad}
+use Rattle.stream_check.specs.EventLemmas.{found_all}
 use Rattle.stream_check.specs.Additions.{published_by, JudgesAddition}
 use Rattle.stream_check.specs.Imports.{JudgesImport}
 use Rattle.stream_check.specs.Leaving.{tally_after}
 use Rattle.stream_check.specs.DroppedValue.{DroppedValue}
-use Rattle.stream_check.specs.Checking.{IsPlaceOf, IsFetch, IsRetire, MakesEvents, AreDropped, Deletes}
+use Rattle.stream_check.specs.Checking.{IsPlaceOf, IsFetch, IsRetire, AreDropped, Deletes}
 use Rattle.stream_check.specs.Checker.{standing_at, tally_at, deleted_at, KeepsLines}
 use Rattle.stream_check.specs.Taking.{IsReady, DeletesMore, TakesBy}
 use Rattle.stream_check.proofs.AddLemmas.{spent-skips, spent-fetches, still_at}
@@ -94,11 +95,13 @@ published_run : (m : State) (fetches : History) (c : Setting) (id : ℕ) (lits :
 published_run m fetches c id lits quiet = run-append m fetches (published_by c id lits ∷ [])
     ∙ ap (λ (n : State). put n id (live (distinct lits))) (run-fetches m fetches quiet)
 
-pub ready_publish : (old new : StreamState) (p q : Place) (es : History) (id : ℕ) (lits : List ℤ) → Tells p q es
-    → MakesEvents old.setting id lits es (Ok tt) → new.setting ≡ old.setting → new.last ≡ id → old.last < id → IsReady old p → IsReady new q
-ready_publish old new p q es id lits tells made setting last above ready =
+pub ready_publish : (old new : StreamState) (p q : Place) (free : ℕ) (es : History) (id : ℕ) (lits : List ℤ) (hints : List ℕ)
+    → Tells p q es → JudgesAddition old.setting (standing_at old free) id lits hints es Good → new.setting ≡ old.setting → new.last ≡ id
+    → IsReady old p → IsReady new q
+ready_publish old new p q free es id lits hints tells (fetches, good, made) setting last ready =
     let c = old.setting in
-    let there : run p.own es ≡ put p.own id (live (distinct lits)) = ap (run p.own) made.2 ∙ published_run p.own made.0 c id lits made.1 in
+    let there : run p.own es ≡ put p.own id (live (distinct lits)) = ap (run p.own) made
+    ∙ published_run p.own fetches c id lits (found_all c IsFetch (λ h r. tt) _ hints good.clauses fetches good.named) in
     let owned : (j : ℕ) → Owns q.caller.layout q.caller.stream j → q.own j ≡ put p.own id (live (distinct lits)) j =
     λ j theirs. tells.own j (own_before p q es j tells theirs) ∙ ap (λ (m : State). m j) there in
     record {
@@ -107,17 +110,23 @@ ready_publish old new p q es id lits tells made setting last above ready =
           let over : id < j = omega (arith, higher, last) in
           let other : j ≡ id → ⊥ = λ same. omega (arith, over, same) in
           owned j theirs ∙ put-other p.own id (live (distinct lits)) j other
-          ∙ ready.vacant j (own_before p q es j tells theirs) (omega (arith, over, above));
+          ∙ ready.vacant j (own_before p q es j tells theirs) (omega (arith, over, good.above));
     }
 
-pub room_publish : (old : StreamState) (p q : Place) (es : History) (id : ℕ) (lits : List ℤ) → IsPlaceOf old.setting p → Tells p q es
-    → MakesEvents old.setting id lits es (Ok tt) → q.room ≡ p.room - length (distinct lits)
-room_publish old p q es id lits at tells made =
+pub room_publish : (old : StreamState) (p q : Place) (free : ℕ) (es : History) (id : ℕ) (lits : List ℤ) (hints : List ℕ)
+    → IsPlaceOf old.setting p → Tells p q es → JudgesAddition old.setting (standing_at old free) id lits hints es Good
+    → q.room ≡ p.room - length (distinct lits)
+room_publish old p q free es id lits hints at tells (fetches, good, made) =
     let e : Event = published_by old.setting id lits in
     let one : spent p.caller.stream (e ∷ []) ≡ length (distinct lits) = spent_one p.caller.stream e (sym at.stream) in
     let all : spent p.caller.stream es ≡ length (distinct lits) =
-    ap (spent p.caller.stream) made.2 ∙ spent-append p.caller.stream made.0 (e ∷ [])
-    ∙ omega (arith, spent-fetches p.caller.stream made.0 made.1, one) in
+    ap (spent p.caller.stream) made ∙ spent-append p.caller.stream fetches (e ∷ [])
+    ∙ omega (
+      arith,
+      spent-fetches p.caller.stream fetches (found_all old.setting IsFetch (λ h r. tt) _ hints good.clauses fetches
+          good.named),
+      one,
+    ) in
     omega (arith, tells.room, all)
 
 -- What is held after a good line
@@ -274,8 +283,3 @@ pub stops_import : (old : StreamState) (free left : ℕ) (id : ℕ) (lits : List
     → TakesBy old free old left (Import id lits) es (Err (stops.Bad fault))
 stops_import old free left id lits es fault judged =
     ([], [], refl, judged, deletes_none old)
-
--- a good addition's identity is above the last one
-pub above_last : (c : Setting) (st : Standing) (id : ℕ) (lits : List ℤ) (hints : List ℕ) (es : History)
-    → JudgesAddition c st id lits hints es Good → st.last < id
-above_last c st id lits hints es j = elim j [ inl bad ↦ absurd (let e : Good ≡ Bad 0 _ = bad.1.1 in cc) | inr next ↦ next.0.1 ]

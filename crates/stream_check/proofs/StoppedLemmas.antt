@@ -1,5 +1,5 @@
 -- The report of a stream that a line stopped decides what the stream dropped.
-use Rattle.std.proofs.Common.{◌≡◌, ◌<◌, ◌+◌, ◌-◌, ◌^◌, ◌||◌, ◌&&◌, min, ℕ, Bool, List, [], ◌∷◌, ◌++◌, length, inl, inr, refl, sym, ap}
+use Rattle.std.proofs.Common.{◌≡◌, ◌||◌, ◌&&◌, ℕ, List, [], ◌∷◌, ◌++◌, length, inl, inr, refl, sym, ap}
 use Rattle.std.proofs.Common.{subst, ◌∙◌, arith}
 use Rattle.std.specs.List.{AllByRecursion, flat_map, sum_by}
 use Rattle.lrup_text.specs.Laws.{OneFirstLine}

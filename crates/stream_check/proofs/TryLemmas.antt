@@ -1,5 +1,5 @@
 -- An identity that is looked up, and hints one after the other.
-use Rattle.std.proofs.Common.{◌≡◌, ◌≤◌, ◌+◌, ◌∙◌, ℕ, zero, suc, ℤ, neg_ℤ, Bool, false, List, [], ◌∷◌, ◌++◌, length, Err, inl, inr, refl}
+use Rattle.std.proofs.Common.{◌≡◌, ◌≤◌, ◌+◌, ◌∙◌, ℕ, ℤ, neg_ℤ, Bool, List, [], ◌∷◌, ◌++◌, length, Ok, Err, inl, inr, refl}
 use Rattle.std.proofs.Common.{sym, ap, subst, arith, append_assoc, append-nil}
 use Rattle.std.specs.Prelude.{replicate}
 use Rattle.std.specs.List.{AllByRecursion}
@@ -8,8 +8,7 @@ use Rattle.lrup_model.specs.Clause.{Clause, IsTautology}
 use Rattle.lrup_model.specs.Formula.{Cnf}
 use Rattle.lrup_model.specs.Entailment.{IsDerived}
 use Rattle.lrup_model.specs.Layout.{LayoutValue}
-use Rattle.lrup_model.specs.Event as events
-use Rattle.lrup_model.specs.Event.{Event, History, Reply}
+use Rattle.lrup_model.specs.Event.{Event, History}
 use Rattle.lrup_model.specs.Place.{Caller, Place, Tells, ClipValue, IsKnown, AllFollow, clip_clause}
 use Rattle.lrup_model.specs.PassLemmas.{known_follows}
 use Rattle.lrup_model.specs.Propagation.{IsConflict, IsUnit}
@@ -17,67 +16,14 @@ use Rattle.propagate.specs.Hints.{Leads}
 use Rattle.propagate.specs.Laws.{LeadsOn, AcceptsExactly}
 use Rattle.stream_check.specs.declared.fault.Fault.{Fault}
 use Rattle.stream_check.specs.declared.fault.Fault.TheVariants as faults
-use Rattle.stream_check.specs.declared.setting.Side.{Side}
-use Rattle.stream_check.specs.declared.setting.Side.TheVariants as sides
-use Rattle.stream_check.specs.Setting.{Setting, side_of}
-use Rattle.stream_check.specs.Verdicts.{LineVerdict, Good, Bad, Fails, Test}
-use Rattle.stream_check.specs.Asking.{AsksAt, Asks, AsksThen}
-use Rattle.stream_check.specs.Additions.{AtReply, JudgesHints}
-use Rattle.stream_check.specs.Checking.{IsPlaceOf, IsFetch, LooksUp, Shows, excess_of}
+use Rattle.stream_check.specs.Setting.{Setting}
+use Rattle.stream_check.specs.Asking.{LooksUp}
+use Rattle.stream_check.specs.Additions.{AreFound, Misleads, FailsHints}
+use Rattle.stream_check.specs.Checking.{IsPlaceOf, Shows, excess_of}
 
 -- one more at the end
 pub replicate-more : (k : ℕ) (e : Event) → replicate k e ++ e ∷ [] ≡ replicate (k + 1) e
 replicate-more k e = replicate-append-replicate k 1 e
-
--- Asking makes fetches alone
-
-pub fetches-append : (es fs : History) → AllByRecursion IsFetch es → AllByRecursion IsFetch fs → AllByRecursion IsFetch (es ++ fs)
-fetches-append [] fs h k = k
-fetches-append (e ∷ es) fs h k = (h.0, fetches-append es fs h.1 k)
-
-fetches-replicate : (k s id : ℕ) (r : Reply) → AllByRecursion IsFetch (replicate k (events.fetch s id r))
-fetches-replicate zero s id r = tt
-fetches-replicate (suc k) s id r = (tt, fetches-replicate k s id r)
-
-asks_fetches_at : (side : Side) (c : Setting) (h : ℕ) (es : History) (r : Reply) → AsksAt side c h es r → AllByRecursion IsFetch es
-asks_fetches_at sides.Formula c h es r asks = subst (AllByRecursion IsFetch) (sym asks) (tt, tt)
-asks_fetches_at sides.Own c h es r asks = subst (AllByRecursion IsFetch) (sym asks) (tt, tt)
-asks_fetches_at sides.Foreign c h es r asks =
-    subst (AllByRecursion IsFetch) (sym asks.3) (fetches-append (replicate asks.0 (events.fetch c.stream h events.vacant))
-    (events.fetch c.stream h r ∷ []) (fetches-replicate asks.0 c.stream h events.vacant) (tt, tt))
-asks_fetches_at sides.Outside c h es r asks = subst (AllByRecursion IsFetch) (sym asks.0) tt
-
-pub asks_fetches : (c : Setting) (h : ℕ) (es : History) (r : Reply) → Asks c h es r → AllByRecursion IsFetch es
-asks_fetches c h es r asks = asks_fetches_at (side_of c h) c h es r asks
-
--- One identity that is looked up
-
--- one that isn't gone and is asked: its reply decides
-pub asked_then : (c : Setting) (gone : ℕ → Bool) (id : ℕ) (es rest : History) (r : Reply) (v : LineVerdict) (Next : Reply → History
-    → Type 0) → gone id ≡ false → Asks c id es r → Next r rest
-    → Test (gone id ≡ false) (faults.Dropped id) (es ++ rest) v (AsksThen c id (es ++ rest) Next)
-asked_then c gone id es rest r v Next kept asks next =
-    inr (kept, record { asked = es; reply = r; rest = rest; events = refl; asks = asks; next = next })
-
--- the same where there are no more events
-pub asked_last : (c : Setting) (gone : ℕ → Bool) (id : ℕ) (es : History) (r : Reply) (v : LineVerdict) (Next : Reply → History → Type 0)
-    → gone id ≡ false → Asks c id es r → Next r [] → Test (gone id ≡ false) (faults.Dropped id) es v (AsksThen c id es Next)
-asked_last c gone id es r v Next kept asks next =
-    inr (kept, record { asked = es; reply = r; rest = []; events = sym (append-nil es); asks = asks; next = next })
-
--- the fault of a lookup is that of its hint or import
-pub lookup_fails : (c : Setting) (gone : ℕ → Bool) (id : ℕ) (p : Place) (es : History) (fault : Fault) (Next : Reply → History → Type 0)
-    → LooksUp c gone id p es (Err fault)
-    → (Fails 0 (faults.Missing id) [] (Bad 0 fault) → Next events.vacant [])
-    → (Fails 0 (faults.Retired id) [] (Bad 0 fault) → Next events.retired [])
-    → Test (gone id ≡ false) (faults.Dropped id) es (Bad 0 fault) (AsksThen c id es Next)
-lookup_fails c gone id p es fault Next looks missing retired = elim looks [
-  | inl dropped ↦ inl dropped
-  | inr asked ↦ elim asked.1 [
-    | inl is ↦ asked_last c gone id es events.vacant (Bad 0 fault) Next asked.0 is.0 (missing (refl, ap (λ f. Bad 0 f) is.1))
-    | inr is ↦ asked_last c gone id es events.retired (Bad 0 fault) Next asked.0 is.0 (retired (refl, ap (λ f. Bad 0 f) is.1))
-  ]
-]
 
 -- a clip that is known follows, as the place before sees it
 pub derived_before : (p q : Place) (es : History) (clip : ClipValue) → Tells p q es → IsKnown q clip → AllFollow q
@@ -104,79 +50,73 @@ pub all_derived : (f : Cnf) (cs : List Clause) (d : Clause) → AllByRecursion (
 all_derived f [] d h k = (k, tt)
 all_derived f (c ∷ cs) d h k = (h.0, all_derived f cs d h.1 k)
 
--- what the hints that are left are judged to be gives what all are
-abbrev pub GoesOn : Setting → (ℕ → Bool) → List ℤ → List ℕ → List ℤ → List ℕ → History → Type 0
-GoesOn c gone n hints m left es = (e : Event) (rest : History) (v : LineVerdict) → JudgesHints c gone e m left rest v
-    → JudgesHints c gone e n hints (es ++ rest) v
+-- The hints so far have these clauses, which are unit, one after the other, and follow; and what those that are left come to says what
+-- all come to.
+pub record HasLed (c : Setting) (gone : ℕ → Bool) (f : Cnf) (n : List ℤ) (hints : List ℕ) (m : List ℤ) (left : List ℕ)
+    (es : History) : Type 0 where
+  pub clauses : List Clause
+  pub derived : AllByRecursion (IsDerived f) clauses
+  pub leads : Leads n clauses m
+  pub found : (ds : List Clause) (rest : History) → AreFound c gone left ds rest → AreFound c gone hints (clauses ++ ds) (es ++ rest)
+  pub fails : (rest : History) (fault : Fault) → FailsHints c gone m left rest fault → FailsHints c gone n hints (es ++ rest) fault
 
--- the clauses of the hints so far are unit, one after the other, and follow
-abbrev pub HasLed : Cnf → List ℤ → List ℤ → Type 0
-HasLed f n m = (ds : List Clause) × AllByRecursion (IsDerived f) ds × Leads n ds m
+module _ (c : Setting) (gone : ℕ → Bool) (f : Cnf) (n m : List ℤ) (hints : List ℕ) (h : ℕ) (left rest : List ℕ) (es fs : History)
+    (is : left ≡ h ∷ rest) (before : HasLed c gone f n hints m left es) where
+  -- the next hint fails
+  next_fails : (fault : Fault) → FailsHints c gone m (h ∷ rest) fs fault → FailsHints c gone n hints (es ++ fs) fault
+  next_fails fault fails = before.fails fs fault (subst (λ (hs : List ℕ). FailsHints c gone m hs fs fault) (sym is) fails)
 
-module _ (c : Setting) (gone : ℕ → Bool) (n m : List ℤ) (hints : List ℕ) (h : ℕ) (left rest : List ℕ) (es fs : History)
-    (is : left ≡ h ∷ rest) (before : GoesOn c gone n hints m left es) where
-  -- what the next hint is judged to be, all are
-  next_hint : (e : Event) (more : History) (v : LineVerdict) → JudgesHints c gone e m (h ∷ rest) (fs ++ more) v
-      → JudgesHints c gone e n hints ((es ++ fs) ++ more) v
-  next_hint e more v judged =
-      subst (λ (x : History). JudgesHints c gone e n hints x v) (sym (append_assoc es fs more))
-      (before e (fs ++ more) v (subst (λ (hs : List ℕ). JudgesHints c gone e m hs (fs ++ more) v) (sym is) judged))
+  pub shows_unfound : (fault : Fault) → LooksUp c gone h fs (Err fault) → Shows c gone f n hints (es ++ fs) (Err fault)
+  shows_unfound fault looks =
+      next_fails fault (fs, [], sym (append-nil fs), Err fault, looks, (refl, refl))
 
-  -- the same where there are no more events
-  last_hint : (e : Event) (v : LineVerdict) → JudgesHints c gone e m (h ∷ rest) fs v → JudgesHints c gone e n hints (es ++ fs) v
-  last_hint e v judged = before e fs v (subst (λ (hs : List ℕ). JudgesHints c gone e m hs fs v) (sym is) judged)
+  module _ (d : Clause) (looks : LooksUp c gone h fs (Ok d)) where
+    -- its clause is found
+    next_found : (ds : List Clause) (more : History) → AreFound c gone rest ds more
+        → AreFound c gone hints ((before.clauses ++ d ∷ []) ++ ds) ((es ++ fs) ++ more)
+    next_found ds more found =
+        subst (λ (x : History). AreFound c gone hints ((before.clauses ++ d ∷ []) ++ ds) x) (sym (append_assoc es fs more))
+        (subst (λ (x : List Clause). AreFound c gone hints x (es ++ (fs ++ more))) (sym (append_assoc before.clauses (d ∷ []) ds))
+        (before.found (d ∷ ds) (fs ++ more) (subst (λ (hs : List ℕ). AreFound c gone hs (d ∷ ds) (fs ++ more)) (sym is)
+        (fs, more, refl, looks, found))))
 
-  -- its lookup has a fault
-  pub shows_unfound : (f : Cnf) (p : Place) (fault : Fault) → LooksUp c gone h p fs (Err fault)
-      → Shows c gone f n hints (es ++ fs) (Err fault)
-  shows_unfound f p fault looks e =
-      last_hint e (Bad 0 fault) (lookup_fails c gone h p fs fault
-      (λ r more. AtReply r m h rest e more (Bad 0 fault) (λ k. JudgesHints c gone e k rest more (Bad 0 fault))) looks (λ x. x) (λ x. x))
+    pub goes_on : (l : ℤ) → LeadsOn → IsDerived f d → IsUnit m d l → HasLed c gone f n hints (m ++ neg_ℤ l ∷ []) rest (es ++ fs)
+    goes_on l leads_on derived unit = record {
+      clauses = before.clauses ++ d ∷ [];
+      derived = all_derived f before.clauses d before.derived derived;
+      leads = leads_on n m before.clauses d l before.leads unit;
+      found = next_found;
+      fails = λ more fault fails. subst (λ (x : History). FailsHints c gone n hints x fault) (sym (append_assoc es fs more))
+          (before.fails (fs ++ more) fault (subst (λ (hs : List ℕ). FailsHints c gone m hs (fs ++ more) fault) (sym is)
+          (fs, more, refl, Ok d, looks, inl (l, unit, fails))));
+    }
 
-  module _ (d : Clause) (kept : gone h ≡ false) (asks : Asks c h fs (events.live d)) where
-    -- its clause decides
-    at_clause : (e : Event) (more : History) (v : LineVerdict)
-        → AtReply (events.live d) m h rest e more v (λ k. JudgesHints c gone e k rest more v)
-        → JudgesHints c gone e n hints ((es ++ fs) ++ more) v
-    at_clause e more v next = next_hint e more v (asked_then c gone h fs more (events.live d) v
-        (λ r x. AtReply r m h rest e x v (λ k. JudgesHints c gone e k rest x v)) kept asks next)
+    -- its clause doesn't help
+    misled : (fault : Fault) → Misleads m d h rest fault → FailsHints c gone n hints (es ++ fs) fault
+    misled fault misleads = next_fails fault (fs, [], sym (append-nil fs), Ok d, looks, inr (refl, misleads))
 
-    -- the same where there are no more events
-    ends_at_clause : (e : Event) (v : LineVerdict) → AtReply (events.live d) m h rest e [] v (λ k. JudgesHints c gone e k rest [] v)
-        → JudgesHints c gone e n hints (es ++ fs) v
-    ends_at_clause e v next = subst (λ (x : History). JudgesHints c gone e n hints x v) (append-nil (es ++ fs)) (at_clause e [] v next)
+    pub shows_not_unit : ¬ IsConflict m d → ((l : ℤ) → ¬ IsUnit m d l) → Shows c gone f n hints (es ++ fs) (Err (faults.NotUnit h))
+    shows_not_unit conflict unit = misled (faults.NotUnit h) (inl (conflict, unit, refl))
 
-    pub goes_on : (l : ℤ) → IsUnit m d l → GoesOn c gone n hints (m ++ neg_ℤ l ∷ []) rest (es ++ fs)
-    goes_on l unit e more v judged = at_clause e more v (inr (inl (l, unit, judged)))
-
-    pub shows_not_unit : (f : Cnf) → ¬ IsConflict m d → ((l : ℤ) → ¬ IsUnit m d l)
-        → Shows c gone f n hints (es ++ fs) (Err (faults.NotUnit h))
-    shows_not_unit f conflict unit e = ends_at_clause e (Bad 0 (faults.NotUnit h)) (inr (inr (conflict, unit, (refl, refl))))
-
-pub has_led : (f : Cnf) (n m : List ℤ) (d : Clause) (l : ℤ) → LeadsOn → HasLed f n m → IsDerived f d → IsUnit m d l
-    → HasLed f n (m ++ neg_ℤ l ∷ [])
-has_led f n m d l leads_on led derived unit = (led.0 ++ d ∷ [], all_derived f led.0 d led.1 derived, leads_on n m led.0 d l led.2 unit)
+    pub shows_conflict : AcceptsExactly → ¬ IsTautology n → IsDerived f d → f.vars ≡ c.layout.vars → IsConflict m d
+        → Shows c gone f n hints (es ++ fs) (excess_of rest)
+    shows_conflict exactly consistent derived variables conflict =
+        elim rest as (λ (hs : List ℕ). hs ≡ rest → Shows c gone f n hints (es ++ fs) (excess_of hs)) [
+          | [] ↦ λ none. (
+            before.clauses ++ d ∷ [],
+            all_derived f before.clauses d before.derived derived,
+            (exactly n before.clauses d).1 (consistent, (m, before.leads, conflict)),
+            variables,
+            subst (AreFound c gone hints (before.clauses ++ d ∷ [])) (append-nil (es ++ fs))
+                (subst (λ (x : List Clause). AreFound c gone hints x ((es ++ fs) ++ [])) (append-nil (before.clauses ++ d ∷ []))
+                (next_found [] [] (subst (λ (hs : List ℕ). AreFound c gone hs [] []) none refl))),
+          )
+          | (i ∷ more) ↦ λ some. misled (faults.Excess i) (inr (conflict, i, more, sym some, refl))
+        ] refl
 
 -- no hint is left
 pub shows_none : (c : Setting) (gone : ℕ → Bool) (f : Cnf) (n : List ℤ) (hints : List ℕ) (m : List ℤ) (left : List ℕ) (es : History)
-    → length left ≡ 0 → GoesOn c gone n hints m left es → Shows c gone f n hints es (Err faults.NoConflict)
-shows_none c gone f n hints m [] es none before e =
-    subst (λ (x : History). JudgesHints c gone e n hints x (Bad 0 faults.NoConflict)) (append-nil es)
-    (before e [] (Bad 0 faults.NoConflict) (refl, refl))
-shows_none c gone f n hints m (h ∷ left) es none before e = absurd (omega (arith, none))
-
--- the conflict
-pub shows_conflict : (c : Setting) (gone : ℕ → Bool) (f : Cnf) (n m : List ℤ) (hints : List ℕ) (h : ℕ) (left rest : List ℕ)
-    (es fs : History) (d : Clause) → AcceptsExactly → ¬ IsTautology n → left ≡ h ∷ rest → GoesOn c gone n hints m left es
-    → gone h ≡ false → Asks c h fs (events.live d) → HasLed f n m → IsDerived f d → f.vars ≡ c.layout.vars → IsConflict m d
-    → Shows c gone f n hints (es ++ fs) (excess_of rest)
-shows_conflict c gone f n m hints h left [] es fs d exactly consistent is before kept asks led derived variables conflict = (
-  led.0 ++ d ∷ [],
-  all_derived f led.0 d led.1 derived,
-  (exactly n led.0 d).1 (consistent, (m, led.2, conflict)),
-  variables,
-  λ e. at_clause c gone n m hints h left [] es fs is before d kept asks e (e ∷ []) Good (inl (conflict, (refl, refl))),
-)
-shows_conflict c gone f n m hints h left (i ∷ rest) es fs d exactly consistent is before kept asks led derived variables conflict =
-    λ e. ends_at_clause c gone n m hints h left (i ∷ rest) es fs is before d kept asks e (Bad 0 (faults.Excess i))
-    (inl (conflict, (refl, refl)))
+    → length left ≡ 0 → HasLed c gone f n hints m left es → Shows c gone f n hints es (Err faults.NoConflict)
+shows_none c gone f n hints m [] es none before =
+    subst (λ (x : History). FailsHints c gone n hints x faults.NoConflict) (append-nil es) (before.fails [] faults.NoConflict (refl, refl))
+shows_none c gone f n hints m (h ∷ left) es none before = absurd (omega (arith, none))

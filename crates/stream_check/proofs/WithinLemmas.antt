@@ -1,27 +1,20 @@
 -- The counts of a report are at most the identities, in a legal history.
-use Rattle.std.proofs.Common.{◌≡◌, ◌<◌, ◌≤◌, ◌+◌, ◌||◌, ℕ, ℤ, nat_abs, Bool, true, false, List, [], ◌∷◌, ◌++◌, length, eqb, inl, inr, refl}
+use Rattle.std.proofs.Common.{◌≡◌, ◌<◌, ◌≤◌, ◌+◌, ◌||◌, ℕ, Bool, true, false, List, [], ◌∷◌, ◌++◌, length, eqb, inl, inr, refl}
 use Rattle.std.proofs.Common.{sym, ap, subst, ◌∙◌, arith, append_assoc, append-nil}
 use Rattle.std.specs.List.{AllByRecursion, list_any, sum_by}
 use Rattle.std.proofs.lemmas.Bool.Decides.{eqb_tells}
 use Rattle.std.proofs.lemmas.Map.Steps.{length-le_from_distinct_below}
-use Rattle.lrup_model.specs.Clause.{IsTautology}
 use Rattle.lrup_model.specs.Layout.{LayoutValue, last_identity, IsIdentity, Owns}
 use Rattle.lrup_model.specs.declared.layout.Owner.TheVariants as owners
-use Rattle.lrup_model.specs.Event as events
-use Rattle.lrup_model.specs.Event.{Event, History, Reply, own}
+use Rattle.lrup_model.specs.Event.{History, own}
 use Rattle.lrup_model.specs.State.{State, run, opening}
 use Rattle.lrup_text.specs.Lines.{StreamLine, Addition, Deletion, Import}
-use Rattle.lrup_model.specs.Distinct.{distinct}
 use Rattle.lrup_text.specs.declared.device.StreamEnd.{StreamEnd}
 use Rattle.stream_check.specs.declared.fault.Fault.{Fault}
-use Rattle.stream_check.specs.declared.fault.Fault.TheVariants as faults
 use Rattle.stream_check.specs.declared.report.Report.{Report}
-use Rattle.stream_check.specs.Setting.{Setting, side_of, is_shared}
-use Rattle.stream_check.specs.Standing.{Standing, standing_of, additions_of, deleted_by}
-use Rattle.stream_check.specs.Verdicts.{LineVerdict, Good, Bad, Fails, Test}
-use Rattle.stream_check.specs.Additions.{AtConflict, AtReply, JudgesHints, published_by, JudgesAddition}
-use Rattle.stream_check.specs.Asking.{AsksThen}
-use Rattle.stream_check.specs.Imports.{AtImported, JudgesImport}
+use Rattle.stream_check.specs.Setting.{Setting}
+use Rattle.stream_check.specs.Standing.{standing_of, additions_of, deleted_by}
+use Rattle.stream_check.specs.Verdicts.{Good, Bad}
 use Rattle.stream_check.specs.Judging.{JudgesLine, AreGood, joined, EndsAfter, at_bad_line, at_bad_text, at_memory, at_end}
 use Rattle.stream_check.specs.Laws.{CountsWithin}
 use Rattle.stream_check.specs.ReportLemmas.{joined-append}
@@ -68,81 +61,16 @@ taken_within c n gone earlier many are =
     (all_below (0 ∷ are.ids) (last_identity c.layout + 1) below) in
     omega (arith, few, are.count)
 
--- A bad addition deletes nothing
-
-deleted_of : LineVerdict → ℕ
-deleted_of Good = 0
-deleted_of (Bad deleted fault) = deleted
-
-failed_none : (fault : Fault) (es : History) (v : LineVerdict) → Fails 0 fault es v → deleted_of v ≡ 0
-unfolding deleted_of
-failed_none fault es v f = ap deleted_of f.1
-
-test_none : (Holds : Type 0) (fault : Fault) (es : History) (v : LineVerdict) (A : Type 0) → (A → deleted_of v ≡ 0)
-    → Test Holds fault es v A → deleted_of v ≡ 0
-test_none Holds fault es v A next (inl bad) = failed_none fault es v bad.1
-test_none Holds fault es v A next (inr good) = next good.1
-
-conflict_none : (hints : List ℕ) (published : Event) (es : History) (v : LineVerdict) → AtConflict hints published es v → deleted_of v ≡ 0
-unfolding deleted_of
-conflict_none [] published es v at = ap deleted_of at.1
-conflict_none (h ∷ hints) published es v at = failed_none (faults.Excess h) es v at
-
-reply_none : (x : Reply) (n : List ℤ) (h : ℕ) (hints : List ℕ) (published : Event) (es : History) (v : LineVerdict) (A : List ℤ → Type 0)
-    → ((m : List ℤ) → A m → deleted_of v ≡ 0) → AtReply x n h hints published es v A → deleted_of v ≡ 0
-reply_none events.vacant n h hints published es v A next at = failed_none (faults.Missing h) es v at
-reply_none events.retired n h hints published es v A next at = failed_none (faults.Retired h) es v at
-reply_none (events.live d) n h hints published es v A next (inl conflict) = conflict_none hints published es v conflict.1
-reply_none (events.live d) n h hints published es v A next (inr (inl unit)) = next _ unit.2
-reply_none (events.live d) n h hints published es v A next (inr (inr neither)) = failed_none (faults.NotUnit h) es v neither.2
-
-hints_none : (c : Setting) (gone : ℕ → Bool) (published : Event) (n : List ℤ) (hints : List ℕ) (es : History) (v : LineVerdict)
-    → JudgesHints c gone published n hints es v → deleted_of v ≡ 0
-hints_none c gone published n [] es v judged = failed_none faults.NoConflict es v judged
-hints_none c gone published n (h ∷ hints) es v judged =
-    test_none (gone h ≡ false) (faults.Dropped h) es v _
-    (λ a. reply_none a.reply n h hints published a.rest v (λ m. JudgesHints c gone published m hints a.rest v)
-    (λ m k. hints_none c gone published m hints a.rest v k) a.next)
-    judged
-
-addition_none : (c : Setting) (st : Standing) (id : ℕ) (lits : List ℤ) (hints : List ℕ) (es : History) (v : LineVerdict)
-    → JudgesAddition c st id lits hints es v → deleted_of v ≡ 0
-addition_none c st id lits hints es v judged =
-    test_none (Owns c.layout c.stream id × (st.last < id)) faults.Identity es v _
-    (λ a. test_none (AllByRecursion (λ l. nat_abs l ≤ c.layout.vars) lits) faults.Literal es v _
-    (λ a. test_none (¬ IsTautology lits) faults.Tautology es v _
-    (λ a. test_none (length (distinct lits) ≤ st.free) faults.NoRoom es v _
-    (λ a. hints_none c st.gone (published_by c id lits) (distinct lits) hints es v a) a) a) a) judged
-
--- and so does a bad import
-
-imported_none : (x : Reply) (id : ℕ) (lits : List ℤ) (es : History) (v : LineVerdict) → AtImported x id lits es v → deleted_of v ≡ 0
-unfolding deleted_of
-imported_none events.vacant id lits es v at = failed_none (faults.Missing id) es v at
-imported_none events.retired id lits es v at = failed_none (faults.Retired id) es v at
-imported_none (events.live d) id lits es v at = test_none _ (faults.Differs id) es v _ (λ good. ap deleted_of good.1) at
-
-import_none : (c : Setting) (st : Standing) (id : ℕ) (lits : List ℤ) (es : History) (v : LineVerdict) → JudgesImport c st id lits es v
-    → deleted_of v ≡ 0
-import_none c st id lits es v judged =
-    test_none (is_shared (side_of c id) ≡ true) faults.Identity es v _
-    (λ a. test_none (AllByRecursion (λ l. nat_abs l ≤ c.layout.vars) lits) faults.Literal es v _
-    (λ a. test_none (st.gone id ≡ false) (faults.Dropped id) es v (AsksThen c id es (λ x rest. AtImported x id lits rest v))
-    (λ a. imported_none a.reply id lits a.rest v a.next) a) a) judged
-
 -- Deleted
 
 line_deletes : (c : Setting) (n : State) (before : List StreamLine) (line : StreamLine) (many deleted : ℕ) (fault : Fault)
     (es rest : History)
     → JudgesLine c (standing_of c before) line es (Bad deleted fault) → OwnRun n (es ++ rest)
     → AreTaken c n (standing_of c before).gone [] many → many + deleted ≤ last_identity c.layout
-unfolding deleted_of
 line_deletes c n before (Addition id lits hints) many deleted fault es rest judged answers are =
-    let none = addition_none c (standing_of c before) id lits hints es (Bad deleted fault) judged in
-    omega (arith, none, taken_within c n (standing_of c before).gone [] many are)
+    omega (arith, judged.0, taken_within c n (standing_of c before).gone [] many are)
 line_deletes c n before (Import id lits) many deleted fault es rest judged answers are =
-    let none = import_none c (standing_of c before) id lits es (Bad deleted fault) judged in
-    omega (arith, none, taken_within c n (standing_of c before).gone [] many are)
+    omega (arith, judged.0, taken_within c n (standing_of c before).gone [] many are)
 line_deletes c n before (Deletion lead ids) many deleted fault es rest judged answers are =
     let took = identities_took c n (standing_of c before).gone [] ids many es rest (Bad deleted fault) judged answers are in
     omega (arith, took.4, taken_within c took.0 (standing_of c before).gone took.1 took.2 took.3)
@@ -170,12 +98,6 @@ ends_delete c n lines rest end back report answers are (at_end pending no_block 
 
 -- Added
 
--- an addition that is good has an identity of the stream's own
-owns_good : (c : Setting) (st : Standing) (id : ℕ) (lits : List ℤ) (hints : List ℕ) (es : History)
-    → JudgesAddition c st id lits hints es Good → Owns c.layout c.stream id
-owns_good c st id lits hints es (inl bad) = absurd (let e : Good ≡ Bad 0 faults.Identity = bad.1.1 in cc)
-owns_good c st id lits hints es (inr good) = good.0.0
-
 owns_below : (p : LayoutValue) (s id : ℕ) → Owns p s id → id ≤ last_identity p
 owns_below p s id owns = (identity_below p id (λ e. let f : owners.Outside ≡ owners.Stream s = sym e ∙ owns in cc)).1
 
@@ -189,7 +111,7 @@ one_added : (c : Setting) (before : List StreamLine) (line : StreamLine) (es : H
 one_added c before (Addition id lits hints) es judged are =
     let last = same_last c before (Addition id lits hints) es judged in
     let above = last_below c (standing_of c before) id lits hints es judged in
-    let within = owns_below c.layout c.stream id (owns_good c (standing_of c before) id lits hints es judged) in
+    let within = owns_below c.layout c.stream id judged.1.owns in
     record {
       few = omega (arith, last, above, are.few, added-snoc before (Addition id lits hints));
       below = omega (arith, last, within);

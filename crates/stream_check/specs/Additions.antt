@@ -1,62 +1,107 @@
--- How an addition is judged: the tests in their order (this project's own). What a hint found is the clause of its last reply.
-use Rattle.std.specs.Prelude.{◌≡◌, ◌≤◌, ◌<◌, ◌⊎◌, ◌++◌, ℕ, ℤ, neg_ℤ, nat_abs, Bool, false, List, [], ◌∷◌, length}
+-- What makes an addition valid, and how one is judged (this project's own; that hinted clauses show the clause by propagation is the
+-- idea of Cruz-Filipe et al., CADE 2017).
+use Rattle.std.specs.Prelude.{◌≡◌, ◌≤◌, ◌<◌, ◌⊎◌, ◌++◌, ℕ, ℤ, neg_ℤ, nat_abs, Bool, List, [], ◌∷◌, length, Result, Ok, Err}
 use Rattle.std.specs.List.{AllByRecursion}
-use Rattle.lrup_model.specs.Clause.{IsTautology}
-use Rattle.lrup_model.specs.Layout.{Owns}
+use Rattle.lrup_model.specs.Clause.{Clause, IsTautology}
+use Rattle.lrup_model.specs.Layout.{LayoutValue, Owns}
 use Rattle.lrup_model.specs.Event as events
-use Rattle.lrup_model.specs.Event.{Event, History, Reply}
-use Rattle.lrup_model.specs.Propagation.{IsConflict, IsUnit}
+use Rattle.lrup_model.specs.Event.{Event, History}
+use Rattle.lrup_model.specs.Propagation.{Accepts, IsConflict, IsUnit}
 use Rattle.lrup_model.specs.declared.clause_map.Published.TheVariants as publishing
 use Rattle.lrup_model.specs.Distinct.{distinct}
+use Rattle.stream_check.specs.declared.fault.Fault.{Fault}
 use Rattle.stream_check.specs.declared.fault.Fault.TheVariants as faults
 use Rattle.stream_check.specs.Setting.{Setting}
 use Rattle.stream_check.specs.Standing.{Standing}
-use Rattle.stream_check.specs.Verdicts.{LineVerdict, Good, Fails, Test}
-use Rattle.stream_check.specs.Asking.{AsksThen}
+use Rattle.stream_check.specs.Verdicts.{LineVerdict, Good, Bad, Violates}
+use Rattle.stream_check.specs.Asking.{LooksUp}
 
--- a conflict: good if no hint is left, else the next hint is in excess
-abbrev pub AtConflict : List ℕ → Event → History → LineVerdict → Type 0
-AtConflict [] published history verdict = (history ≡ published ∷ []) × (verdict ≡ Good)
-AtConflict (hint ∷ hints) published history verdict = Fails 0 (faults.Excess hint) history verdict
+-- What lines leave for an addition after them: the greatest identity that was added, or the formula's last one; the room that is left,
+-- in literals; and which clauses hints name.
+pub record Context : Type 1 where
+  pub last : ℕ
+  pub free : ℕ
+  pub Names : List ℕ → List Clause → Type 0
 
--- what the last reply to a hint does: its clause is a conflict, or is unit and gives the hints that are left one more false literal,
--- or is neither
-abbrev pub AtReply : Reply → List ℤ → ℕ → List ℕ → Event → History → LineVerdict → (List ℤ → Type 0)
-    → Type 0
-AtReply events.vacant falses hint hints published history verdict Next =
-    Fails 0 (faults.Missing hint) history verdict
-AtReply (events.live clause) falses hint hints published history verdict Next =
-    (IsConflict falses clause × AtConflict hints published history verdict)
-    ⊎ (((literal : ℤ) × IsUnit falses clause literal × Next (falses ++ neg_ℤ literal ∷ []))
-    ⊎ ((¬ IsConflict falses clause) × ((literal : ℤ) → ¬ IsUnit falses clause literal)
-    × Fails 0 (faults.NotUnit hint) history verdict))
-AtReply events.retired falses hint hints published history verdict Next =
-    Fails 0 (faults.Retired hint) history verdict
+-- An addition is valid: its identity is the stream's own, and above the last; its literals are over the variables; there is room for
+-- its clause; and the clauses that its hints name show its clause, which is no tautology, by propagation.
+pub record IsValidAddition (layout : LayoutValue) (stream : ℕ) (context : Context) (id : ℕ)
+    (lits : List ℤ) (hints : List ℕ) : Type 0 where
+  pub owns : Owns layout stream id
+  pub above : context.last < id
+  pub literals : AllByRecursion (λ l. nat_abs l ≤ layout.vars) lits
+  pub room : length (distinct lits) ≤ context.free
+  pub clauses : List Clause
+  pub named : context.Names hints clauses
+  pub shown : Accepts (distinct lits) clauses
 
--- The hints one after the other, where `falses` are the literals that are false: each is first sought among the dropped ones, then fetched, then tried.
-abbrev pub JudgesHints : Setting → (ℕ → Bool) → Event → List ℤ → List ℕ → History → LineVerdict
-    → Type 0
-JudgesHints setting gone published falses [] history verdict =
-    Fails 0 faults.NoConflict history verdict
-JudgesHints setting gone published falses (hint ∷ hints) history verdict =
-    Test (gone hint ≡ false) (faults.Dropped hint) history verdict
-    (AsksThen setting hint history
-    (λ reply rest. AtReply reply falses hint hints published rest verdict
-    (λ more_falses. JudgesHints setting gone published more_falses hints rest verdict)))
+-- the hints are looked up in their order, by these events, and come to these clauses
+abbrev pub AreFound : Setting → (ℕ → Bool) → List ℕ → List Clause → History → Type 0
+AreFound setting gone [] [] history = history ≡ []
+AreFound setting gone [] (clause ∷ clauses) history = ⊥
+AreFound setting gone (hint ∷ hints) [] history = ⊥
+AreFound setting gone (hint ∷ hints) (clause ∷ clauses) history =
+    (asked rest : History) × (history ≡ asked ++ rest) × LooksUp setting gone hint asked (Ok clause)
+    × AreFound setting gone hints clauses rest
+
+-- what the lines of this standing leave, where these events look hints up
+abbrev pub context_of : Setting → Standing → History → Context
+context_of setting standing history = record {
+  last = standing.last;
+  free = standing.free;
+  Names = λ hints clauses. AreFound setting standing.gone hints clauses history;
+}
+
+-- the conditions of an addition before those of its hints, in their order
+abbrev pub BeforeHints : Setting → Standing → ℕ → List ℤ → History → Fault → Type 0 → Type 0
+BeforeHints setting standing id lits history fault Next =
+    Violates (Owns setting.layout setting.stream id × (standing.last < id))
+    faults.Identity history fault
+    (Violates (AllByRecursion (λ l. nat_abs l ≤ setting.layout.vars) lits)
+    faults.Literal history fault
+    (Violates (¬ IsTautology lits) faults.Tautology history fault
+    (Violates (length (distinct lits) ≤ standing.free) faults.NoRoom history fault Next)))
+
+-- A hint's clause doesn't help: it is neither unit nor a conflict; or it is a conflict, and one more hint comes after it.
+abbrev pub Misleads : List ℤ → Clause → ℕ → List ℕ → Fault → Type 0
+Misleads falses clause hint later fault =
+    ((¬ IsConflict falses clause) × ((literal : ℤ) → ¬ IsUnit falses clause literal)
+    × (fault ≡ faults.NotUnit hint))
+    ⊎ (IsConflict falses clause × (next : ℕ) × (more : List ℕ) × (later ≡ next ∷ more)
+    × (fault ≡ faults.Excess next))
+
+-- what the look-up of a hint came to: its fault; or its clause is unit, which makes one more literal false, and the hints after it
+-- decide, or it doesn't help
+abbrev pub FailsBy : Result Clause Fault → List ℤ → ℕ → List ℕ → History → Fault
+    → (List ℤ → Type 0) → Type 0
+FailsBy (Ok clause) falses hint later history fault Next =
+    ((literal : ℤ) × IsUnit falses clause literal × Next (falses ++ neg_ℤ literal ∷ []))
+    ⊎ ((history ≡ []) × Misleads falses clause hint later fault)
+FailsBy (Err its) falses hint later history fault Next = (history ≡ []) × (fault ≡ its)
+
+-- The hints fail, where these literals are false: the first one whose look-up or clause fails gives the fault, or none is a conflict.
+abbrev pub FailsHints : Setting → (ℕ → Bool) → List ℤ → List ℕ → History → Fault → Type 0
+FailsHints setting gone falses [] history fault = (history ≡ []) × (fault ≡ faults.NoConflict)
+FailsHints setting gone falses (hint ∷ hints) history fault =
+    (asked rest : History) × (history ≡ asked ++ rest) × (answer : Result Clause Fault)
+    × LooksUp setting gone hint asked answer
+    × FailsBy answer falses hint hints rest fault
+    (λ more_falses. FailsHints setting gone more_falses hints rest fault)
 
 -- the publish of an addition that is good
 abbrev pub published_by : Setting → ℕ → List ℤ → Event
 published_by setting id lits = events.publish setting.stream id (distinct lits) publishing.Done
 
--- an addition's events and its verdict, after the lines that left this standing
+-- An addition's events and its verdict, after the lines that left this standing: it is valid by what its events find, and its last
+-- event publishes its clause; or it violates a condition, and the first of these gives the fault.
 abbrev pub JudgesAddition : Setting → Standing → ℕ → List ℤ → List ℕ → History → LineVerdict
     → Type 0
-JudgesAddition setting standing id lits hints history verdict =
-    Test (Owns setting.layout setting.stream id × (standing.last < id))
-    faults.Identity history verdict
-    (Test (AllByRecursion (λ l. nat_abs l ≤ setting.layout.vars) lits)
-    faults.Literal history verdict
-    (Test (¬ IsTautology lits) faults.Tautology history verdict
-    (Test (length (distinct lits) ≤ standing.free) faults.NoRoom history verdict
-    (JudgesHints setting standing.gone (published_by setting id lits) (distinct lits) hints
-    history verdict))))
+JudgesAddition setting standing id lits hints history Good =
+    (fetches : History)
+    × IsValidAddition setting.layout setting.stream (context_of setting standing fetches) id lits
+    hints
+    × (history ≡ fetches ++ published_by setting id lits ∷ [])
+JudgesAddition setting standing id lits hints history (Bad deleted fault) =
+    (deleted ≡ 0)
+    × BeforeHints setting standing id lits history fault
+    (FailsHints setting standing.gone (distinct lits) hints history fault)

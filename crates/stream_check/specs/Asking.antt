@@ -1,6 +1,9 @@
--- How often an identity is fetched that a hint or an import names (this project's own).
-use Rattle.std.specs.Prelude.{◌≡◌, ◌≤◌, ◌++◌, ℕ, [], ◌∷◌, replicate}
-use Rattle.lrup_model.specs.Event.{History, Reply, vacant, fetch}
+-- How an identity is looked up that a hint or an import names, and how often it is fetched (this project's own).
+use Rattle.std.specs.Prelude.{◌≡◌, ◌⊎◌, ◌≤◌, ◌++◌, ℕ, Bool, true, false, [], ◌∷◌, replicate, Result, Ok, Err}
+use Rattle.lrup_model.specs.Clause.{Clause}
+use Rattle.lrup_model.specs.Event.{History, Reply, vacant, live, retired, fetch}
+use Rattle.stream_check.specs.declared.fault.Fault.{Fault}
+use Rattle.stream_check.specs.declared.fault.Fault.TheVariants as faults
 use Rattle.stream_check.specs.declared.setting.Side.{Side}
 use Rattle.stream_check.specs.declared.setting.Side.TheVariants as sides
 use Rattle.stream_check.specs.Setting.{Setting, side_of}
@@ -22,12 +25,15 @@ AsksAt sides.Outside setting id history reply = (history ≡ []) × (reply ≡ v
 abbrev pub Asks : Setting → ℕ → History → Reply → Type 0
 Asks setting id history reply = AsksAt (side_of setting id) setting id history reply
 
--- first the events of this identity, and then what its last reply and the other events decide
-pub record AsksThen (setting : Setting) (id : ℕ) (history : History)
-    (Next : Reply → History → Type 0) : Type 0 where
-  pub asked : History
-  pub reply : Reply
-  pub rest : History
-  pub events : history ≡ asked ++ rest
-  pub asks : Asks setting id asked reply
-  pub next : Next reply rest
+-- what the last reply comes to: the clause of a live identity, or the fault of a missing or a retired one
+abbrev pub answer_of : ℕ → Reply → Result Clause Fault
+answer_of id vacant = Err (faults.Missing id)
+answer_of id (live clause) = Ok clause
+answer_of id retired = Err (faults.Retired id)
+
+-- What a look-up comes to: an identity that the stream dropped isn't fetched, and is a fault; of another the last reply decides.
+abbrev pub LooksUp : Setting → (ℕ → Bool) → ℕ → History → Result Clause Fault → Type 0
+LooksUp setting gone id history answer =
+    ((gone id ≡ true) × (history ≡ []) × (answer ≡ Err (faults.Dropped id)))
+    ⊎ ((gone id ≡ false) × (reply : Reply) × Asks setting id history reply
+    × (answer ≡ answer_of id reply))

@@ -1,5 +1,6 @@
 -- What a checker holds, and what it takes of a piece of its stream (this project's own).
-use Rattle.std.specs.Prelude.{◌≡◌, ◌⊎◌, ◌≤◌, ◌<◌, ◌^◌, ◌+◌, ◌++◌, ℕ, ℤ, true, List, [], ◌∷◌, length, Option, Some, None, Result, Ok, Err}
+use Rattle.std.specs.Prelude.{◌≡◌, ◌⊎◌, ◌≤◌, ◌<◌, ◌^◌, ◌+◌, ◌++◌, ℕ, ℤ, nat_abs, true, List, [], ◌∷◌, length, Option, Some, None, Result, Ok, Err}
+use Rattle.std.specs.List.{AllByRecursion}
 use Rattle.lrup_model.specs.Clause.{IsClause, IsTautology}
 use Rattle.lrup_model.specs.Cube.{CubeValue}
 use Rattle.lrup_model.specs.Event.{History}
@@ -21,8 +22,7 @@ use Rattle.stream_check.specs.declared.progress.CheckTurn.{CheckTurn}
 use Rattle.stream_check.specs.declared.progress.CheckTurn.TheVariants as turns
 use Rattle.stream_check.specs.Setting.{Setting}
 use Rattle.stream_check.specs.Standing.{capped, Standing, is_among}
-use Rattle.stream_check.specs.Verdicts.{LineVerdict, Bad}
-use Rattle.stream_check.specs.Additions.{JudgesHints, JudgesAddition, published_by}
+use Rattle.stream_check.specs.Additions.{BeforeHints}
 use Rattle.stream_check.specs.Judging.{ending_at, JudgesBlocks}
 use Rattle.stream_check.specs.Leaving.{Holding, CheckerState, Going, Over, Leaves}
 use Rattle.stream_check.specs.Checking.{IsPlaceOf}
@@ -54,11 +54,12 @@ pub record KeepsLines (old new : StreamState) : Type 0 where
   pub within : new.within ≡ old.within
   pub line : new.line ≡ old.line
 
--- The addition passes the tests before its hints, and its clause is taken up.
+-- The conditions before those of the hints hold, and the addition's clause is taken up.
 pub record Admits (setting : Setting) (standing : Standing) (id : ℕ) (lits : List ℤ)
     (marks : Propagation) : Type 0 where
   pub owns : Owns setting.layout setting.stream id
   pub above : standing.last < id
+  pub literals : AllByRecursion (λ l. nat_abs l ≤ setting.layout.vars) lits
   pub fits : length (distinct lits) ≤ standing.free
   pub clause : IsClause setting.layout.vars (distinct lits)
   pub consistent : ¬ IsTautology (distinct lits)
@@ -70,17 +71,12 @@ pub record Admits (setting : Setting) (standing : Standing) (id : ℕ) (lits : L
         ready = true;
       }
 
--- the tests before the hints: they hold, and the hints decide, or one fails
+-- the conditions before those of the hints: they hold, or the addition violates one
 abbrev pub AdmitsBy : Setting → Standing → ℕ → List ℤ → Propagation → Result (Unit {0}) Fault
     → Type 0
-AdmitsBy setting standing id lits marks (Ok _) =
-    Admits setting standing id lits marks
-    × ((hints : List ℕ) (history : History) (verdict : LineVerdict)
-    → JudgesHints setting standing.gone (published_by setting id lits) (distinct lits) hints
-    history verdict
-    → JudgesAddition setting standing id lits hints history verdict)
+AdmitsBy setting standing id lits marks (Ok _) = Admits setting standing id lits marks
 AdmitsBy setting standing id lits marks (Err fault) =
-    (hints : List ℕ) → JudgesAddition setting standing id lits hints [] (Bad 0 fault)
+    BeforeHints setting standing id lits [] fault ⊥
 
 -- the text that a reader has read of a line
 abbrev pub read_of : ReaderState → List ℕ

@@ -1,5 +1,5 @@
 -- What the parts of a checker do: a lookup, the hints of an addition, an addition, the identities of a deletion (this project's own).
-use Rattle.std.specs.Prelude.{◌≡◌, ◌⊎◌, ◌==◌, ◌++◌, ◌||◌, ◌&&◌, ℕ, ℤ, Bool, true, false, List, [], ◌∷◌, length, Result, Ok, Err}
+use Rattle.std.specs.Prelude.{◌≡◌, ◌==◌, ◌++◌, ◌||◌, ℕ, Bool, true, false, List, [], ◌∷◌, length, Result, Ok, Err}
 use Rattle.std.specs.List.{AllByRecursion}
 use Rattle.lrup_model.specs.Clause.{Clause}
 use Rattle.lrup_model.specs.Formula.{Cnf}
@@ -18,11 +18,10 @@ use Rattle.stream_check.specs.declared.setting.Side.{Side}
 use Rattle.stream_check.specs.declared.setting.Side.TheVariants as sides
 use Rattle.stream_check.specs.declared.line_stop.LineStop.{LineStop}
 use Rattle.stream_check.specs.declared.line_stop.LineStop.TheVariants as stops
-use Rattle.stream_check.specs.Setting.{Setting, side_of, is_shared}
+use Rattle.stream_check.specs.Setting.{Setting, side_of}
 use Rattle.stream_check.specs.Standing.{is_among}
-use Rattle.stream_check.specs.Verdicts.{LineVerdict, Good, Bad, Test}
-use Rattle.stream_check.specs.Asking.{Asks}
-use Rattle.stream_check.specs.Additions.{JudgesHints, published_by}
+use Rattle.stream_check.specs.Verdicts.{LineVerdict, Good, Bad}
+use Rattle.stream_check.specs.Additions.{AreFound, FailsHints}
 use Rattle.stream_check.specs.Deletions.{JudgesDeletion, StopsDeletion}
 use Rattle.stream_check.specs.Stopping.{DropsMore}
 
@@ -56,24 +55,19 @@ IsRetire (events.retire s id reply) = Unit {0}
 abbrev pub KeepsClause : Propagation → Propagation → Type 0
 KeepsClause old new = (new.vars ≡ old.vars) × (new.clause ≡ old.clause)
 
--- what a lookup found: the clip of a live clause that the stream didn't drop, or the fault of a dropped, missing or retired one
-abbrev pub LooksUp : Setting → (ℕ → Bool) → ℕ → Place → History → Result ClipValue Fault → Type 0
-LooksUp setting gone id place history (Ok clip) =
-    (gone id ≡ false) × Asks setting id history (events.live (clip_clause place clip))
-LooksUp setting gone id place history (Err fault) =
-    Test (gone id ≡ false) (faults.Dropped id) history (Bad 0 fault)
-    ((Asks setting id history events.vacant × (fault ≡ faults.Missing id))
-    ⊎ (Asks setting id history events.retired × (fault ≡ faults.Retired id)))
+-- what a look-up found: the clause of the clip, or the fault
+abbrev pub found_by : Place → Result ClipValue Fault → Result Clause Fault
+found_by place (Ok clip) = Ok (clip_clause place clip)
+found_by place (Err fault) = Err fault
 
 -- what the hints of an addition come to: they show its clause, or there is a fault
 abbrev pub Shows : Setting → (ℕ → Bool) → Cnf → Clause → List ℕ → History → Result (Unit {0}) Fault
     → Type 0
 Shows setting gone formula clause hints history (Ok _) =
     (hinted : List Clause) × AllByRecursion (IsDerived formula) hinted × Accepts clause hinted
-    × (formula.vars ≡ setting.layout.vars)
-    × ((event : Event) → JudgesHints setting gone event clause hints (history ++ event ∷ []) Good)
+    × (formula.vars ≡ setting.layout.vars) × AreFound setting gone hints hinted history
 Shows setting gone formula clause hints history (Err fault) =
-    (event : Event) → JudgesHints setting gone event clause hints history (Bad 0 fault)
+    FailsHints setting gone clause hints history fault
 
 -- no hint may be left after the conflict
 abbrev pub excess_of : List ℕ → Result (Unit {0}) Fault
@@ -84,12 +78,6 @@ excess_of (hint ∷ hints) = Err (faults.Excess hint)
 abbrev pub line_verdict : Result (Unit {0}) Fault → LineVerdict
 line_verdict (Ok _) = Good
 line_verdict (Err fault) = Bad 0 fault
-
--- a good addition makes fetches and is published, and a bad one makes fetches alone
-abbrev pub MakesEvents : Setting → ℕ → List ℤ → History → Result (Unit {0}) Fault → Type 0
-MakesEvents setting id lits history (Ok _) = (fetches : History) × AllByRecursion IsFetch fetches
-    × (history ≡ fetches ++ published_by setting id lits ∷ [])
-MakesEvents setting id lits history (Err fault) = AllByRecursion IsFetch history
 
 -- Deletions
 

@@ -1,29 +1,33 @@
--- How an import is judged: the tests in their order (this project's own). What the map has is the clause of the last reply.
-use Rattle.std.specs.Prelude.{◌≡◌, ◌≤◌, ◌↔◌, ℕ, ℤ, nat_abs, true, false, List, []}
+-- How an import is judged (this project's own).
+use Rattle.std.specs.Prelude.{◌≡◌, ◌≤◌, ◌↔◌, ◌⊎◌, ℕ, ℤ, nat_abs, true, List, Ok, Err}
 use Rattle.std.specs.List.{AllByRecursion}
-use Rattle.lrup_model.specs.Clause.{Has}
-use Rattle.lrup_model.specs.Event as events
-use Rattle.lrup_model.specs.Event.{History, Reply}
+use Rattle.lrup_model.specs.Clause.{Clause, Has}
+use Rattle.lrup_model.specs.Event.{History}
 use Rattle.stream_check.specs.declared.fault.Fault.TheVariants as faults
 use Rattle.stream_check.specs.Setting.{Setting, side_of, is_shared}
 use Rattle.stream_check.specs.Standing.{Standing}
-use Rattle.stream_check.specs.Verdicts.{LineVerdict, Good, Fails, Test}
-use Rattle.stream_check.specs.Asking.{AsksThen}
+use Rattle.stream_check.specs.Verdicts.{LineVerdict, Good, Bad, Violates}
+use Rattle.stream_check.specs.Asking.{LooksUp}
 
--- what the last reply does: a clause must have the import's literals, in whatever order and however often each is written; then the
--- line is good, with no more events
-abbrev pub AtImported : Reply → ℕ → List ℤ → History → LineVerdict → Type 0
-AtImported events.vacant id lits history verdict = Fails 0 (faults.Missing id) history verdict
-AtImported (events.live clause) id lits history verdict =
-    Test ((l : ℤ) → Has clause l ↔ Has lits l) (faults.Differs id) history verdict
-    ((history ≡ []) × (verdict ≡ Good))
-AtImported events.retired id lits history verdict = Fails 0 (faults.Retired id) history verdict
+-- An import is good: it is of the formula or of another stream, its literals are over the variables, and the clause that is found has
+-- its literals, in whatever order and however often each is written.
+pub record IsGoodImport (setting : Setting) (standing : Standing) (id : ℕ) (lits : List ℤ)
+    (history : History) : Type 0 where
+  pub shared : is_shared (side_of setting id) ≡ true
+  pub literals : AllByRecursion (λ l. nat_abs l ≤ setting.layout.vars) lits
+  pub clause : Clause
+  pub found : LooksUp setting standing.gone id history (Ok clause)
+  pub same : (l : ℤ) → Has clause l ↔ Has lits l
 
--- an import's events and its verdict, after the lines that left this standing: it is of the formula or of another stream, and not dropped
+-- an import's events and its verdict, after the lines that left this standing: of the conditions the first that it violates gives the
+-- fault
 abbrev pub JudgesImport : Setting → Standing → ℕ → List ℤ → History → LineVerdict → Type 0
-JudgesImport setting standing id lits history verdict =
-    Test (is_shared (side_of setting id) ≡ true) faults.Identity history verdict
-    (Test (AllByRecursion (λ l. nat_abs l ≤ setting.layout.vars) lits)
-    faults.Literal history verdict
-    (Test (standing.gone id ≡ false) (faults.Dropped id) history verdict
-    (AsksThen setting id history (λ reply rest. AtImported reply id lits rest verdict))))
+JudgesImport setting standing id lits history Good = IsGoodImport setting standing id lits history
+JudgesImport setting standing id lits history (Bad deleted fault) =
+    (deleted ≡ 0)
+    × Violates (is_shared (side_of setting id) ≡ true) faults.Identity history fault
+    (Violates (AllByRecursion (λ l. nat_abs l ≤ setting.layout.vars) lits)
+    faults.Literal history fault
+    (LooksUp setting standing.gone id history (Err fault)
+    ⊎ ((clause : Clause) × LooksUp setting standing.gone id history (Ok clause)
+    × (¬ ((l : ℤ) → Has clause l ↔ Has lits l)) × (fault ≡ faults.Differs id))))

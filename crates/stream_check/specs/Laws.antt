@@ -31,7 +31,7 @@ use Rattle.stream_check.specs.Standing.{Standing, additions_of, deleted_by, capp
 use Rattle.stream_check.specs.Stopping.{StopsAtLine, DropsMore, DropsUntilStop}
 use Rattle.stream_check.specs.Additions.{JudgesAddition}
 use Rattle.stream_check.specs.Reducing.{reduced, IsEarly, TriesAgain}
-use Rattle.stream_check.specs.Finding.{IsGoodAddition, FindsSound}
+use Rattle.stream_check.specs.Finding.{FindsSound}
 use Rattle.stream_check.specs.Verdicts.{LineVerdict, Good, Bad}
 use Rattle.stream_check.specs.Leaving.{Holding, Going, Over, JudgesBothEnds, Leaves, IsFresh, TakesLine}
 use Rattle.stream_check.specs.CheckerValue.{report_of_tally, CheckerValue}
@@ -219,13 +219,7 @@ AloneDecides = (f : Cnf) (p : LayoutValue) (c : Setting) (bytes : List ℕ) (end
 
 -- Good additions
 
--- an addition is good exactly if its hints were found and the clauses found accept its clause
-abbrev pub GoodExactlyIf : Type 0
-GoodExactlyIf = (c : Setting) (st : Standing) (id : ℕ) (lits : List ℤ) (hints : List ℕ)
-    (es : History)
-    → JudgesAddition c st id lits hints es Good ↔ IsGoodAddition c st id lits hints es
-
--- so its clause follows from the formula where the clauses found do
+-- the clause of a good addition follows from the formula where the clauses found do
 abbrev pub GoodFollows : Type 0
 GoodFollows = (f : Cnf) (c : Setting) (st : Standing) (id : ℕ) (lits : List ℤ) (hints : List ℕ)
     (es : History)

@@ -19,6 +19,8 @@ pub mod Reducing
 pub mod Finding
 pub mod CubeLemmas
 pub mod AdditionLemmas
+pub mod EventLemmas
+pub mod MappingLemmas
 pub mod StandingLemmas
 pub mod StoppingLemmas
 pub mod ReportLemmas

@@ -1,5 +1,5 @@
 -- What one good line more leaves.
-use Rattle.std.proofs.Common.{◌≡◌, ◌<◌, ◌+◌, ◌&&◌, ◌||◌, ℕ, ℤ, Bool, true, false, max, List, [], ◌∷◌, ◌++◌, length, length-append, inl, inr, refl, sym, ap, ◌∙◌, arith}
+use Rattle.std.proofs.Common.{◌≡◌, ◌<◌, ◌+◌, ◌&&◌, ◌||◌, ℕ, ℤ, Bool, true, false, max, List, [], ◌∷◌, ◌++◌, length, length-append, refl, sym, ap, ◌∙◌, arith}
 use mathlib.Core.Path.{fun_ext}
 use Rattle.std.specs.Prelude.{◌==◌, map}
 use Rattle.std.specs.List.{fold, list_any, sum_by}
@@ -11,7 +11,7 @@ use Rattle.lrup_model.specs.Event.{History}
 use Rattle.lrup_text.specs.Lines.{StreamLine, Addition, Deletion, Import}
 use Rattle.stream_check.specs.Setting.{Setting, side_of, is_shared}
 use Rattle.stream_check.specs.Standing.{Standing, additions_of, deleted_by, is_among, is_within, standing_of}
-use Rattle.stream_check.specs.Verdicts.{Good, Bad}
+use Rattle.stream_check.specs.Verdicts.{Good}
 use Rattle.stream_check.specs.declared.report.Ending.{Ending}
 use Rattle.stream_check.specs.declared.report.Ending.TheVariants as endings
 use Rattle.stream_check.specs.declared.report.Report.{Report}
@@ -32,7 +32,7 @@ last-snoc c lines line =
 -- a good addition has an identity above those before it
 pub last_below : (c : Setting) (st : Standing) (id : ℕ) (lits : List ℤ) (hints : List ℕ)
     (es : History) → JudgesLine c st (Addition id lits hints) es Good → st.last < id
-last_below c st id lits hints es j = elim j [ inl bad ↦ absurd (let e : Good ≡ Bad 0 _ = bad.1.1 in cc) | inr next ↦ next.0.1 ]
+last_below c st id lits hints es j = j.1.above
 
 pub same_last : (c : Setting) (lines : List StreamLine) (line : StreamLine) (es : History)
     → JudgesLine c (standing_of c lines) line es Good

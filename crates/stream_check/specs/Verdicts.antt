@@ -1,5 +1,5 @@
--- What the judgement of a line comes to, and the ladder of its tests (this project's own).
--- A line's events are one block. Each test speaks of the events from it on, so that what comes after a fault is seen to be nothing.
+-- What the judgement of a line comes to, and what its fault is (this project's own).
+-- A line's events are one block. Each condition speaks of the events from it on, so that what comes after a fault is seen to be nothing.
 use Rattle.std.specs.Prelude.{◌≡◌, ◌⊎◌, ℕ, []}
 use Rattle.lrup_model.specs.Event.{History}
 use Rattle.stream_check.specs.declared.fault.Fault.{Fault}
@@ -13,7 +13,8 @@ pub data LineVerdict : Type 0 where
 abbrev pub Fails : ℕ → Fault → History → LineVerdict → Type 0
 Fails deleted fault history verdict = (history ≡ []) × (verdict ≡ Bad deleted fault)
 
--- Either the test fails, with this fault and nothing deleted, or it holds and what comes next decides. Only additions and imports
--- have tests.
-abbrev pub Test : Type 0 → Fault → History → LineVerdict → Type 0 → Type 0
-Test Holds fault history verdict Next = ((¬ Holds) × Fails 0 fault history verdict) ⊎ (Holds × Next)
+-- The first condition that a line violates gives the fault. Either it is this one, and there are no more events, or this one holds and
+-- those after it decide.
+abbrev pub Violates : Type 0 → Fault → History → Fault → Type 0 → Type 0
+Violates Holds its history fault Next =
+    ((¬ Holds) × (history ≡ []) × (fault ≡ its)) ⊎ (Holds × Next)

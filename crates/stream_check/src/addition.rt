@@ -9,7 +9,7 @@ ghost use Rattle.lrup_model.specs.Place.{IsVacantAbove};
 ghost use Rattle.lrup_text.specs.Lines.{IsStreamLiteral};
 ghost use Rattle.lrup_model.specs.Distinct.{distinct};
 ghost use Rattle.stream_check.specs.Additions.{JudgesAddition};
-ghost use Rattle.stream_check.specs.Checking.{IsPlaceOf, line_verdict, MakesEvents};
+ghost use Rattle.stream_check.specs.Checking.{IsPlaceOf, line_verdict};
 ghost use Rattle.stream_check.specs.Checker.{standing_at, AdmitsBy};
 
 use crate::fault::Fault;
@@ -103,7 +103,6 @@ impl Buffers {
         ensures clause { OnOk result (self.new.marks.clause ≡ distinct lits.now) }
         ensures judged { let standing = standing_at state.now (M.place map.old).room in
             (es : History) × M.moves map.old map.new es
-            × MakesEvents state.now.setting id lits.now es result
             × JudgesAddition state.now.setting standing id lits.now hints.now es
             (line_verdict result) }
     {

@@ -1,12 +1,11 @@
 //! How a hint is fetched.
 ghost use Rattle.std.specs.Prelude.{◌∷◌, ◌<◌, ◌^◌, IfOk};
-ghost use Rattle.std.specs.List.{AllByRecursion};
 ghost use Rattle.lrup_model.specs.Event.{History, vacant, fetch};
 ghost use Rattle.lrup_model.specs.Layout.{IsIdentity};
 ghost use Rattle.lrup_model.specs.Replies.{reply_of};
-ghost use Rattle.stream_check.specs.Asking.{Asks, FetchesUpTo};
+ghost use Rattle.stream_check.specs.Asking.{Asks, FetchesUpTo, LooksUp};
 ghost use Rattle.stream_check.specs.Standing.{is_among};
-ghost use Rattle.stream_check.specs.Checking.{IsPlaceOf, Gives, IsFetch, LooksUp};
+ghost use Rattle.stream_check.specs.Checking.{IsPlaceOf, Gives, found_by};
 
 use crate::fault::Fault;
 use crate::gate::Gate;
@@ -67,9 +66,9 @@ pub fn look_up<M: ClauseMap, G: Gate>(
 ) -> Result<Clip, Fault>
     requires at { IsPlaceOf state.now.setting (M.place map.old) }
     requires tries { state.now.setting.tries < 2 ^ 63 }
-    ensures looked { (es : History) × M.moves map.old map.new es × AllByRecursion IsFetch es
-        × LooksUp state.now.setting (is_among state.now.dropped.ids) id (M.place map.new)
-        es result }
+    ensures looked { (es : History) × M.moves map.old map.new es
+        × LooksUp state.now.setting (is_among state.now.dropped.ids) id es
+        (found_by (M.place map.new) result) }
     ensures gives { IfOk result (λ clip. Gives (M.place map.new) (Fetched.Live clip)) }
 {
     if state.has_dropped(id) {

@@ -3,8 +3,7 @@ ghost use Rattle.std.specs.Prelude.{◌≡◌, ◌≤◌, ◌<◌, ◌^◌, IsTr
 ghost use Rattle.lrup_model.specs.Clause.{IsTautology};
 ghost use Rattle.lrup_model.specs.Event.{History};
 ghost use Rattle.stream_check.specs.Standing.{is_among};
-ghost use Rattle.stream_check.specs.Checking.{IsPlaceOf, IsFetch, KeepsClause, Shows, excess_of};
-ghost use Rattle.std.specs.List.{AllByRecursion};
+ghost use Rattle.stream_check.specs.Checking.{IsPlaceOf, KeepsClause, Shows, excess_of};
 
 use crate::asking::look_up;
 use crate::fault::Fault;
@@ -37,7 +36,7 @@ pub fn try_hints<M: ClauseMap, G: Gate>(
     requires variables { state.now.setting.layout.vars ≤ marks.old.vars }
     requires consistent { ¬ IsTautology marks.old.falses }
     ensures shown { let formula = (M.place map.old).caller.formula in
-        (es : History) × M.moves map.old map.new es × AllByRecursion IsFetch es
+        (es : History) × M.moves map.old map.new es
         × Shows state.now.setting (is_among state.now.dropped.ids) formula marks.old.falses
         hints.now es result }
     ensures kept { KeepsClause marks.old marks.new }

@@ -5,7 +5,7 @@ ghost use Rattle.lrup_model.specs.Event.{History};
 ghost use Rattle.lrup_model.specs.History.{max_line_literals};
 ghost use Rattle.lrup_text.specs.Lines.{IsStreamLiteral};
 ghost use Rattle.stream_check.specs.Imports.{JudgesImport};
-ghost use Rattle.stream_check.specs.Checking.{IsPlaceOf, IsFetch, line_verdict};
+ghost use Rattle.stream_check.specs.Checking.{IsPlaceOf, line_verdict};
 ghost use Rattle.stream_check.specs.Checker.{standing_at};
 
 use crate::addition::{Buffers, make_literals};
@@ -32,7 +32,7 @@ impl Buffers {
         requires nonzero { AllByRecursion IsStreamLiteral lits.now }
         ensures vars { self.new.vars ≡ self.old.vars }
         ensures judged { let standing = standing_at state.now (M.place map.old).room in
-            (es : History) × M.moves map.old map.new es × AllByRecursion IsFetch es
+            (es : History) × M.moves map.old map.new es
             × JudgesImport state.now.setting standing id lits.now es (line_verdict result) }
     {
         if !state.setting.shares(id) {

@@ -1,5 +1,5 @@
 //! Laws of judging. Each function does nothing; its contract is the law, which holds of every stream, layout and history.
-ghost use Rattle.stream_check.specs.Laws.{FreshLeft, PendingGrows, GoodLineTaken, BadLineTaken, BadTextRead, MemoryWanted, EndJudged, OverStays, EitherEnd, DecidedBeforeFailure, DroppedOnce, ReadyNew, ReadyStays, ReadyBeside, OneReport, RepliesDecide, BlocksGoAlike, LegalNeverFork, AloneDecides, GoodExactlyIf, GoodFollows, LineCalls, EarlyEvents, VacantTriesAgain, ReducedLine, ReducedStream, JudgedLinesCut, CitedFetched, WithinReported, EmptyCubeReported, CountsWithin};
+ghost use Rattle.stream_check.specs.Laws.{FreshLeft, PendingGrows, GoodLineTaken, BadLineTaken, BadTextRead, MemoryWanted, EndJudged, OverStays, EitherEnd, DecidedBeforeFailure, DroppedOnce, ReadyNew, ReadyStays, ReadyBeside, OneReport, RepliesDecide, BlocksGoAlike, LegalNeverFork, AloneDecides, GoodFollows, LineCalls, EarlyEvents, VacantTriesAgain, ReducedLine, ReducedStream, JudgedLinesCut, CitedFetched, WithinReported, EmptyCubeReported, CountsWithin};
 
 use lrup_model::laws::{propagation_sound, vacant_above_stays};
 use lrup_text::laws::{
@@ -133,11 +133,6 @@ pub fn alone_decides()
     texts_are_lines();
     a_text_has_one_fault();
 }
-
-/// An addition is good exactly if its hints were found and the clauses found accept its clause.
-pub fn good_exactly_if()
-    ensures { GoodExactlyIf }
-{}
 
 /// The clause of a good addition follows from the formula where the clauses that its hints found do.
 pub fn good_follows()

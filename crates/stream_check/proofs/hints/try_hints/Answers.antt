@@ -6,7 +6,7 @@ use Rattle.propagate.specs.HintLemmas.{leads_on, accepts_exactly}
 use Rattle.stream_check.specs.declared.fault.Fault.{Fault}
 use Rattle.stream_check.specs.Standing.{is_among}
 use Rattle.stream_check.specs.Checking.{Shows}
-use Rattle.stream_check.proofs.TryLemmas.{fetches-append, derived_before, variables_before, GoesOn, HasLed, goes_on, has_led, shows_unfound}
+use Rattle.stream_check.proofs.TryLemmas.{derived_before, variables_before, HasLed, goes_on, shows_unfound}
 use Rattle.stream_check.proofs.TryLemmas.{shows_not_unit, shows_none, shows_conflict}
 use Rattle.stream_check.proofs.hints.try_hints.Goals as goal
 
@@ -14,7 +14,17 @@ pub hints-init : goal.hints-init
 hints-init g c = record {
   ready = c.requires.ready;
   kept = (refl, refl);
-  led = ([], g.met.M.ClauseMap.moves_none c.args.map.now, tt, ([], tt, refl), λ e rest v judged. judged);
+  led = (
+    [],
+    g.met.M.ClauseMap.moves_none c.args.map.now,
+    record {
+      clauses = [];
+      derived = tt;
+      leads = refl;
+      found = λ ds rest found. found;
+      fails = λ rest fault fails. fails;
+    },
+  );
 }
 
 pub hints-preserved : goal.hints-preserved
@@ -42,13 +52,11 @@ hints-preserved g c =
       led = (
         led.0 ++ looked.0,
         subst (g.M.ClauseMap.moves c.args.map.now c.hint.new.map) (append-nil (led.0 ++ looked.0)) tried,
-        fetches-append led.0 looked.0 led.2 looked.2,
-        subst (HasLed p.caller.formula c.args.marks.now.falses) (sym falses) (has_led p.caller.formula c.args.marks.now.falses
-            c.hints.marks.falses (clip_clause q c.in_ok-clip.clip) step.0 leads_on led.3 derived step.1),
-        subst (λ (n : List ℤ). GoesOn s gone c.args.marks.now.falses c.args.hints.now n c.in-Some.rest.now (led.0 ++ looked.0)) (sym falses)
-            (goes_on s gone c.args.marks.now.falses c.hints.marks.falses c.args.hints.now c.in-Some.hint.now
-            c.hints.left.now c.in-Some.rest.now led.0 looked.0 c.in-Some.ensures.cases.0 led.4
-            (clip_clause q c.in_ok-clip.clip) looked.3.0 looked.3.1 step.0 step.1),
+        subst (λ (n : List ℤ). HasLed s gone p.caller.formula c.args.marks.now.falses c.args.hints.now n c.in-Some.rest.now
+            (led.0 ++ looked.0)) (sym falses)
+            (goes_on s gone p.caller.formula c.args.marks.now.falses c.hints.marks.falses c.args.hints.now c.in-Some.hint.now
+            c.hints.left.now c.in-Some.rest.now led.0 looked.0 c.in-Some.ensures.cases.0 led.2
+            (clip_clause q c.in_ok-clip.clip) looked.2 step.0 leads_on derived step.1),
       );
     }
 
@@ -68,12 +76,10 @@ returns-in-Conflict-clause-shown g c =
     let derived = derived_before p q (led.0 ++ looked.0) c.in_ok-clip.clip tells gives.0 gives.1 in
     let variables = variables_before s p q (led.0 ++ looked.0) c.requires.at tells gives.2 in
     let shown = shows_conflict s gone p.caller.formula c.args.marks.now.falses c.hints.marks.falses c.args.hints.now c.in-Some.hint.now
-    c.hints.left.now c.in-Some.rest.now led.0 looked.0 (clip_clause q c.in_ok-clip.clip)
-    accepts_exactly c.requires.consistent c.in-Some.ensures.cases.0 led.4 looked.3.0 looked.3.1 led.3 derived variables
-    c.in-Conflict.ensures.step.0 in (
+    c.hints.left.now c.in-Some.rest.now led.0 looked.0 c.in-Some.ensures.cases.0 led.2 (clip_clause q c.in_ok-clip.clip) looked.2
+    accepts_exactly c.requires.consistent derived variables c.in-Conflict.ensures.step.0 in (
       led.0 ++ looked.0,
       subst (g.M.ClauseMap.moves c.args.map.now c.hint.new.map) (append-nil (led.0 ++ looked.0)) tried,
-      fetches-append led.0 looked.0 led.2 looked.2,
       subst (λ (r : Result (Unit {0}) Fault). Shows s gone p.caller.formula c.args.marks.now.falses c.args.hints.now (led.0 ++ looked.0) r)
           (sym c.excess.ensures) shown,
     )
@@ -92,26 +98,23 @@ returns-in-NotUnit-clause-shown g c =
     g.met.M.ClauseMap.moves_append c.args.map.now c.look_up.new.map c.hint.new.map (led.0 ++ looked.0) [] moved c.hint.ensures.event in (
       led.0 ++ looked.0,
       subst (g.M.ClauseMap.moves c.args.map.now c.hint.new.map) (append-nil (led.0 ++ looked.0)) tried,
-      fetches-append led.0 looked.0 led.2 looked.2,
-      shows_not_unit s gone c.args.marks.now.falses c.hints.marks.falses c.args.hints.now c.in-Some.hint.now c.hints.left.now
-          c.in-Some.rest.now led.0 looked.0 c.in-Some.ensures.cases.0 led.4
-          (clip_clause q c.in_ok-clip.clip) looked.3.0 looked.3.1 p.caller.formula step.0 step.1,
+      shows_not_unit s gone p.caller.formula c.args.marks.now.falses c.hints.marks.falses c.args.hints.now c.in-Some.hint.now
+          c.hints.left.now c.in-Some.rest.now led.0 looked.0 c.in-Some.ensures.cases.0 led.2
+          (clip_clause q c.in_ok-clip.clip) looked.2 step.0 step.1,
     )
 
 pub returns-in_err-clip-clause-shown : goal.returns-in_err-clip-clause-shown
 returns-in_err-clip-clause-shown g c =
     let s = c.args.state.now.setting in
     let f = (g.M.ClauseMap.place c.args.map.now).caller.formula in
-    let q = g.M.ClauseMap.place c.look_up.new.map in
     let gone : ℕ → Bool = is_among c.args.state.now.dropped.ids in
     let led = c.hints.invariant.led in
     let looked = c.in_err-clip.ensures.looked in
     let given = err_from_is_err_and c.from_residual.result c.from_residual.ensures.1 in (
       led.0 ++ looked.0,
       g.met.M.ClauseMap.moves_append c.args.map.now c.hints.map c.look_up.new.map led.0 looked.0 led.1 looked.1,
-      fetches-append led.0 looked.0 led.2 looked.2,
-      rw (given.1, given.2) (shows_unfound s gone c.args.marks.now.falses c.hints.marks.falses c.args.hints.now c.in-Some.hint.now
-          c.hints.left.now c.in-Some.rest.now led.0 looked.0 c.in-Some.ensures.cases.0 led.4 f q c.in_err-clip.field-0.0 looked.3),
+      rw (given.1, given.2) (shows_unfound s gone f c.args.marks.now.falses c.hints.marks.falses c.args.hints.now c.in-Some.hint.now
+          c.hints.left.now c.in-Some.rest.now led.0 looked.0 c.in-Some.ensures.cases.0 led.2 c.in_err-clip.field-0.0 looked.2),
     )
 
 pub returns-clause-shown : goal.returns-clause-shown
@@ -122,7 +125,6 @@ returns-clause-shown g c =
     let led = c.hints.invariant.led in (
       led.0,
       led.1,
-      led.2,
       shows_none s gone f c.args.marks.now.falses c.args.hints.now c.hints.marks.falses c.hints.left.now led.0
-          c.in_default.ensures.cases led.4,
+          c.in_default.ensures.cases led.2,
     )

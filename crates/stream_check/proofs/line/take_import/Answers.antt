@@ -1,4 +1,8 @@
 use Rattle.std.proofs.lemmas.Result.{err_from_is_err_and}
+use Rattle.stream_check.specs.Verdicts.{Good, Bad}
+use Rattle.stream_check.specs.Checking.{IsFetch}
+use Rattle.stream_check.specs.Checker.{standing_at}
+use Rattle.stream_check.specs.EventLemmas.{import_all}
 use Rattle.stream_check.proofs.AddLemmas.{room_stays}
 use Rattle.stream_check.proofs.LineLemmas.{Counts, ready_fetches, takes_import, stops_import, still_ready}
 use Rattle.stream_check.proofs.line.take_import.Goals as goal
@@ -10,7 +14,7 @@ returns-in_err-import-clause-taken g c =
     let judged = c.in_err-import.ensures.judged in
     let given = err_from_is_err_and c.from_residual.result c.from_residual.ensures.1 in
     rw (given.1, given.2)
-    (judged.0, judged.1, stops_import c.args.state.now p.room q.room c.args.id c.args.lits.now judged.0 c.in_err-import.field-0.0 judged.3)
+    (judged.0, judged.1, stops_import c.args.state.now p.room q.room c.args.id c.args.lits.now judged.0 c.in_err-import.field-0.0 judged.2)
 
 pub returns-in_err-import-clause-ready : goal.returns-in_err-import-clause-ready
 returns-in_err-import-clause-ready g c =
@@ -18,7 +22,9 @@ returns-in_err-import-clause-ready g c =
     let q = g.M.ClauseMap.place c.import.new.map in
     let judged = c.in_err-import.ensures.judged in
     ready_fetches c.args.state.now p q judged.0
-    (g.met.M.ClauseMap.moves_tells c.args.map.now c.import.new.map judged.0 judged.1) judged.2 c.requires.ready
+    (g.met.M.ClauseMap.moves_tells c.args.map.now c.import.new.map judged.0 judged.1)
+    (import_all c.args.state.now.setting IsFetch (λ h r. tt) (standing_at c.args.state.now p.room) c.args.id c.args.lits.now judged.0
+    (Bad 0 c.in_err-import.field-0.0) judged.2) c.requires.ready
 
 pub returns-clause-taken : goal.returns-clause-taken
 returns-clause-taken g c =
@@ -37,8 +43,9 @@ returns-clause-taken g c =
       dropped = taken.dropped;
       retired = taken.retired;
     } in
-    let room = room_stays p q judged.0 (g.met.M.ClauseMap.moves_tells c.args.map.now c.import.new.map judged.0 judged.1) judged.2 in
-    (judged.0, judged.1, takes_import old new p.room q.room c.args.id c.args.lits.now judged.0 counts room judged.3)
+    let room = room_stays p q judged.0 (g.met.M.ClauseMap.moves_tells c.args.map.now c.import.new.map judged.0 judged.1)
+    (import_all old.setting IsFetch (λ h r. tt) (standing_at old p.room) c.args.id c.args.lits.now judged.0 Good judged.2) in
+    (judged.0, judged.1, takes_import old new p.room q.room c.args.id c.args.lits.now judged.0 counts room judged.2)
 
 pub returns-clause-ready : goal.returns-clause-ready
 returns-clause-ready g c =
@@ -47,5 +54,7 @@ returns-clause-ready g c =
     let q = g.M.ClauseMap.place c.import.new.map in
     let judged = c.in_ok-import.ensures.judged in
     let ready = ready_fetches old p q judged.0
-    (g.met.M.ClauseMap.moves_tells c.args.map.now c.import.new.map judged.0 judged.1) judged.2 c.requires.ready in
+    (g.met.M.ClauseMap.moves_tells c.args.map.now c.import.new.map judged.0 judged.1)
+    (import_all old.setting IsFetch (λ h r. tt) (standing_at old p.room) c.args.id c.args.lits.now judged.0 Good judged.2)
+    c.requires.ready in
     still_ready old c.count_line.new.self q c.count_line.ensures.setting c.count_line.ensures.last ready

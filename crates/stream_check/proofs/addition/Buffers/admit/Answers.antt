@@ -14,7 +14,7 @@ use Rattle.stream_check.proofs.addition.Buffers.admit.Goals.{then-not-owns-via-t
 use Rattle.stream_check.proofs.addition.Buffers.admit.Goals as goal
 
 pub returns-then-not-owns-clause-admitted : goal.returns-then-not-owns-clause-admitted
-returns-then-not-owns-clause-admitted g c hints =
+returns-then-not-owns-clause-admitted g c =
     let p = g.M.ClauseMap.place c.args.map.now in
     let s = c.args.state.now.setting in
     let no : Owns s.layout s.stream c.args.id × (c.args.state.now.last < c.args.id) → ⊥ = λ own. elim c.then-not-owns.branch [
@@ -22,10 +22,10 @@ returns-then-not-owns-clause-admitted g c hints =
           true≢false (sym (c.owns.ensures.1 (owns_at s p c.args.id c.requires.at own.0)) ∙ w.if-not-owns.true)
       | then-not-owns-via-else-not-owns+then-id-last w ↦ absurd (omega (arith, own.1, w.if-id-last.true, w.last.ensures))
     ] in
-    inl (no, (refl, refl))
+    inl (no, refl, refl)
 
 pub returns-then-not-make_literals-clause-admitted : goal.returns-then-not-make_literals-clause-admitted
-returns-then-not-make_literals-clause-admitted g c hints =
+returns-then-not-make_literals-clause-admitted g c =
     let p = g.M.ClauseMap.place c.args.map.now in
     let s = c.args.state.now.setting in
     let owns : Owns s.layout s.stream c.args.id = owned_by s p c.args.id c.requires.at (search rules) in
@@ -34,7 +34,7 @@ returns-then-not-make_literals-clause-admitted g c hints =
     → ⊥ = λ all. true≢false (sym (c.if-not-make_literals.ensures.within.1
     (subst (λ (n : ℕ). AllByRecursion (IsLiteral n) c.args.lits.now) c.requires.variables
     (literals_within s.layout.vars c.args.lits.now c.requires.nonzero all)))) in
-    inr ((owns, above), inl (no, (refl, refl)))
+    inr ((owns, above), inl (no, refl, refl))
 
 -- what a result that is no error promises
 on_ok : {T E : Type 0} (r : Result T E) (P : Type 0) → false ≡ is_err r → OnOk r P → P
@@ -42,7 +42,7 @@ on_ok (Ok x) P is p = p
 on_ok (Err e) P is p = absurd (cc)
 
 pub returns-then-is_err-clause-admitted : goal.returns-then-is_err-clause-admitted
-returns-then-is_err-clause-admitted g c hints =
+returns-then-is_err-clause-admitted g c =
     let p = g.M.ClauseMap.place c.args.map.now in
     let s = c.args.state.now.setting in
     let lits = c.args.lits.now in
@@ -53,11 +53,11 @@ returns-then-is_err-clause-admitted g c hints =
     let tautology : IsTautology lits = subst IsTautology read (c.begin.ensures.tautology.0 (sym c.if-is_err.ensures.value)) in
     inr (
       (owns, omega (arith, c.if-id-last.false, c.last.ensures)),
-      inr (variables_within s.layout.vars lits within, inl ((λ no. no tautology), (refl, refl))),
+      inr (variables_within s.layout.vars lits within, inl ((λ no. no tautology), refl, refl)),
     )
 
 pub returns-then-clause-room-clause-admitted : goal.returns-then-clause-room-clause-admitted
-returns-then-clause-room-clause-admitted g c hints =
+returns-then-clause-room-clause-admitted g c =
     let p = g.M.ClauseMap.place c.args.map.now in
     let s = c.args.state.now.setting in
     let lits = c.args.lits.now in
@@ -72,7 +72,7 @@ returns-then-clause-room-clause-admitted g c hints =
     let no : length (distinct lits) ≤ p.room → ⊥ = λ fits. omega (arith, fits, ap length clause, c.room.ensures, c.if-clause-room.true) in
     inr (
       (owns, omega (arith, c.if-id-last.false, c.last.ensures)),
-      inr (variables_within s.layout.vars lits within, inr (consistent, inl (no, (refl, refl)))),
+      inr (variables_within s.layout.vars lits within, inr (consistent, inl (no, refl, refl))),
     )
 
 pub returns-clause-admitted : goal.returns-clause-admitted
@@ -96,18 +96,14 @@ returns-clause-admitted g c =
     (on_ok c.begin.result _ c.if-is_err.ensures.value c.begin.ensures.clause)) in
     let marks = begun
     ∙ ap (λ (n : ℕ). record { vars = n; clause = distinct c.deref.result.now; falses = distinct c.deref.result.now; ready = true }) vars
-    ∙ ap (λ (d : Clause). record { vars = s.layout.vars; clause = distinct d; falses = distinct d; ready = true }) read in (
-      record {
-        owns = owns;
-        above = omega (arith, c.if-id-last.false, c.last.ensures);
-        fits = fits;
-        clause = is_clause;
-        consistent =
-            subst (λ (d : Clause). ¬ IsTautology d) same (on_ok c.begin.result _ c.if-is_err.ensures.value c.begin.ensures.consistent);
-        marks_are = marks;
-      },
-      λ hints es v judged. inr (
-        (owns, omega (arith, c.if-id-last.false, c.last.ensures)),
-        inr (variables_within s.layout.vars lits within, inr (consistent, inr (fits, judged))),
-      ),
-    )
+    ∙ ap (λ (d : Clause). record { vars = s.layout.vars; clause = distinct d; falses = distinct d; ready = true }) read in
+    record {
+      owns = owns;
+      above = omega (arith, c.if-id-last.false, c.last.ensures);
+      literals = variables_within s.layout.vars lits within;
+      fits = fits;
+      clause = is_clause;
+      consistent =
+          subst (λ (d : Clause). ¬ IsTautology d) same (on_ok c.begin.result _ c.if-is_err.ensures.value c.begin.ensures.consistent);
+      marks_are = marks;
+    }

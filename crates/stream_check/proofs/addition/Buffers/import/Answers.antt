@@ -1,4 +1,4 @@
-use Rattle.std.proofs.Common.{◌≡◌, ◌≤◌, ℕ, [], inl, inr, nat_abs, refl, sym, subst, ◌∙◌, append-nil}
+use Rattle.std.proofs.Common.{◌≡◌, ◌≤◌, ℕ, [], nat_abs, refl, sym, subst, ◌∙◌, append-nil}
 use Rattle.std.specs.Prelude.{◌↔◌, List, ℤ}
 use Rattle.std.specs.List.{AllByRecursion}
 use Rattle.std.proofs.lemmas.Bool.{true≢false}
@@ -9,7 +9,7 @@ use Rattle.lrup_model.specs.Place.{clip_clause}
 use Rattle.stream_check.specs.Checker.{standing_at}
 use Rattle.stream_check.proofs.AddLemmas.{variables_within}
 use Rattle.stream_check.specs.AdditionLemmas.{literals_within}
-use Rattle.stream_check.proofs.ImportLemmas.{bad_literal, import_unfound, import_found}
+use Rattle.stream_check.proofs.ImportLemmas.{bad_literal, import_unfound, import_differs, import_same}
 use Rattle.stream_check.proofs.addition.Buffers.import.Goals as goal
 
 abbrev HasSame : Clause → List ℤ → Type 0
@@ -25,7 +25,6 @@ returns-then-not-make_literals-clause-judged g c =
     (literals_within s.layout.vars c.args.lits.now c.requires.nonzero all)))) in (
       [],
       g.met.M.ClauseMap.moves_none c.args.map.now,
-      tt,
       bad_literal s st c.args.id c.args.lits.now (sym c.shares.ensures ∙ c.if-not-shares.false) no,
     )
 
@@ -34,7 +33,6 @@ pub returns-in_err-clip-clause-judged : goal.returns-in_err-clip-clause-judged
 returns-in_err-clip-clause-judged g c =
     let s = c.args.state.now.setting in
     let st = standing_at c.args.state.now (g.M.ClauseMap.place c.args.map.now).room in
-    let q = g.M.ClauseMap.place c.look_up.new.map in
     let lits = c.args.lits.now in
     let within : AllByRecursion (IsLiteral s.layout.vars) lits =
     subst (λ (n : ℕ). AllByRecursion (IsLiteral n) lits) (sym c.requires.variables) (c.if-not-make_literals.ensures.within.0 refl) in
@@ -42,9 +40,8 @@ returns-in_err-clip-clause-judged g c =
     let given = err_from_is_err_and c.from_residual.result c.from_residual.ensures.1 in (
       looked.0,
       looked.1,
-      looked.2,
       rw (given.1, given.2) (import_unfound s st c.args.id lits (sym c.shares.ensures ∙ c.if-not-shares.false)
-          (variables_within s.layout.vars lits within) q looked.0 c.in_err-clip.field-0.0 looked.3),
+          (variables_within s.layout.vars lits within) looked.0 c.in_err-clip.field-0.0 looked.2),
     )
 
 pub returns-clause-judged : goal.returns-clause-judged
@@ -64,10 +61,8 @@ returns-clause-judged g c =
     g.met.M.ClauseMap.moves_append c.args.map.now c.look_up.new.map c.same.new.map looked.0 [] looked.1 c.same.ensures.event in (
       looked.0,
       subst (g.M.ClauseMap.moves c.args.map.now c.same.new.map) (append-nil looked.0) moved,
-      looked.2,
-      import_found s st c.args.id lits (sym c.shares.ensures ∙ c.if-not-shares.false) (variables_within s.layout.vars lits within)
-          (clip_clause q c.in_ok-clip.clip) looked.0 _ looked.3.0 looked.3.1
-          (inr (same, (refl, refl))),
+      import_same s st c.args.id lits (sym c.shares.ensures ∙ c.if-not-shares.false) (variables_within s.layout.vars lits within) looked.0
+          (clip_clause q c.in_ok-clip.clip) looked.2 same,
     )
 
 pub returns-then-not-same-clause-judged : goal.returns-then-not-same-clause-judged
@@ -87,8 +82,6 @@ returns-then-not-same-clause-judged g c =
     g.met.M.ClauseMap.moves_append c.args.map.now c.look_up.new.map c.same.new.map looked.0 [] looked.1 c.same.ensures.event in (
       looked.0,
       subst (g.M.ClauseMap.moves c.args.map.now c.same.new.map) (append-nil looked.0) moved,
-      looked.2,
-      import_found s st c.args.id lits (sym c.shares.ensures ∙ c.if-not-shares.false) (variables_within s.layout.vars lits within)
-          (clip_clause q c.in_ok-clip.clip) looked.0 _ looked.3.0 looked.3.1
-          (inl (other, (refl, refl))),
+      import_differs s st c.args.id lits (sym c.shares.ensures ∙ c.if-not-shares.false) (variables_within s.layout.vars lits within)
+          looked.0 (clip_clause q c.in_ok-clip.clip) looked.2 other,
     )
