@@ -3,10 +3,13 @@
 #include <cerrno>
 #include <cstdlib>
 #include <cstring>
+#include <fstream>
+#include <sstream>
 
 #include <fcntl.h>
 #include <sys/ioctl.h>
 #include <sys/stat.h>
+#include <sys/wait.h>
 #include <unistd.h>
 
 #include "checker.h"
@@ -17,11 +20,26 @@ const int STREAM_PIPE = 1 << 20, PIECE = 1 << 16;
 const uint64_t DROPPED = UINT64_C(1) << 22, PAGE = 4096;    // bytes that are given back at once
 const uint64_t TRIES = 1000000;     // a stream waits for another one's line up to a minute
 const int FRONTS_WORDS = 5;
+const size_t BLOCK = 4096;          // of what the front is told; the system doesn't take it apart
 
 void append(int &file, const std::string &path, std::string &text) {
     char bytes[4096];
     if (file < 0 && (file = open(path.c_str(), O_RDONLY | O_CLOEXEC)) >= 0) kept_open(file);
     for (ssize_t count; (count = read(file, bytes, sizeof bytes)) > 0;) text.append(bytes, size_t(count));
+}
+
+// Of an lrupd, or of all that a process has waited for: behind its name, which may have anything in it, the fields 14 and 15, or 16 and 17.
+double processor_time(const std::string &path, bool of_children) {
+    std::ifstream file(path);
+    std::string line;
+    std::getline(file, line);
+    bool is_lrupd = line.find("(lrupd) ") != std::string::npos;
+    std::istringstream fields(line.substr(line.rfind(')') + 1));
+    std::string field;
+    double ticks = 0;
+    for (int number = 3; fields >> field && number <= 17; number++)
+        if (of_children ? number >= 16 : is_lrupd && (number == 14 || number == 15)) ticks += atof(field.c_str());
+    return ticks / double(sysconf(_SC_CLK_TCK));
 }
 
 }
@@ -63,19 +81,38 @@ void Front::read_words(int &count, char **&words) {
     words += FRONTS_WORDS;
 }
 
+std::vector<std::string> Front::words() const { return { "--front", folder, lrupd, formula, assumptions }; }
+
 // By the names that its pipes have in its folder, which is on this host.
 void Front::open() {
-    int out = open_pipe(folder + "/heard", 0);
+    heard = ::open((folder + "/heard").c_str(), O_WRONLY | O_NONBLOCK | O_NOFOLLOW | O_CLOEXEC);
     file = ::open((folder + "/told").c_str(), O_RDONLY | O_NONBLOCK | O_NOFOLLOW | O_CLOEXEC);
-    if (out < 0 || file < 0 || fcntl(out, F_SETFL, 0) != 0 || dup2(out, STDOUT_FILENO) < 0)
+    if (heard < 0 || file < 0 || fcntl(heard, F_SETFL, 0) != 0)
         refuse("cannot find lrup-solve, which has to be on the host of process 0: " + error_text());
-    close_file(out);
+    kept_open(heard);
     kept_open(file);
+    as_it_refuses = [] { front.say("refused"); };
 }
 
 void Front::say(const std::string &line) const {
-    puts(line.c_str());
-    fflush(stdout);
+    std::string block = line.substr(0, BLOCK);
+    block.resize(BLOCK);
+    while (heard >= 0 && write(heard, block.data(), BLOCK) < 0 && errno == EINTR) {}
+}
+
+// A status of lrupd's, and not its death.
+bool Front::has_refused() const {
+    return probe.child.ended() && WIFEXITED(probe.child.status) && !probe.child.ended_with(UNKNOWN_STATUS);
+}
+
+double Front::checking() const {
+    int pid = 0;
+    if (sscanf(formula.c_str(), "/proc/%d/", &pid) != 1) return 0;
+    std::string place = "/proc/" + std::to_string(pid);
+    double seconds = processor_time(place + "/stat", true);
+    std::ifstream children(place + "/task/" + std::to_string(pid) + "/children");
+    for (std::string child; children >> child;) seconds += processor_time("/proc/" + child + "/stat", false);
+    return seconds;
 }
 
 // Where it has ended this process is ended, too, within a moment.
@@ -114,9 +151,7 @@ void Checker::expect(const std::string &path) {
 }
 
 void Checker::take_end(const std::string &words) {
-    char *rest;
-    child.status = int(strtol(words.c_str(), &rest, 10));
-    child.seconds = 1e-6 * strtod(rest, nullptr);
+    child.status = atoi(words.c_str());
     child.running = false;
     read_on();
 }
@@ -135,7 +170,7 @@ void Checker::start(Row row, const std::vector<int> &files) {
     open_streams(files);
     std::string text = sizes_text(files.size(), row);
     front.say("check " + text.substr(0, text.size() - 1) + " " + tries());
-    expect(front.folder + "/2");
+    expect(front.folder + "/lrupd");
 }
 
 // Between rounds lrupd opens the sizes first, and then the streams, in order. Each open waits for somebody who writes.

@@ -53,7 +53,7 @@ public:
     void read_on();                                         // what it says
     bool next_line(std::string &line);                      // of standard error, each once
     std::string last_line() const;                          // of standard error
-    void take_end(const std::string &words);                // of the front: the status as wait gives it, and microseconds
+    void take_end(const std::string &words);                // of the front: the status as wait gives it
 
 private:
     struct Stream {
@@ -72,21 +72,23 @@ private:
     void open_streams(const std::vector<int> &files);
 };
 
-// The front, which believes nothing that it is told here (front/front.c), by a pipe that standard output becomes.
+// The front, which believes nothing that it is told here (front/front.c), by a pipe.
 struct Front {
     std::string folder, lrupd, formula, assumptions;    // names that it has given; none where it hasn't started this
     std::string stopped;                // by a signal, and so without waiting: the words for it
     std::string unread;
-    int file = -1;                      // what it says
+    int file = -1, heard = -1;          // what it says, and is told
     Checker probe;                      // an lrupd that reads the formula, and no stream
 
     void read_words(int &count, char **&words);         // takes its own away
+    std::vector<std::string> words() const;             // these
     void open();                                        // by one process alone
     pollfd says() const { return { file, POLLIN, 0 }; }
     bool is_there() const { return !folder.empty(); }
-    void say(const std::string &line) const;
+    void say(const std::string &line) const;            // cut where it is too long
     void read_on(Checker *checker);                     // what it says
-    bool has_refused() const { return probe.child.ended() && !probe.child.ended_with(UNKNOWN_STATUS); }     // its lrupd, the formula
+    bool has_refused() const;                           // its lrupd, the formula
+    double checking() const;                            // seconds of processor time, of its children that have ended, and each lrupd
     std::string await_refusal();                        // the words for it; none where it doesn't come
 };
 

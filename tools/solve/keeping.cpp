@@ -11,9 +11,7 @@ namespace {
 
 // As they are installed, or built.
 std::string find_tool(const std::string &name) {
-    char path[LONGEST_PATH];
-    ssize_t length = readlink("/proc/self/exe", path, sizeof path);
-    std::string whole(path, length > 0 ? size_t(length) : 0), folder = whole.substr(0, whole.rfind('/') + 1);
+    std::string whole = own_path(), folder = whole.substr(0, whole.rfind('/') + 1);
     for (const char *place : { "", "../../bin/" })
         if (is_program(folder + place + name)) return folder + place + name;
     return on_the_path(name);

@@ -49,11 +49,13 @@ int kept_open(int file) {
 }
 
 bool another_refuses = false;
+void (*as_it_refuses)() = nullptr;
 
 void refuse(const std::string &cause) {
     if (another_refuses) sleep(LETTING_ANOTHER);
     end_children();
     if (!another_refuses) fprintf(stderr, "%s: %s\n", program_name, one_line(cause).c_str());
+    if (as_it_refuses) as_it_refuses();
     _exit(1);
 }
 
@@ -175,6 +177,7 @@ bool begin(Child &child, const std::string &name, const std::vector<int> &kept) 
         child.running = true;
         return false;
     }
+    as_it_refuses = nullptr;
     prctl(PR_SET_PDEATHSIG, SIGKILL);
     prctl(PR_SET_NAME, name.c_str());
     if (getppid() != parent) _exit(1);

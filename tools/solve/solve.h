@@ -35,6 +35,7 @@ Options read_words(int count, char **words);
 
 // processes.cpp: children, pipes and files.
 [[noreturn]] void refuse(const std::string &cause);     // one line on standard error, and status 1; all children are ended
+extern void (*as_it_refuses)();                         // of this process alone
 extern bool another_refuses;                            // a process that says the same, and whose end ends this one
 std::string error_text();                               // of errno
 double now();                                           // seconds
@@ -86,6 +87,7 @@ bool is_plain(const std::string &word);
 bool is_utf8(const std::string &text);
 std::string quoted(const std::string &word);
 std::string one_line(const std::string &text);
+std::string own_path();                                 // of this program
 std::string absolute(const std::string &path);
 std::string unfinished(const std::string &path);        // its name while it is written
 void check_input(const std::string &path);              // refuses where it can't be read

@@ -1,11 +1,11 @@
 // The front: all of lrup-solve that is believed. It hands the user's formula to lrupd, and prints what lrupd's status says, or an
-// assignment that it has evaluated. lrup-engines, in processes of its own, solves, and feeds lrupd; of what comes from there only these
-// lines count, and it is told how each lrupd ended, and that a signal has come:
+// assignment that it has evaluated. lrup-engines, in processes of its own, solves, and feeds lrupd. It is told how each lrupd ended,
+// and that a signal has come. What comes from there are blocks of BLOCK bytes, each a line with zeros behind it, of which count
 //
 //     check STREAMS LINES ROOM TRIES      numbers for lrupd's words, once: it reads FOLDER/round-1.stream-1, -2 and so on
-//     done                                nothing more is wanted of lrupd, and status 1 isn't for a mistake of the user's
-//     v LITERALS                          an assignment, of all variables in order, and 0
+//     v SIGNS                             of an assignment: + or - for each variable, in order; `model` comes behind all of them
 //     c WORDS                             for the user
+//     refused                             the user was told, on standard error, what can't be used: the status is 1
 #define _GNU_SOURCE
 #include <err.h>
 #include <fcntl.h>
@@ -19,31 +19,30 @@
 #include <string.h>
 #include <sys/mman.h>
 #include <sys/prctl.h>
-#include <sys/resource.h>
 #include <sys/stat.h>
 #include <sys/wait.h>
 #include <unistd.h>
 
 #include "inputs.h"
 
-enum { LONGEST_LINE = 1 << 16, MOST_STREAMS = 64, MOST_SIZE = 1 << 28, MOST_TRIES = 1000000, GRACE = 8 /* seconds */ };
-enum { RUNNING = -1, PROVED = W_EXITCODE(0, 0), REFUSED = W_EXITCODE(1, 0), UNKNOWN = W_EXITCODE(3, 0), UNDER = W_EXITCODE(8, 0) };
+enum { BLOCK = 4096, MOST_STREAMS = 64, MOST_SIZE = 1 << 28, MOST_TRIES = 1000000, GRACE = 8 /* seconds */ };
+enum { RUNNING = -1, PROVED = W_EXITCODE(0, 0), UNKNOWN = W_EXITCODE(3, 0), UNDER = W_EXITCODE(8, 0) };
 enum { ENGINES, PROBE, LRUPD, CLEANER, CHILDREN };      // the probe is an lrupd that reads the formula, and no stream
 
+static const char *const names[] = { "engines", "probe", "lrupd" };
 static pid_t pids[CHILDREN];
-static int ends[CLEANER] = { RUNNING, RUNNING, RUNNING };       // as wait says it
+static int ends[] = { RUNNING, RUNNING, RUNNING };      // as wait says it
 static const char *lrupd, *formula, *assume, *folder, *opened_folder;
-static int null, told, heard, ended_by;                         // by lrup-engines, and a signal
+static int null, told, heard, ended_by;                 // by lrup-engines, and a signal
 static sigset_t mask_before, no_signals;
-static bool is_late, is_done;
+static bool is_late, has_refused;
 
 // Each in a process group of its own. Only the cleaner outlives this process.
 static void start(int which, const char *const *list, int in, int out, int said) {
     pid_t parent = getpid();
     if ((pids[which] = fork()) < 0) err(1, "cannot start %s", list[0]);
     if (pids[which] > 0) return;
-    int last = value['m'] && which == ENGINES ? SIGTERM : SIGKILL;      // MPI's command ends its processes
-    if (setpgid(0, 0) != 0 || (which != CLEANER && (prctl(PR_SET_PDEATHSIG, last) != 0 || getppid() != parent))) _exit(127);
+    if (setpgid(0, 0) != 0 || (which != CLEANER && (prctl(PR_SET_PDEATHSIG, SIGKILL) != 0 || getppid() != parent))) _exit(127);
     signal(SIGPIPE, SIG_DFL);
     sigprocmask(SIG_SETMASK, &mask_before, NULL);
     if (dup2(in, 0) < 0 || dup2(out, 1) < 0 || dup2(said, 2) < 0) _exit(127);
@@ -54,7 +53,7 @@ static void start(int which, const char *const *list, int in, int out, int said)
 // In memory, so that no full disk costs a verdict. lrup-engines reads it by its name in the folder.
 static int output(int which, const char *end) {
     int file = memfd_create("lrupd", MFD_CLOEXEC);
-    return symlink(name_of(file), text("%s/%d.%s", folder, which, end)) == 0 ? file : -1;
+    return symlink(name_of(file), text("%s/%s.%s", folder, names[which], end)) == 0 ? file : -1;
 }
 
 // The numbers are of streams, lines, room and tries.
@@ -80,35 +79,29 @@ static void take_line(char *line) {
     bool are_four = sscanf(line, "check %lu %lu %lu %lu%c", &numbers[0], &numbers[1], &numbers[2], &numbers[3], &more) == 4;
     if (are_four && numbers[0] >= 1 && numbers[0] <= MOST_STREAMS && numbers[1] <= MOST_SIZE && numbers[2] <= MOST_SIZE &&
         numbers[3] <= MOST_TRIES && !pids[LRUPD]) start_lrupd(LRUPD, numbers);
-    else if (strncmp(line, "check", 5) == 0 || (strncmp(line, "v ", 2) == 0 && !take_values(line + 2))) is_late = true;
-    if (strcmp(line, "done") == 0) is_done = true;
-    if (is_done && pids[LRUPD] && ends[LRUPD] == RUNNING) kill(pids[LRUPD], SIGKILL);
+    else if (strncmp(line, "check", 5) == 0) is_late = true;
+    bool has_signs = strncmp(line, "v ", 2) == 0;
+    for (const char *at = line + 2; has_signs && *at && known < MOST_VARIABLES; at++) assignment[++known] = *at == '+' ? 1 : -1;
+    if (strcmp(line, "model") == 0) is_whole = true;
+    if (strcmp(line, "refused") == 0) has_refused = true;
     for (char *at = line; *at; at++)
         if ((unsigned char)*at < ' ' || *at == 127) *at = '?';
     if (strncmp(line, "c ", 2) == 0 && !value['q']) puts(line), fflush(stdout);
 }
 
-// False where nothing is there. Lines that are too long are cut.
-static bool read_lines(void) {
-    static char line[LONGEST_LINE + 1], bytes[LONGEST_LINE];
-    static size_t length;
-    ssize_t count = read(heard, bytes, sizeof bytes);
-    for (ssize_t k = 0; k < count; k++) {
-        if (bytes[k] != '\n' && length < LONGEST_LINE) line[length++] = bytes[k];
-        if (bytes[k] != '\n') continue;
-        line[length] = 0;
-        length = 0;
-        take_line(line);
-    }
-    return count > 0;
+// False where nothing is there.
+static bool read_line(void) {
+    char line[BLOCK + 1] = "";
+    bool is_there = read(heard, line, BLOCK) > 0;
+    if (is_there) take_line(line);
+    return is_there;
 }
 
-static void take_end(int which, int end, const struct rusage *used) {
-    long microseconds = 1000000 * (used->ru_utime.tv_sec + used->ru_stime.tv_sec) + used->ru_utime.tv_usec + used->ru_stime.tv_usec;
-    for (int k = 0; which == ENGINES && k < 1000 && read_lines(); k++) {}
+static void take_end(int which, int end) {
+    for (int k = 0; which == ENGINES && k < 1000 && read_line(); k++) {}
     ends[which] = end;
     if (which == LRUPD ? !verdict() || !value['k'] : which == PROBE && end != UNKNOWN) alarm(GRACE);
-    dprintf(told, "%s %d %ld\n", which == LRUPD ? "lrupd" : "probe", end, microseconds);     // what isn't read isn't waited for
+    dprintf(told, "%s %d\n", names[which], end);        // what isn't read isn't waited for
 }
 
 // While turn() waits, and at no other time.
@@ -124,22 +117,20 @@ static void take_signal(int number) {
 
 static void turn(void) {
     struct pollfd list = { heard, POLLIN, 0 };
-    struct rusage used;
     int end;
-    if (ppoll(&list, 1, NULL, &no_signals) > 0) read_lines();
-    for (pid_t pid; (pid = wait4(-1, &end, WNOHANG, &used)) > 0;)
+    if (ppoll(&list, 1, NULL, &no_signals) > 0) read_line();
+    for (pid_t pid; (pid = waitpid(-1, &end, WNOHANG)) > 0;)
         for (int k = 0; k < CLEANER; k++)
-            if (pids[k] == pid) take_end(k, end, &used);
+            if (pids[k] == pid) take_end(k, end);
 }
 
 // As one of them ends, what it has started comes to this process.
 static void end_all(void) {
-    bool is_any = true;
-    for (int tries = 0; is_any && tries < 2000; tries++, usleep(1000)) {
+    for (int tries = 0; tries < 2000 && waitpid(-1, NULL, WNOHANG) >= 0; tries++) {
         FILE *list = fopen(text("/proc/self/task/%d/children", getpid()), "re");
-        is_any = false;
-        for (pid_t pid; list && fscanf(list, "%d", &pid) == 1; is_any = true) kill(pid, SIGKILL);
+        for (pid_t pid; list && fscanf(list, "%d", &pid) == 1;) kill(pid, SIGKILL);
         if (list) fclose(list);
+        usleep(1000);
         while (waitpid(-1, NULL, WNOHANG) > 0) {}
     }
 }
@@ -151,12 +142,12 @@ static void start_cleaner(int file) {
 }
 
 static int answer(void) {
-    bool has_refused = ends[ENGINES] == REFUSED && !is_done;
-    bool is_model = !verdict() && is_whole && ends[PROBE] == UNKNOWN && satisfies(formula, true) && (!assume || satisfies(assume, false));
     int end = ends[ENGINES];
-    if (ends[PROBE] != RUNNING && ends[PROBE] != UNKNOWN && !has_refused && !verdict() && !ended_by) errx(1, "lrupd took no formula");
-    const char *how = WIFSIGNALED(end) ? text("by a signal: %s", strsignal(WTERMSIG(end))) : text("with status %d", WEXITSTATUS(end));
-    if (end != RUNNING && end != 0 && !has_refused && !value['q']) printf("c lrup-engines ended %s\n", how);
+    bool is_read = ends[PROBE] == UNKNOWN, is_refused = WIFEXITED(ends[PROBE]) && !is_read;     // the formula, by lrupd
+    bool is_model = !verdict() && is_whole && is_read && satisfies(formula, true) && (!assume || satisfies(assume, false));
+    if (is_refused && !has_refused && !verdict() && !ended_by) errx(1, "lrupd took no formula");
+    if (WIFSIGNALED(end) && !value['q']) printf("c lrup-engines ended by a signal: %s\n", strsignal(WTERMSIG(end)));
+    if (WIFEXITED(end) && end != 0 && !has_refused && !value['q']) printf("c lrup-engines ended with status %d\n", WEXITSTATUS(end));
     if (is_model) print_model();
     else if (verdict() || !has_refused) puts(verdict() ? verdict() : "s UNKNOWN");
     if (fflush(stdout) != 0 || ferror(stdout)) err(1, "cannot write the answer");
@@ -166,14 +157,12 @@ static int answer(void) {
 
 // Signals that are ignored stay so, as under nohup.
 static void take_signals(void) {
-    static const int numbers[] = { SIGINT, SIGQUIT, SIGTERM, SIGHUP, SIGTSTP, SIGCHLD, SIGALRM };
+    static const int numbers[] = { SIGINT, SIGQUIT, SIGTERM, SIGHUP, SIGTSTP };
     sigset_t all;
-    signal(SIGCHLD, SIG_DFL), signal(SIGALRM, SIG_DFL), signal(SIGXFSZ, SIG_IGN), signal(SIGPIPE, SIG_IGN);
-    sigemptyset(&all);
-    for (size_t k = 0; k < sizeof numbers / sizeof *numbers; k++) {
-        sigaddset(&all, numbers[k]);
+    signal(SIGCHLD, take_signal), signal(SIGALRM, take_signal), signal(SIGXFSZ, SIG_IGN), signal(SIGPIPE, SIG_IGN);
+    for (size_t k = 0; k < sizeof numbers / sizeof *numbers; k++)
         if (signal(numbers[k], take_signal) == SIG_IGN) signal(numbers[k], SIG_IGN);
-    }
+    sigfillset(&all);
     sigprocmask(SIG_BLOCK, &all, &mask_before);
 }
 
@@ -193,25 +182,22 @@ static void make_folder(void) {
 }
 
 int main(int count, char **words) {
-    for (int file = 0; file <= 2; file++)
-        if (fcntl(file, F_GETFD) < 0 && open("/dev/null", O_RDONLY) != file) return 1;
+    do null = open("/dev/null", O_RDONLY | O_CLOEXEC);      // 0 to 2 are open from now on
+    while (null >= 0 && null <= 2);
     bool are_right = read_words(count, words);
-    const char *name = value['m'] ? "lrup-engines-mpi" : "lrup-engines";
-    const char *program = value['e'] ?: beside_this(name) ?: beside_this(text("../libexec/lrupd/%s", name));
+    const char *program = value['e'] ?: beside_this("lrup-engines") ?: beside_this("../libexec/lrupd/lrup-engines") ?: "lrup-engines";
     double seconds = value['t'] ? strtod(value['t'], NULL) : 0;
-    if (!program || access(program, X_OK) != 0) err(1, "cannot start %s", program ?: name);
+    if (access(program, X_OK) != 0) err(1, "cannot start %s", program);
     if (value['h']) execvp(program, words), err(1, "cannot start %s", program);
     lrupd = value['l'] ?: beside_this("lrupd") ?: "lrupd";      // on the PATH
     formula = are_right ? open_input(value['f'] ?: "-") : "/dev/null";
     assume = are_right && value['a'] ? open_input(value['a']) : NULL;
-    null = open("/dev/null", O_RDWR | O_CLOEXEC);
     take_signals();
     make_folder();
-    const char *list[count + 9], *first[] = { "/bin/sh", "-c", text("exec %s \"$0\" \"$@\"", value['m'] ?: ""), program,
-                                              "--front", folder, lrupd, formula, assume ?: "" };
+    const char *list[count + 6], *first[] = { program, "--front", folder, lrupd, formula, assume ?: "" };
     memcpy(list, first, sizeof first);
-    memcpy(list + 9, words + 1, (size_t)count * sizeof *words);
-    start(ENGINES, list + (value['m'] ? 0 : 3), value['m'] ? null : STDIN_FILENO, null, STDERR_FILENO);
+    memcpy(list + 6, words + 1, (size_t)count * sizeof *words);
+    start(ENGINES, list, STDIN_FILENO, null, STDERR_FILENO);
     start_lrupd(PROBE, (unsigned long[4]){ 0 });
     if (seconds > 0) alarm((unsigned)(seconds < 1e9 ? seconds : 1e9) + GRACE);      // lrup-engines ends by itself before
     while ((ends[ENGINES] == RUNNING && !is_late && !is_whole) || (ends[PROBE] == RUNNING && !verdict() && !ended_by)) turn();
