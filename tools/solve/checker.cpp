@@ -19,14 +19,8 @@ namespace {
 const int STREAM_PIPE = 1 << 20, PIECE = 1 << 16;
 const uint64_t DROPPED = UINT64_C(1) << 22, PAGE = 4096;    // bytes that are given back at once
 const uint64_t TRIES = 1000000;     // a stream waits for another one's line up to a minute
-const int FRONTS_WORDS = 5;
+const int FRONTS_WORDS = 3;
 const size_t BLOCK = 4096;          // of what the front is told; the system doesn't take it apart
-
-void append(int &file, const std::string &path, std::string &text) {
-    char bytes[4096];
-    if (file < 0 && (file = open(path.c_str(), O_RDONLY | O_CLOEXEC)) >= 0) kept_open(file);
-    for (ssize_t count; (count = read(file, bytes, sizeof bytes)) > 0;) text.append(bytes, size_t(count));
-}
 
 // Of an lrupd, or of all that a process has waited for: behind its name, which may have anything in it, the fields 14 and 15, or 16 and 17.
 double processor_time(const std::string &path, bool of_children) {
@@ -71,26 +65,41 @@ std::string find_checker(const char *given) {
     refuse("no lrupd, neither beside this program nor on the PATH: --lrupd says where, or `make build` makes it");
 }
 
-void Front::read_words(int &count, char **&words) {
-    if (count <= FRONTS_WORDS || strcmp(words[1], "--front") != 0) return;
-    folder = words[2];
-    lrupd = words[3];
-    formula = words[4];
-    assumptions = words[5];
-    count -= FRONTS_WORDS;
-    words += FRONTS_WORDS;
+void Front::find(int &count, char **&words) {
+    const char *text = getenv("LRUP_FRONT");
+    if (text) given = text;
+    if (count > FRONTS_WORDS && strcmp(words[1], "--front") == 0) {
+        given = words[2];
+        number = strtoull(words[3], nullptr, 10);
+        count -= FRONTS_WORDS;
+        words += FRONTS_WORDS;
+    }
+    unsetenv("LRUP_FRONT");
+    std::istringstream all(given);
+    int of_probe = -1, of_lrupd = -1;
+    all >> told >> hears >> of_probe >> of_lrupd >> formula >> assumptions;
+    std::getline(all.ignore(1), lrupd, '\0');
+    if (sscanf(formula.c_str(), "/proc/%d/", &pid) != 1) return;
+    output_of_probe = name(of_probe);
+    output_of_lrupd = name(of_lrupd);
 }
 
-std::vector<std::string> Front::words() const { return { "--front", folder, lrupd, formula, assumptions }; }
+// On another host that name is of another file, or of none.
+std::vector<std::string> Front::words() const {
+    struct stat found;
+    if (fstat(file, &found) != 0) refuse("cannot find lrup-solve: " + error_text());
+    return { "--front", given, std::to_string(found.st_ino) };
+}
 
-// By the names that its pipes have in its folder, which is on this host.
+// By the names of its pipes.
 void Front::open() {
-    heard = ::open((folder + "/heard").c_str(), O_WRONLY | O_NONBLOCK | O_NOFOLLOW | O_CLOEXEC);
-    file = ::open((folder + "/told").c_str(), O_RDONLY | O_NONBLOCK | O_NOFOLLOW | O_CLOEXEC);
-    if (heard < 0 || file < 0 || fcntl(heard, F_SETFL, 0) != 0)
-        refuse("cannot find lrup-solve, which has to be on the host of process 0: " + error_text());
-    kept_open(heard);
+    struct stat found;
+    file = ::open(name(told).c_str(), O_RDONLY | O_NONBLOCK | O_CLOEXEC);
+    bool is_its = file >= 0 && fstat(file, &found) == 0 && S_ISFIFO(found.st_mode) && (number == 0 || number == found.st_ino);
+    if (is_its) heard = ::open(name(hears).c_str(), O_WRONLY | O_CLOEXEC);
+    if (heard < 0) refuse("cannot find lrup-solve, which has to be on the host of process 0");
     kept_open(file);
+    kept_open(heard);
     as_it_refuses = [] { front.say("refused"); };
 }
 
@@ -106,8 +115,6 @@ bool Front::has_refused() const {
 }
 
 double Front::checking() const {
-    int pid = 0;
-    if (sscanf(formula.c_str(), "/proc/%d/", &pid) != 1) return 0;
     std::string place = "/proc/" + std::to_string(pid);
     double seconds = processor_time(place + "/stat", true);
     std::ifstream children(place + "/task/" + std::to_string(pid) + "/children");
@@ -166,11 +173,11 @@ void Checker::open_streams(const std::vector<int> &files) {
 }
 
 void Checker::start(Row row, const std::vector<int> &files) {
-    next = front.folder + "/round-1";
+    next = Folder::name() + "/round-1";
     open_streams(files);
     std::string text = sizes_text(files.size(), row);
-    front.say("check " + text.substr(0, text.size() - 1) + " " + tries());
-    expect(front.folder + "/lrupd");
+    front.say("check " + text.substr(0, text.size() - 1) + " " + tries() + " " + Folder::numbers());
+    expect(front.output_of_lrupd);
 }
 
 // Between rounds lrupd opens the sizes first, and then the streams, in order. Each open waits for somebody who writes.
@@ -235,10 +242,16 @@ uint64_t Checker::read_of(size_t number) const {
     return stream.fed - std::min<uint64_t>(stream.fed, uint64_t(waiting));
 }
 
+// Its report has lines that begin with c and s, and no other line does.
 void Checker::read_on() {
+    char bytes[4096];
     if (child.pid == 0) return;
-    append(out, output + ".out", report);
-    append(err, output + ".said", said);
+    if (written < 0 && (written = open(output.c_str(), O_RDONLY | O_CLOEXEC)) >= 0) kept_open(written);
+    for (ssize_t count; (count = read(written, bytes, sizeof bytes)) > 0;) unread.append(bytes, size_t(count));
+    for (size_t end; (end = unread.find('\n')) != std::string::npos; unread.erase(0, end + 1)) {
+        bool is_report = unread.compare(0, 2, "c ") == 0 || unread.compare(0, 2, "s ") == 0;
+        (is_report ? report : said).append(unread, 0, end + 1);
+    }
 }
 
 bool Checker::next_line(std::string &line) {

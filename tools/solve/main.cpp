@@ -32,6 +32,6 @@ int main(int count, char **words) {
     test_hooks_read();
     hold_first_files();
     set_signals();
-    front.read_words(count, words);
+    front.find(count, words);
     _exit(solve(count, words));
 }

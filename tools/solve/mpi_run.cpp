@@ -28,9 +28,10 @@ bool is_process_0() {
 // Where something is wrong one process alone says so. The others don't end before it with another status than 0: mpirun would end it, and
 // nothing would be said.
 int solve(int count, char **words) {
+    if (front.is_there() && is_process_0()) front.open();
+    Options options = read_words(count, words);
     if (!front.is_there()) refuse("lrup-solve --mpi starts this program");
-    if (is_process_0()) front.open();
-    Options options = read_words(count, words);     // which lrup-engines has read before
+    start_by_mpi(options, count, words);
     if (options.engines == 0) options.engines = half_of_the_cores();
     Link link;
     link.open(options.engines);

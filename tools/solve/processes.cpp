@@ -48,6 +48,11 @@ int kept_open(int file) {
     return file;
 }
 
+void close_all_but(const std::vector<int> &files) {
+    for (int file : opened)
+        if (std::find(files.begin(), files.end(), file) == files.end()) close(file);
+}
+
 bool another_refuses = false;
 void (*as_it_refuses)() = nullptr;
 
@@ -186,8 +191,7 @@ bool begin(Child &child, const std::string &name, const std::vector<int> &kept) 
     sigprocmask(SIG_SETMASK, &none, nullptr);
     signal(SIGINT, SIG_IGN);
     signal(SIGPIPE, SIG_DFL);
-    for (int file : opened)
-        if (std::find(kept.begin(), kept.end(), file) == kept.end()) close(file);
+    close_all_but(kept);
     return true;
 }
 

@@ -19,7 +19,8 @@ const double ENDING = 10;       // seconds that a filter has for the line that i
 void Run::prepare() {
     Options &options = inputs.options;
     std::string program = find_checker(options.lrupd);
-    front.probe.expect(front.folder + "/probe");
+    front.probe.expect(front.output_of_probe);
+    Folder::make();
     if (options.engines == 0 && options.solvers.empty()) options.engines = half_of_the_cores();
     options.engines += int(options.solvers.size());
     keeping.prepare(program);
@@ -249,5 +250,6 @@ int Run::solve(const Elsewhere *elsewhere) {
     await_reading();
     end_all();
     send_answer();
+    Folder::remove();
     return 0;
 }

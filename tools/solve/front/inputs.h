@@ -3,9 +3,10 @@
 static const char *value['z'];      // of the option with that letter; of 'f' the formula
 static const struct option options[] = {
     { "assume", 1, NULL, 'a' }, { "core", 1, NULL, 'k' }, { "engines", 1, NULL, 'e' }, { "help", 0, NULL, 'h' }, { "lrat", 1, NULL, 'k' },
-    { "lrupd", 1, NULL, 'l' }, { "memory", 1, NULL, 'o' }, { "mpi", 1, NULL, 'o' }, { "no-share", 0, NULL, 'o' }, { "proofs", 1, NULL, 'o' },
-    { "quiet", 0, NULL, 'q' }, { "re-hint", 0, NULL, 'o' }, { "seed", 1, NULL, 'o' }, { "share-size", 1, NULL, 'o' },
-    { "solver", 1, NULL, 'o' }, { "time", 1, NULL, 't' }, { "verbose", 0, NULL, 'v' }, { "version", 0, NULL, 'h' }, { NULL, 0, NULL, 0 } };
+    { "lrupd", 1, NULL, 'l' }, { "memory", 1, NULL, 'o' }, { "mpi", 1, NULL, 'o' }, { "no-share", 0, NULL, 'o' },
+    { "proofs", 1, NULL, 'o' }, { "quiet", 0, NULL, 'q' }, { "re-hint", 0, NULL, 'o' }, { "seed", 1, NULL, 'o' },
+    { "share-size", 1, NULL, 'o' }, { "solver", 1, NULL, 'o' }, { "time", 1, NULL, 't' }, { "verbose", 0, NULL, 'v' },
+    { "version", 0, NULL, 'h' }, { NULL, 0, NULL, 0 } };
 
 #define text(...) ({ char *made; if (asprintf(&made, __VA_ARGS__) < 0) err(1, "no memory"); made; })
 
@@ -28,21 +29,21 @@ static const char *beside_this(const char *name) {
     return access(found, X_OK) == 0 ? found : NULL;
 }
 
-// The file's name. What can't be read twice is copied, to memory that nobody writes to from then on. Of a path
-// that can't be read lrup-engines says so.
+// The file's name. What can't be read twice is copied, to memory that nobody writes to from then on. Of a path that can't be opened
+// lrup-engines says so.
 static const char *open_input(const char *path) {
     struct stat found;
     char bytes[1 << 16];
     bool is_standard = strcmp(path, "-") == 0;
     int file = is_standard ? STDIN_FILENO : open(path, O_RDONLY | O_CLOEXEC);
-    if (file < 0 || fstat(file, &found) != 0) return path;
+    if (file < 0 || fstat(file, &found) != 0) return name_of(-1);
     if (!is_standard && (S_ISREG(found.st_mode) || S_ISDIR(found.st_mode))) return name_of(file);
     int copy = memfd_create("lrup-solve", MFD_ALLOW_SEALING | MFD_CLOEXEC);
     long left = 10L << 28;      // lrupd takes 2^28 literals and clauses at most: eight digits, a sign and a blank each
     ssize_t count;
     while ((count = read(file, bytes, sizeof bytes)) > 0 && (left -= count) >= 0 && write(copy, bytes, (size_t)count) == count) {}
     if (left < 0) errx(1, "%s: more than 2684354560 bytes, and lrupd takes no formula of so many", path);
-    if (count != 0 || fcntl(copy, F_ADD_SEALS, F_SEAL_WRITE | F_SEAL_GROW | F_SEAL_SHRINK | F_SEAL_SEAL) != 0) err(1, "cannot copy %s", path);
+    if (count != 0 || fcntl(copy, F_ADD_SEALS, F_SEAL_WRITE | F_SEAL_GROW | F_SEAL_SHRINK) != 0) err(1, "cannot copy %s", path);
     return name_of(copy);
 }
 
