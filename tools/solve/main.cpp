@@ -33,5 +33,6 @@ int main(int count, char **words) {
     hold_first_files();
     set_signals();
     front.find(count, words);
+    if (front.is_there()) dup2(STDERR_FILENO, STDOUT_FILENO);      // for what CaDiCaL is asked to report
     _exit(solve(count, words));
 }
