@@ -22,17 +22,16 @@ const uint64_t TRIES = 1000000;     // a stream waits for another one's line up 
 const int FRONTS_WORDS = 3;
 const size_t BLOCK = 4096;          // of what the front is told; the system doesn't take it apart
 
-// Of an lrupd, or of all that a process has waited for: behind its name, which may have anything in it, the fields 14 and 15, or 16 and 17.
-double processor_time(const std::string &path, bool of_children) {
-    std::ifstream file(path);
-    std::string line;
+const int OWN_TIME = 14, TIME_OF_CHILDREN = 16;     // the first of two fields of what the system tells of a process; of ended children
+
+double processor_time(int pid, int first_field) {
+    std::ifstream file("/proc/" + std::to_string(pid) + "/stat");
+    std::string line, field;
     std::getline(file, line);
-    bool is_lrupd = line.find("(lrupd) ") != std::string::npos;
-    std::istringstream fields(line.substr(line.rfind(')') + 1));
-    std::string field;
+    std::istringstream fields(line.substr(line.rfind(')') + 1));        // behind its name, which may have anything in it
     double ticks = 0;
-    for (int number = 3; fields >> field && number <= 17; number++)
-        if (of_children ? number >= 16 : is_lrupd && (number == 14 || number == 15)) ticks += atof(field.c_str());
+    for (int number = 3; fields >> field; number++)
+        if (number == first_field || number == first_field + 1) ticks += atof(field.c_str());
     return ticks / double(sysconf(_SC_CLK_TCK));
 }
 
@@ -114,11 +113,13 @@ bool Front::has_refused() const {
     return probe.child.ended() && WIFEXITED(probe.child.status) && !probe.child.ended_with(UNKNOWN_STATUS);
 }
 
+// Its children are this process, or MPI's command, which has started it, and each lrupd.
 double Front::checking() const {
-    std::string place = "/proc/" + std::to_string(pid);
-    double seconds = processor_time(place + "/stat", true);
-    std::ifstream children(place + "/task/" + std::to_string(pid) + "/children");
-    for (std::string child; children >> child;) seconds += processor_time("/proc/" + child + "/stat", false);
+    std::string id = std::to_string(pid);
+    std::ifstream children("/proc/" + id + "/task/" + id + "/children");
+    double seconds = processor_time(pid, TIME_OF_CHILDREN);
+    for (int child; children >> child;)
+        if (child != getpid() && child != getppid()) seconds += processor_time(child, OWN_TIME);
     return seconds;
 }
 

@@ -87,7 +87,7 @@ struct Front {
     void say(const std::string &line) const;            // cut where it is too long
     void read_on(Checker *checker);                     // what it says
     bool has_refused() const;                           // its lrupd, the formula
-    double checking() const;                            // seconds of processor time, of its children that have ended, and each lrupd
+    double checking() const;                            // seconds of processor time, of each lrupd
     std::string await_refusal();                        // the words for it; none where it doesn't come
 
 private:
