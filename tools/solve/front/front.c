@@ -31,7 +31,7 @@ enum { ENGINES, PROBE, LRUPD, CHILDREN };       // the probe is an lrupd that re
 
 static const char *const names[] = { "engines", "probe", "lrupd" };
 static pid_t pids[CHILDREN];
-static int ends[] = { RUNNING, RUNNING, RUNNING };      // as wait says it
+static int ends[] = { RUNNING, RUNNING, RUNNING };      // as wait says it; RUNNING is neither an exit nor a signal
 static int outputs[CHILDREN];                           // in memory, so that no full disk costs a verdict
 static const char *lrupd, *formula, *assume;
 static int null, told[2], heard[2], ended_by;           // pipes to and from lrup-engines; and a signal
