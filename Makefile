@@ -112,7 +112,7 @@ explain: $(EXPLAIN) ## build: lrup-explain, why a line is bad, and what would be
 solve: $(SOLVE) $(ENGINES) beside-it ## build: lrup-solve, from a formula to a proved verdict, at tools/solve/out; wants CaDiCaL's library
 
 # It isn't installed: it goes with the MPI of where it was built.
-solve-mpi: $(ENGINES)-mpi $(SOLVE) beside-it ## build: lrup-engines-mpi, for lrup-solve --mpi: engines on several hosts; wants MPI, too
+solve-mpi: $(ENGINES)-mpi $(ENGINES) $(SOLVE) beside-it ## build: lrup-engines-mpi, for lrup-solve --mpi: engines on several hosts; wants MPI, too
 
 # What the front looks for beside it.
 beside-it: $(EXACT) $(TRIM) $(EXPLAIN)

@@ -79,7 +79,8 @@ def randomly(seed: int, work: Path) -> None:
 
 def solved_alone(words: Sequence[object], **how: Any) -> int:
     """The conflicts of CaDiCaL, in the last row of what it reports."""
-    rows = re.findall(r"^c [01] +[\d.]+ +\d+ +\d+ +\d+ +\d+ +(\d+) .*$", run(words, **how).out, re.M)
+    done = run(words, **how)
+    rows = re.findall(r"^c [01] +[\d.]+ +\d+ +\d+ +\d+ +\d+ +(\d+) .*$", done.out + done.err, re.M)
     want(len(rows), 1, f"last rows of {words}")
     return int(rows[0])
 

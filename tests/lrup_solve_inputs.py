@@ -6,6 +6,7 @@
 The flags, and what is shown, are as of lrup_solve.py.
 """
 import os
+import shlex
 import shutil
 import signal
 import subprocess
@@ -331,6 +332,14 @@ def refused_late(words: List[str], text: str, work: Path) -> None:
     want((out.splitlines()[-1:], running.returncode), (["s UNKNOWN"], -signal.SIGTERM), "the end by a signal")
 
 
+def reading_killed(text: str, work: Path) -> None:
+    """lrupd is killed as it reads the formula: as any lrupd that is killed."""
+    path = in_place_of_lrupd("case \"$*\" in *' /dev/null') kill -9 $$;; esac\nexec " + shlex.quote(PROGRAM) + ' "$@"', work)
+    answer = solve(["--lrupd", path, "-j", "1", written(text, work)])
+    want((answer.answers, answer.status, answer.said), (["s UNKNOWN"], 0, ""), f"the answer of\n{answer.out}")
+    want("lrupd ended by a signal: Killed" in answer.comments, True, f"whether that is told in\n{answer.out}")
+
+
 # The tests.
 
 
@@ -453,6 +462,7 @@ def refusals() -> List[Row]:
         runs.append((f"refused --assume {name}", refused_by_lrupd, FOUR, ["--assume", "{work}/" + name], "{work}/" + name + known))
     return runs + [("refused, a folder", refused_folder), ("refused late", refused_late, [], FOUR),
                    ("refused late, satisfiable", refused_late, [], "p cnf 1 0\n"),
+                   ("its reading killed", reading_killed, "p cnf 1 0\n"),
                    ("refused when time is up", refused_late, ["--time", "0.1"], dimacs(1, [[1]]))]
 
 

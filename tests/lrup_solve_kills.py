@@ -22,19 +22,17 @@ from solving import (EARLY, Answer, children_of, command, in_environment, is_ali
                      solve, want_answer)
 
 COUNT = int((words_given(__doc__, most=3) + ["-O2", "10"][len(sys.argv) - 2:])[2])
-NAMES = ["lrup-engines", "engine 1", "engine 2", "filter 1", "filter 2", "lrupd", "its reading", "the cleaner"]
+NAMES = ["lrup-engines", "engine 1", "engine 2", "filter 1", "filter 2", "lrupd", "its reading", "cleaner"]
 SOON = 6        # seconds, after a run has come to its end
 
 
 def processes_of_run(pid: int) -> Dict[str, int]:
-    """With the lrupd that reads the formula, and the shell that removes the folder."""
+    """With the lrupd that reads the formula."""
     found = children_of(pid)
     for child in map(int, of_process(pid, f"task/{pid}/children").split()):
         title, words = of_process(child, "comm").strip(), of_process(child, "cmdline")
         if title == "lrupd" and "--rounds" not in words:
             found["its reading"] = child
-        if title in ("sh", "dash", "bash"):
-            found["the cleaner"] = child
     return found
 
 
@@ -65,9 +63,6 @@ def kills(seed: int, work: Path) -> None:
     for name in NAMES:
         answer = killed_one(name, numbers.uniform(0, 0.2), formula, hooks, work)
         answer.said = ""        # an engine's last words
-        if name == "its reading" and answer.status == 1:        # as of a formula that lrupd can't read
-            want(answer.answers, [], "the answer")
-            continue
         want_answer(answer, answer.status if answer.status in (0, whole.status) else whole.status, formula)
 
 

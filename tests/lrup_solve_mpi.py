@@ -22,6 +22,8 @@ from typing import Dict, List, Mapping, Optional, Sequence, Tuple
 sys.dont_write_bytecode = True
 from harness import (FOUR, LIMIT, ROOT, TESTS, Failure, Ran, Row, compiled, dimacs, example, generated, left_out, random_clauses, run,
                      until, want, words_given, written)
+from lrat import lrat_fault
+from proof_forms import read_formula
 from solving import Answer, check_again, children_of, command, in_environment, is_alive, of_process, run_built, want_answer
 
 words_given(__doc__, most=3 if sys.argv[3:] == ["small"] else 2)
@@ -123,6 +125,22 @@ def assuming(work: Path) -> None:
         cube = written(f"{literal} 0\n", work, "cube")
         answer = solve(2, ["-j", "1", "--assume", cube, formula], {**SMALL, "FIRST_WORDS": 3000})
         want_answer(answer, status, formula, "s UNSATISFIABLE UNDER ASSUMPTIONS" if status == 20 else None)
+
+
+def cores(processes: int, words: str, tested: Optional[Dict[str, object]], work: Path) -> None:
+    """Of the streams of all processes, which process 0 keeps in the folder of the run."""
+    formula, files = generated(words, work), work / "temporary"
+    files.mkdir()
+    kept = {"--core": work / "core.cnf", "--lrat": work / "proof.lrat"}
+    options = [word for option, path in kept.items() for word in (option, path)]
+    answer = Answer(run(launched(processes, ["-j", "1", *options, formula], tested), env=in_environment(tested, {"TMPDIR": str(files)})))
+    want_answer(answer, 20)
+    told = [f"{path}: lrupd says of it: s UNSATISFIABLE" in answer.comments for path in kept.values()]
+    want(told, [True, True], f"whether both are told of in\n{answer.out}{answer.said}")
+    clauses, core = read_formula(formula), read_formula(kept["--core"])
+    want([clause for clause in core if clause not in clauses], [], "clauses of the core that aren't the formula's")
+    want(lrat_fault(clauses, kept["--lrat"].read_text()), "", "what the LRAT checker says")
+    until("its files are removed", lambda: not list(files.glob("lrup-solve-*")))
 
 
 def full_row(work: Path) -> None:
@@ -311,7 +329,8 @@ def rounds() -> List[Row]:
                  (f"rounds of pigeonholes, {processes}", in_rounds, processes, "pigeons 8", 20000 * processes, [], 20),
                  (f"rounds of a random formula, {processes}", in_rounds, processes, "random 170 4", 12000 * processes, [], 20),
                  (f"rounds, satisfiable, {processes}", in_rounds, processes, "random 260 5 4.15", 30000 * processes, [], 10)]
-    return rows + [("rounds, nothing shared", in_rounds, 2, "pigeons 8", 40000, ["--no-share"], 20), ("assumptions", assuming),
+    return rows + [("rounds, a core and LRAT", cores, 3, "random 170 4", {**SMALL, "FIRST_WORDS": 36000}),
+                   ("rounds, nothing shared", in_rounds, 2, "pigeons 8", 40000, ["--no-share"], 20), ("assumptions", assuming),
                    ("gifts of an earlier round", rests_on, "lateness", "gifts"),
                    ("gifts of the next round", rests_on, "passing", "saved"),
                    ("lines before what follows from them", lines_first)]
@@ -356,6 +375,7 @@ def small_rows() -> List[Row]:
     """Nothing here waits long, or races with the clock."""
     return [("an exchange without MPI", alone), *refusals(),
             *(row for processes in (1, 2, 4) for row in answering(processes, 1, SMALL_FORMULAS)),
+            ("a core and LRAT", cores, 2, "pigeons 6", None),
             ending(0, "lrupd", "killed", signal.SIGKILL, "lrupd ended by a signal: Killed"),
             ending(1, "run", "killed", signal.SIGKILL, "Terminated"),
             ending(0, "run", "killed", signal.SIGKILL, "lrup-engines ended with status "),

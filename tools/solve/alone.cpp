@@ -2,8 +2,9 @@
 #include "run.h"
 
 int solve(int count, char **words) {
+    if (front.is_there()) front.open();
     const Options options = read_words(count, words);
     if (!front.is_there()) refuse("lrup-solve starts this program");
-    front.open();
+    start_by_mpi(options, count, words);
     return Run(options).solve(nullptr);
 }

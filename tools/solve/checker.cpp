@@ -3,10 +3,13 @@
 #include <cerrno>
 #include <cstdlib>
 #include <cstring>
+#include <fstream>
+#include <sstream>
 
 #include <fcntl.h>
 #include <sys/ioctl.h>
 #include <sys/stat.h>
+#include <sys/wait.h>
 #include <unistd.h>
 
 #include "checker.h"
@@ -16,12 +19,20 @@ namespace {
 const int STREAM_PIPE = 1 << 20, PIECE = 1 << 16;
 const uint64_t DROPPED = UINT64_C(1) << 22, PAGE = 4096;    // bytes that are given back at once
 const uint64_t TRIES = 1000000;     // a stream waits for another one's line up to a minute
-const int FRONTS_WORDS = 5;
+const int FRONTS_WORDS = 3;
+const size_t BLOCK = 4096;          // of what the front is told; the system doesn't take it apart
 
-void append(int &file, const std::string &path, std::string &text) {
-    char bytes[4096];
-    if (file < 0 && (file = open(path.c_str(), O_RDONLY | O_CLOEXEC)) >= 0) kept_open(file);
-    for (ssize_t count; (count = read(file, bytes, sizeof bytes)) > 0;) text.append(bytes, size_t(count));
+const int OWN_TIME = 14, TIME_OF_CHILDREN = 16;     // the first of two fields of what the system tells of a process; of ended children
+
+double processor_time(int pid, int first_field) {
+    std::ifstream file("/proc/" + std::to_string(pid) + "/stat");
+    std::string line, field;
+    std::getline(file, line);
+    std::istringstream fields(line.substr(line.rfind(')') + 1));        // behind its name, which may have anything in it
+    double ticks = 0;
+    for (int number = 3; fields >> field; number++)
+        if (number == first_field || number == first_field + 1) ticks += atof(field.c_str());
+    return ticks / double(sysconf(_SC_CLK_TCK));
 }
 
 }
@@ -53,29 +64,63 @@ std::string find_checker(const char *given) {
     refuse("no lrupd, neither beside this program nor on the PATH: --lrupd says where, or `make build` makes it");
 }
 
-void Front::read_words(int &count, char **&words) {
-    if (count <= FRONTS_WORDS || strcmp(words[1], "--front") != 0) return;
-    folder = words[2];
-    lrupd = words[3];
-    formula = words[4];
-    assumptions = words[5];
-    count -= FRONTS_WORDS;
-    words += FRONTS_WORDS;
+void Front::find(int &count, char **&words) {
+    const char *text = getenv("LRUP_FRONT");
+    if (text) given = text;
+    if (count > FRONTS_WORDS && strcmp(words[1], "--front") == 0) {
+        given = words[2];
+        number = strtoull(words[3], nullptr, 10);
+        count -= FRONTS_WORDS;
+        words += FRONTS_WORDS;
+    }
+    unsetenv("LRUP_FRONT");
+    std::istringstream all(given);
+    int of_probe = -1, of_lrupd = -1;
+    all >> told >> hears >> of_probe >> of_lrupd >> formula >> assumptions;
+    std::getline(all.ignore(1), lrupd, '\0');
+    if (sscanf(formula.c_str(), "/proc/%d/", &pid) != 1) return;
+    output_of_probe = name(of_probe);
+    output_of_lrupd = name(of_lrupd);
 }
 
-// By the names that its pipes have in its folder, which is on this host.
+// On another host that name is of another file, or of none.
+std::vector<std::string> Front::words() const {
+    struct stat found;
+    if (fstat(file, &found) != 0) refuse("cannot find lrup-solve: " + error_text());
+    return { "--front", given, std::to_string(found.st_ino) };
+}
+
+// By the names of its pipes.
 void Front::open() {
-    int out = open_pipe(folder + "/heard", 0);
-    file = ::open((folder + "/told").c_str(), O_RDONLY | O_NONBLOCK | O_NOFOLLOW | O_CLOEXEC);
-    if (out < 0 || file < 0 || fcntl(out, F_SETFL, 0) != 0 || dup2(out, STDOUT_FILENO) < 0)
-        refuse("cannot find lrup-solve, which has to be on the host of process 0: " + error_text());
-    close_file(out);
+    struct stat found;
+    file = ::open(name(told).c_str(), O_RDONLY | O_NONBLOCK | O_CLOEXEC);
+    bool is_its = file >= 0 && fstat(file, &found) == 0 && S_ISFIFO(found.st_mode) && (number == 0 || number == found.st_ino);
+    if (is_its) heard = ::open(name(hears).c_str(), O_WRONLY | O_CLOEXEC);
+    if (heard < 0) refuse("cannot find lrup-solve, which has to be on the host of process 0");
     kept_open(file);
+    kept_open(heard);
+    as_it_refuses = [] { front.say("refused"); };
 }
 
 void Front::say(const std::string &line) const {
-    puts(line.c_str());
-    fflush(stdout);
+    std::string block = line.substr(0, BLOCK);
+    block.resize(BLOCK);
+    while (heard >= 0 && write(heard, block.data(), BLOCK) < 0 && errno == EINTR) {}
+}
+
+// A status of lrupd's, and not its death.
+bool Front::has_refused() const {
+    return probe.child.ended() && WIFEXITED(probe.child.status) && !probe.child.ended_with(UNKNOWN_STATUS);
+}
+
+// Its children are this process, or MPI's command, which has started it, and each lrupd.
+double Front::checking() const {
+    std::string id = std::to_string(pid);
+    std::ifstream children("/proc/" + id + "/task/" + id + "/children");
+    double seconds = processor_time(pid, TIME_OF_CHILDREN);
+    for (int child; children >> child;)
+        if (child != getpid() && child != getppid()) seconds += processor_time(child, OWN_TIME);
+    return seconds;
 }
 
 // Where it has ended this process is ended, too, within a moment.
@@ -114,9 +159,7 @@ void Checker::expect(const std::string &path) {
 }
 
 void Checker::take_end(const std::string &words) {
-    char *rest;
-    child.status = int(strtol(words.c_str(), &rest, 10));
-    child.seconds = 1e-6 * strtod(rest, nullptr);
+    child.status = atoi(words.c_str());
     child.running = false;
     read_on();
 }
@@ -131,11 +174,11 @@ void Checker::open_streams(const std::vector<int> &files) {
 }
 
 void Checker::start(Row row, const std::vector<int> &files) {
-    next = front.folder + "/round-1";
+    next = Folder::name() + "/round-1";
     open_streams(files);
     std::string text = sizes_text(files.size(), row);
-    front.say("check " + text.substr(0, text.size() - 1) + " " + tries());
-    expect(front.folder + "/2");
+    front.say("check " + text.substr(0, text.size() - 1) + " " + tries() + " " + Folder::numbers());
+    expect(front.output_of_lrupd);
 }
 
 // Between rounds lrupd opens the sizes first, and then the streams, in order. Each open waits for somebody who writes.
@@ -200,10 +243,16 @@ uint64_t Checker::read_of(size_t number) const {
     return stream.fed - std::min<uint64_t>(stream.fed, uint64_t(waiting));
 }
 
+// Its report has lines that begin with c and s, and no other line does.
 void Checker::read_on() {
+    char bytes[4096];
     if (child.pid == 0) return;
-    append(out, output + ".out", report);
-    append(err, output + ".said", said);
+    if (written < 0 && (written = open(output.c_str(), O_RDONLY | O_CLOEXEC)) >= 0) kept_open(written);
+    for (ssize_t count; (count = read(written, bytes, sizeof bytes)) > 0;) unread.append(bytes, size_t(count));
+    for (size_t end; (end = unread.find('\n')) != std::string::npos; unread.erase(0, end + 1)) {
+        bool is_report = unread.compare(0, 2, "c ") == 0 || unread.compare(0, 2, "s ") == 0;
+        (is_report ? report : said).append(unread, 0, end + 1);
+    }
 }
 
 bool Checker::next_line(std::string &line) {

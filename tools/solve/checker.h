@@ -33,9 +33,9 @@ class Checker {
 public:
     Child child;
     Opener opener;
-    std::string report, said;           // standard output, and standard error
+    std::string report, said;           // lines of its standard output, and of standard error
 
-    void expect(const std::string &path);   // it is at work; so the name of its output begins
+    void expect(const std::string &path);   // it is at work, or will be; what it writes stands there
     void start(Row row, const std::vector<int> &files);     // asks for one; the streams of round 1 are fed from these files
 
     // Before a round's streams end: its files' names in the folder of lrupd's rounds begin so. Then, once it has saved what the round
@@ -53,7 +53,7 @@ public:
     void read_on();                                         // what it says
     bool next_line(std::string &line);                      // of standard error, each once
     std::string last_line() const;                          // of standard error
-    void take_end(const std::string &words);                // of the front: the status as wait gives it, and microseconds
+    void take_end(const std::string &words);                // of the front: the status as wait gives it
 
 private:
     struct Stream {
@@ -65,29 +65,38 @@ private:
 
     std::vector<Stream> streams;
     std::string next;                   // how the names of the next round's files begin
-    std::string output;                 // how those of its output begin
-    int sizes = -1, out = -1, err = -1;
+    std::string output, unread;         // the file of all that it writes, and a beginning of a line
+    int sizes = -1, written = -1;
     size_t told = 0;
 
     void open_streams(const std::vector<int> &files);
 };
 
-// The front, which believes nothing that it is told here (front/front.c), by a pipe that standard output becomes.
+// The front, which believes nothing that it is told here (front/front.c), by a pipe. All is given by names of its open files.
 struct Front {
-    std::string folder, lrupd, formula, assumptions;    // names that it has given; none where it hasn't started this
+    std::string output_of_probe, output_of_lrupd, lrupd, formula, assumptions;      // none where it hasn't started this
     std::string stopped;                // by a signal, and so without waiting: the words for it
-    std::string unread;
-    int file = -1;                      // what it says
     Checker probe;                      // an lrupd that reads the formula, and no stream
 
-    void read_words(int &count, char **&words);         // takes its own away
+    void find(int &count, char **&words);               // by LRUP_FRONT, or by words, which it takes away
+    std::vector<std::string> words() const;             // for a process elsewhere
     void open();                                        // by one process alone
     pollfd says() const { return { file, POLLIN, 0 }; }
-    bool is_there() const { return !folder.empty(); }
-    void say(const std::string &line) const;
+    bool is_there() const { return pid != 0; }
+    bool is_elsewhere() const { return number != 0; }   // or was found by words, at least
+    void say(const std::string &line) const;            // cut where it is too long
     void read_on(Checker *checker);                     // what it says
-    bool has_refused() const { return probe.child.ended() && !probe.child.ended_with(UNKNOWN_STATUS); }     // its lrupd, the formula
+    bool has_refused() const;                           // its lrupd, the formula
+    double checking() const;                            // seconds of processor time, of each lrupd
     std::string await_refusal();                        // the words for it; none where it doesn't come
+
+private:
+    int pid = 0, told = -1, hears = -1;                 // numbers of its files
+    uint64_t number = 0;                                // of the first one in the system; 0: not known
+    int file = -1, heard = -1;                          // what it says, and is told
+    std::string given, unread;
+
+    std::string name(int number_of_file) const { return "/proc/" + std::to_string(pid) + "/fd/" + std::to_string(number_of_file); }
 };
 
 extern Front front;

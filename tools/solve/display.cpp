@@ -12,7 +12,7 @@
 
 namespace {
 
-const size_t COLUMNS = 78;
+const size_t SIGNS = 4000;      // in a line for the front
 const double SHOWING = 0.2;     // seconds, after which progress and lrupd's lines are shown
 
 size_t terminal_columns() {
@@ -70,8 +70,7 @@ void Display::hide() const {
 void Display::tell(const std::string &line) const {
     if (inputs.options.quiet) return;
     hide();
-    printf("c %s\n", one_line(line).c_str());
-    fflush(stdout);
+    front.say("c " + one_line(line));
 }
 
 void Display::tell_more(const std::string &line) const {
@@ -133,7 +132,7 @@ void Display::causes(const std::string &cause) const {
 }
 
 void Display::summary() const {
-    double engines = 0, filters = 0, lrupd = front.probe.child.seconds + checker.child.seconds, wall = now() - started;
+    double engines = 0, filters = 0, lrupd = front.checking(), wall = now() - started;
     for (size_t k = 0; k < teams.size(); k++) engines += teams[k].engine.seconds, filters += teams[k].filter.seconds;
     std::string of_rounds = format("%llu rounds with %.1f %% of pauses, ", (unsigned long long)rounds.number, 100 * rounds.paused / wall);
     tell(format("%.2f s, %s, %s%s checked; %.2f s of processor time: engines %.2f, filters %.2f, lrupd %.2f", wall,
@@ -141,15 +140,9 @@ void Display::summary() const {
                 counted(teams.all(&Part::lines), "clause").c_str(), engines + filters + lrupd, engines, filters, lrupd));
 }
 
-void print_model(const std::vector<signed char> &model) {
-    std::string line = "v";
-    for (size_t k = 0; k <= model.size(); k++) {
-        std::string word = k == model.size() ? " 0" : " " + std::to_string(model[k] > 0 ? long(k) + 1 : -long(k) - 1);
-        if (line.size() + word.size() > COLUMNS) {
-            puts(line.c_str());
-            line = "v";
-        }
-        line += word;
-    }
-    puts(line.c_str());
+void tell_model(const std::vector<signed char> &model) {
+    std::string signs;
+    for (signed char value : model) signs += value > 0 ? '+' : '-';
+    for (size_t at = 0; at < signs.size(); at += SIGNS) front.say("v " + signs.substr(at, SIGNS));
+    front.say("model");
 }

@@ -45,6 +45,6 @@ std::string format(const char *text, ...) __attribute__((format(printf, 1, 2)));
 std::string grouped(uint64_t number);                           // 1,234,567
 std::string counted(uint64_t number, const char *what);         // 1 clause, 2 clauses
 std::string title(const std::string &path);
-void print_model(const std::vector<signed char> &model);
+void tell_model(const std::vector<signed char> &model);     // the front
 
 #endif

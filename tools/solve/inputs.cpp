@@ -116,5 +116,6 @@ void Inputs::refuse_formula(const std::string &cause) const {
     if (said.empty()) refuse(named(cause));
     end_children();
     fprintf(stderr, "%s (%s)\n", said.c_str(), one_line(named(cause)).c_str());
+    front.say("refused");
     _exit(1);
 }

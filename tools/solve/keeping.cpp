@@ -11,9 +11,7 @@ namespace {
 
 // As they are installed, or built.
 std::string find_tool(const std::string &name) {
-    char path[LONGEST_PATH];
-    ssize_t length = readlink("/proc/self/exe", path, sizeof path);
-    std::string whole(path, length > 0 ? size_t(length) : 0), folder = whole.substr(0, whole.rfind('/') + 1);
+    std::string whole = own_path(), folder = whole.substr(0, whole.rfind('/') + 1);
     for (const char *place : { "", "../../bin/" })
         if (is_program(folder + place + name)) return folder + place + name;
     return on_the_path(name);
@@ -65,7 +63,7 @@ void Keeping::prepare(const std::string &program) {
     for (const char *path : { options.core, options.lrat })
         if (path && is_there(path)) refuse(std::string(path) + " is there, and isn't written over");
     if (find_tool("lrup-trim").empty()) refuse("no lrup-trim, neither beside this program nor on the PATH: `make trim` makes it");
-    folder = front.folder + "/kept";
+    folder = Folder::name() + "/kept";
     if (!options.proofs) options.proofs = folder.c_str();
 }
 
@@ -77,7 +75,7 @@ std::string Keeping::verdict_on(const std::string &trimmed, const std::string &o
     std::string lines = number_behind(trimmed, "--lines"), room = number_behind(trimmed, "--room");
     std::vector<std::string> words = { checker_program, "--lines", lines, "--room", room }, last = { over, stream }, said;
     if (lines.empty()) {
-        words = { "/bin/sh", "-c", in_rounds, "sh", find_tool("lrup-exact"), checker_program, front.folder + "/checked", over, stream };
+        words = { "/bin/sh", "-c", in_rounds, "sh", find_tool("lrup-exact"), checker_program, Folder::name() + "/checked", over, stream };
         last.clear();
     }
     if (inputs.options.assume) words.insert(words.end(), { "--assume", inputs.assume_path });
@@ -102,7 +100,7 @@ std::string Keeping::keep(bool is_proved, const Wait &wait) const {
     const Options &options = inputs.options;
     if (is_wanted() && !is_proved) display.tell("no proof, and so no core and no LRAT text");
     if (!is_wanted() || !is_proved) return "";
-    std::string stream = front.folder + "/core.lrup";
+    std::string stream = Folder::name() + "/core.lrup";
     std::vector<std::string> words = { find_tool("lrup-trim") }, said;
     if (options.core) words.insert(words.end(), { "--core", options.core, "--stream", stream });
     if (options.lrat) words.insert(words.end(), { "--lrat", options.lrat });

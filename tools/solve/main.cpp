@@ -32,6 +32,7 @@ int main(int count, char **words) {
     test_hooks_read();
     hold_first_files();
     set_signals();
-    front.read_words(count, words);
+    front.find(count, words);
+    if (front.is_there()) dup2(STDERR_FILENO, STDOUT_FILENO);      // for what CaDiCaL is asked to report
     _exit(solve(count, words));
 }

@@ -23,21 +23,15 @@ bool is_process_0() {
     return true;
 }
 
-// One process alone says what is wrong with them. The others don't end before it with another status than 0: mpirun would end it, and
+}
+
+// Where something is wrong one process alone says so. The others don't end before it with another status than 0: mpirun would end it, and
 // nothing would be said.
-Options read_words_once(int count, char **words) {
-    another_refuses = !is_process_0();
-    Options options = read_words(count, words);
-    another_refuses = false;
-    return options;
-}
-
-}
-
 int solve(int count, char **words) {
-    Options options = read_words_once(count, words);
+    if (front.is_there() && is_process_0()) front.open();
+    Options options = read_words(count, words);
     if (!front.is_there()) refuse("lrup-solve --mpi starts this program");
-    if (is_process_0()) front.open();
+    start_by_mpi(options, count, words);
     if (options.engines == 0) options.engines = half_of_the_cores();
     Link link;
     link.open(options.engines);

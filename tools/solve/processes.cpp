@@ -48,12 +48,19 @@ int kept_open(int file) {
     return file;
 }
 
+void close_all_but(const std::vector<int> &files) {
+    for (int file : opened)
+        if (std::find(files.begin(), files.end(), file) == files.end()) close(file);
+}
+
 bool another_refuses = false;
+void (*as_it_refuses)() = nullptr;
 
 void refuse(const std::string &cause) {
     if (another_refuses) sleep(LETTING_ANOTHER);
     end_children();
     if (!another_refuses) fprintf(stderr, "%s: %s\n", program_name, one_line(cause).c_str());
+    if (as_it_refuses) as_it_refuses();
     _exit(1);
 }
 
@@ -175,6 +182,7 @@ bool begin(Child &child, const std::string &name, const std::vector<int> &kept) 
         child.running = true;
         return false;
     }
+    as_it_refuses = nullptr;
     prctl(PR_SET_PDEATHSIG, SIGKILL);
     prctl(PR_SET_NAME, name.c_str());
     if (getppid() != parent) _exit(1);
@@ -183,8 +191,7 @@ bool begin(Child &child, const std::string &name, const std::vector<int> &kept) 
     sigprocmask(SIG_SETMASK, &none, nullptr);
     signal(SIGINT, SIG_IGN);
     signal(SIGPIPE, SIG_DFL);
-    for (int file : opened)
-        if (std::find(kept.begin(), kept.end(), file) == kept.end()) close(file);
+    close_all_but(kept);
     return true;
 }
 

@@ -101,6 +101,12 @@ std::string one_line(const std::string &text) {
     return line;
 }
 
+std::string own_path() {
+    char path[LONGEST_PATH];
+    ssize_t length = readlink("/proc/self/exe", path, sizeof path);
+    return std::string(path, length > 0 ? size_t(length) : 0);
+}
+
 std::string absolute(const std::string &path) {
     char folder[4096];
     return path[0] == '/' || !getcwd(folder, sizeof folder) ? path : std::string(folder) + "/" + path;

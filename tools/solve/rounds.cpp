@@ -147,7 +147,7 @@ std::string Rounds::look() {
         if (LOAD(teams.part(k).ended_round) == number) end_round();
     if (state == ENDING && teams.have_all(&Part::ended_round, number)) {
         if (!checker.child.pid) start_checker(rows.row);
-        checker.expect_round(front.folder + "/" + name_of_round(number + 1));
+        checker.expect_round(Folder::name() + "/" + name_of_round(number + 1));
         state = SAVING;
     }
     std::string cause = state == SAVING && checker.awaits_sizes() ? map_round() : "";
@@ -169,7 +169,7 @@ void Rounds::end_round() {
 std::string Rounds::map_round() {
     teams.cut_streams();
     teams.number_streams();
-    copy_name(teams.shared->checkpoint, front.folder + "/" + name_of_round(number + 1) + ".cnf");
+    copy_name(teams.shared->checkpoint, Folder::name() + "/" + name_of_round(number + 1) + ".cnf");
     STORE(teams.shared->saved_round, number);
     teams.tell_filters();
     state = MAPPING;

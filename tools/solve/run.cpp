@@ -5,6 +5,8 @@
 #include <cstdio>
 #include <cstring>
 
+#include <sys/wait.h>
+
 #include "run.h"
 
 namespace {
@@ -17,7 +19,8 @@ const double ENDING = 10;       // seconds that a filter has for the line that i
 void Run::prepare() {
     Options &options = inputs.options;
     std::string program = find_checker(options.lrupd);
-    front.probe.expect(front.folder + "/1");
+    front.probe.expect(front.output_of_probe);
+    Folder::make();
     if (options.engines == 0 && options.solvers.empty()) options.engines = half_of_the_cores();
     options.engines += int(options.solvers.size());
     keeping.prepare(program);
@@ -69,6 +72,7 @@ std::string Run::why_it_ends() {
     if (!why.empty()) return why;
     if (loop.ended_by) return std::string("ended by a signal: ") + strsignal(loop.ended_by);
     if (!front.stopped.empty()) return front.stopped;
+    if (front.probe.child.ended() && WIFSIGNALED(front.probe.child.status)) return "lrupd " + front.probe.child.end();
     if (inputs.options.seconds > 0 && now() >= started + inputs.options.seconds) return "time is up";
     return opener.ended() ? "the process that opens lrupd's pipes " + opener.end() : "";
 }
@@ -220,8 +224,6 @@ void Run::end_all() {
     std::string why = keeping.keep(answer == UNSATISFIABLE, wait_for_end);
     if (unkept.empty()) unkept = why;
     if (checker.child.ended()) keeping.explain(checker.report, wait_for_end);
-    if (unkept.empty()) front.say("done");
-    while (checker.child.running) wait();
     end_children();
 }
 
@@ -232,8 +234,7 @@ void Run::send_answer() {
     if (inputs.options.verbose && others) others->details();
     if (answer == UNKNOWN_ANSWER) display.causes(cause);
     display.summary();
-    if (answer == SATISFIABLE) print_model(model);
-    fflush(stdout);
+    if (answer == SATISFIABLE) tell_model(model);
     if (!unkept.empty()) refuse(unkept);
 }
 
@@ -249,5 +250,6 @@ int Run::solve(const Elsewhere *elsewhere) {
     await_reading();
     end_all();
     send_answer();
+    Folder::remove();
     return 0;
 }

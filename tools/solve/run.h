@@ -67,5 +67,6 @@ private:
 };
 
 int solve(int count, char **words);     // alone.cpp, or mpi_run.cpp
+void start_by_mpi(const Options &options, int count, char **words);     // launch.cpp: where that is asked for, and wasn't done
 
 #endif

@@ -35,6 +35,7 @@ Options read_words(int count, char **words);
 
 // processes.cpp: children, pipes and files.
 [[noreturn]] void refuse(const std::string &cause);     // one line on standard error, and status 1; all children are ended
+extern void (*as_it_refuses)();                         // of this process alone
 extern bool another_refuses;                            // a process that says the same, and whose end ends this one
 std::string error_text();                               // of errno
 double now();                                           // seconds
@@ -43,6 +44,7 @@ int milliseconds_to(double time);                       // as poll takes them; o
 struct Pipe { int read = -1, write = -1; };
 
 int kept_open(int file);                                // by this process: a child has it where it is given it
+void close_all_but(const std::vector<int> &files);      // of a child
 Pipe make_pipe(int bytes);                              // so many, if the system gives them
 void close_file(int &file);
 int create_file(const std::string &path);               // a new one, whatever had the name
@@ -81,11 +83,20 @@ void wait_for(Child &child);
 void end_children();                                     // and removes the folder
 void give_way();                                        // this process ends before others where memory is short
 
+// folder.cpp: a folder of this run. It is removed as this process ends, however that comes, or before.
+namespace Folder {
+    void make();
+    const std::string &name();
+    std::string numbers();          // of this process, and of the folder among its open files, as the front wants it
+    void remove();
+}
+
 // record.cpp: paths, and the folder of --proofs. An input is a path, or `-`.
 bool is_plain(const std::string &word);
 bool is_utf8(const std::string &text);
 std::string quoted(const std::string &word);
 std::string one_line(const std::string &text);
+std::string own_path();                                 // of this program
 std::string absolute(const std::string &path);
 std::string unfinished(const std::string &path);        // its name while it is written
 void check_input(const std::string &path);              // refuses where it can't be read
