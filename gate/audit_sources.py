@@ -4,8 +4,9 @@ from __future__ import annotations
 import re
 import sys
 from pathlib import Path
-from typing import Dict, Iterator, List, NamedTuple, Optional, Sequence, Set, Tuple
+from typing import Dict, Iterator, List, Optional, Sequence, Set, Tuple
 
+import antt
 from audit_texts import SHOWN, UNSEEN
 
 ROOT = Path(__file__).resolve().parent.parent
@@ -14,7 +15,6 @@ DOCS = ROOT / "docs"
 
 NAME = re.compile(r"[^\s(){}\[\];,.:λ→×⊎≡≢¬↔↦≤<>+*/%^∷&|=]+")
 WORDS = set("record data where let in if then else elim λ _ Type Unit ⊥".split())
-HEAD = re.compile(r"^(?P<kind>(?:abbrev |unfoldable )?(?:pub )?(?:record |data )?)(?P<name>[^\s:({]+)(?P<rest>[\s:({].*)?$")
 ITEM = re.compile(r"((?:^(?:///|#\[).*\n)*)^pub (?:struct|enum|trait) (?:[^\n{]*;$|[\s\S]*?^\}$)", re.M)
 
 
@@ -81,10 +81,10 @@ class Definition(Thing):
 
     language = "agda"
 
-    def __init__(self, file: Specs, name: str, comment: List[str], lines: List[str], place: int) -> None:
-        self.file, self.name, self.comment, self.place = file, name, comment, place
+    def __init__(self, file: Specs, declared: antt.Declaration) -> None:
+        self.file, self.name, self.comment, self.place = file, declared.name, declared.comment, declared.place
         self.path, self.crate = file.path, crate_of(file.path)
-        self.text = re.sub(r"^( *)(?:(?:abbrev|unfoldable|pub) )+", r"\1", "\n".join(lines).rstrip(), flags=re.M)
+        self.text = re.sub(r"^( *)(?:(?:abbrev|unfoldable|pub) )+", r"\1", "\n".join(declared.lines), flags=re.M)
 
     def key(self) -> Key:
         return (str(self.file.path), self.name)
@@ -310,58 +310,21 @@ def named(crate: str, module: str, name: str) -> Sequence[Thing]:
     return specs(crate, module).own(name)
 
 
-class Raw(NamedTuple):
-    """A definition as it is read: the comment above it, where it begins, and its lines."""
-    comment: List[str]
-    place: int
-    lines: List[str]
-
-
 class Specs:
     """A file of specs: its first comment, the names it brings in, and its definitions."""
 
     def __init__(self, path: Path) -> None:
-        self.path, self.names = path, Names()
-        self.title: List[str] = []
+        source = antt.read(path)
+        self.path, self.names, self.title = path, Names(), source.title
         self.definitions: Dict[str, Definition] = {}
         self.constructors: Dict[str, str] = {}
-        for name, raw in self.read().items():
-            self.definitions[name] = Definition(self, name, raw.comment, raw.lines, raw.place)
-            if re.match(r"(pub )?data ", raw.lines[0]):
-                self.constructors.update((line.split(":")[0].split()[0], name) for line in raw.lines[1:])
-
-    def read(self) -> Dict[str, Raw]:
-        """Reads the first comment and the names that the file brings in; what it defines, as it stands there."""
-        found: Dict[str, Raw] = {}
-        comment: List[str] = []
-        current: Optional[List[str]] = None
-        at_title = True
-        for place, line in enumerate(self.path.read_text().split("\n")):
-            if line.startswith("--"):
-                comment.append(line)
-                current = None
-                continue
-            if at_title:
-                at_title, self.title, comment = False, comment, []
-            if not line.strip():
-                comment = []
-            elif line[0] in " })":
-                if current is None:
-                    sys.exit(f"audit: {self.path}:{place + 1}: a line that belongs to no definition")
-                current.append(line)
-            elif line.startswith(("use ", "pub use ")):
-                self.names.bring_in(line.removeprefix("pub "))
-            elif line.startswith("module "):
-                current = [line]  # lemmas alone stand in such a block, in the files that are read here
-            elif not line.startswith(("mod ", "pub mod ")):
-                match = HEAD.match(line)
-                name = match.group("name")
-                if name not in found or match.group("kind"):
-                    found[name] = Raw(comment, place, [])
-                    comment = []
-                current = found[name].lines
-                current.append(line)
-        return found
+        for line in source.uses:
+            self.names.bring_in(line)
+        for declared in source.declarations:
+            if not declared.indent:
+                self.definitions[declared.name] = Definition(self, declared)
+                if "data" in declared.marks:
+                    self.constructors.update((member, declared.name) for member in declared.members())
 
     def is_constructor(self, word: str) -> bool:
         return any(thing for thing in self.resolve(word, None))

@@ -24,11 +24,13 @@ from collections import defaultdict
 from pathlib import Path
 
 sys.dont_write_bytecode = True
+import antt
 from audit import slug_of
 
 ROOT = Path(__file__).resolve().parent.parent
 COLUMNS = 100  # of clauses and definitions
 PROOF_COLUMNS = 140
+SPECS = r"crates/\w+/specs/.*\.antt"
 # What stands in backticks and isn't of this repository: the toolchain's, the system's, other programs', and what a text makes up.
 FOREIGN = set("""
 ANTT.md CONTRACTS.md SHORTER_PROOFS.md BUILD.bazel start_lib start_io proves untested --only
@@ -74,15 +76,12 @@ def wide_clauses():
 
 def wide_definitions():
     """Of definitions and of the statements of lemmas, and not of their proofs."""
-    for path in files(r"crates/\w+/specs/.*\.antt"):
-        lemmas = {name for name, statement, _ in statements(path) if normal(statement)}
-        skipped = False
-        for number, line in enumerate(path.read_text().splitlines(), 1):
-            if not line.startswith(" "):
-                first, _, rest = line.partition(" ")
-                skipped = first in ("use", "--") or line.startswith("pub use ") or first in lemmas and not rest.startswith(": ")
-            if len(line) > COLUMNS and not skipped:
-                yield f"{shown(path)}:{number}: a line has {len(line)} columns"
+    for path in files(SPECS):
+        for declared in antt.read(path).declarations:
+            shown_lines = declared.head() if declared.is_lemma() and normal(declared.statement()) else declared.lines
+            for number, line in enumerate(shown_lines, declared.place + 1):
+                if len(line) > COLUMNS:
+                    yield f"{shown(path)}:{number}: a line has {len(line)} columns"
 
 
 def wide_proofs():
@@ -93,20 +92,6 @@ def wide_proofs():
 
 
 # Lemmas that are stated twice.
-
-
-def statements(path):
-    """The names and types that a file of definitions or lemmas declares, with the numbers of their lines."""
-    name, text, at = None, [], 0
-    for number, line in enumerate(path.read_text().splitlines() + ["end"], 1):
-        begins = re.match(r"(?:pub )?([^\s:({]+) : (.*)$", line)
-        if name and (begins or not line.startswith(" ")):
-            yield name, " ".join(text), at
-            name = None
-        if begins:
-            name, text, at = begins.group(1), [begins.group(2)], number
-        elif name:
-            text.append(line.split("--")[0].strip())
 
 
 def binders(statement):
@@ -153,10 +138,10 @@ def repeated_statements():
     """Those in one crate, or in two that have one below both, where the lemma could stand."""
     places, below = defaultdict(list), crates_below()
     for path in files(r"crates/\w+/(specs|proofs)/.*\.antt"):
-        for name, statement, number in statements(path):
-            text = normal(statement)
+        for declared in antt.read(path).declarations:
+            text = normal(declared.statement()) if declared.is_lemma() and not declared.indent else None
             if text:
-                places[text].append((path.relative_to(ROOT).parts[1], f"{shown(path)}:{number} {name}"))
+                places[text].append((path.relative_to(ROOT).parts[1], f"{shown(path)}:{declared.place + 1} {declared.name}"))
     for found in places.values():
         told = [place for at, (crate, place) in enumerate(found)
                 if any(below[crate] & below[other] for by, (other, _) in enumerate(found) if by != at)]
@@ -167,27 +152,13 @@ def repeated_statements():
 # Names with two meanings.
 
 
-def definitions(path):
-    """The names that a file of definitions declares, each with the number of its line and its text without comments."""
-    head = re.compile(r"(?:abbrev |unfoldable )?(?:pub )?(?:record |data )?([^\W\d][^\s:({]*)(?: [({].*[)}])*(?: :|$)")
-    name, text, at = None, [], 0
-    for number, line in enumerate(path.read_text().splitlines() + ["-- end"], 1):
-        begins = head.match(line) if not re.match(r" |--|use |pub use |module |.* =", line.split(" : ")[0]) else None
-        if name and (begins or not line or line.startswith("--")):
-            yield name, at, " ".join(text)
-            name = None
-        if begins:
-            name, text, at = begins[1], [], number
-        if name:
-            text += line.split(" -- ")[0].split()
-
-
 def names_with_two_meanings():
     """Those of definitions and laws that two crates declare, or two files of one, in other words."""
     places = defaultdict(list)
-    for path in files(r"crates/\w+/specs/\w+\.antt"):
-        for name, number, text in definitions(path):
-            places[name].append((text, f"{shown(path)}:{number}"))
+    for path in files(SPECS):
+        for declared in antt.read(path).declarations:
+            if not declared.indent:
+                places[declared.name].append((declared.text(), f"{shown(path)}:{declared.place + 1}"))
     for name, found in places.items():
         if len({text for text, _ in found}) > 1:
             yield f"{name} has {len(found)} meanings: " + ", ".join(place for _, place in found)
@@ -298,7 +269,10 @@ class Sources:
             self.read_path(path)
             if path.suffix in (".rt", ".antt"):
                 code = re.sub(r"(?<!:)//.*" if path.suffix == ".rt" else r"--.*", "", path.read_text())
-                (self.read_rattle if path.suffix == ".rt" else self.read_antt)(path, code)
+                if path.suffix == ".rt":
+                    self.read_rattle(path, code)
+                else:
+                    self.read_antt(path)
             elif path.suffix in (".c", ".cpp", ".h", ".py", ".sh", ".in", ".toml", ".txt", ".v", "") and path.name != "HANDLES":
                 code = path.read_text()
             else:
@@ -316,15 +290,11 @@ class Sources:
             self.names.update([parts[-1], parts[-1].split(".")[0]])
             name = str(Path(name).parent)
 
-    def read_antt(self, path, code):
-        """Of each line the first name: a definition's, a member's, a constructor's."""
-        holder = None
-        for line in code.splitlines():
-            match = re.match(r"(\s*)\|?\s*(?:(?:pub|abbrev|unfoldable|record|data|module) )*([^\s:({]+)", line)
-            if match:
-                holder = holder if match[1] else match[2]
-                self.members[path.stem].add(match[2])
-                self.members[holder].add(match[2])
+    def read_antt(self, path):
+        """What the file declares, and of a type its fields or constructors."""
+        for declared in antt.read(path).declarations:
+            self.members[path.stem].update([declared.name, *declared.members()])
+            self.members[declared.name].update(declared.members())
 
     def read_rattle(self, path, code):
         """The items of the file, and of each type and trait its functions and variants."""
