@@ -15,7 +15,7 @@ DOCS = ROOT / "docs"
 
 NAME = re.compile(r"[^\s(){}\[\];,.:λ→×⊎≡≢¬↔↦≤<>+*/%^∷&|=]+")
 WORDS = set("record data where let in if then else elim λ _ Type Unit ⊥".split())
-ITEM = re.compile(r"((?:^(?:///|#\[).*\n)*)^pub (?:struct|enum|trait) (?:[^\n{]*;$|[\s\S]*?^\}$)", re.M)
+ITEM = re.compile(r"((?:^(?:///|#\[).*\n)*)^(?:pub(?:\(crate\))? )?(?:struct|enum|trait) (?:[^\n{]*;$|[\s\S]*?^\}$)", re.M)
 
 
 def words_in(text: str) -> Iterator[Tuple[str, Optional[str]]]:
@@ -83,7 +83,7 @@ class Definition(Thing):
 
     def __init__(self, file: Specs, declared: antt.Declaration) -> None:
         self.file, self.name, self.comment, self.place = file, declared.name, declared.comment, declared.place
-        self.path, self.crate = file.path, crate_of(file.path)
+        self.path, self.crate, self.is_lemma = file.path, crate_of(file.path), declared.is_lemma()
         self.text = re.sub(r"^( *)(?:(?:abbrev|unfoldable|pub) )+", r"\1", "\n".join(declared.lines), flags=re.M)
 
     def key(self) -> Key:
@@ -145,7 +145,7 @@ class RustType(Thing):
     def __init__(self, crate: str, path: Path, text: str, whole: bool = False) -> None:
         self.crate, self.path, self.whole = crate, path, whole
         self.is_trait = re.search(r"^pub trait ", text, re.M) is not None
-        self.name = re.search(r"^pub (?:struct|enum|trait) (\w+)", text, re.M).group(1)
+        self.name = re.search(r"^(?:pub(?:\(crate\))? )?(?:struct|enum|trait) (\w+)", text, re.M).group(1)
         self.given, self.text = text, self.short(text)
         match = re.search(rf"^impl(?:<.*?>)? Model for {self.name}\b.*?^}}", path.read_text(), re.M | re.S)
         value = match and re.search(r"ghost Value = \{ (.*?) \};", match.group(0))
@@ -272,15 +272,17 @@ class Names:
 
     def bring_in(self, line: str) -> None:
         """Reads a line that begins with `use`."""
-        match = re.match(r"use Rattle\.(\w+)\.(specs|proofs)\.([\w.]+?)(?:\.\{(.*)\})?(?: as ([\w-]+))?;?$", line)
+        match = re.match(r"use ([\w.]+?)(?:\.\{ ?(.*?),? ?\})?(?: as ([\w-]+))?;?$", line)
         if not match:
             sys.exit(f"audit: not read: {line}")
-        crate, kind, module, names, alias = match.groups()
-        if crate not in ALL_CRATES:
-            for item in (names or alias or module.split(".")[-1]).split(","):
+        place, names, alias = match.groups()
+        crate, _, rest = place.removeprefix("Rattle.").partition(".")
+        if not place.startswith("Rattle.") or crate not in ALL_CRATES or not rest.startswith("specs."):
+            for item in (names or alias or place.split(".")[-1]).split(","):
                 name, _, other = item.strip().partition(" as ")
-                self.foreign[other or name] = (f"{crate}.{kind}.{module}", name)
+                self.foreign[other or name] = (f"{crate}.{rest}", name)
             return
+        module = rest.removeprefix("specs.")
         if names is None:
             self.modules[alias or module.split(".")[-1]] = (crate, module)
             return
@@ -300,7 +302,9 @@ class Names:
 
 
 def named(crate: str, module: str, name: str) -> Sequence[Thing]:
-    """The definition or the Rust type of a name in a module."""
+    """The definition or the Rust type of a name in a module. What rt makes of the code's contracts is neither."""
+    if module.startswith("contracts."):
+        return []
     declared = re.match(r"declared\.(.*)$", module)
     if declared:
         parts = declared.group(1).split(".")
@@ -321,10 +325,9 @@ class Specs:
         for line in source.uses:
             self.names.bring_in(line)
         for declared in source.declarations:
-            if not declared.indent:
-                self.definitions[declared.name] = Definition(self, declared)
-                if "data" in declared.marks:
-                    self.constructors.update((member, declared.name) for member in declared.members())
+            self.definitions[declared.name] = Definition(self, declared)
+            if "data" in declared.marks:
+                self.constructors.update((member, declared.name) for member in declared.members())
 
     def is_constructor(self, word: str) -> bool:
         return any(thing for thing in self.resolve(word, None))
@@ -361,7 +364,7 @@ def rust(crate: str, path: Path) -> Rust:
 
 
 def rust_types(crate: str) -> Dict[str, RustType]:
-    """The public types and traits of a crate, by their names."""
+    """The types and traits of a crate, by their names."""
     if crate not in TYPES:
         TYPES[crate] = {}
         for path in sorted((CRATES / crate / "src").rglob("*.rt")):
@@ -384,9 +387,9 @@ class Rust:
         self.crate, self.path, self.names = crate, path, Names()
         self.crates: Dict[str, str] = {}
         self.lines = path.read_text().split("\n")
+        for line in re.findall(r"^ *ghost (use [^;]*;)", path.read_text(), re.M):
+            self.names.bring_in(" ".join(line.split()))
         for line in self.lines:
-            if line.strip().startswith("ghost use "):
-                self.names.bring_in(line.strip().removeprefix("ghost "))
             match = re.match(r"use (\w+)::(.*);$", line)
             if match and (match.group(1) == "crate" or match.group(1) in ALL_CRATES):
                 for name in re.findall(r"[A-Z]\w*", match.group(2)):
