@@ -1,11 +1,11 @@
 -- Cubes: sets of literals that are assumed (textbook). A cube is kept as a list, and what is said of it reads the list as a set.
-use Rattle.std.specs.Prelude.{◌↔◌, ℕ, ℤ, neg_ℤ, List, []}
+use Rattle.std.specs.Prelude.{◌↔◌, ℕ, ℤ, neg_ℤ, List}
 use Rattle.std.specs.List.{All, AllByRecursion}
 use Rattle.std.specs.List.Sorted.{IsNonDecreasingBy}
 use Rattle.lrup_model.specs.Literal.{IsLiteral, IsCode, max_variable}
 use Rattle.lrup_model.specs.Clause.{Clause, Has}
 use Rattle.lrup_model.specs.Formula.{Cnf}
-use Rattle.lrup_model.specs.Entailment.{Assignment, MakesTrue, SatisfiesAll, IsUnsatisfiable, IsDerived}
+use Rattle.lrup_model.specs.Entailment.{Assignment, MakesTrue, SatisfiesAll}
 
 -- the literals of a cube, in some order
 abbrev pub CubeValue : Type 0
@@ -39,27 +39,9 @@ pub record AreCubeCodes (codes : List ℕ) : Type 0 where
 
 -- Laws
 
--- what follows from the formula, within the cube, leaves no assignment that makes the formula and the cube true
-abbrev pub WithinRefutes : Type 0
-WithinRefutes = (formula : Cnf) (clause : Clause) (cube : CubeValue)
-    → IsDerived formula clause → Within clause cube → IsUnsatisfiableUnder formula cube
-
--- under the empty cube a formula is unsatisfiable exactly if it is so by itself
-abbrev pub EmptyCubeRefutes : Type 0
-EmptyCubeRefutes = (formula : Cnf) → IsUnsatisfiableUnder formula [] ↔ IsUnsatisfiable formula
-
--- what is unsatisfiable is so under every cube
-abbrev pub UnderEveryCube : Type 0
-UnderEveryCube =
-    (formula : Cnf) (cube : CubeValue) → IsUnsatisfiable formula → IsUnsatisfiableUnder formula cube
-
 -- of a cube's literals only the set counts
 pub record SameCube (literals : List ℤ) (cube : CubeValue) : Type 0 where
   pub within : (clause : Clause) → Within clause cube ↔ Within clause literals
   pub refutes : (formula : Cnf)
       → IsUnsatisfiableUnder formula cube ↔ IsUnsatisfiableUnder formula literals
   pub over : (vars : ℕ) → IsCubeOver vars cube ↔ IsCubeOver vars literals
-
-abbrev pub CubesAreSets : Type 0
-CubesAreSets = (literals : List ℤ) (cube : CubeValue) → IsCubeOf literals cube
-    → SameCube literals cube

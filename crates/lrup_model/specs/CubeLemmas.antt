@@ -4,11 +4,14 @@ use Rattle.std.specs.List.{AllByRecursion}
 use Rattle.lrup_model.specs.Literal.{IsLiteral}
 use Rattle.lrup_model.specs.Clause.{Clause, Has}
 use Rattle.lrup_model.specs.ClauseLemmas.{All-Has, All-from_Has}
-use Rattle.lrup_model.specs.Entailment.{MakesTrue, Satisfies}
+use Rattle.lrup_model.specs.Entailment.{MakesTrue, Satisfies, IsDerived, IsUnsatisfiable}
 use Rattle.lrup_model.specs.EntailmentLemmas.{not_both}
-use Rattle.lrup_model.specs.Cube.{Within, WithinRefutes, EmptyCubeRefutes, UnderEveryCube, CubesAreSets}
+use Rattle.lrup_model.specs.Cube.{Within, CubeValue, IsUnsatisfiableUnder, IsCubeOf, SameCube}
+use Rattle.lrup_model.specs.Formula.{Cnf}
 
-pub within_refutes : WithinRefutes
+-- where a clause within a cube follows from the formula, no assignment makes every clause of the formula and every literal of the cube true
+pub within_refutes : (formula : Cnf) (clause : Clause) (cube : CubeValue)
+    → IsDerived formula clause → Within clause cube → IsUnsatisfiableUnder formula cube
 within_refutes f c cube derived within a sat holds =
     let some : Satisfies a c = derived.1.holds a sat in
     let complement : Has cube (neg_ℤ some.0) =
@@ -23,10 +26,13 @@ empty_only (x ∷ c) within = absurd within.0
 pub empty_cube_within : (c : Clause) → Within c [] ↔ (c ≡ [])
 empty_cube_within c = (empty_only c, λ e. subst (λ (d : Clause). Within d []) (sym e) tt)
 
-pub empty_cube_refutes : EmptyCubeRefutes
+-- under the empty cube a formula is unsatisfiable exactly if it is so by itself
+pub empty_cube_refutes : (formula : Cnf) → IsUnsatisfiableUnder formula [] ↔ IsUnsatisfiable formula
 empty_cube_refutes f = ((λ under a sat. under a sat tt), (λ refuted a sat holds. refuted a sat))
 
-pub under_every_cube : UnderEveryCube
+-- an unsatisfiable formula is so under every cube
+pub under_every_cube : (formula : Cnf) (cube : CubeValue) → IsUnsatisfiable formula
+    → IsUnsatisfiableUnder formula cube
 under_every_cube f cube refuted a sat holds = refuted a sat
 
 -- what holds of each literal of a list holds of each of another with no others
@@ -40,7 +46,9 @@ wider : (xs ys : List ℤ) → ((l : ℤ) → Has xs l → Has ys l) → (c : Cl
 wider xs ys in_ys [] within = tt
 wider xs ys in_ys (x ∷ c) within = (in_ys (neg_ℤ x) within.0, wider xs ys in_ys c within.1)
 
-pub cubes_are_sets : CubesAreSets
+-- of the literals that a cube was made of only the set counts: what is within it, and what it refutes
+pub cubes_are_sets : (literals : List ℤ) (cube : CubeValue) → IsCubeOf literals cube
+    → SameCube literals cube
 cubes_are_sets literals cube is =
     let to : (l : ℤ) → Has cube l → Has literals l = λ l. (is l).0 in
     let from : (l : ℤ) → Has literals l → Has cube l = λ l. (is l).1 in

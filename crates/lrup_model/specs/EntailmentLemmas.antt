@@ -96,15 +96,17 @@ pub all_hold : (f : Cnf) (a : Assignment) (ds : List Clause) → SatisfiesAll a 
 all_hold f a [] sat follow = tt
 all_hold f a (d ∷ ds) sat follow = ((follow.0.0, follow.0.1.holds a sat), all_hold f a ds sat follow.1)
 
-pub accepted_follows : (f : Cnf) (c : Clause) (ds : List Clause)
+-- a clause that propagation shows by clauses that follow, follows too
+pub propagation_sound : (f : Cnf) (c : Clause) (ds : List Clause)
     → AllByRecursion (λ d. IsClause f.vars d × Follows f d) ds → Accepts c ds → Follows f c
-accepted_follows f c ds follow accepts = record {
+propagation_sound f c ds follow accepts = record {
   holds = λ a sat. elim (decide_clause a c) [
     | inl some ↦ some
     | inr none ↦ absurd (refuted f.vars a c ds (all_hold f a ds sat follow) accepts.1 none)
   ];
 }
 
+-- where the empty clause follows, no assignment makes every clause of the formula true
 pub empty_refutes : (f : Cnf) → Follows f [] → IsUnsatisfiable f
 empty_refutes f follows a sat = (follows.holds a sat).1
 
@@ -167,6 +169,7 @@ clause_of_sound f absent c sound has = absurd has
 clause_of_sound f (live d) c sound has = subst (λ (x : Clause). IsClause f.vars x × Follows f x) has sound
 clause_of_sound f (retired d) c sound has = subst (λ (x : Clause). IsClause f.vars x × Follows f x) has sound
 
+-- every clause that a legal history leaves, live or retired, is a clause that follows from the formula
 pub clauses_follow : (f : Cnf) (p : LayoutValue) (h : History) (id : ℕ) (c : Clause) → IsCnf f
     → LegalFrom f p (opening f) h → HasClause (state f h id) c → IsClause f.vars c × Follows f c
 clauses_follow f p h id c cnf legal has =

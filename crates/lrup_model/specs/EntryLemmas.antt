@@ -22,6 +22,7 @@ IsByOwner-from_allowed f p (events.fetch s id r) allowed = tt
 IsByOwner-from_allowed f p (events.publish s id c r) allowed = allowed.0
 IsByOwner-from_allowed f p (events.retire s id r) allowed = allowed
 
+-- in a legal history each publish and each retire is by the stream that owns the identity
 pub owners_act : (f : Cnf) (p : LayoutValue) (m : State) (h : History) → LegalFrom f p m h
     → AllByRecursion (IsByOwner p) h
 owners_act f p m [] legal = tt
@@ -92,6 +93,7 @@ has_stays (retired d) absent c advances has = absurd advances
 has_stays (retired d) (live e) c advances has = absurd advances
 has_stays (retired d) (retired e) c advances has = advances ∙ has
 
+-- each clause that a legal history published stands under its identity for good, live or retired
 pub published_stay : (f : Cnf) (p : LayoutValue) (m : State) (h : History) → LegalFrom f p m h
     → AllByRecursion (λ x. HasClause (run m h x.0) x.1) (published h)
 published_stay f p m [] legal = tt

@@ -29,6 +29,7 @@ pub legal-back : (f : Cnf) (p : LayoutValue) (m : State) (g h : History) → Leg
 legal-back f p m [] h legal = legal
 legal-back f p m (e ∷ g) h legal = legal-back f p (after m e) g h legal.2
 
+-- each beginning of a legal history is legal
 pub IsLegal-front : (f : Cnf) (p : LayoutValue) (g h : History) → IsLegal f p (g ++ h)
     → IsLegal f p g
 IsLegal-front f p g h legal = record {
@@ -64,6 +65,7 @@ after-agrees m n (events.retire s j retiring.NotLive) id agree = agree
 
 -- Who changes an identity
 
+-- no identity has two owners
 pub one_owner : (p : LayoutValue) (s t id : ℕ) → Owns p s id → Owns p t id → s ≡ t
 one_owner p s t id mine yours = cc
 
@@ -136,6 +138,7 @@ pub opening-owned : (f : Cnf) (p : LayoutValue) (s id : ℕ) → Fits p f → Ow
     → opening f id ≡ absent
 opening-owned f p s id fits owns = opening-above f id (subst (λ (n : ℕ). n < id) fits.clauses (owned_above p s id owns))
 
+-- an identity of the formula keeps its clause, live
 pub formula_stays : (f : Cnf) (p : LayoutValue) (h : History) (id : ℕ) → Fits p f
     → LegalFrom f p (opening f) h → 0 < id → id ≤ p.clauses → state f h id ≡ live (clause_at f id)
 formula_stays f p h id fits legal positive within =
@@ -189,6 +192,7 @@ pub run-others : (f : Cnf) (p : LayoutValue) (m : State) (h : History) (s id : �
 run-others f p m h s id legal others owns =
     run-own f p m m h s id legal owns refl ∙ ap (λ (g : History). run m g id) (own-none h s others)
 
+-- where a stream's own identities above some number have nothing, they have nothing after legal events of others
 pub vacant_above_stays : (f : Cnf) (p : LayoutValue) (m : State) (h : History) (s last : ℕ)
     → LegalFrom f p m h → AllByRecursion (λ e. stream_of e ≡ s → ⊥) h → AreVacantAbove p s m last
     → AreVacantAbove p s (run m h) last
@@ -206,6 +210,7 @@ published-append (events.publish s id c publishing.Done ∷ g) h = ap (λ (ps : 
 published-append (events.publish s id c publishing.Taken ∷ g) h = published-append g h
 published-append (events.retire s id r ∷ g) h = published-append g h
 
+-- each clause that a legal history published follows from the formula
 pub published_follow : (f : Cnf) (p : LayoutValue) (m : State) (h : History) → LegalFrom f p m h
     → AllByRecursion (λ x. IsPublishable f x.1) (published h)
 published_follow f p m [] legal = tt
@@ -214,3 +219,8 @@ published_follow f p m (events.publish s id c publishing.Done ∷ h) legal = (le
 published_follow f p m (events.publish s id c publishing.Taken ∷ h) legal = published_follow f p m h legal.2
 published_follow f p m (events.retire s id retiring.Done ∷ h) legal = published_follow f p (put m id (retire_slot (m id))) h legal.2
 published_follow f p m (events.retire s id retiring.NotLive ∷ h) legal = published_follow f p m h legal.2
+
+-- what a legal history has at a stream's own identity depends on that stream's calls alone
+pub own_calls_decide : (f : Cnf) (p : LayoutValue) (h : History) (s id : ℕ)
+    → LegalFrom f p (opening f) h → Owns p s id → state f h id ≡ state f (own h s) id
+own_calls_decide f p h s id legal owns = run-own f p (opening f) (opening f) h s id legal owns refl

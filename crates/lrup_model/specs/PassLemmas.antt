@@ -86,6 +86,7 @@ known_stays a b es clip tells known =
       text,
     )
 
+-- where all clauses of a place follow from the formula, the clause of a known clip does
 pub known_follows : (p : Place) (clip : ClipValue) → AllFollow p → IsKnown p clip
     → IsDerived p.caller.formula (clip_clause p clip)
 known_follows p clip all known = all.each clip.id (record { start = clip.start; literals = clip_clause p clip }) known.kept

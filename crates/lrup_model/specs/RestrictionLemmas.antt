@@ -104,6 +104,7 @@ among-other : (set : ℕ → Bool) (e : Event) (h : History) → set (stream_of 
     → among set (e ∷ h) ≡ among set h
 among-other set e h other = cond-false (set (stream_of e)) (e ∷ among set h) (among set h) other
 
+-- the events among those of a set of streams are of these streams alone
 pub among-members : (set : ℕ → Bool) (h : History)
     → AllByRecursion (λ e. IsTrue (set (stream_of e))) (among set h)
 among-members set [] = tt
@@ -116,6 +117,7 @@ among-members set (e ∷ h) =
 own-cons : (e : Event) (g h : History) (s : ℕ) → own g s ≡ own h s → own (e ∷ g) s ≡ own (e ∷ h) s
 own-cons e g h s same = ap (λ (k : History). cond (eqb (stream_of e) s) (e ∷ k) k) same
 
+-- the events among those of a set of streams have all events of each of them
 pub own-among : (set : ℕ → Bool) (h : History) (s : ℕ) → IsTrue (set s)
     → own (among set h) s ≡ own h s
 own-among set [] s inside = refl
@@ -177,6 +179,7 @@ spent-among s set (e ∷ h) =
       | inr other ↦ subst (λ (g : History). spent s g ≤ spent s (e ∷ h)) (sym (among-other set e h other)) (omega (arith, spent-among s set h, spent-rest s e h))
     ]
 
+-- the events of streams that find no clause of the others are a legal history by themselves
 pub restriction_legal : (f : Cnf) (p : LayoutValue) (set : ℕ → Bool) (h : History) → Fits p f
     → IsLegal f p h → AllByRecursion (FindsWithin p set) h → IsLegal f p (among set h)
 restriction_legal f p set h fits legal finds = record {

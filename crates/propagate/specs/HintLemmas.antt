@@ -1,24 +1,30 @@
 -- Lemmas on hinted unit propagation.
 use Rattle.std.proofs.Common.{inl, inr, ℤ, neg_ℤ, List, [], ◌∷◌, ◌++◌, refl, sym, ap, subst, ◌∙◌}
+use Rattle.std.specs.Prelude.{◌≡◌}
 use Rattle.lrup_model.specs.Clause.{Clause}
-use Rattle.lrup_model.specs.Propagation.{IsConflict, IsUnit, Refutes}
+use Rattle.lrup_model.specs.Propagation.{IsConflict, IsUnit, Refutes, Accepts}
 use Rattle.propagate.specs.Hints.{Leads}
-use Rattle.propagate.specs.Laws.{UnitIsUnique, UnitIsNoConflict, LeadsOn, LeadsToOne, AcceptsExactly, NeedsConflict, EndsAtConflict, NeedsUnits}
+use Rattle.propagate.specs.Laws.{AcceptsExactly}
 
-pub unit_is_unique : UnitIsUnique
+-- a clause is unit with one literal at most
+pub unit_is_unique : (n : List ℤ) (d : Clause) (l k : ℤ) → IsUnit n d l → IsUnit n d k → l ≡ k
 unit_is_unique n d l k a b =
     elim (b.others l a.here) [ inl same ↦ same | inr is_false ↦ absurd (a.not_false is_false) ]
 
-pub unit_is_no_conflict : UnitIsNoConflict
+-- a unit clause is no conflict
+pub unit_is_no_conflict : (n : List ℤ) (d : Clause) (l : ℤ) → IsUnit n d l → ¬ IsConflict n d
 unit_is_no_conflict n d l unit conflict = unit.not_false (conflict l unit.here)
 
-pub leads_on : LeadsOn
+-- where one more unit clause comes behind unit clauses, one more literal is false
+pub leads_on : (n m : List ℤ) (ds : List Clause) (d : Clause) (l : ℤ) → Leads n ds m → IsUnit m d l
+    → Leads n (ds ++ d ∷ []) (m ++ neg_ℤ l ∷ [])
 leads_on n m [] d l same unit =
     (l, subst (λ k. IsUnit k d l) (sym same) unit, ap (λ k. k ++ neg_ℤ l ∷ []) same)
 leads_on n m (e ∷ ds) d l leads unit =
     (leads.0, leads.1, leads_on (n ++ neg_ℤ leads.0 ∷ []) m ds d l leads.2 unit)
 
-pub leads_to_one : LeadsToOne
+-- unit clauses, one after the other, leave one list of false literals
+pub leads_to_one : (n m k : List ℤ) (ds : List Clause) → Leads n ds m → Leads n ds k → m ≡ k
 leads_to_one n m k [] a b = sym a ∙ b
 leads_to_one n m k (d ∷ ds) a b =
     let same = unit_is_unique n d a.0 b.0 a.1 b.1 in
@@ -63,10 +69,14 @@ needs_conflict_from n m (d ∷ e ∷ ds) leads refutes =
     let same = unit_is_unique n d refutes.0 leads.0 refutes.1 leads.1 in
     needs_conflict_from (n ++ neg_ℤ leads.0 ∷ []) m (e ∷ ds) leads.2 (subst (λ l. Refutes (n ++ neg_ℤ l ∷ []) (e ∷ ds)) same refutes.2)
 
-pub needs_conflict : NeedsConflict
+-- unit clauses alone aren't accepted
+pub needs_conflict : (c m : List ℤ) (ds : List Clause) → Leads c ds m → ¬ Accepts c ds
 needs_conflict c m ds leads accepts = needs_conflict_from c m ds leads accepts.1
 
-pub ends_at_conflict : EndsAtConflict
+-- clauses behind the conflict aren't accepted
+pub ends_at_conflict : (c m : List ℤ) (ds : List Clause) (d e : Clause) (es : List Clause)
+    → Leads c ds m
+    → IsConflict m d → ¬ Accepts c (ds ++ d ∷ e ∷ es)
 ends_at_conflict c m ds d e es leads conflict accepts =
     let behind = refutes_behind c m ds d (e ∷ es) leads accepts.1 in
     unit_is_no_conflict m d behind.0 behind.1 conflict
@@ -76,6 +86,8 @@ needs_units_here : (m : List ℤ) (d : Clause) (es : List Clause) → (¬ IsConf
 needs_units_here m d [] no_conflict no_unit refutes = no_conflict refutes
 needs_units_here m d (e ∷ es) no_conflict no_unit refutes = no_unit refutes.0 refutes.1
 
-pub needs_units : NeedsUnits
+-- a clause that is neither unit nor a conflict isn't accepted, whatever comes behind it
+pub needs_units : (c m : List ℤ) (ds : List Clause) (d : Clause) (es : List Clause) → Leads c ds m
+    → (¬ IsConflict m d) → ((l : ℤ) → ¬ IsUnit m d l) → ¬ Accepts c (ds ++ d ∷ es)
 needs_units c m ds d es leads no_conflict no_unit accepts =
     needs_units_here m d es no_conflict no_unit (refutes_behind c m ds d es leads accepts.1)

@@ -8,7 +8,7 @@ use Rattle.lrup_model.specs.Event.{Event, History, own, stream_of}
 use Rattle.lrup_model.specs.Formula.{Cnf}
 use Rattle.lrup_model.specs.History.{IsLegal}
 use Rattle.lrup_model.specs.HistoryLemmas.{opening-owned, own-all, own-none, run-own}
-use Rattle.lrup_model.specs.Laws.{HasClause, PropagationSound}
+use Rattle.lrup_model.specs.Laws.{HasClause}
 use Rattle.lrup_model.specs.Layout.{Fits, Owns, owner}
 use Rattle.lrup_model.specs.State.{Slot, opening, run, state}
 use Rattle.lrup_text.specs.Laws.{EmptyCut, OneCut, OneFirstLine, RefusedStays}
@@ -60,13 +60,13 @@ all_nothing f c h fits legal calls (events.retire s id r ∷ es) there = (tt, al
 
 -- In a run
 
-pub right_begins : PropagationSound → GoodLineTaken → FreshLeft → EndJudged → EmptyCut → OneCut → OneFirstLine
+pub right_begins : GoodLineTaken → FreshLeft → EndJudged → EmptyCut → OneCut → OneFirstLine
     → RefusedStays → RightBegins
-right_begins sound taken fresh ends empty_cut one_cut first refused
+right_begins taken fresh ends empty_cut one_cut first refused
     f terms s bytes lines told telling reports report cnf fits stream right run here entry says =
     let c = setting_of terms s in
     let texts = flat_map line_text lines in
-    let alone = right_judged sound taken fresh ends empty_cut one_cut f terms s texts lines cnf fits stream
+    let alone = right_judged taken fresh ends empty_cut one_cut f terms s texts lines cnf fits stream
     (record { text = refl; fits = right.fits; right = right.right }) in
     let g = alone.0.history in
     let w = alone.0.judges.judges in

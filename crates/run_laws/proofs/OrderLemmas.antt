@@ -15,8 +15,9 @@ use Rattle.lrup_model.specs.RunningLemmas.{size_of, spent-sizes, own-append}
 use Rattle.lrup_model.specs.HistoryLemmas.{put-same, own-mine, own-other, own-all}
 use Rattle.lrup_model.specs.EntryLemmas.{run-advances, retired_now}
 use Rattle.lrup_model.specs.OwnerLemmas.{IsOwned, owned}
-use Rattle.lrup_model.specs.Laws.{among, FindsWithin, RestrictionLegal, AmongMembers, AmongKeepsOwn}
+use Rattle.lrup_model.specs.Laws.{among, FindsWithin}
 use Rattle.lrup_model.specs.declared.clause_map.Retired.TheVariants as retiring
+use Rattle.lrup_model.specs.RestrictionLemmas.{restriction_legal, among-members, own-among}
 use Rattle.stream_check.specs.Judging.{joined}
 use Rattle.stream_check.specs.Reducing.{is_vacant, reduced}
 use Rattle.stream_check.specs.ReducingLemmas.{reduced_kept, reduced_left_out}
@@ -184,24 +185,23 @@ within_set p set final rest (block ∷ blocks) all none = (
   ]),
 )
 
-pub lines_in_order : RestrictionLegal → AmongMembers → AmongKeepsOwn
-    → (f : Cnf) (p : LayoutValue) (set : ℕ → Bool) (h : History) (blocks : ℕ → List History)
+pub lines_in_order : (f : Cnf) (p : LayoutValue) (set : ℕ → Bool) (h : History) (blocks : ℕ → List History)
     → Fits p f → IsLegal f p h → AllByRecursion (FindsWithin p (streams_in p set)) h
     → ((s : ℕ) → IsStream p s → IsTrue (set s) → own h s ≡ joined (blocks s))
     → ((s : ℕ) → IsStream p s → IsTrue (set s) → AllByRecursion IsLineBlock (blocks s))
     → FoundStays f p set h
     → (order : List Block) × IsOrder f p set blocks order
-lines_in_order restriction_legal among_members among_keeps_own f p set h blocks fits legal finds owns lines stays =
+lines_in_order f p set h blocks fits legal finds owns lines stays =
     let inside : ℕ → Bool = streams_in p set in
     let part : History = among inside h in
     let rest : Lines = lines_in p set blocks in
     let is_legal : IsLegal f p part = restriction_legal f p inside h fits legal finds in
-    let members : AllByRecursion (λ e. IsTrue (inside (stream_of e))) part = among_members inside h in
+    let members : AllByRecursion (λ e. IsTrue (inside (stream_of e))) part = among-members inside h in
     let own_events : (s : ℕ) → own part s ≡ joined (rest s)
     = λ s. elim (cases_Bool (inside s)) [
       | inl member ↦
           let is : IsTrue (set s) × IsStream p s = streams_are p set s member in
-          among_keeps_own inside h s member ∙ owns s is.1 is.0 ∙ sym (ap joined (in-lines p set blocks s member))
+          own-among inside h s member ∙ owns s is.1 is.0 ∙ sym (ap joined (in-lines p set blocks s member))
       | inr out ↦ none-of inside s part out members ∙ sym (ap joined (out-lines p set blocks s out))
     ] in
     let made : HasOrder f p (state f h) (opening f) rest
@@ -240,6 +240,6 @@ lines_in_order restriction_legal among_members among_keeps_own f p set h blocks 
       },
     )
 
-pub lines_ordered : RestrictionLegal → AmongMembers → AmongKeepsOwn → LinesOrdered
-lines_ordered restriction_legal among_members among_keeps_own f p set h blocks fits legal finds owns lines stays =
-    lines_in_order restriction_legal among_members among_keeps_own f p set h blocks fits legal (finds_less p set h finds) owns lines stays
+pub lines_ordered : LinesOrdered
+lines_ordered f p set h blocks fits legal finds owns lines stays =
+    lines_in_order f p set h blocks fits legal (finds_less p set h finds) owns lines stays

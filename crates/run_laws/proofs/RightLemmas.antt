@@ -12,7 +12,6 @@ use Rattle.lrup_model.specs.Event.{History, stream_of, own, spent}
 use Rattle.lrup_model.specs.Formula.{Cnf, IsCnf, clause_at}
 use Rattle.lrup_model.specs.History.{LegalFrom}
 use Rattle.lrup_model.specs.HistoryLemmas.{formula_owned, opening-formula, opening-owned, own-all, own-none}
-use Rattle.lrup_model.specs.Laws.{PropagationSound}
 use Rattle.lrup_model.specs.Layout.{LayoutValue, Fits, IsStream, last_identity}
 use Rattle.lrup_model.specs.RunningLemmas.{legal-append, callers-append, size_of, spent-sizes}
 use Rattle.lrup_model.specs.State.{State, live, opening, run}
@@ -103,11 +102,11 @@ next_holding c old line = record {
   line = capped (old.line + 1);
 }
 
-lines_go : PropagationSound → GoodLineTaken → (f : Cnf) (c : Setting) → Fits c.layout f → 0 < c.layout.streams
+lines_go : GoodLineTaken → (f : Cnf) (c : Setting) → Fits c.layout f → 0 < c.layout.streams
     → (lines : List StreamLine) (base : Database) (m : State) (bytes : List ℕ) (blocks : List History) (old : Holding)
     → old.pending ≡ [] → Agrees f c.layout c.stream base old.standing m → AllByRecursion IsWithinLimits lines
     → AreRight c.layout c.stream base lines → Leaves c bytes blocks (Going old) → LinesGo f c base m bytes blocks lines
-lines_go sound taken f c fits some [] base m bytes blocks old pending a limits right leaves = record {
+lines_go taken f c fits some [] base m bytes blocks old pending a limits right leaves = record {
   more = [];
   legal = tt;
   callers = tt;
@@ -117,15 +116,15 @@ lines_go sound taken f c fits some [] base m bytes blocks old pending a limits r
   leaves = subst (λ (b : List ℕ). Leaves c b (blocks ++ []) (Going old)) (sym (append-nil bytes))
       (subst (λ (b : List History). Leaves c bytes b (Going old)) (sym (append-nil blocks)) leaves);
 }
-lines_go sound taken f c fits some (line ∷ lines) base m bytes blocks old pending a limits right leaves =
-    let goes : Goes f c base old.standing m line = line_goes sound f c base old.standing m line fits some a limits.0 right.0 in
+lines_go taken f c fits some (line ∷ lines) base m bytes blocks old pending a limits right leaves =
+    let goes : Goes f c base old.standing m line = line_goes f c base old.standing m line fits some a limits.0 right.0 in
     let new = next_holding c old line in
     let left : Leaves c (bytes ++ line_text line) (blocks ++ goes.block ∷ []) (Going new) =
     taken c bytes (line_text line) blocks goes.block old new line leaves
     (limits.0, ap (λ (p : List ℕ). p ++ line_text line) pending) goes.judged
     (record { tally = refl; standing = record { last = refl; free = refl; gone = λ id. refl }; pending = refl; line = refl }) in
     let rest : LinesGo f c (after_line base line) (run m goes.block) (bytes ++ line_text line) (blocks ++ goes.block ∷ []) lines =
-    lines_go sound taken f c fits some lines (after_line base line) (run m goes.block) (bytes ++ line_text line)
+    lines_go taken f c fits some lines (after_line base line) (run m goes.block) (bytes ++ line_text line)
     (blocks ++ goes.block ∷ []) new
     refl goes.next limits.1 right.1 left in
     record {
@@ -205,7 +204,7 @@ ended_report ends empty_cut one_cut terms s lines more holding pending limits le
     ∙ ap (λ (ls : List StreamLine). report_of c ls 0 endings.Ended) same.0 in
     subst (JudgesBlocks c texts stream_ends.Ended more) says (ends c texts more holding stream_ends.Ended leaves)
 
-module _ (sound : PropagationSound) (taken : GoodLineTaken) (fresh : FreshLeft) (ends : EndJudged)
+module _ (taken : GoodLineTaken) (fresh : FreshLeft) (ends : EndJudged)
     (empty_cut : EmptyCut) (one_cut : OneCut) where
   -- a legal history of its own judges it so
   pub right_judged : (f : Cnf) (terms : TermsValue) (s : ℕ) (bytes : List ℕ) (lines : List StreamLine)
@@ -226,7 +225,7 @@ module _ (sound : PropagationSound) (taken : GoodLineTaken) (fresh : FreshLeft) 
         line = refl;
       }) in
       let on : LinesGo f c (first_database f terms.layout) (opening f) [] [] lines =
-      lines_go sound taken f c fits (omega (arith, stream.0, stream.1)) lines (first_database f terms.layout)
+      lines_go taken f c fits (omega (arith, stream.0, stream.1)) lines (first_database f terms.layout)
       (opening f) [] [] first refl
       (first_agrees f c cnf fits) right.fits right.right left in
       let texts = flat_map line_text lines in

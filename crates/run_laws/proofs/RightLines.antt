@@ -17,7 +17,7 @@ use Rattle.lrup_model.specs.Formula.{Cnf}
 use Rattle.lrup_model.specs.History.{LegalFrom}
 use Rattle.lrup_model.specs.HistoryLemmas.{put, put-same, put-other, vacant_above_stays}
 use Rattle.lrup_model.specs.EntryLemmas.{run-advances}
-use Rattle.lrup_model.specs.Laws.{PropagationSound, Advances}
+use Rattle.lrup_model.specs.Laws.{Advances}
 use Rattle.lrup_model.specs.Layout.{LayoutValue, Fits, IsIdentity, Owns, owner, last_identity}
 use Rattle.lrup_model.specs.OwnerLemmas.{owned}
 use Rattle.lrup_model.specs.RunningLemmas.{run-append, legal-append, callers-append, size_of}
@@ -25,6 +25,7 @@ use Rattle.lrup_model.specs.State.{State, Slot, absent, live, retired, IsLive, r
 use Rattle.lrup_model.specs.declared.clause_map.Retired.TheVariants as retiring
 use Rattle.lrup_model.specs.declared.layout.Owner.{Owner}
 use Rattle.lrup_model.specs.declared.layout.Owner.TheVariants as owners
+use Rattle.lrup_model.specs.EntailmentLemmas.{propagation_sound}
 use Rattle.lrup_text.specs.Lines.{StreamLine, Addition, Deletion, Import, IsWithinLimits}
 use Rattle.stream_check.specs.declared.setting.Side.{Side}
 use Rattle.stream_check.specs.declared.setting.Side.TheVariants as sides
@@ -188,17 +189,17 @@ pub not_callers : (s t : ℕ) (es : History) → t ≢ s → AllByRecursion (λ 
 not_callers s t [] other all = tt
 not_callers s t (e ∷ es) other all = (λ same. other (sym same ∙ all.0), not_callers s t es other all.1)
 
-addition_goes : PropagationSound → (f : Cnf) (c : Setting) (base : Database) (st : Standing) (m : State)
+addition_goes : (f : Cnf) (c : Setting) (base : Database) (st : Standing) (m : State)
     (id : ℕ) (lits : List ℤ) (hints : List ℕ)
     → Fits c.layout f → 0 < c.layout.streams → Agrees f c.layout c.stream base st m → IsWithinLimits (Addition id lits hints)
     → IsValidAddition c.layout c.stream (database_context base) id lits hints → Goes f c base st m (Addition id lits hints)
-addition_goes sound f c base st m id lits hints fits some a limits right =
+addition_goes f c base st m id lits hints fits some a limits right =
     let found : Finds f c st.gone m hints right.clauses = finds f c base st m hints right.clauses some a right.named in
     let e = published_by c id lits in
     let clause = distinct lits in
     let is_clause : IsClause f.vars clause = subst (λ (n : ℕ). IsClause n clause) fits.vars
     (IsClause-distinct c.layout.vars lits (literals_within c.layout.vars lits limits.1.each right.literals)) in
-    let follows : Follows f clause = sound f clause right.clauses found.sound right.shown in
+    let follows : Follows f clause = propagation_sound f clause right.clauses found.sound right.shown in
     let after : run m (found.fetches ++ e ∷ []) ≡ put m id (live clause) =
     run-append m found.fetches (e ∷ []) ∙ ap (λ (n : State). run n (e ∷ [])) found.still in
     let absent_there : m id ≡ absent = a.vacant id right.owns right.above in
@@ -558,10 +559,10 @@ import_goes f c base st m id lits fits some a right =
     }
 
 -- a right line goes on
-pub line_goes : PropagationSound → (f : Cnf) (c : Setting) (base : Database) (st : Standing) (m : State) (line : StreamLine)
+pub line_goes : (f : Cnf) (c : Setting) (base : Database) (st : Standing) (m : State) (line : StreamLine)
     → Fits c.layout f → 0 < c.layout.streams → Agrees f c.layout c.stream base st m → IsWithinLimits line
     → IsRightLine c.layout c.stream base line → Goes f c base st m line
-line_goes sound f c base st m (Addition id lits hints) fits some a limits right =
-    addition_goes sound f c base st m id lits hints fits some a limits right
-line_goes sound f c base st m (Deletion lead ids) fits some a limits right = deletion_goes f c base st m lead ids a right
-line_goes sound f c base st m (Import id lits) fits some a limits right = import_goes f c base st m id lits fits some a right
+line_goes f c base st m (Addition id lits hints) fits some a limits right =
+    addition_goes f c base st m id lits hints fits some a limits right
+line_goes f c base st m (Deletion lead ids) fits some a limits right = deletion_goes f c base st m lead ids a right
+line_goes f c base st m (Import id lits) fits some a limits right = import_goes f c base st m id lits fits some a right

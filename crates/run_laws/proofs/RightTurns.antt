@@ -4,7 +4,6 @@ use Rattle.std.specs.List.{flat_map}
 use Rattle.std.specs.Io.KnownBytes.{Consumes}
 use Rattle.std.proofs.lemmas.Option.{slice_get_within}
 use Rattle.lrup_model.specs.Formula.{Cnf}
-use Rattle.lrup_model.specs.Laws.{PropagationSound}
 use Rattle.lrup_text.specs.Laws.{EmptyCut, OneCut}
 use Rattle.lrup_text.specs.Lines.{line_text}
 use Rattle.lrup_text.specs.declared.device.StreamEnd.TheVariants as stream_ends
@@ -49,14 +48,14 @@ right_order_by_turns f terms steps order is turns = record {
   turns = subst IsByTurns (sym is.streams) turns;
 }
 
-pub right_by_turns : PropagationSound → GoodLineTaken → FreshLeft → EndJudged → EmptyCut → OneCut
+pub right_by_turns : GoodLineTaken → FreshLeft → EndJudged → EmptyCut → OneCut
     → DecidedBeforeFailure → OneReport → LegalNeverFork → BlocksGoAlike → RightByTurns
 unfolding right_order_by_turns
-right_by_turns sound taken fresh ends empty_cut one_cut decided one forks alike f terms steps told reports s report cnf fits
+right_by_turns taken fresh ends empty_cut one_cut decided one forks alike f terms steps told reports s report cnf fits
     right turns texts x a fine says =
     let n = terms.layout.streams in
     let said : ℕ → Report = λ t. right_report terms t (lines_by t steps) in
-    let found = right_ordered sound taken fresh ends empty_cut one_cut f terms steps cnf fits right in
+    let found = right_ordered taken fresh ends empty_cut one_cut f terms steps cnf fits right in
     let b = right_order_by_turns f terms steps found.0 found.1 turns in
     let many : length x.streams ≡ n = x.count in
     let count : length told ≡ n = sym (told_count told x.streams x.are_told) ∙ many in

@@ -11,7 +11,6 @@ use Rattle.lrup_model.specs.Event.{History, own, spent}
 use Rattle.lrup_model.specs.Formula.{Cnf, IsCnf}
 use Rattle.lrup_model.specs.History.{LegalFrom, IsLegal}
 use Rattle.lrup_model.specs.HistoryLemmas.{formula_owned, one_owner, own-all, own-none}
-use Rattle.lrup_model.specs.Laws.{PropagationSound}
 use Rattle.lrup_model.specs.Layout.{LayoutValue, Fits, IsStream, Owns}
 use Rattle.lrup_model.specs.RunningLemmas.{legal-append, own-append, size_of, spent-append, spent-sizes}
 use Rattle.lrup_model.specs.State.{State, opening, run}
@@ -85,7 +84,7 @@ beside_free p s base (Import id lits) = refl
 not_eqb : (a b : ℕ) → eqb a b ≡ false → a ≢ b
 not_eqb a b test same = true≢false (sym (eq-eqb a b same) ∙ test)
 
-module _ (sound : PropagationSound) (taken : GoodLineTaken) (f : Cnf) (terms : TermsValue)
+module _ (taken : GoodLineTaken) (f : Cnf) (terms : TermsValue)
     (fits : Fits terms.layout f) where
   -- the stream whose line it is
   on_with : (step : Step) (base : Database) (m : State) (track : Track) → 0 < terms.layout.streams → IsWithinLimits step.line
@@ -205,7 +204,7 @@ module _ (sound : PropagationSound) (taken : GoodLineTaken) (f : Cnf) (terms : T
       let s = step.stream in
       let some : 0 < terms.layout.streams = omega (arith, streams.0.0, streams.0.1) in
       let g : Goes f (setting_of terms s) (bases s) (tracks s).holding.standing m step.line =
-      line_goes sound f (setting_of terms s) (bases s) (tracks s).holding.standing m step.line fits some
+      line_goes f (setting_of terms s) (bases s) (tracks s).holding.standing m step.line fits some
       (on s).agrees limits.0 right.0 in
       let later : AllGo (after_step terms.layout step bases) (run m g.block) (tracks_after terms step g.block tracks) steps =
       steps_go steps (after_step terms.layout step bases) (run m g.block)
@@ -420,7 +419,7 @@ pub record IsOrderOf (f : Cnf) (terms : TermsValue) (steps : List Step) (order :
   pub judged : (t : ℕ) → JudgesBlocks (setting_of terms t) (flat_map line_text (lines_by t steps)) stream_ends.Ended (blocks_of t order)
       (right_report terms t (lines_by t steps))
 
-module _ (sound : PropagationSound) (taken : GoodLineTaken) (fresh : FreshLeft) (ends : EndJudged)
+module _ (taken : GoodLineTaken) (fresh : FreshLeft) (ends : EndJudged)
     (empty_cut : EmptyCut) (one_cut : OneCut) where
   pub right_ordered : (f : Cnf) (terms : TermsValue) (steps : List Step) → IsCnf f → Fits terms.layout f → IsRightOrder f terms.layout steps
       → (order : List Block) × IsOrderOf f terms steps order
@@ -436,8 +435,8 @@ module _ (sound : PropagationSound) (taken : GoodLineTaken) (fresh : FreshLeft) 
           line = 1;
         };
       } in
-      let all : AllGo sound taken f terms fits (λ t. first_database f p) (opening f) first steps =
-      steps_go sound taken f terms fits steps (λ t. first_database f p) (opening f) first right.streams right.fits right.right
+      let all : AllGo taken f terms fits (λ t. first_database f p) (opening f) first steps =
+      steps_go taken f terms fits steps (λ t. first_database f p) (opening f) first right.streams right.fits right.right
       (λ t. record {
         pending = refl;
         agrees = first_agrees f (setting_of terms t) cnf fits;

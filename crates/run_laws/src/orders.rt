@@ -2,7 +2,6 @@
 //! history.
 ghost use Rattle.run_laws.specs.OrderLaws.{JudgedBlocks, DeletedRetired, LinesOrdered, ClosedOrdered, AllClosed, AllOrdered, KeptByEvents, OwnersAloneSuffices, SharedStays, BeginningsCite, ReadersShare, RunSerializable};
 
-use lrup_model::laws::{among_keeps_own, among_members, restriction_legal};
 use lrup_text::laws::{a_beginning_is_cut_alike, bytes_begin_with_one_line, every_stream_is_cut};
 use stream_check::laws::{cited_fetched, early_events, reduced_stream, vacant_tries_again};
 
@@ -24,11 +23,7 @@ pub fn deleted_retired()
 /// Lines of streams that find no clause of streams outside their set have an order.
 pub fn lines_ordered()
     ensures { LinesOrdered }
-{
-    restriction_legal();
-    among_members();
-    among_keeps_own();
-}
+{}
 
 /// The reports of a closed set of streams that one legal history judges have an order of lines.
 pub fn closed_ordered()

@@ -4,7 +4,6 @@ ghost use Rattle.run_laws.specs.Together.{RightTogether, TogetherBegins};
 ghost use Rattle.run_laws.specs.RightLaws.{RightCiteWithin, RightAccepted, RightHasOneReport, RightReported, RightBegins, RightCounted, EndedIsRight, RightEmpty};
 
 use crate::groups::{alone_has_one_report, beginnings_within, closed_is_group};
-use lrup_model::laws::propagation_sound;
 use lrup_text::laws::{
     a_refused_text_holds_no_line, a_stream_is_cut_in_one_way, a_text_has_one_fault,
     bytes_begin_with_one_line, no_bytes_have_no_lines, no_bytes_may_become_a_line,
@@ -25,7 +24,6 @@ pub fn right_cite_within()
 pub fn right_accepted()
     ensures { RightAccepted }
 {
-    propagation_sound();
     good_line_taken();
     fresh_left();
     end_judged();
@@ -45,7 +43,6 @@ pub fn right_has_one_report()
 pub fn right_reported()
     ensures { RightReported }
 {
-    propagation_sound();
     good_line_taken();
     fresh_left();
     end_judged();
@@ -63,7 +60,6 @@ pub fn right_reported()
 pub fn right_begins()
     ensures { RightBegins }
 {
-    propagation_sound();
     good_line_taken();
     fresh_left();
     end_judged();
@@ -77,7 +73,6 @@ pub fn right_begins()
 pub fn right_counted()
     ensures { RightCounted }
 {
-    propagation_sound();
     good_line_taken();
     fresh_left();
     end_judged();
@@ -119,7 +114,6 @@ pub fn no_false_blame()
 pub fn together_begins()
     ensures { TogetherBegins }
 {
-    propagation_sound();
     good_line_taken();
     fresh_left();
     end_judged();
@@ -135,7 +129,6 @@ pub fn together_begins()
 pub fn right_together()
     ensures { RightTogether }
 {
-    propagation_sound();
     good_line_taken();
     fresh_left();
     end_judged();

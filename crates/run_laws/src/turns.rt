@@ -1,7 +1,6 @@
 //! Laws of runs on one thread. Each function does nothing; its contract is the law, which holds of every formula and run.
 ghost use Rattle.run_laws.specs.TurnsLaws.{BytesDecide, RightByTurns, TurnsDecide};
 
-use lrup_model::laws::propagation_sound;
 use lrup_text::laws::{a_stream_is_cut_in_one_way, no_bytes_have_no_lines};
 use stream_check::laws::{
     blocks_go_alike, decided_before_failure, end_judged, fresh_left, good_line_taken,
@@ -33,7 +32,6 @@ pub fn bytes_decide()
 pub fn right_by_turns()
     ensures { RightByTurns }
 {
-    propagation_sound();
     good_line_taken();
     fresh_left();
     end_judged();

@@ -14,9 +14,9 @@ use Rattle.lrup_model.specs.History.{IsPublishable, max_line_literals}
 use Rattle.lrup_model.specs.Place.{Caller, Place, Tells, IsVacantAbove}
 use Rattle.lrup_model.specs.declared.clause_map.Published.{Published}
 use Rattle.lrup_model.specs.declared.clause_map.Published.TheVariants as publishing
-use Rattle.lrup_model.specs.Laws.{PropagationSound}
 use Rattle.lrup_model.specs.Distinct.{distinct}
 use Rattle.lrup_model.specs.DistinctLemmas.{IsTautology-in_distinct, length-distinct}
+use Rattle.lrup_model.specs.EntailmentLemmas.{propagation_sound}
 use Rattle.propagate.specs.Marks.{Propagation}
 use Rattle.stream_check.specs.declared.fault.Fault.{Fault}
 use Rattle.stream_check.specs.Setting.{Setting}
@@ -81,15 +81,15 @@ shown_is c st gone f id lits hints marks es admits shown =
     subst (λ (d : Clause). Shows c gone f d hints es (Ok tt)) (ap (λ (m : Propagation). m.falses) admits.marks_are) shown
 
 pub publishable : (c : Setting) (p q : Place) (st : Standing) (gone : ℕ → Bool) (es : History) (id : ℕ) (lits : List ℤ) (hints : List ℕ)
-    (marks : Propagation) → PropagationSound → Tells p q es
+    (marks : Propagation) → Tells p q es
     → Admits c st id lits marks → length lits ≤ max_line_literals → Shows c gone p.caller.formula (distinct lits) hints es (Ok tt)
     → IsPublishable q.caller.formula (distinct lits)
-publishable c p q st gone es id lits hints marks sound tells admits few shown =
+publishable c p q st gone es id lits hints marks tells admits few shown =
     subst (λ (f : Cnf). IsPublishable f (distinct lits)) (sym (ap (λ (r : Caller). r.formula) tells.caller))
     (record {
       clause = subst (λ (v : ℕ). IsClause v (distinct lits)) (sym shown.3) admits.clause;
       length = omega (arith, length-distinct lits);
-      follows = sound p.caller.formula (distinct lits) shown.0 shown.1 shown.2;
+      follows = propagation_sound p.caller.formula (distinct lits) shown.0 shown.1 shown.2;
     })
 
 pub still_vacant : (c : Setting) (p q : Place) (es : History) (last id : ℕ) → IsPlaceOf c p → Tells p q es → AllByRecursion IsFetch es

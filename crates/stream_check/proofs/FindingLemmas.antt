@@ -6,8 +6,8 @@ use Rattle.lrup_model.specs.Formula.{Cnf}
 use Rattle.lrup_model.specs.Entailment.{Follows}
 use Rattle.lrup_model.specs.Event as events
 use Rattle.lrup_model.specs.Event.{Event, History}
-use Rattle.lrup_model.specs.Laws.{PropagationSound}
 use Rattle.lrup_model.specs.Distinct.{distinct}
+use Rattle.lrup_model.specs.EntailmentLemmas.{propagation_sound}
 use Rattle.stream_check.specs.declared.setting.Side.{Side}
 use Rattle.stream_check.specs.declared.setting.Side.TheVariants as sides
 use Rattle.stream_check.specs.Setting.{Setting, side_of}
@@ -41,7 +41,7 @@ found_sound f c gone (h ∷ hints) (d ∷ ds) es found all =
     let here = found_live c gone h found.0 d found.3 in
     (live_sound (side_of c h) f c h found.0 d here.1 parts.0, found_sound f c gone hints ds found.1 found.4 parts.1)
 
-pub good_follows : PropagationSound → GoodFollows
-good_follows sound f c st id lits hints es good all =
+pub good_follows : GoodFollows
+good_follows f c st id lits hints es good all =
     let parts = all_front (FindsSound f) good.0 (published_by c id lits ∷ []) (subst (AllByRecursion (FindsSound f)) good.2 all) in
-    sound f (distinct lits) good.1.clauses (found_sound f c st.gone hints good.1.clauses good.0 good.1.named parts.0) good.1.shown
+    propagation_sound f (distinct lits) good.1.clauses (found_sound f c st.gone hints good.1.clauses good.0 good.1.named parts.0) good.1.shown

@@ -5,8 +5,7 @@ use Rattle.lrup_model.specs.Layout.{LayoutValue, Owns}
 use Rattle.lrup_model.specs.State.{State}
 use Rattle.lrup_model.specs.Place.{Caller}
 use Rattle.lrup_model.specs.Plain.{plain_place}
-use Rattle.lrup_model.specs.Laws.{VacantAboveStays}
-use Rattle.lrup_model.specs.HistoryLemmas.{opening-owned}
+use Rattle.lrup_model.specs.HistoryLemmas.{opening-owned, vacant_above_stays}
 use Rattle.lrup_model.specs.CallerLemmas.{calls_differ}
 use Rattle.stream_check.specs.Setting.{Setting}
 use Rattle.stream_check.specs.Laws.{ReadyNew, ReadyStays, ReadyBeside}
@@ -21,8 +20,8 @@ ready_new f layout cube stream tries v p new fits caller own = record {
       let here = subst (λ (c : Caller). Owns c.layout c.stream id) caller owns in own id here ∙ opening-owned f layout stream id fits here;
 }
 
-pub ready_stays : VacantAboveStays → ReadyStays
-ready_stays law v p q es ready same legal others own =
+pub ready_stays : ReadyStays
+ready_stays v p q es ready same legal others own =
     let before : (id : ℕ) → Owns q.caller.layout q.caller.stream id → Owns p.caller.layout p.caller.stream id =
     λ id owns. subst (λ (c : Caller). Owns c.layout c.stream id) same owns in
     record {
@@ -31,12 +30,13 @@ ready_stays law v p q es ready same legal others own =
         stream = ap (λ (c : Caller). c.stream) same ∙ ready.at.stream;
       };
       vacant = λ id owns above. own id (before id owns)
-          ∙ law p.caller.formula p.caller.layout p.own es p.caller.stream v.last legal others ready.vacant id (before id owns) above;
+          ∙ vacant_above_stays p.caller.formula p.caller.layout p.own es p.caller.stream v.last
+          legal others ready.vacant id (before id owns) above;
     }
 
-pub ready_beside : VacantAboveStays → ReadyBeside
-ready_beside law v old new t es ready moves other =
+pub ready_beside : ReadyBeside
+ready_beside v old new t es ready moves other =
     let s = v.setting.stream in
-    ready_stays law v (plain_place old s) (plain_place new s) es ready
+    ready_stays v (plain_place old s) (plain_place new s) es ready
     (ap₂ (λ (f : Cnf) (p : LayoutValue). record { formula = f; layout = p; stream = s }) moves.formula moves.layout)
     moves.answers (calls_differ s t es other moves.callers) (λ id owns. ap (λ (m : State). m id) moves.state)

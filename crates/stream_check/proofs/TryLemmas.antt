@@ -13,7 +13,7 @@ use Rattle.lrup_model.specs.Place.{Caller, Place, Tells, ClipValue, IsKnown, All
 use Rattle.lrup_model.specs.PassLemmas.{known_follows}
 use Rattle.lrup_model.specs.Propagation.{IsConflict, IsUnit}
 use Rattle.propagate.specs.Hints.{Leads}
-use Rattle.propagate.specs.Laws.{LeadsOn, AcceptsExactly}
+use Rattle.propagate.specs.HintLemmas.{leads_on, accepts_exactly}
 use Rattle.stream_check.specs.declared.fault.Fault.{Fault}
 use Rattle.stream_check.specs.declared.fault.Fault.TheVariants as faults
 use Rattle.stream_check.specs.Setting.{Setting}
@@ -80,8 +80,8 @@ module _ (c : Setting) (gone : ℕ → Bool) (f : Cnf) (n m : List ℤ) (hints :
         (before.found (d ∷ ds) (fs ++ more) (subst (λ (hs : List ℕ). AreFound c gone hs (d ∷ ds) (fs ++ more)) (sym is)
         (fs, more, refl, looks, found))))
 
-    pub goes_on : (l : ℤ) → LeadsOn → IsDerived f d → IsUnit m d l → HasLed c gone f n hints (m ++ neg_ℤ l ∷ []) rest (es ++ fs)
-    goes_on l leads_on derived unit = record {
+    pub goes_on : (l : ℤ) → IsDerived f d → IsUnit m d l → HasLed c gone f n hints (m ++ neg_ℤ l ∷ []) rest (es ++ fs)
+    goes_on l derived unit = record {
       clauses = before.clauses ++ d ∷ [];
       derived = all_derived f before.clauses d before.derived derived;
       leads = leads_on n m before.clauses d l before.leads unit;
@@ -98,14 +98,14 @@ module _ (c : Setting) (gone : ℕ → Bool) (f : Cnf) (n m : List ℤ) (hints :
     pub shows_not_unit : ¬ IsConflict m d → ((l : ℤ) → ¬ IsUnit m d l) → Shows c gone f n hints (es ++ fs) (Err (faults.NotUnit h))
     shows_not_unit conflict unit = misled (faults.NotUnit h) (inl (conflict, unit, refl))
 
-    pub shows_conflict : AcceptsExactly → ¬ IsTautology n → IsDerived f d → f.vars ≡ c.layout.vars → IsConflict m d
+    pub shows_conflict : ¬ IsTautology n → IsDerived f d → f.vars ≡ c.layout.vars → IsConflict m d
         → Shows c gone f n hints (es ++ fs) (excess_of rest)
-    shows_conflict exactly consistent derived variables conflict =
+    shows_conflict consistent derived variables conflict =
         elim rest as (λ (hs : List ℕ). hs ≡ rest → Shows c gone f n hints (es ++ fs) (excess_of hs)) [
           | [] ↦ λ none. (
             before.clauses ++ d ∷ [],
             all_derived f before.clauses d before.derived derived,
-            (exactly n before.clauses d).1 (consistent, (m, before.leads, conflict)),
+            (accepts_exactly n before.clauses d).1 (consistent, (m, before.leads, conflict)),
             variables,
             subst (AreFound c gone hints (before.clauses ++ d ∷ [])) (append-nil (es ++ fs))
                 (subst (λ (x : List Clause). AreFound c gone hints x ((es ++ fs) ++ [])) (append-nil (before.clauses ++ d ∷ []))

@@ -1,7 +1,6 @@
 //! Laws of judging. Each function does nothing; its contract is the law, which holds of every stream, layout and history.
 ghost use Rattle.stream_check.specs.Laws.{FreshLeft, PendingGrows, GoodLineTaken, BadLineTaken, BadTextRead, MemoryWanted, EndJudged, OverStays, EitherEnd, DecidedBeforeFailure, DroppedOnce, ReadyNew, ReadyStays, ReadyBeside, OneReport, RepliesDecide, BlocksGoAlike, LegalNeverFork, AloneDecides, GoodFollows, LineCalls, EarlyEvents, VacantTriesAgain, ReducedLine, ReducedStream, JudgedLinesCut, CitedFetched, WithinReported, EmptyCubeReported, CountsWithin};
 
-use lrup_model::laws::{propagation_sound, vacant_above_stays};
 use lrup_text::laws::{
     a_text_has_one_fault, a_text_spells_one_line, bytes_begin_with_one_line,
     no_bytes_have_no_lines, no_text_begins_another, texts_are_lines,
@@ -78,16 +77,12 @@ pub fn ready_new()
 /// A checker that may be fed may be fed after legal events of other streams.
 pub fn ready_stays()
     ensures { ReadyStays }
-{
-    vacant_above_stays();
-}
+{}
 
 /// So it is at the map of one thread, after another stream's calls.
 pub fn ready_beside()
     ensures { ReadyBeside }
-{
-    vacant_above_stays();
-}
+{}
 
 /// A stream's bytes, end and events have one report and one list of blocks, unless memory ran out.
 pub fn one_report()
@@ -137,9 +132,7 @@ pub fn alone_decides()
 /// The clause of a good addition follows from the formula where the clauses that its hints found do.
 pub fn good_follows()
     ensures { GoodFollows }
-{
-    propagation_sound();
-}
+{}
 
 /// All events of a line are calls of its stream.
 pub fn line_calls()

@@ -2,7 +2,6 @@ use Rattle.std.proofs.Common.{◌≡◌, ◌∙◌, ℕ, ℤ, neg_ℤ, Bool, Res
 use Rattle.std.proofs.lemmas.Result.{err_from_is_err_and}
 use Rattle.lrup_model.specs.Place.{clip_clause}
 use Rattle.propagate.specs.Marks.{Propagation}
-use Rattle.propagate.specs.HintLemmas.{leads_on, accepts_exactly}
 use Rattle.stream_check.specs.declared.fault.Fault.{Fault}
 use Rattle.stream_check.specs.Standing.{is_among}
 use Rattle.stream_check.specs.Checking.{Shows}
@@ -56,7 +55,7 @@ hints-preserved g c =
             (led.0 ++ looked.0)) (sym falses)
             (goes_on s gone p.caller.formula c.args.marks.now.falses c.hints.marks.falses c.args.hints.now c.in-Some.hint.now
             c.hints.left.now c.in-Some.rest.now led.0 looked.0 c.in-Some.ensures.cases.0 led.2
-            (clip_clause q c.in_ok-clip.clip) looked.2 step.0 leads_on derived step.1),
+            (clip_clause q c.in_ok-clip.clip) looked.2 step.0 derived step.1),
       );
     }
 
@@ -77,7 +76,7 @@ returns-in-Conflict-clause-shown g c =
     let variables = variables_before s p q (led.0 ++ looked.0) c.requires.at tells gives.2 in
     let shown = shows_conflict s gone p.caller.formula c.args.marks.now.falses c.hints.marks.falses c.args.hints.now c.in-Some.hint.now
     c.hints.left.now c.in-Some.rest.now led.0 looked.0 c.in-Some.ensures.cases.0 led.2 (clip_clause q c.in_ok-clip.clip) looked.2
-    accepts_exactly c.requires.consistent derived variables c.in-Conflict.ensures.step.0 in (
+    c.requires.consistent derived variables c.in-Conflict.ensures.step.0 in (
       led.0 ++ looked.0,
       subst (g.M.ClauseMap.moves c.args.map.now c.hint.new.map) (append-nil (led.0 ++ looked.0)) tried,
       subst (λ (r : Result (Unit {0}) Fault). Shows s gone p.caller.formula c.args.marks.now.falses c.args.hints.now (led.0 ++ looked.0) r)

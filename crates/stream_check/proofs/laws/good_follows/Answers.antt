@@ -2,4 +2,4 @@ use Rattle.stream_check.proofs.FindingLemmas.{good_follows as lemma}
 use Rattle.stream_check.proofs.laws.good_follows.Goals as goal
 
 pub returns : goal.returns
-returns c = lemma c.propagation_sound.ensures
+returns c = lemma

@@ -3,7 +3,6 @@ use Rattle.std.proofs.lemmas.Result.{err_from_is_err_and}
 use Rattle.lrup_model.specs.Clause.{Clause, IsTautology}
 use Rattle.lrup_model.specs.Event.{Event}
 use Rattle.lrup_model.specs.History.{IsPublishable}
-use Rattle.lrup_model.specs.EntailmentLemmas.{accepted_follows}
 use Rattle.lrup_model.specs.declared.clause_map.Published.TheVariants as publishing
 use Rattle.lrup_model.specs.Distinct.{distinct}
 use Rattle.propagate.specs.Marks.{Propagation}
@@ -79,7 +78,7 @@ publish-requires-clause-clause g c =
     let good =
     shown_is s st st.gone p.caller.formula c.args.id c.args.lits.now c.args.hints.now c.admit.new.self.marks shown.0 admits shown.2 in
     subst (IsPublishable q.caller.formula) (sym is)
-    (publishable s p q st st.gone shown.0 c.args.id c.args.lits.now c.args.hints.now c.admit.new.self.marks accepted_follows tells admits
+    (publishable s p q st st.gone shown.0 c.args.id c.args.lits.now c.args.hints.now c.admit.new.self.marks tells admits
     c.requires.count good)
 
 pub publish-requires-clause-room : goal.publish-requires-clause-room

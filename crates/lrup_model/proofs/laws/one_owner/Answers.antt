@@ -1,5 +1,0 @@
-use Rattle.lrup_model.specs.HistoryLemmas.{one_owner}
-use Rattle.lrup_model.proofs.laws.one_owner.Goals as goal
-
-pub returns : goal.returns
-returns c = one_owner
