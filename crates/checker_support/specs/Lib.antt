@@ -1,2 +1,2 @@
 pub mod Opened
-pub mod OpenedLemmas
+pub mod lemmas

@@ -12,7 +12,7 @@ use Rattle.std.proofs.lemmas.List.Splits.{slice_split_none}
 use Rattle.lrup_model.specs.Clause.{Clause}
 use Rattle.lrup_model.specs.Distinct.{distinct}
 use Rattle.lrup_model.specs.Formula.{IsFormulaClause}
-use Rattle.lrup_model.specs.ListLemmas.{All-front, All-map}
+use Rattle.lrup_model.specs.lemmas.ListLemmas.{All-front, All-map}
 use Rattle.lrup_model.specs.Literal.{IsLiteral, max_variable}
 use Rattle.dimacs.specs.Lines.{is_comment, is_empty, is_separator, runs, token_lines}
 use Rattle.dimacs.specs.Numerals.{is_zero}

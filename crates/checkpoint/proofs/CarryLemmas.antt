@@ -7,11 +7,12 @@ use Rattle.std.proofs.lemmas.List.{map_more, map-append}
 use Rattle.lrup_model.specs.Clause.{Clause, IsClause}
 use Rattle.lrup_model.specs.Entailment.{Follows, IsDerived}
 use Rattle.lrup_model.specs.Formula.{Cnf, IsFormulaClause, max_clause_literals}
-use Rattle.lrup_model.specs.ListLemmas.{All-map}
+use Rattle.lrup_model.specs.lemmas.ListLemmas.{All-map}
 use Rattle.lrup_model.specs.Literal.{max_variable}
 use Rattle.lrup_model.specs.Place.{Place, ClipValue, clip_clause}
-use Rattle.lrup_text.specs.WritingLemmas.{appends_nothing}
-use Rattle.checkpoint.specs.Checkpoints.{AreWithinLimits, Carries, IsCheckpointOf, IsTooLarge}
+use Rattle.lrup_text.specs.lemmas.WritingLemmas.{appends_nothing}
+use Rattle.checkpoint.specs.Checkpoints.{AreWithinLimits, Carries, IsCheckpointOf}
+use Rattle.checkpoint.specs.internal.TooLarge.{IsTooLarge}
 use Rattle.checkpoint.specs.Live.{Entry, clauses_of, entries_of, entry_of}
 use Rattle.checkpoint.specs.Printing.{formula_text, printed}
 use Rattle.checkpoint.specs.declared.saving.SaveFault.{SaveFault}

@@ -4,7 +4,7 @@ use Rattle.std.specs.List.{AllByRecursion}
 use Rattle.lrup_model.specs.Clause.{Clause}
 use Rattle.lrup_model.specs.Entailment.{Assignment, Satisfies, SatisfiesAll, Follows}
 use Rattle.lrup_model.specs.Formula.{Cnf}
-use Rattle.lrup_model.specs.ListLemmas.{All-map}
+use Rattle.lrup_model.specs.lemmas.ListLemmas.{All-map}
 use Rattle.checkpoint.specs.Entails.{EntailsItself, EntailsOnward, RefutesBack, RefutesBackUnder, ChainRefutes, ChainRefutesUnder}
 
 -- what satisfies a formula satisfies clauses that follow from it

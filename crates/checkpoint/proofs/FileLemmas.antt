@@ -1,10 +1,17 @@
 -- Chains of files: what one run wrote is what the next one reads.
 use Rattle.std.proofs.Common.{[], ◌∷◌, subst}
+use Rattle.std.specs.Prelude.{◌≡◌, ℕ, List}
 use Rattle.lrup_model.specs.Cube.{IsUnsatisfiableUnder}
 use Rattle.lrup_model.specs.Entailment.{IsUnsatisfiable}
 use Rattle.lrup_model.specs.Formula.{Cnf}
-use Rattle.checkpoint.specs.Checkpoints.{OneFormula, FilesRefute, FilesRefuteUnder}
+use Rattle.checkpoint.specs.Checkpoints.{FilesRefute, FilesRefuteUnder}
 use Rattle.checkpoint.proofs.EntailsLemmas.{refutes_back, refutes_back_under}
+use Rattle.dimacs.specs.FormulaText.{IsFormulaText}
+
+-- no text is that of two formulas
+abbrev pub OneFormula : Type 0
+OneFormula = (bytes : List ℕ) (one other : Cnf) → IsFormulaText bytes one
+    → IsFormulaText bytes other → one ≡ other
 
 pub files_refute : OneFormula → FilesRefute
 files_refute one bytes [] chain refuted = refuted

@@ -9,8 +9,8 @@ use Rattle.lrup_model.specs.Clause.{Clause}
 use Rattle.lrup_model.specs.Entailment.{IsDerived}
 use Rattle.lrup_model.specs.Event.{History, Reply, fetch, vacant, live, retired}
 use Rattle.lrup_model.specs.Formula.{Cnf, clause_at}
-use Rattle.lrup_model.specs.ListLemmas.{All-append, All-map}
-use Rattle.lrup_model.specs.PassLemmas.{known_stays, known_follows}
+use Rattle.lrup_model.specs.lemmas.ListLemmas.{All-append, All-map}
+use Rattle.lrup_model.specs.lemmas.PassLemmas.{known_stays, known_follows}
 use Rattle.lrup_model.specs.Place.{Place, Caller, ClipValue, Tells, IsKnown, AllFollow, clip_clause}
 use Rattle.std.specs.Prelude.{Result, Ok, Err, IsErr, IfOk}
 use Rattle.lrup_model.specs.Replies.{AnswersFormula, reply_of}

@@ -9,7 +9,7 @@ use Rattle.std.proofs.lemmas.List.{append_assoc, append-nil, flat_map_more, map_
 use Rattle.std.proofs.lemmas.List.{length-take}
 use Rattle.std.proofs.lemmas.Bool.{eq-eqb, ne_eqb}
 use Rattle.lrup_model.specs.Clause.{Clause}
-use Rattle.lrup_model.specs.ClauseLemmas.{take-next}
+use Rattle.lrup_model.specs.lemmas.ClauseLemmas.{take-next}
 use Rattle.lrup_model.specs.Place.{ClipValue}
 use Rattle.lrup_text.specs.Writing.{Puts, PutsAll}
 use Rattle.checkpoint.specs.Live.{Entry}

@@ -14,7 +14,7 @@ use Rattle.std.proofs.lemmas.List.Splits.{slice_split_at, slice_split_none}
 use Rattle.lrup_model.specs.Clause.{Clause, Has, EachOnce}
 use Rattle.lrup_model.specs.Distinct.{distinct}
 use Rattle.lrup_model.specs.Formula.{IsFormulaClause, max_clause_literals}
-use Rattle.lrup_model.specs.ListLemmas.{All-append, All-map}
+use Rattle.lrup_model.specs.lemmas.ListLemmas.{All-append, All-map}
 use Rattle.lrup_model.specs.Literal.{IsLiteral, max_variable}
 use Rattle.dimacs.specs.Lines.{is_comment, is_empty, is_separator, runs, token_lines}
 use Rattle.checkpoint.specs.Live.{Entry, clauses_of}

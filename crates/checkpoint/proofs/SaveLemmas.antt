@@ -5,7 +5,7 @@ use Rattle.std.proofs.lemmas.List.{length-map}
 use Rattle.lrup_model.specs.Clause.{Clause, IsClause}
 use Rattle.lrup_model.specs.Entailment.{Follows, IsDerived}
 use Rattle.lrup_model.specs.Formula.{Cnf, IsFormulaClause, max_clause_literals, max_clauses}
-use Rattle.lrup_model.specs.ListLemmas.{All-map}
+use Rattle.lrup_model.specs.lemmas.ListLemmas.{All-map}
 use Rattle.lrup_model.specs.Literal.{max_variable}
 use Rattle.lrup_model.specs.Place.{Place, ClipValue, IsKnown}
 use Rattle.checkpoint.specs.Checkpoints.{AreWithinLimits, IsCheckpoint}

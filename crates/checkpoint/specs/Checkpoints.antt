@@ -49,12 +49,6 @@ Carries (Ok next) vars entries before after =
     (next ≡ printed vars entries) × Appends before after (formula_text vars entries)
 Carries (Err fault) vars entries before after = Saves (Err fault) vars entries before after
 
--- why clauses aren't carried, but for memory: they are too many or too long
-abbrev pub IsTooLarge : List Clause → SaveFault → Type 0
-IsTooLarge clauses faults.Memory = Unit {0}
-IsTooLarge clauses faults.TooLarge = ¬ AreWithinLimits clauses
-IsTooLarge clauses faults.Unwritten = ⊥
-
 -- Chains of files
 
 -- each file is a text of a formula, and the next one a checkpoint of that
@@ -79,11 +73,6 @@ IsUnsatisfiableTextUnder cube bytes =
     (formula : Cnf) × IsFormulaText bytes formula × IsUnsatisfiableUnder formula cube
 
 -- Laws
-
--- no text is that of two formulas
-abbrev pub OneFormula : Type 0
-OneFormula = (bytes : List ℕ) (one other : Cnf) → IsFormulaText bytes one
-    → IsFormulaText bytes other → one ≡ other
 
 -- where the last file of a chain holds an unsatisfiable formula, the first does
 abbrev pub FilesRefute : Type 0

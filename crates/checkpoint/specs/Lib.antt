@@ -2,3 +2,4 @@ pub mod Live
 pub mod Printing
 pub mod Entails
 pub mod Checkpoints
+pub mod internal

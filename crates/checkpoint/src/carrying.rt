@@ -8,7 +8,8 @@ ghost use Rattle.lrup_model.specs.Formula.{IsFormulaClause, max_clauses};
 ghost use Rattle.lrup_model.specs.Layout.{Fits, last_identity};
 ghost use Rattle.lrup_model.specs.Literal.{max_variable};
 ghost use Rattle.lrup_model.specs.Place.{IsKnown, clip_clause};
-ghost use Rattle.checkpoint.specs.Checkpoints.{AreWithinLimits, Carries, IsCheckpointOf, IsTooLarge};
+ghost use Rattle.checkpoint.specs.Checkpoints.{AreWithinLimits, Carries, IsCheckpointOf};
+ghost use Rattle.checkpoint.specs.internal.TooLarge.{IsTooLarge};
 ghost use Rattle.checkpoint.specs.Live.{clauses_of, entries_of, fetches, wanted_of};
 ghost use Rattle.checkpoint.specs.Printing.{printed};
 

@@ -3,17 +3,18 @@ use Rattle.std.proofs.Common.{◌≡◌, ℕ, ℤ, ◌+◌, ◌*◌, ◌/◌, �
 use Rattle.std.proofs.Common.{subst, ◌∙◌, arith}
 use Rattle.std.specs.List.{AllByRecursion}
 use Rattle.lrup_model.specs.Literal.{IsLiteral, IsCode, code_of, max_variable}
-use Rattle.lrup_model.specs.LiteralLaws.{IsCode-code_of, code_of-injective}
+use Rattle.lrup_model.specs.lemmas.CodeLemmas.{IsCode-code_of, code_of-injective}
 use Rattle.lrup_model.specs.Clause.{Clause}
 use Rattle.lrup_model.specs.Layout.{row_words}
 use Rattle.lrup_model.specs.Place.{ClipValue, Kept, IsKnown, clip_clause}
 use Rattle.lrup_model.specs.Pass.{View, IsFair, kept_in, pass_place}
-use Rattle.lrup_model.specs.PassLemmas.{fair_follows}
+use Rattle.lrup_model.specs.lemmas.PassLemmas.{fair_follows}
 use Rattle.idwords.specs.Words.{start_of, word_state, half_of, ShowsKept}
 use Rattle.idwords.specs.Seats.{SeatValue}
 use Rattle.idwords.specs.Spelling.{LieWithin}
-use Rattle.idwords.specs.Steps.{IsText}
-use Rattle.clause_store.specs.Passes.{PassValue, IsAtRest, pass_value}
+use Rattle.idwords.specs.RowCalls.{IsText}
+use Rattle.clause_store.specs.Passes.{PassValue}
+use Rattle.clause_store.specs.internal.AtRest.{IsAtRest, pass_value}
 
 -- the start that the word of a clause shows is a place of the row
 start_shown : (v : View) (id word : ℕ) (o : Option Kept) → kept_in v.spelt id ≡ o → ShowsKept o word → 0 < word_state word

@@ -1,7 +1,7 @@
 -- Lemmas on a pass that meets others in turn.
 use Rattle.std.proofs.Common.{◌≡◌, ℕ, ◌+◌, ◌<◌, ◌≤◌, zero, suc, List, [], ◌∷◌, length, get_or, set, refl, sym, subst, arith, add-one}
 use Rattle.lrup_model.specs.Pass.{View, IsFair, PassMoves, Meets, MeetsInTurn, AreMet}
-use Rattle.lrup_model.specs.PassLemmas.{moves_append, met_keep, meets_twice}
+use Rattle.lrup_model.specs.lemmas.PassLemmas.{moves_append, met_keep, meets_twice}
 use Rattle.clause_store.specs.Passes.{StoreValue, PassValue, store_of, views, AreOf, HaveMet}
 
 -- the pass has met this many of the others, each in its turn, and the rest are as they were

@@ -8,7 +8,8 @@ use Rattle.lrup_model.specs.Pass.{IsFair}
 use Rattle.idwords.specs.declared.row.Row.{Row}
 use Rattle.idwords.specs.Seats.{SeatValue, opening_seat}
 use Rattle.idwords.specs.Spelling.{LieWithin, spelling_of}
-use Rattle.clause_store.specs.Passes.{StoreValue, PassValue, store_of, IsOpened, IsAtRest, AreOf, pass_value}
+use Rattle.clause_store.specs.Passes.{StoreValue, PassValue, store_of, IsOpened, AreOf}
+use Rattle.clause_store.specs.internal.AtRest.{IsAtRest, pass_value}
 
 pub slice_get-map : {A B : Type 0} (f : A → B) (xs : List A) (k : ℕ) (x : A) → slice_get xs k ≡ Some x → slice_get (map f xs) k ≡ Some (f x)
 slice_get-map f [] k x here = absurd (cc)

@@ -5,7 +5,7 @@ use Rattle.lrup_model.specs.Place.{Caller}
 use Rattle.lrup_model.specs.Pass.{IsFair}
 use Rattle.idwords.specs.Seats.{SeatValue}
 use Rattle.idwords.specs.Spelling.{LieWithin}
-use Rattle.clause_store.specs.Passes.{IsAtRest}
+use Rattle.clause_store.specs.internal.AtRest.{IsAtRest}
 
 -- after a step that left no draft the seat is at rest again
 pub rests : (old new : SeatValue) (stream : ℕ) → stream ≡ old.view.caller.stream → new.view.caller ≡ old.view.caller → IsFair new.view

@@ -2,9 +2,7 @@
 use Rattle.std.specs.Prelude.{◌≡◌, ℕ, List, [], map}
 use Rattle.std.specs.List.{AllByRecursion}
 use Rattle.idwords.specs.declared.row.Row.{Row}
-use Rattle.idwords.specs.Seats.{SeatValue}
-use Rattle.idwords.specs.Spelling.{LieWithin}
-use Rattle.lrup_model.specs.Layout.{LayoutValue, row_words}
+use Rattle.lrup_model.specs.Layout.{LayoutValue}
 use Rattle.lrup_model.specs.Event.{History}
 use Rattle.lrup_model.specs.Formula.{Cnf}
 use Rattle.lrup_model.specs.Pass.{View, IsFair}
@@ -39,20 +37,6 @@ views passes = map (λ pass. pass.view) passes
 abbrev pub AreOf : StoreValue → List PassValue → Type 0
 AreOf store passes = AllByRecursion (λ pass. store_of pass ≡ store) passes
 
--- all are fair
-abbrev pub AreFair : List View → Type 0
-AreFair passes = AllByRecursion IsFair passes
-
 -- all have seen one history
 abbrev pub HaveMet : List View → Type 0
 HaveMet passes = (history : History) × AllByRecursion (λ view. view.seen ≡ history) passes
-
-abbrev pub pass_value : SeatValue → PassValue
-pass_value seat = record { row = seat.table; view = seat.view }
-
--- the seat of a pass: between two calls it has no draft, and it is this stream's
-pub record IsAtRest (seat : SeatValue) (stream : ℕ) : Type 0 where
-  pub fair : IsFair seat.view
-  pub stream_is : stream ≡ seat.view.caller.stream
-  pub draft : seat.draft ≡ []
-  pub within : LieWithin (row_words seat.view.caller.layout) seat.view.spelt

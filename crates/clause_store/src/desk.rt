@@ -33,7 +33,8 @@ impl<'a> Desk<'a> {
 }
 
 impl ClauseMap for Desk<'_> {
-    ghost use Rattle.clause_store.specs.Desks.{desk_place, DeskMoves, desk_none, desk_append, desk_tells};
+    ghost use Rattle.clause_store.specs.Desks.{desk_place, DeskMoves};
+    ghost use Rattle.clause_store.specs.lemmas.DeskLemmas.{desk_none, desk_append, desk_tells};
 
     ghost place = { desk_place };
 

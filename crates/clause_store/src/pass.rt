@@ -2,7 +2,7 @@
 ghost use Rattle.std.specs.Prelude.{◌≡◌, ◌+◌, ℕ, IfOk, Some, map, slice_get};
 ghost use Rattle.lrup_model.specs.Pass.{IsFair};
 ghost use Rattle.idwords.specs.Seats.{SeatValue};
-ghost use Rattle.clause_store.specs.Passes.{IsAtRest, pass_value};
+ghost use Rattle.clause_store.specs.internal.AtRest.{IsAtRest, pass_value};
 
 use idwords::Seat;
 use std::alloc::{AllocError, Global};
@@ -16,7 +16,8 @@ pub struct Pass {
 }
 
 impl Model for Pass {
-    ghost use Rattle.clause_store.specs.Passes.{PassValue, pass_value, IsAtRest};
+    ghost use Rattle.clause_store.specs.Passes.{PassValue};
+    ghost use Rattle.clause_store.specs.internal.AtRest.{pass_value, IsAtRest};
 
     ghost Value = { PassValue };
 

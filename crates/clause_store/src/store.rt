@@ -8,7 +8,7 @@ ghost use Rattle.lrup_model.specs.Place.{IsKnown, clip_clause};
 ghost use Rattle.lrup_model.specs.Replies.{IsFetched, reply_of};
 ghost use Rattle.lrup_model.specs.State.{state, absent, IsLive};
 ghost use Rattle.clause_store.specs.Passes.{AreOf, IsOpened, PassValue, store_of};
-ghost use Rattle.idwords.specs.Steps.{Calls};
+ghost use Rattle.idwords.specs.RowCalls.{Calls};
 
 use crate::pass::{Pass, passes_of};
 use idwords::{LIVE, RETIRED, Row, len, lit, start, state as state_in};

@@ -22,9 +22,9 @@ use Rattle.command.specs.Commands.{AreAssumed, AreChecked, AreOpened, Deeds, Fil
 use Rattle.command.specs.Commands.{IsFormulaAt, IsLeftUnused, IsOpenCause, IsOutcome, IsReadCause, IsStartCause, LeavesBehind}
 use Rattle.command.specs.Commands.{LeavesCheckpoint, NameUnsatisfiable, NameUnsatisfiableUnder, SavesCheckpoint, Text, WasRead, WasReadIn}
 use Rattle.command.specs.Commands.{assumed_at, checkpoint_at, created_at, layout_at, options_of, terms_given}
-use Rattle.command.specs.Running.{IsLayoutCause, IsRunCause}
-use Rattle.command.specs.Saving.{IsNotCreated}
-use Rattle.command.specs.Faults.{of_run}
+use Rattle.command.specs.internal.Running.{IsLayoutCause, IsRunCause}
+use Rattle.command.specs.internal.Saving.{IsNotCreated}
+use Rattle.command.specs.internal.FaultSources.{of_run}
 use Rattle.command.specs.declared.fault.CommandFault.{CommandFault}
 use Rattle.command.specs.declared.fault.CommandFault.TheVariants as faults
 

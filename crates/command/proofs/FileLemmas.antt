@@ -9,8 +9,9 @@ use Rattle.dimacs.specs.FormulaFault.{IsFormulaFault}
 use Rattle.dimacs.specs.declared.fault.DimacsFault.{DimacsFault}
 use Rattle.dimacs.specs.declared.fault.DimacsFault.TheVariants as formulas
 use Rattle.command_line.specs.declared.words.CommandLine.{CommandLine}
-use Rattle.command.specs.Commands.{AskForOne, FilesView, IsAssumeCause, IsFailedRead, IsFileCause, IsReadCause, Text, WasReadIn, from_first}
-use Rattle.command.specs.Faults.{of_cube, of_cube_file, of_formula, of_open}
+use Rattle.command.specs.Commands.{AskForOne, FilesView, IsAssumeCause, IsFileCause, IsReadCause, Text, WasReadIn, from_first}
+use Rattle.command.specs.internal.Running.{IsFailedRead}
+use Rattle.command.specs.internal.FaultSources.{of_cube, of_cube_file, of_formula, of_open}
 use Rattle.command.specs.declared.fault.CommandFault.{CommandFault}
 use Rattle.command.specs.declared.fault.CommandFault.TheVariants as faults
 use Rattle.command.specs.declared.files.OpenFault.{OpenFault}

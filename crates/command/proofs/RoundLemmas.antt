@@ -28,8 +28,8 @@ use Rattle.command.specs.Commands.{path_of, rounds_at}
 use Rattle.command.specs.Paths.{formula_path, sizes_path, stream_path, stream_paths}
 use Rattle.command.specs.Rounds.{AreRounds, AreSized, CarriesOn, CarriesRound, IsBarred, IsRoundCause, IsRoundStartCause, IsSizesCause}
 use Rattle.command.specs.Rounds.{Plan, Round, RoundsEnd, SavesRound, StreamsOpened, WasChecked, options_by, plan_at, sizes_of, terms_by}
-use Rattle.command.specs.Saving.{CreatesCheckpoint, KeepsNext}
-use Rattle.command.specs.Standing.{EndsAt, FailsAfter, IsAlone, IsUnchecked, IsUnsized, RoundsStand, round_of}
+use Rattle.command.specs.internal.Saving.{CreatesCheckpoint, KeepsNext}
+use Rattle.command.specs.internal.Standing.{EndsAt, FailsAfter, IsAlone, IsUnchecked, IsUnsized, RoundsStand, round_of}
 use Rattle.command.specs.declared.course.LastRound.{LastRound}
 use Rattle.command.specs.declared.course.RoundFault.{RoundFault}
 use Rattle.command.specs.declared.fault.CommandFault.{CommandFault}

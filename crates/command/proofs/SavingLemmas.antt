@@ -17,8 +17,8 @@ use Rattle.checkpoint.specs.declared.saving.SaveFault.{SaveFault}
 use Rattle.checkpoint.specs.declared.saving.SaveFault.TheVariants as faults
 use Rattle.command.specs.Commands.{Deeds, ClosesSink, IsLeftUnused, LeavesBehind, SavesCheckpoint, Text}
 use Rattle.command.specs.Rounds.{CarriesCheckpoint}
-use Rattle.command.specs.Running.{HasHistory, StandsBehind, dropped_in, left_layout}
-use Rattle.command.specs.Saving.{ClosesCheckpoint, CreatesCheckpoint, DiscardsIt, KeepsNext, SavesAndCloses}
+use Rattle.command.specs.internal.Running.{HasHistory, StandsBehind, dropped_in, left_layout}
+use Rattle.command.specs.internal.Saving.{ClosesCheckpoint, CreatesCheckpoint, DiscardsIt, KeepsNext, SavesAndCloses}
 use Rattle.command.specs.declared.running.LeftClauses.{LeftClauses}
 
 module _ (its : Deeds) {A : Type 0} (Saves : Result A SaveFault → its.Output → its.Output → Type 0) where

@@ -34,7 +34,6 @@ use Rattle.command_line.specs.CommandLine.{AskFor, AskForRounds, AskToSave, Have
 use Rattle.command_line.specs.declared.words.CommandLine.{CommandLine}
 use Rattle.command.specs.Faults.{status_of, error_text, round_error_text}
 use Rattle.command.specs.Paths as round_paths
-use Rattle.command.specs.declared.running.Setup.{Setup}
 use Rattle.command.specs.declared.files.Files as Files
 use Rattle.command.specs.declared.files.Machine as Machine
 use Rattle.command.specs.declared.files.OpenFault.{OpenFault}
@@ -164,10 +163,6 @@ layout_at given formula = layout_of (options_of given) formula (length given.str
 -- what a run of a command line and a formula is checked by, under a cube
 abbrev pub terms_given : CommandLine → CubeValue → Cnf → TermsValue
 terms_given given cube formula = terms_of (options_of given) cube formula (length given.streams)
-
--- the same, of a setup and so many streams
-abbrev pub terms_on : Setup → ℕ → TermsValue
-terms_on setup streams = terms_of setup.options setup.cube.now setup.formula.now streams
 
 -- The reports and the verdict of a formula's streams are those of a run. `firsts` are the readers of the streams as they were opened,
 -- and `lasts` those in the end.
@@ -362,12 +357,6 @@ pub record HasBrokenOff {R : Type 0} (reading : SourceView R) (first : R) : Type
   pub read : ReadOut R reading.reads stream_ends.Failed first bytes after
   pub failed : reading.has_failed after ≡ true
   pub told : ForSome (reading.left first) (λ all. (rest : List ℕ) × (all ≡ bytes ++ rest))
-
--- why a file that was opened wasn't read to its end
-abbrev pub IsFailedRead : {R : Type 0} → SourceView R → R → CommandFault → Type 0
-IsFailedRead reading first faults.Unread = HasBrokenOff reading first
-IsFailedRead reading first faults.Memory = Unit {0}
-IsFailedRead reading first fault = ⊥
 
 -- The file at the path was opened, and its reading failed.
 pub record WasUnread (files : FilesView) (before : files.its.State) (path : Text)

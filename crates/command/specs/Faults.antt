@@ -1,10 +1,8 @@
 -- Why the program ends without a report, or without its checkpoint: what it says of that, and its status (this project's own).
-use Rattle.std.specs.Prelude.{ℕ, List, [], ◌++◌, ◌==◌, if◌then◌else◌, codes, Option}
+use Rattle.std.specs.Prelude.{ℕ, List, ◌++◌, codes}
 use Rattle.std.specs.Fmt.{decimal}
 use Rattle.checkpoint.specs.declared.saving.SaveFault.{SaveFault}
 use Rattle.checkpoint.specs.declared.saving.SaveFault.TheVariants as saves
-use Rattle.command_line.specs.declared.words.WordsFault.{WordsFault}
-use Rattle.command_line.specs.declared.words.WordsFault.TheVariants as words
 use Rattle.dimacs.specs.declared.fault.DimacsFault.{DimacsFault}
 use Rattle.dimacs.specs.declared.fault.DimacsFault.TheVariants as formulas
 use Rattle.lrup_model.specs.Layout.{layout_fault_text}
@@ -12,41 +10,8 @@ use Rattle.lrup_model.specs.declared.layout.LayoutFault.{LayoutFault}
 use Rattle.lrup_model.specs.declared.layout.LayoutFault.TheVariants as layouts
 use Rattle.lrup_text.specs.declared.cube.CubeFault.{CubeFault}
 use Rattle.lrup_text.specs.declared.cube.CubeFault.TheVariants as cubes
-use Rattle.portfolio.specs.declared.outcome.RunFault.{RunFault}
-use Rattle.portfolio.specs.declared.outcome.RunFault.TheVariants as runs
-use Rattle.stream_check.specs.Faults.{number_text}
-use Rattle.command.specs.declared.files.OpenFault.{OpenFault}
-use Rattle.command.specs.declared.files.OpenFault.TheVariants as opens
 use Rattle.command.specs.declared.fault.CommandFault.{CommandFault}
 use Rattle.command.specs.declared.fault.CommandFault.TheVariants as faults
-
--- out of memory is one fault, wherever it comes
-abbrev pub of_words : WordsFault → CommandFault
-of_words (words.Usage text) = faults.Usage text
-of_words words.Memory = faults.Memory
-
-abbrev pub of_formula : DimacsFault → CommandFault
-of_formula formulas.Memory = faults.Memory
-of_formula fault = faults.Refused fault
-
-abbrev pub of_cube : CubeFault → CommandFault
-of_cube cubes.Memory = faults.Memory
-of_cube fault = faults.CubeRefused fault
-
-abbrev pub of_open : OpenFault → CommandFault
-of_open opens.NotOpened = faults.Unread
-of_open opens.Memory = faults.Memory
-
--- the fault of a cube's file that wasn't read, by the one that the formula's file would have
-abbrev pub of_cube_file : CommandFault → CommandFault
-of_cube_file faults.Unread = faults.CubeUnread
-of_cube_file fault = fault
-
-abbrev pub of_run : RunFault → CommandFault
-of_run (runs.Layout fault) = faults.Layout fault
-of_run runs.Memory = faults.Memory
-of_run (runs.Spawn stream) = faults.Spawn stream
-of_run (runs.Ring stream) = faults.Ring stream
 
 -- The status.
 abbrev pub layout_status : LayoutFault → ℕ
@@ -137,7 +102,3 @@ round_error_line round cause = error_line (of_round round ++ cause)
 abbrev pub round_error_text : ℕ → CommandFault → List ℕ
 round_error_text round (faults.Usage text) = text
 round_error_text round fault = round_error_line round (cause_text fault)
-
--- a text, a number if there is one, and the rest
-abbrev pub cause_bytes : List ℕ → Option ℕ → List ℕ → List ℕ
-cause_bytes text number rest = text ++ number_text number ++ rest

@@ -1,9 +1,6 @@
-pub mod Commands
 pub mod Faults
-pub mod Arguments
-pub mod Saving
 pub mod Paths
+pub mod Commands
+pub mod Arguments
 pub mod Rounds
-pub mod Running
-pub mod Standing
-pub mod Watching
+pub mod internal

@@ -10,13 +10,13 @@ ghost use Rattle.lrup_model.specs.Cube.{CubeValue, IsUnsatisfiableUnder};
 ghost use Rattle.lrup_model.specs.Entailment.{IsUnsatisfiable};
 ghost use Rattle.lrup_model.specs.Formula.{Cnf};
 ghost use Rattle.lrup_text.specs.Reads.{GaveAll};
-ghost use Rattle.command.specs.Commands.{AreAssumed, AreOpened, AskForOne, IsAssumeCause, IsCause, IsFailedRead, IsFileCause, IsOpenCause, HasNoFault};
+ghost use Rattle.command.specs.Commands.{AreAssumed, AreOpened, AskForOne, IsAssumeCause, IsCause, IsFileCause, IsOpenCause, HasNoFault};
+ghost use Rattle.command.specs.internal.Running.{IsFailedRead, terms_on, IsLayoutCause};
 ghost use Rattle.command.specs.Commands.{IsOutcome, LeavesCheckpoint, Text, WasRead, WasReadIn, assumed_at, deeds, files_view};
-ghost use Rattle.command.specs.Commands.{from_first, path_of, rounds_at, terms_on};
+ghost use Rattle.command.specs.Commands.{from_first, path_of, rounds_at};
 ghost use Rattle.runs.specs.Readings.{readers_view};
-ghost use Rattle.command.specs.Running.{IsLayoutCause};
-ghost use Rattle.command.specs.Standing.{HasBegun};
-ghost use Rattle.command.specs.Faults.{of_cube_file};
+ghost use Rattle.command.specs.internal.Standing.{HasBegun};
+ghost use Rattle.command.specs.internal.FaultSources.{of_cube_file};
 ghost use Rattle.stream_check.specs.Setting.{max_tries};
 
 use crate::closing::{close_checkpoint, create_checkpoint, discard_it};

@@ -6,8 +6,8 @@ ghost use Rattle.runs.specs.Streams.{TermsValue};
 ghost use Rattle.command.specs.Commands.{SavesCheckpoint, deeds, path_of};
 ghost use Rattle.runs.specs.Readings.{readers_view};
 ghost use Rattle.command.specs.Rounds.{CarriesCheckpoint};
-ghost use Rattle.command.specs.Running.{CanBeSaved, StandsBehind};
-ghost use Rattle.command.specs.Saving.{ClosesCheckpoint, CreatesCheckpoint, DiscardsIt, IsNotCreated, KeepsNext, SavesAndCloses};
+ghost use Rattle.command.specs.internal.Running.{CanBeSaved, StandsBehind};
+ghost use Rattle.command.specs.internal.Saving.{ClosesCheckpoint, CreatesCheckpoint, DiscardsIt, IsNotCreated, KeepsNext, SavesAndCloses};
 
 use crate::fault::CommandFault;
 use crate::files::{Machine, OpenFault};

@@ -2,7 +2,8 @@
 ghost use Rattle.std.specs.Prelude.{◌≡◌, [], Some, false, is_err};
 ghost use Rattle.lrup_text.specs.Writing.{PutsAll, WritesText};
 ghost use Rattle.lrup_model.specs.Layout.{layout_fault_text};
-ghost use Rattle.command.specs.Faults.{cause_bytes, cause_text, cube_fault_text, formula_fault_text};
+ghost use Rattle.command.specs.internal.FaultSources.{cause_bytes};
+ghost use Rattle.command.specs.Faults.{cause_text, cube_fault_text, formula_fault_text};
 ghost use Rattle.command.specs.Faults.{of_round, round_error_line, round_error_text, save_fault_text, status_of};
 ghost use Rattle.stream_check.specs.Faults.{number_text};
 
@@ -63,7 +64,7 @@ impl From<AllocError> for CommandFault {
 }
 
 impl From<WordsFault> for CommandFault {
-    ghost use Rattle.command.specs.Faults.{of_words};
+    ghost use Rattle.command.specs.internal.FaultSources.{of_words};
 
     ghost from_gives = { λ words fault. fault ≡ of_words words };
 
@@ -76,7 +77,7 @@ impl From<WordsFault> for CommandFault {
 }
 
 impl From<OpenFault> for CommandFault {
-    ghost use Rattle.command.specs.Faults.{of_open};
+    ghost use Rattle.command.specs.internal.FaultSources.{of_open};
 
     ghost from_gives = { λ opening fault. fault ≡ of_open opening };
 
@@ -101,7 +102,7 @@ impl From<ReadFault> for CommandFault {
 }
 
 impl From<DimacsFault> for CommandFault {
-    ghost use Rattle.command.specs.Faults.{of_formula};
+    ghost use Rattle.command.specs.internal.FaultSources.{of_formula};
 
     ghost from_gives = { λ refused fault. fault ≡ of_formula refused };
 
@@ -114,7 +115,7 @@ impl From<DimacsFault> for CommandFault {
 }
 
 impl From<CubeFault> for CommandFault {
-    ghost use Rattle.command.specs.Faults.{of_cube};
+    ghost use Rattle.command.specs.internal.FaultSources.{of_cube};
 
     ghost from_gives = { λ refused fault. fault ≡ of_cube refused };
 
@@ -127,7 +128,7 @@ impl From<CubeFault> for CommandFault {
 }
 
 impl From<RunFault> for CommandFault {
-    ghost use Rattle.command.specs.Faults.{of_run};
+    ghost use Rattle.command.specs.internal.FaultSources.{of_run};
 
     ghost from_gives = { λ run fault. fault ≡ of_run run };
 

@@ -13,8 +13,8 @@ ghost use Rattle.command.specs.Paths.{formula_path, stream_path, stream_paths};
 ghost use Rattle.command.specs.Rounds.{CarriesOn, HaveEnded, IsBarred, IsRoundStartCause, IsStreamCause, StreamsOpened, WasChecked};
 ghost use Rattle.command_line.specs.declared.sizes.Sizes.{Sizes};
 ghost use Rattle.clap.specs.Walk.{texts};
-ghost use Rattle.command.specs.Standing.{EndsAt, FailsAt, IsAlone, IsReported, IsRoundsFault, IsUnchecked, RoundsStand};
-ghost use Rattle.command.specs.Standing.{plan_of, round_of};
+ghost use Rattle.command.specs.internal.Standing.{EndsAt, FailsAt, IsAlone, IsReported, IsRoundsFault, IsUnchecked, RoundsStand};
+ghost use Rattle.command.specs.internal.Standing.{plan_of, round_of};
 ghost use Rattle.stream_check.specs.Setting.{max_tries};
 
 use crate::arguments::words_of;

@@ -7,9 +7,9 @@ ghost use Rattle.lrup_model.specs.Formula.{Cnf};
 ghost use Rattle.lrup_model.specs.State.{state};
 ghost use Rattle.checkpoint.specs.Checkpoints.{IsCheckpoint, IsCheckpointOf};
 ghost use Rattle.portfolio.specs.Saving.{CarriesState, SavesState, is_wanted};
-ghost use Rattle.command.specs.Commands.{AreChecked, terms_on};
+ghost use Rattle.command.specs.Commands.{AreChecked};
+ghost use Rattle.command.specs.internal.Running.{terms_on, HasHistory, CanBeSaved, IsRunCause, StandsBehind, dropped_in, left_layout};
 ghost use Rattle.runs.specs.Readings.{readers_view};
-ghost use Rattle.command.specs.Running.{HasHistory, CanBeSaved, IsRunCause, StandsBehind, dropped_in, left_layout};
 
 use crate::fault::CommandFault;
 use crate::files::Machine;

@@ -1,6 +1,6 @@
 //! What is said on standard error as a round begins.
 ghost use Rattle.std.specs.Prelude.{◌≡◌, IfOk, string_bytes};
-ghost use Rattle.command.specs.Watching.{begin_line, paused_line};
+ghost use Rattle.command.specs.internal.Watching.{begin_line, paused_line};
 
 use crate::files::Machine;
 use lrup_model::Formula;

@@ -31,7 +31,7 @@ use Rattle.clap.specs.declared.parser.matches.Found.{Found}
 use Rattle.clap.proofs.CallerLemmas.{entry_by_id}
 use Rattle.clap.proofs.WalkLemmas.{find_row, first_value-rows, one_text-rows, raw_values-rows, simple_arg}
 use Rattle.command_line.specs.CommandLine.{lrupd}
-use Rattle.command_line.specs.Matches.{AreRowsOf, HasTruth, HasUpTo}
+use Rattle.command_line.specs.internal.Matches.{AreRowsOf, HasTruth, HasUpTo}
 use Rattle.command_line.proofs.FaultLemmas.{given, simple, simple_and_free}
 use Rattle.command_line.proofs.ProgramLemmas.{EachArgument, IsProgram, argument_has, is_program, program_simple}
 

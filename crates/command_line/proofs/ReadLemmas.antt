@@ -7,7 +7,7 @@ use Rattle.std.specs.Option.{ForSome, option_map_or}
 use Rattle.std.specs.Str.Parse.{ParsesUnsigned, digits_value, without_leading_plus}
 use Rattle.clap.specs.Words.{IsUnsignedIn, ReadsOne, Row, Text, one_of}
 use Rattle.command_line.specs.CommandLine.{option_number}
-use Rattle.command_line.specs.Matches.{HasNumber, HasUpTo, IsNumber}
+use Rattle.command_line.specs.internal.Matches.{HasNumber, HasUpTo, IsNumber}
 
 -- a text that is a number of 64 bits reads as this number, and none as the default
 pub number_read : (E : Type 0) (G : Text → Result ℕ E → Type 0) → ((t : Text) (r : Result ℕ E) → G t r → ParsesUnsigned 64 10 t r)

@@ -11,7 +11,8 @@ use Rattle.std.proofs.lemmas.Fmt.{IsAscii-decimal, decimal-digits_value, decimal
 use Rattle.std.proofs.lemmas.Fmt.{first_decimal, parse-decimal}
 use Rattle.std.proofs.lemmas.Str.Parse.{IsNumeralModel, digit_at, not_in_digits, numerals_by_value, parse_plain, tells_digits}
 use Rattle.std.proofs.lemmas.Str.Pattern.{IsSplitOnceResult, split_after, split_parts}
-use Rattle.command_line.specs.Sizes.{AreWithinSizes, BeginsAsNumber, IsNumberBefore, IsSizesText, sizes_text}
+use Rattle.command_line.specs.Sizes.{AreWithinSizes, IsSizesText, sizes_text}
+use Rattle.command_line.specs.internal.Numbers.{BeginsAsNumber, IsNumberBefore}
 use Rattle.command_line.specs.declared.sizes.Sizes.{Sizes}
 
 own : IsNumeralModel (AllDigits 10) (digits_value 10)

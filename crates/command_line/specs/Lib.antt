@@ -1,4 +1,4 @@
 pub mod CommandLine
 pub mod Laws
-pub mod Matches
 pub mod Sizes
+pub mod internal

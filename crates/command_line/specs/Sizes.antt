@@ -1,7 +1,6 @@
 -- The sizes of a round, and the text in which they are told.
-use Rattle.std.specs.Prelude.{◌≡◌, ◌<◌, ◌≤◌, ◌^◌, ℕ, List, ◌∷◌, ◌++◌, codes, length, slice_index}
+use Rattle.std.specs.Prelude.{◌≡◌, ◌<◌, ◌≤◌, ℕ, List, ◌++◌, codes}
 use Rattle.std.specs.Fmt.{decimal}
-use Rattle.std.specs.Int.{IsInRange}
 use Rattle.command_line.specs.declared.sizes.Sizes.{Sizes}
 
 -- three numbers in decimal, a space between them, and a line feed
@@ -24,16 +23,3 @@ pub record IsSizesText (bytes : List ℕ) (sizes : Sizes) : Type 0 where
 -- the bytes are the text of no sizes
 abbrev pub HaveNoSizes : List ℕ → Type 0
 HaveNoSizes bytes = (sizes : Sizes) → ¬ IsSizesText bytes sizes
-
--- ---- words inside the crate
-
--- the text begins with a digit, and with 0 only if it has nothing else
-pub record BeginsAsNumber (text : List ℕ) : Type 0 where
-  pub some : 0 < length text
-  pub digit : IsInRange 48 57 (slice_index text 0)
-  pub alone : slice_index text 0 ≡ 48 → length text ≡ 1
-
--- the text is a number of 64 bits in decimal, the character `end`, and `rest`
-pub record IsNumberBefore (text : List ℕ) (end number : ℕ) (rest : List ℕ) : Type 0 where
-  pub parts : text ≡ decimal number ++ end ∷ rest
-  pub small : number < 2 ^ 64

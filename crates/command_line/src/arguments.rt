@@ -2,7 +2,7 @@
 ghost use Rattle.std.specs.Prelude.{◌≡◌, IfOk, false, true, codes};
 ghost use Rattle.clap.specs.Words.{app_of, new_rule, rule_of};
 ghost use Rattle.command_line.specs.CommandLine.{file_rule, flag_rule, lrupd, number_rule, stream_rule};
-ghost use Rattle.command_line.specs.Matches.{with_numbers, without_arguments};
+ghost use Rattle.command_line.specs.internal.Matches.{with_numbers, without_arguments};
 
 use crate::help;
 use clap::builder::ValueParser;

@@ -1,6 +1,7 @@
 //! The sizes of a round, read from their text.
 ghost use Rattle.std.specs.Prelude.{◌≡◌, ◌<◌, ◌↔◌, IfNone, IfSome, IsSomeAnd, IsTrue, List, ℕ};
-ghost use Rattle.command_line.specs.Sizes.{AreWithinSizes, BeginsAsNumber, HaveNoSizes, IsNumberBefore, IsSizesText};
+ghost use Rattle.command_line.specs.Sizes.{AreWithinSizes, HaveNoSizes, IsSizesText};
+ghost use Rattle.command_line.specs.internal.Numbers.{BeginsAsNumber, IsNumberBefore};
 
 use crate::arguments::{MAX_LINES, MAX_ROOM};
 use std::str;

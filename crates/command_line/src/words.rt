@@ -3,7 +3,7 @@ ghost use Rattle.std.specs.Prelude.{◌≡◌, IfErr, IfOk, IsSome, Some, codes,
 ghost use Rattle.clap.specs.Walk.{rows_of, texts};
 ghost use Rattle.clap.specs.Words.{FailsBy, all_of, fault_of, first_of, found_of};
 ghost use Rattle.command_line.specs.CommandLine.{IsCommandLineOf, IsWordsFault, IsSaidBy, is_set, lrupd, option_number};
-ghost use Rattle.command_line.specs.Matches.{AreRowsOf, AreWhole, HasNumber, HasTruth, IsFaultFrom};
+ghost use Rattle.command_line.specs.internal.Matches.{AreRowsOf, AreWhole, HasNumber, HasTruth, IsFaultFrom};
 
 use crate::arguments::program;
 use clap::error::ErrorKind;

@@ -8,12 +8,12 @@ use Rattle.lrup_model.specs.Clause.{Clause}
 use Rattle.lrup_model.specs.Formula.{Cnf, IsFormulaClause, max_clause_literals}
 use Rattle.dimacs.specs.Lines.{Token}
 use Rattle.dimacs.specs.Numerals.{number_of}
-use Rattle.lrup_model.specs.DistinctLemmas.{distinct-push_same, distinct-push_other}
-use Rattle.lrup_model.specs.ListLemmas.{All-push}
-use Rattle.lrup_model.specs.ClauseLemmas.{All-from_Has, All-Has}
+use Rattle.lrup_model.specs.lemmas.DistinctLemmas.{distinct-push_same, distinct-push_other}
+use Rattle.lrup_model.specs.lemmas.ListLemmas.{All-push}
+use Rattle.lrup_model.specs.lemmas.ClauseLemmas.{All-from_Has, All-Has}
 use Rattle.dimacs.specs.FormulaTokens.{IsWritten, TokensSpell, IsSetOf, AreSetsOf, AreClauses, ended}
 use Rattle.dimacs.specs.FormulaFault.{StandsAt, HasBadNumber, HasLargeVariable, HasMoreClauses, HasLongClause, EndsOpen, EndsEarly}
-use Rattle.dimacs.specs.Places.{IsBuilt, AddsLiteral, AddsClause}
+use Rattle.dimacs.specs.internal.Places.{IsBuilt, AddsLiteral, AddsClause}
 use Rattle.dimacs.specs.declared.body.Builder.{Builder}
 use Rattle.dimacs.specs.declared.header.Header.{Header}
 use Rattle.dimacs.proofs.SetLemmas.{Has-push}

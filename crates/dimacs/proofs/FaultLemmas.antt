@@ -8,7 +8,7 @@ use Rattle.dimacs.specs.Lines.{Token, lines_of}
 use Rattle.dimacs.specs.Numerals.{number_of}
 use Rattle.dimacs.specs.FormulaTokens.{InBodyOf}
 use Rattle.dimacs.specs.FormulaFault.{IsBodyFault}
-use Rattle.dimacs.specs.Places.{IsSmallHeader, lines_at, tokens_at}
+use Rattle.dimacs.specs.internal.Places.{IsSmallHeader, lines_at, tokens_at}
 use Rattle.dimacs.specs.declared.body.Builder.{Builder}
 use Rattle.dimacs.specs.declared.header.Header.{Header}
 use Rattle.dimacs.proofs.BuildLemmas.{Reads, more_clauses, long_clause, ends_open, ends_early}

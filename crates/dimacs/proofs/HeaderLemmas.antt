@@ -10,7 +10,7 @@ use Rattle.dimacs.specs.Lines.{is_separator, runs}
 use Rattle.dimacs.specs.Numerals.{is_count, value}
 use Rattle.dimacs.specs.FormulaTokens.{IsHeader}
 use Rattle.dimacs.specs.FormulaFault.{SaysTooMuch}
-use Rattle.dimacs.specs.Places.{first_run, after_run, with_run, IsAtToken, ReadsCount}
+use Rattle.dimacs.specs.internal.Places.{first_run, after_run, with_run, IsAtToken, ReadsCount}
 use Rattle.dimacs.proofs.LineLemmas.{first_run-begun, first_run-ended, first_run-nil, after_run-begun, after_run-ended, after_run-nil}
 use Rattle.dimacs.proofs.LineLemmas.{runs_begun, IsRun, IsRun-run}
 

@@ -9,7 +9,7 @@ use Rattle.std.proofs.lemmas.List.Splits.{slice_split_at, slice_split_none}
 use Rattle.std.proofs.lemmas.Bool.{or_parts, cases_Bool, ne_eqb, both_ways}
 use Rattle.std.proofs.Math.Nat.{eq-zero-or-pos}
 use Rattle.dimacs.specs.Lines.{Line, Token, ends_line, is_separator, is_empty, runs, lines_from, tokens_of, all_tokens}
-use Rattle.dimacs.specs.Places.{lines_at_start, lines_inside, lines_at, tokens_at, first_run, after_run, IsAtToken}
+use Rattle.dimacs.specs.internal.Places.{lines_at_start, lines_inside, lines_at, tokens_at, first_run, after_run, IsAtToken}
 
 -- ## a separator
 

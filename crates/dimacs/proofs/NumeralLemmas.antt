@@ -6,7 +6,7 @@ use Rattle.std.proofs.lemmas.List.{nil_from_length}
 use Rattle.lrup_model.specs.Literal.{max_variable}
 use Rattle.dimacs.specs.Lines.{is_separator}
 use Rattle.dimacs.specs.Numerals.{is_digit, all_digits, value_after, value, is_numeral}
-use Rattle.dimacs.specs.Places.{first_run, after_run, IsCapped, ReadsNumeral}
+use Rattle.dimacs.specs.internal.Places.{first_run, after_run, IsCapped, ReadsNumeral}
 use Rattle.dimacs.proofs.LineLemmas.{first_run-begun, first_run-ended, first_run-nil, after_run-begun, after_run-ended, after_run-nil}
 
 pub digit_begins : (b : ℕ) → 48 ≤ b → is_separator b ≡ false

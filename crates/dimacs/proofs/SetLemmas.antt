@@ -9,8 +9,8 @@ use Rattle.std.specs.Int.{bit_at, bit_not}
 use Rattle.std.specs.Int.RustNames.{bit_or}
 use Rattle.std.proofs.Common.{bit_and, w64, eqb, eq-eqb}
 use Rattle.std.proofs.lemmas.Nat.Bits.{shr_and_one, bit_at-zero, bit_at_set_same, bit_at_set_other, bit_at_clear_same, bit_at_clear_other}
-use Rattle.dimacs.specs.Marks.{IsBitSet, MarksAre}
-use Rattle.dimacs.specs.Places.{AddsLiteral}
+use Rattle.dimacs.specs.internal.Marks.{IsBitSet, MarksAre}
+use Rattle.dimacs.specs.internal.Places.{AddsLiteral}
 
 pub Has-push : (c : List ℤ) (l m : ℤ) → Has (c ++ l ∷ []) m ↔ (Has c m ⊎ (l ≡ m))
 Has-push [] l m =

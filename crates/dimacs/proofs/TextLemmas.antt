@@ -10,9 +10,9 @@ use Rattle.std.proofs.lemmas.List.{append-nil, length-map, map-append}
 use Rattle.std.proofs.lemmas.Str.Parse.{IsNumeralModel, IsDigitsTest, FoldsDigits, numerals_by_fold}
 use Rattle.lrup_model.specs.Clause.{Clause}
 use Rattle.lrup_model.specs.Distinct.{distinct}
-use Rattle.lrup_model.specs.DistinctLemmas.{Has-distinct, Has-from_distinct, IsClause-distinct}
+use Rattle.lrup_model.specs.lemmas.DistinctLemmas.{Has-distinct, Has-from_distinct, IsClause-distinct}
 use Rattle.lrup_model.specs.Formula.{Cnf, max_clause_literals}
-use Rattle.lrup_model.specs.ListLemmas.{All-append, All-map}
+use Rattle.lrup_model.specs.lemmas.ListLemmas.{All-append, All-map}
 use Rattle.lrup_model.specs.Literal.{IsLiteral, max_variable}
 use Rattle.dimacs.specs.Lines.{Line, Token, is_comment, is_empty, runs, lines_from, lines_of, tokens_of, all_tokens, token_lines}
 use Rattle.dimacs.specs.Numerals.{is_digit, all_digits, value_after, value, is_numeral, is_zero, negative_of, number_of}

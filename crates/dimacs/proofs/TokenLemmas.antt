@@ -7,7 +7,7 @@ use Rattle.memchr.specs.Find.{IsFirstByte, is_byte}
 use Rattle.lrup_model.specs.Literal.{IsLiteral, max_variable}
 use Rattle.dimacs.specs.Lines.{is_separator, runs, all_tokens}
 use Rattle.dimacs.specs.Numerals.{is_numeral, is_zero, value, number_of}
-use Rattle.dimacs.specs.Places.{lines_at, tokens_at, first_run, after_run, IsCapped, IsAtToken}
+use Rattle.dimacs.specs.internal.Places.{lines_at, tokens_at, first_run, after_run, IsCapped, IsAtToken}
 use Rattle.dimacs.proofs.LineLemmas.{tokens_at-token, tokens_at-nil, after_run-begun, first_run-begun, lines_at-line, after_run-nil}
 use Rattle.dimacs.proofs.LineLemmas.{after_run-ended, ends_from_run}
 use Rattle.dimacs.proofs.NumeralLemmas.{length-after_run}

@@ -3,5 +3,4 @@ pub mod Numerals
 pub mod FormulaText
 pub mod FormulaTokens
 pub mod FormulaFault
-pub mod Places
-pub mod Marks
+pub mod internal

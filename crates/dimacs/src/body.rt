@@ -4,7 +4,7 @@ ghost use Rattle.lrup_model.specs.Literal.{max_variable};
 ghost use Rattle.lrup_model.specs.Formula.{max_clauses, max_clause_literals, IsFormulaClause};
 ghost use Rattle.dimacs.specs.FormulaTokens.{AreClauses};
 ghost use Rattle.dimacs.specs.FormulaFault.{IsBodyFault};
-ghost use Rattle.dimacs.specs.Places.{tokens_at, AddsLiteral, AddsClause};
+ghost use Rattle.dimacs.specs.internal.Places.{tokens_at, AddsLiteral, AddsClause};
 ghost use Rattle.dimacs.specs.declared.fault.DimacsFault.TheVariants.{OpenClause as ends_open, TooFew, TooMany, Limit, Memory};
 
 use crate::fault::DimacsFault;

@@ -2,7 +2,7 @@
 ghost use Rattle.std.specs.Prelude.{◌≡◌, false, MatchOption, MatchResult};
 ghost use Rattle.dimacs.specs.Lines.{runs};
 ghost use Rattle.dimacs.specs.Numerals.{is_count};
-ghost use Rattle.dimacs.specs.Places.{first_run, after_run, with_run, IsAtToken, ReadsCount, IsSmallHeader, IsLineFault};
+ghost use Rattle.dimacs.specs.internal.Places.{first_run, after_run, with_run, IsAtToken, ReadsCount, IsSmallHeader, IsLineFault};
 
 use crate::fault::DimacsFault;
 use crate::tokens::{MAX_VARIABLE, is_separator, numeral};

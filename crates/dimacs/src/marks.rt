@@ -1,7 +1,7 @@
 //! A mark for each literal: a bit, 4 MB for all of them.
 ghost use Rattle.std.specs.Prelude.{◌≡◌, ◌↔◌, ◌⊎◌, ◌*◌, ◌<◌, ◌≤◌, ℕ, ℤ, [], IsTrue, OnOk, OnErr, length};
 ghost use Rattle.lrup_model.specs.Literal.{code_of};
-ghost use Rattle.dimacs.specs.Marks.{IsBitSet, MarksAre, all_words};
+ghost use Rattle.dimacs.specs.internal.Marks.{IsBitSet, MarksAre, all_words};
 
 use lrup_model::Lit;
 use std::alloc::AllocError;

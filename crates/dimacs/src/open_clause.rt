@@ -1,8 +1,8 @@
 //! The clause that is being read, as the set of its literals.
 ghost use Rattle.std.specs.Prelude.{◌≡◌, ◌↔◌, ◌<◌, ◌≤◌, ℤ, [], List, IsTrue, length, OnOk, OnErr};
 ghost use Rattle.lrup_model.specs.Clause.{EachOnce, Has};
-ghost use Rattle.dimacs.specs.Places.{AddsLiteral};
-ghost use Rattle.dimacs.specs.Marks.{MarksAre, all_words};
+ghost use Rattle.dimacs.specs.internal.Places.{AddsLiteral};
+ghost use Rattle.dimacs.specs.internal.Marks.{MarksAre, all_words};
 
 use crate::marks::{clear_marks, has_mark, set_mark, set_marks};
 use lrup_model::Lit;
@@ -21,7 +21,7 @@ pub struct OpenClause {
 impl Model for OpenClause {
     ghost use Rattle.std.specs.Prelude.{List, ℤ};
     ghost use Rattle.lrup_model.specs.Clause.{EachOnce};
-    ghost use Rattle.dimacs.specs.Marks.{MarksFit};
+    ghost use Rattle.dimacs.specs.internal.Marks.{MarksFit};
 
     ghost Value = { List ℤ };
 

@@ -1,7 +1,7 @@
 //! Lines, comments and tokens, read once from the left.
 ghost use Rattle.std.specs.Prelude.{neg_ℤ, pos, ◌↔◌, true, false, MatchOption, IsTrue, ◌≡◌, ◌+◌, ◌-◌, ◌<◌, ◌≤◌, ◌^◌, [], ◌∷◌, length, drop, if◌then◌else◌};
 ghost use Rattle.dimacs.specs.Lines.{lines_of, runs, is_separator as separates};
-ghost use Rattle.dimacs.specs.Places.{lines_at, lines_at_start, tokens_at, first_run, after_run, IsAtToken, ReadsNumeral, FindsNext};
+ghost use Rattle.dimacs.specs.internal.Places.{lines_at, lines_at_start, tokens_at, first_run, after_run, IsAtToken, ReadsNumeral, FindsNext};
 ghost use Rattle.dimacs.specs.Numerals.{is_numeral, all_digits, is_digit as counts};
 ghost use Rattle.lrup_model.specs.Literal.{max_variable};
 

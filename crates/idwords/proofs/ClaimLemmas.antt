@@ -15,13 +15,16 @@ use Rattle.lrup_model.specs.State.{Slot, absent, live, state}
 use Rattle.lrup_model.specs.History.{IsPublishable}
 use Rattle.lrup_model.specs.Place.{Kept}
 use Rattle.lrup_model.specs.Pass.{Spelling, kept_in, IsSpelt}
-use Rattle.lrup_model.specs.HistoryLemmas.{put-same, put-other}
+use Rattle.lrup_model.specs.lemmas.HistoryLemmas.{put-same, put-other}
 use Rattle.lrup_model.specs.declared.clause_map.Published.{Published}
 use Rattle.lrup_model.specs.declared.clause_map.Published.TheVariants as publishing
-use Rattle.idwords.specs.Words.{identity_word, word_of, words_for, LiesAt}
+use Rattle.idwords.specs.internal.RowWords.{identity_word, word_of, LiesAt}
+use Rattle.idwords.specs.Words.{words_for}
 use Rattle.idwords.specs.Spelling.{spelling, top_after, spelling_of}
-use Rattle.idwords.specs.Rule.{Part, part_stream, Keeps}
-use Rattle.idwords.specs.Steps.{Calls, Claims}
+use Rattle.idwords.specs.Seats.{Part}
+use Rattle.idwords.specs.internal.Rule.{part_stream, Keeps}
+use Rattle.idwords.specs.RowCalls.{Calls}
+use Rattle.idwords.specs.internal.Steps.{Claims}
 use Rattle.idwords.proofs.SpellingLemmas.{words_spent-own, spelt, spells_absent, kept-append_none, kept_one, kept_beside}
 use Rattle.idwords.proofs.RuleLemmas.{OwnKeeps, advanced, event_top, stands_at, Serves, advance}
 use Rattle.idwords.proofs.StepLemmas.{OwnStep}

@@ -9,16 +9,18 @@ use Rattle.lrup_model.specs.Clause.{Clause}
 use Rattle.lrup_model.specs.Formula.{Cnf}
 use Rattle.lrup_model.specs.Layout.{LayoutValue, IsIdentity}
 use Rattle.lrup_model.specs.Event as events
-use Rattle.lrup_model.specs.Event.{Event, Reply, History, stream_of}
-use Rattle.lrup_model.specs.RunningLemmas.{size_of}
+use Rattle.lrup_model.specs.Event.{Event, Reply, History, stream_of, size_of}
 use Rattle.lrup_model.specs.State.{State, Slot, absent, live, retired, after, state, Answers}
 use Rattle.lrup_model.specs.History.{IsAllowed}
 use Rattle.lrup_model.specs.Place.{Kept, literals_in}
 use Rattle.lrup_model.specs.Pass.{Spelling, kept_in, Spells, IsSpelt}
-use Rattle.idwords.specs.Words.{word_state, identity_word, word_of, LiesAt, ShowsKept, reply_in}
+use Rattle.idwords.specs.Words.{word_state, ShowsKept, reply_in}
+use Rattle.idwords.specs.internal.RowWords.{identity_word, word_of, LiesAt}
 use Rattle.idwords.specs.Spelling.{top_after, event_spelling, spelling_of}
-use Rattle.idwords.specs.Rule.{Part, part_stream, Keeps}
-use Rattle.idwords.specs.Steps.{Calls, Looks}
+use Rattle.idwords.specs.Seats.{Part}
+use Rattle.idwords.specs.internal.Rule.{part_stream, Keeps}
+use Rattle.idwords.specs.RowCalls.{Calls}
+use Rattle.idwords.specs.internal.Steps.{Looks}
 use Rattle.idwords.proofs.SpellingLemmas.{spelling-snoc, spelt, short}
 use Rattle.idwords.proofs.WordLemmas.{IsShort, shows_slot, state-identity_word}
 use Rattle.idwords.proofs.RuleLemmas.{OwnKeeps, advanced, event_top, stands_at, Serves, advance}

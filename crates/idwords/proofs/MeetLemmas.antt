@@ -13,15 +13,15 @@ use Rattle.lrup_model.specs.Event.{Event, History, own}
 use Rattle.lrup_model.specs.History.{IsLegal}
 use Rattle.lrup_model.specs.Place.{KeepsSpelt}
 use Rattle.lrup_model.specs.Pass.{Spelling, kept_in, IsFair, PassMoves}
-use Rattle.lrup_model.specs.Laws.{learned}
-use Rattle.lrup_model.specs.RunningLemmas.{own-append}
-use Rattle.lrup_model.specs.HistoryLemmas.{IsLegal-front}
-use Rattle.lrup_model.specs.PassLemmas.{moves_learn}
-use Rattle.lrup_model.specs.ListLemmas.{All-front}
+use Rattle.lrup_model.specs.lemmas.PassLemmas.{learned, moves_learn}
+use Rattle.lrup_model.specs.lemmas.RunningLemmas.{own-append}
+use Rattle.lrup_model.specs.lemmas.HistoryLemmas.{IsLegal-front}
+use Rattle.lrup_model.specs.lemmas.ListLemmas.{All-front}
 use Rattle.idwords.specs.Spelling.{spelling_of, LieWithin}
-use Rattle.idwords.specs.Rule.{Part, part_stream, AllParts, count_in, times, Keeps, IsKept, Stands}
-use Rattle.idwords.specs.Steps.{Met, Joined}
-use Rattle.idwords.specs.Seats.{first_part, first_only, others}
+use Rattle.idwords.specs.Seats.{Part}
+use Rattle.idwords.specs.internal.Rule.{part_stream, AllParts, count_in, times, Keeps, IsKept, Stands}
+use Rattle.idwords.specs.internal.Steps.{Met, Joined}
+use Rattle.idwords.specs.internal.Seating.{first_part, first_only, others}
 use Rattle.idwords.proofs.SpellingLemmas.{lies_within, keeps_spelt, spelt}
 use Rattle.idwords.proofs.ViewLemmas.{all_at, all-set, all-snoc, times-set, times-snoc}
 use Rattle.idwords.proofs.RuleLemmas.{own_rest, between, fair_part}

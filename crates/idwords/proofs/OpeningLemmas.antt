@@ -11,19 +11,21 @@ use Rattle.lrup_model.specs.Clause.{Clause}
 use mathlib.Core.Option as Maybe
 use Rattle.atomic_table.specs.Seated.{TableId}
 use Rattle.atomic_table.specs.Table.{Me}
-use Rattle.idwords.specs.Seats.{IsSeated}
+use Rattle.idwords.specs.internal.Seating.{IsSeated}
 use Rattle.lrup_model.specs.Formula.{Cnf, IsCnf, clause_at}
 use Rattle.lrup_model.specs.Layout.{LayoutValue, IsLayout, Fits, IsIdentity, IsStream, last_identity, row_words}
 use Rattle.lrup_model.specs.State.{Slot, absent, live, opening}
 use Rattle.lrup_model.specs.Place.{Kept}
 use Rattle.lrup_model.specs.Pass.{kept_in, IsFair}
-use Rattle.lrup_model.specs.HistoryLemmas.{opening-formula, opening-above}
-use Rattle.idwords.specs.Words.{identity_word, kept_word, word_of, words_for, packed, StandAt, LiesAt}
+use Rattle.lrup_model.specs.lemmas.HistoryLemmas.{opening-formula, opening-above}
+use Rattle.idwords.specs.internal.RowWords.{identity_word, kept_word, word_of, packed, StandAt, LiesAt}
+use Rattle.idwords.specs.Words.{words_for}
 use Rattle.idwords.specs.Spelling.{clauses_spelling, first_place}
-use Rattle.idwords.specs.Rule.{Part, Stands, IsPlan, IsKept, opening_part, opening_parts, count_in}
+use Rattle.idwords.specs.Seats.{Part, opening_part}
+use Rattle.idwords.specs.internal.Rule.{Stands, IsPlan, IsKept, opening_parts, count_in}
 use Rattle.idwords.proofs.SpellingLemmas.{either_kept, spelt}
 use Rattle.idwords.proofs.WordLemmas.{length-packed}
-use Rattle.idwords.specs.Opening.{clause_words, literal_words, opening_words}
+use Rattle.idwords.specs.internal.Opening.{clause_words, literal_words, opening_words}
 
 -- The words that clauses' literals take
 

@@ -10,11 +10,13 @@ use Rattle.lrup_model.specs.Event.{History}
 use Rattle.lrup_model.specs.State.{Slot, absent, live, retired, opening, state, IsLive, retire_slot}
 use Rattle.lrup_model.specs.Place.{Kept}
 use Rattle.lrup_model.specs.Pass.{Spelling, kept_in, Spells}
-use Rattle.lrup_model.specs.HistoryLemmas.{run-own, legal-front}
-use Rattle.lrup_model.specs.OwnerLemmas.{owned}
-use Rattle.idwords.specs.Words.{word_state, word_of, LiesAt}
+use Rattle.lrup_model.specs.lemmas.HistoryLemmas.{run-own, legal-front}
+use Rattle.lrup_model.specs.lemmas.OwnerLemmas.{owned}
+use Rattle.idwords.specs.Words.{word_state}
+use Rattle.idwords.specs.internal.RowWords.{word_of, LiesAt}
 use Rattle.idwords.specs.Spelling.{spelling_of}
-use Rattle.idwords.specs.Rule.{Part, part_stream, Keeps, Stands}
+use Rattle.idwords.specs.Seats.{Part}
+use Rattle.idwords.specs.internal.Rule.{part_stream, Keeps, Stands}
 use Rattle.idwords.proofs.SpellingLemmas.{IsLodged, lodged, own_kept}
 use Rattle.idwords.proofs.WordLemmas.{lies-set, state-identity_word}
 use Rattle.idwords.proofs.RuleLemmas.{OwnKeeps, stands_at}

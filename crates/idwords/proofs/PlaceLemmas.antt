@@ -14,11 +14,13 @@ use Rattle.lrup_model.specs.Event.{History, spent}
 use Rattle.lrup_model.specs.History.{IsLegal}
 use Rattle.lrup_model.specs.Place.{Kept}
 use Rattle.lrup_model.specs.Pass.{Spelling, kept_in}
-use Rattle.lrup_model.specs.PassLemmas.{fair_follows}
-use Rattle.idwords.specs.Words.{words_for, pair_of, literal_word, half_of}
+use Rattle.lrup_model.specs.lemmas.PassLemmas.{fair_follows}
+use Rattle.idwords.specs.Words.{words_for, pair_of, half_of}
+use Rattle.idwords.specs.internal.RowWords.{literal_word}
 use Rattle.idwords.specs.Spelling.{first_place, words_spent, top_after}
-use Rattle.idwords.specs.Rule.{Part, part_stream, Keeps, Stands}
-use Rattle.idwords.specs.Steps.{Reads, Writes}
+use Rattle.idwords.specs.Seats.{Part}
+use Rattle.idwords.specs.internal.Rule.{part_stream, Keeps, Stands}
+use Rattle.idwords.specs.internal.Steps.{Reads, Writes}
 use Rattle.idwords.proofs.SpellingLemmas.{words_spent-own, words_within, IsLodged, lodged, keeps_spelt}
 use Rattle.idwords.proofs.WordLemmas.{HasCode, some_literals, lies_get, lies-pair, lies-set, word_injective}
 use Rattle.idwords.proofs.ViewLemmas.{moved, times-same}

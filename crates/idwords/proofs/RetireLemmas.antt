@@ -11,12 +11,14 @@ use Rattle.lrup_model.specs.Event.{Event, History}
 use Rattle.lrup_model.specs.State.{Slot, retire_slot, after, state, IsLive}
 use Rattle.lrup_model.specs.Place.{Kept}
 use Rattle.lrup_model.specs.Pass.{Spelling, kept_in, IsSpelt}
-use Rattle.lrup_model.specs.HistoryLemmas.{put-same, put-other}
+use Rattle.lrup_model.specs.lemmas.HistoryLemmas.{put-same, put-other}
 use Rattle.lrup_model.specs.declared.clause_map.Retired.TheVariants as retiring
-use Rattle.idwords.specs.Words.{word_state, word_of, LiesAt}
+use Rattle.idwords.specs.Words.{word_state}
+use Rattle.idwords.specs.internal.RowWords.{word_of, LiesAt}
 use Rattle.idwords.specs.Spelling.{top_after, spelling_of}
-use Rattle.idwords.specs.Rule.{Part, part_stream, Keeps}
-use Rattle.idwords.specs.Steps.{Finds, Retires}
+use Rattle.idwords.specs.Seats.{Part}
+use Rattle.idwords.specs.internal.Rule.{part_stream, Keeps}
+use Rattle.idwords.specs.internal.Steps.{Finds, Retires}
 use Rattle.idwords.proofs.SpellingLemmas.{spelt}
 use Rattle.idwords.proofs.RuleLemmas.{advanced, event_top, stands_at, Serves, advance}
 use Rattle.idwords.proofs.StepLemmas.{OwnStep}

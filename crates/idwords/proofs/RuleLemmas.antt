@@ -8,19 +8,19 @@ use Rattle.std.proofs.lemmas.Bool.{cases_eq}
 use Rattle.lrup_model.specs.Clause.{Clause}
 use Rattle.lrup_model.specs.Formula.{Cnf}
 use Rattle.lrup_model.specs.Layout.{LayoutValue, IsIdentity, row_words}
-use Rattle.lrup_model.specs.Event.{Event, History, stream_of, own, published, spent}
+use Rattle.lrup_model.specs.Event.{Event, History, stream_of, own, published, spent, size_of}
 use Rattle.lrup_model.specs.State.{State, Slot, opening, after, state, Answers}
 use Rattle.lrup_model.specs.History.{IsAllowed, IsLegal}
 use Rattle.lrup_model.specs.Place.{Kept, KeepsSpelt}
 use Rattle.lrup_model.specs.Pass.{Spelling, kept_in, IsSpelt, IsFair}
-use Rattle.lrup_model.specs.Laws.{stepped}
-use Rattle.lrup_model.specs.RunningLemmas.{size_of, run-append, legal-append, own-append, spent-append}
-use Rattle.lrup_model.specs.HistoryLemmas.{IsLegal-front, own-mine, own-other, spent-own, spent_one}
-use Rattle.lrup_model.specs.PassLemmas.{moves_step}
-use Rattle.idwords.specs.Words.{word_of, LiesAt}
+use Rattle.lrup_model.specs.lemmas.PassLemmas.{stepped, moves_step}
+use Rattle.lrup_model.specs.lemmas.RunningLemmas.{run-append, legal-append, own-append, spent-append}
+use Rattle.lrup_model.specs.lemmas.HistoryLemmas.{IsLegal-front, own-mine, own-other, spent-own, spent_one}
+use Rattle.idwords.specs.internal.RowWords.{word_of, LiesAt}
 use Rattle.idwords.specs.Spelling.{words_taken, words_spent, top_after, event_spelling, spelling_of}
-use Rattle.idwords.specs.Rule.{Part, part_stream, Stands, Keeps, IsPlan}
-use Rattle.idwords.specs.Steps.{Calls}
+use Rattle.idwords.specs.Seats.{Part}
+use Rattle.idwords.specs.internal.Rule.{part_stream, Stands, Keeps, IsPlan}
+use Rattle.idwords.specs.RowCalls.{Calls}
 use Rattle.idwords.proofs.SpellingLemmas.{words_spent-append, words_spent_one, lies_within, spelling-snoc, keeps_spelt, spelt}
 use Rattle.idwords.proofs.ViewLemmas.{all_at, moved, times-same}
 

@@ -7,19 +7,21 @@ use Rattle.atomic_table.specs.Table.{Step, Me, Allows}
 use Rattle.lrup_model.specs.Formula.{Cnf}
 use Rattle.lrup_model.specs.Layout.{LayoutValue, row_words}
 use Rattle.lrup_model.specs.Event as events
-use Rattle.lrup_model.specs.Event.{Event, History, stream_of, spent}
+use Rattle.lrup_model.specs.Event.{Event, History, stream_of, spent, size_of}
 use Rattle.lrup_model.specs.Place.{Caller}
 use Rattle.lrup_model.specs.Pass.{IsFair, PassMoves}
-use Rattle.lrup_model.specs.RunningLemmas.{size_of, spent-append}
-use Rattle.lrup_model.specs.HistoryLemmas.{spent_one}
+use Rattle.lrup_model.specs.lemmas.RunningLemmas.{spent-append}
+use Rattle.lrup_model.specs.lemmas.HistoryLemmas.{spent_one}
 use Rattle.lrup_model.specs.declared.clause_map.Published.{Published}
 use Rattle.lrup_model.specs.declared.clause_map.Published.TheVariants as publishing
 use Rattle.idwords.specs.Words.{words_for}
 use Rattle.idwords.specs.Spelling.{first_place, words_taken, words_spent}
 use Rattle.lrup_model.specs.Clause.{Clause}
-use Rattle.idwords.specs.Rule.{Part, part_stream, IsKept}
-use Rattle.idwords.specs.Steps.{Calls, Changes, Claims, published_at}
-use Rattle.idwords.specs.Seats.{SeatValue, first_part, seat_value, part_of, IsSeated}
+use Rattle.idwords.specs.Seats.{Part, SeatValue, seat_value}
+use Rattle.idwords.specs.internal.Rule.{part_stream, IsKept}
+use Rattle.idwords.specs.RowCalls.{Calls}
+use Rattle.idwords.specs.internal.Steps.{Changes, Claims, published_at}
+use Rattle.idwords.specs.internal.Seating.{first_part, part_of, IsSeated}
 use Rattle.idwords.proofs.SpellingLemmas.{words_spent-append, words_spent_one, words_within}
 use Rattle.idwords.proofs.StepLemmas.{OwnStep, allows}
 

@@ -10,15 +10,15 @@ use Rattle.lrup_model.specs.Formula.{Cnf, IsCnf, IsFormulaClause, clause_at}
 use Rattle.std.proofs.Math.Nat.{mul-le-mul_right}
 use Rattle.lrup_model.specs.Layout.{LayoutValue, Fits, IsStream, last_identity, row_words}
 use Rattle.lrup_model.specs.Event as events
-use Rattle.lrup_model.specs.Event.{Event, History, own, spent, stream_of}
+use Rattle.lrup_model.specs.Event.{Event, History, own, spent, stream_of, size_of}
 use Rattle.lrup_model.specs.State.{State, Slot, absent, live, retired, retire_slot, opening, after, run, state, Answers}
 use Rattle.lrup_model.specs.History.{LegalFrom, IsLegal}
 use Rattle.lrup_model.specs.Place.{Kept, KeepsSpelt}
 use Rattle.lrup_model.specs.Pass.{Spelling, kept_in, IsOncePerIdentity, Spells, IsSpelt}
-use Rattle.lrup_model.specs.RunningLemmas.{size_of, spent-sizes, own-append}
-use Rattle.lrup_model.specs.HistoryLemmas.{put, put-same, put-other, own-mine, own-own, legal-front, opening-formula, opening-above}
-use Rattle.lrup_model.specs.HistoryLemmas.{opening-none}
-use Rattle.lrup_model.specs.OwnerLemmas.{owned}
+use Rattle.lrup_model.specs.lemmas.RunningLemmas.{spent-sizes, own-append}
+use Rattle.lrup_model.specs.lemmas.HistoryLemmas.{put, put-same, put-other, own-mine, own-own, legal-front, opening-formula}
+use Rattle.lrup_model.specs.lemmas.HistoryLemmas.{opening-above, opening-none}
+use Rattle.lrup_model.specs.lemmas.OwnerLemmas.{owned}
 use Rattle.lrup_model.specs.declared.clause_map.Published.TheVariants as publishing
 use Rattle.lrup_model.specs.declared.clause_map.Retired.TheVariants as retiring
 use Rattle.idwords.specs.Words.{words_for}

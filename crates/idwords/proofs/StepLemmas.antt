@@ -6,8 +6,9 @@ use Rattle.atomic_table.specs.Table.{Step, Me, keeps, Allows}
 use Rattle.lrup_model.specs.Formula.{Cnf}
 use Rattle.lrup_model.specs.Layout.{LayoutValue}
 use Rattle.lrup_model.specs.Event.{History}
-use Rattle.idwords.specs.Rule.{Part, Stands, Keeps, IsKept}
-use Rattle.idwords.specs.Steps.{Changes, Writes, Stores}
+use Rattle.idwords.specs.Seats.{Part}
+use Rattle.idwords.specs.internal.Rule.{Stands, Keeps, IsKept}
+use Rattle.idwords.specs.internal.Steps.{Changes, Writes, Stores}
 use Rattle.idwords.proofs.RuleLemmas.{OwnKeeps}
 use Rattle.idwords.proofs.ViewLemmas.{all_at}
 

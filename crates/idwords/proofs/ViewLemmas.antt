@@ -5,7 +5,8 @@ use Rattle.std.specs.List.{AllByRecursion}
 use mathlib.Core.Option.{some, some-injective, some-ne-none}
 use lib.ListN.{get_elem?}
 use Rattle.std.proofs.lemmas.Bool.{cases_eq, cond-true}
-use Rattle.idwords.specs.Rule.{Part, part_stream, AllParts, count_in, times}
+use Rattle.idwords.specs.Seats.{Part}
+use Rattle.idwords.specs.internal.Rule.{part_stream, AllParts, count_in, times}
 
 -- Every part
 

@@ -12,9 +12,9 @@ use Rattle.lrup_model.specs.State.{Slot, absent, live, retired}
 use Rattle.lrup_model.specs.Place.{Kept}
 use Rattle.lrup_model.specs.Pass.{Spells}
 use Rattle.lrup_model.specs.Literal.{IsLiteral, IsCode, code_of, max_variable}
-use Rattle.lrup_model.specs.LiteralLaws.{IsCode-code_of, code_of-injective}
-use Rattle.idwords.specs.Words.{identity_word, word_state, length_of, start_of, word_of, words_for, pair_of, literal_word, half_of, packed}
-use Rattle.idwords.specs.Words.{StandAt, LiesAt, ShowsKept}
+use Rattle.lrup_model.specs.lemmas.CodeLemmas.{IsCode-code_of, code_of-injective}
+use Rattle.idwords.specs.internal.RowWords.{identity_word, word_of, literal_word, packed, StandAt, LiesAt}
+use Rattle.idwords.specs.Words.{word_state, length_of, start_of, words_for, pair_of, half_of, ShowsKept}
 
 -- The parts of a word
 

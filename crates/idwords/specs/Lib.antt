@@ -1,6 +1,5 @@
 pub mod Words
 pub mod Spelling
-pub mod Opening
-pub mod Rule
-pub mod Steps
+pub mod RowCalls
 pub mod Seats
+pub mod internal

@@ -1,14 +1,11 @@
 -- A seat as contracts see it (this project's own).
-use Rattle.std.specs.Prelude.{◌≡◌, ◌+◌, ◌≤◌, ℕ, List, [], ◌∷◌, length}
+use Rattle.std.specs.Prelude.{ℕ, []}
 pub use Rattle.atomic_table.specs.Seated.{TableId}
-use Rattle.atomic_table.specs.Table.{Me}
 use Rattle.lrup_model.specs.Clause.{Clause}
 use Rattle.lrup_model.specs.Formula.{Cnf}
-use Rattle.lrup_model.specs.Layout.{LayoutValue, row_words}
-use Rattle.lrup_model.specs.Event.{spent}
-use Rattle.lrup_model.specs.Pass.{View, IsFair}
-use Rattle.idwords.specs.Spelling.{top_after}
-use Rattle.idwords.specs.Rule.{Part, part_stream, opening_part}
+use Rattle.lrup_model.specs.Layout.{LayoutValue}
+use Rattle.lrup_model.specs.Pass.{View}
+use Rattle.idwords.specs.Spelling.{spelling_of, first_place}
 
 -- Which row it is of, what its stream knows, its first place that belongs to no published clause, and the literals stored from there on.
 pub record SeatValue : Type 0 where
@@ -17,58 +14,30 @@ pub record SeatValue : Type 0 where
   pub top : ℕ
   pub draft : Clause
 
--- no stream's
-abbrev no_part : Part
-no_part = record {
-  view = record {
-    caller = record {
-      formula = record { vars = 0; clauses = [] };
-      layout = record { vars = 0; clauses = 0; literals = 0; streams = 0; lines = 0; room = 0 };
-      stream = 0;
-    };
-    seen = [];
-    mine = [];
-    spelt = [];
-  };
-  top = 0;
-  draft = [];
-}
-
--- the part that comes first
-abbrev pub first_part : List Part → Part
-first_part [] = no_part
-first_part (part ∷ parts) = part
-
-abbrev pub first_only : List Part → List Part
-first_only [] = []
-first_only (part ∷ parts) = part ∷ []
-
-abbrev pub others : List Part → List Part
-others [] = []
-others (part ∷ parts) = parts
+-- What one stream knows: its view, its top, and its draft, the literals stored from the top on. A seat has one part; while two seats meet, one has
+-- both, and at the opening the first seat has all.
+pub record Part : Type 0 where
+  pub view : View
+  pub top : ℕ
+  pub draft : Clause
 
 abbrev pub seat_value : TableId → Part → SeatValue
 seat_value table part =
     record { table = table; view = part.view; top = part.top; draft = part.draft }
 
--- what the seat's stream knows
-abbrev pub part_of : SeatValue → Part
-part_of seat = record { view = seat.view; top = seat.top; draft = seat.draft }
+-- a stream's part at the opening
+abbrev pub opening_part : Cnf → LayoutValue → ℕ → Part
+opening_part formula layout s = record {
+  view = record {
+    caller = record { formula = formula; layout = layout; stream = s };
+    seen = [];
+    mine = [];
+    spelt = spelling_of formula layout [];
+  };
+  top = first_place layout s;
+  draft = [];
+}
 
 -- a stream's seat at the opening
 abbrev pub opening_seat : TableId → Cnf → LayoutValue → ℕ → SeatValue
 opening_seat table formula layout s = seat_value table (opening_part formula layout s)
-
--- the seat has one part, fair and with a draft inside its room, and keeps the numbers of its top, its draft and the end of its room
-pub record IsSeated {S : Type 0} (table : TableId) (me : Me S (List Part))
-    (top drafted room : ℕ) : Type 0 where
-  pub one : me ≡ (first_part me.0 ∷ [], [])
-  pub fair : IsFair (first_part me.0).view
-  pub words : table.words ≡ row_words (first_part me.0).view.caller.layout
-  pub top_is : (first_part me.0).top ≡ top_after (first_part me.0).view.caller.layout
-      (part_stream (first_part me.0)) (first_part me.0).view.mine
-  pub draft_is : drafted ≡ length (first_part me.0).draft
-  pub top_kept : top ≡ (first_part me.0).top
-  pub room_kept : room + spent (part_stream (first_part me.0)) (first_part me.0).view.mine
-      ≡ (first_part me.0).view.caller.layout.room
-  pub within : drafted ≤ room

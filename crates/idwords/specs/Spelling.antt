@@ -6,8 +6,7 @@ use Rattle.lrup_model.specs.Clause.{Clause}
 use Rattle.lrup_model.specs.Formula.{Cnf}
 use Rattle.lrup_model.specs.Layout.{LayoutValue, last_identity}
 use Rattle.lrup_model.specs.Event as events
-use Rattle.lrup_model.specs.Event.{Event, History, own}
-use Rattle.lrup_model.specs.RunningLemmas.{size_of}
+use Rattle.lrup_model.specs.Event.{Event, History, own, size_of}
 use Rattle.lrup_model.specs.Place.{Kept}
 use Rattle.lrup_model.specs.Pass.{Spelling, kept_in}
 use Rattle.lrup_model.specs.declared.clause_map.Published.TheVariants as publishing

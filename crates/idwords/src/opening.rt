@@ -2,9 +2,9 @@
 ghost use Rattle.std.specs.Prelude.{◌≡◌, ◌+◌, ◌^◌, ◌<◌, ◌++◌, IfOk, OnOk};
 ghost use Rattle.lrup_model.specs.Formula.{IsCnf, formula_literals};
 ghost use Rattle.lrup_model.specs.Layout.{Fits};
-ghost use Rattle.idwords.specs.Words.{packed};
-ghost use Rattle.idwords.specs.Rule.{IsPlan};
-ghost use Rattle.idwords.specs.Opening.{clause_words, literal_words, opening_words};
+ghost use Rattle.idwords.specs.internal.RowWords.{packed};
+ghost use Rattle.idwords.specs.internal.Rule.{IsPlan};
+ghost use Rattle.idwords.specs.internal.Opening.{clause_words, literal_words, opening_words};
 
 use crate::word::{live_word, pair_word};
 use lrup_model::{Formula, Layout, Lit};

@@ -6,10 +6,10 @@ ghost use Rattle.lrup_model.specs.Layout.{Fits, IsIdentity, IsStream, Owns, row_
 ghost use Rattle.lrup_model.specs.Pass.{kept_in, pass_place, IsFair, Meets};
 ghost use Rattle.lrup_model.specs.State.{state, absent, IsLive};
 ghost use Rattle.idwords.specs.Words.{ShowsKept, reply_in, pair_of};
-ghost use Rattle.idwords.specs.Rule.{IsPlan, opening_parts};
+ghost use Rattle.idwords.specs.internal.Rule.{IsPlan, opening_parts};
 ghost use Rattle.idwords.specs.Seats.{opening_seat};
 ghost use Rattle.idwords.specs.Spelling.{LieWithin, spelling_of};
-ghost use Rattle.idwords.specs.Steps.{Calls, IsText, top_after_reply};
+ghost use Rattle.idwords.specs.RowCalls.{Calls, IsText, top_after_reply};
 
 use crate::opening::all_words;
 use crate::rule::{

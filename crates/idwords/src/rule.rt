@@ -12,7 +12,7 @@ pub struct Knowledge {
 
 impl Model for Knowledge {
     ghost use Rattle.std.specs.Prelude.{List, []};
-    ghost use Rattle.idwords.specs.Rule.{Part};
+    ghost use Rattle.idwords.specs.Seats.{Part};
 
     ghost Value = { List Part };
 
@@ -30,7 +30,7 @@ pub struct Plan {
 pub struct Kept;
 
 impl TableRule<u8, Knowledge, Plan> for Kept {
-    ghost use Rattle.idwords.specs.Rule.{IsKept, opening_parts};
+    ghost use Rattle.idwords.specs.internal.Rule.{IsKept, opening_parts};
 
     ghost holds = { λ plan. IsKept plan.formula.value plan.layout };
 
@@ -47,7 +47,7 @@ pub type Token = atomic_table::Seat<u8, Knowledge>;
 pub struct Look;
 
 impl Play<u8, Knowledge> for Look {
-    ghost use Rattle.idwords.specs.Steps.{Changes, Looks};
+    ghost use Rattle.idwords.specs.internal.Steps.{Changes, Looks};
 
     ghost then = { Changes Looks };
 }
@@ -56,7 +56,7 @@ impl Play<u8, Knowledge> for Look {
 pub struct Read;
 
 impl Play<u8, Knowledge> for Read {
-    ghost use Rattle.idwords.specs.Steps.{Changes, Reads};
+    ghost use Rattle.idwords.specs.internal.Steps.{Changes, Reads};
 
     ghost then = { Changes Reads };
 }
@@ -65,7 +65,7 @@ impl Play<u8, Knowledge> for Read {
 pub struct Write;
 
 impl Play<u8, Knowledge> for Write {
-    ghost use Rattle.idwords.specs.Steps.{Stores};
+    ghost use Rattle.idwords.specs.internal.Steps.{Stores};
 
     ghost then = { Stores };
 }
@@ -74,7 +74,7 @@ impl Play<u8, Knowledge> for Write {
 pub struct Claim;
 
 impl Play<u8, Knowledge> for Claim {
-    ghost use Rattle.idwords.specs.Steps.{Changes, Claims};
+    ghost use Rattle.idwords.specs.internal.Steps.{Changes, Claims};
 
     ghost then = { Changes Claims };
 }
@@ -83,7 +83,7 @@ impl Play<u8, Knowledge> for Claim {
 pub struct Find;
 
 impl Play<u8, Knowledge> for Find {
-    ghost use Rattle.idwords.specs.Steps.{Changes, Finds};
+    ghost use Rattle.idwords.specs.internal.Steps.{Changes, Finds};
 
     ghost then = { Changes Finds };
 }
@@ -92,7 +92,7 @@ impl Play<u8, Knowledge> for Find {
 pub struct Retire;
 
 impl Play<u8, Knowledge> for Retire {
-    ghost use Rattle.idwords.specs.Steps.{Changes, Retires};
+    ghost use Rattle.idwords.specs.internal.Steps.{Changes, Retires};
 
     ghost then = { Changes (λ id v _ w. Retires id v w) };
 }
@@ -101,7 +101,7 @@ impl Play<u8, Knowledge> for Retire {
 pub struct Meet;
 
 impl Play<u8, Knowledge> for Meet {
-    ghost use Rattle.idwords.specs.Steps.{Joined};
+    ghost use Rattle.idwords.specs.internal.Steps.{Joined};
 
     ghost then = { Joined };
 }
@@ -110,7 +110,7 @@ impl Play<u8, Knowledge> for Meet {
 pub struct Deal;
 
 impl Split<Knowledge> for Deal {
-    ghost use Rattle.idwords.specs.Seats.{first_only, others};
+    ghost use Rattle.idwords.specs.internal.Seating.{first_only, others};
 
     ghost left = { others };
 
@@ -132,7 +132,7 @@ impl Split<Knowledge> for Hand {
 pub struct Part;
 
 impl Split<Knowledge> for Part {
-    ghost use Rattle.idwords.specs.Seats.{first_only, others};
+    ghost use Rattle.idwords.specs.internal.Seating.{first_only, others};
 
     ghost left = { first_only };
 

@@ -15,7 +15,8 @@ pub struct Seat {
 }
 
 impl Model for Seat {
-    ghost use Rattle.idwords.specs.Seats.{SeatValue, seat_value, first_part, IsSeated};
+    ghost use Rattle.idwords.specs.Seats.{SeatValue, seat_value};
+    ghost use Rattle.idwords.specs.internal.Seating.{first_part, IsSeated};
 
     ghost Value = { SeatValue };
 

@@ -4,7 +4,8 @@
 //! second, if there is one, in its upper.
 ghost use Rattle.std.specs.Prelude.{◌≡◌, ◌^◌, ◌<◌, IfSome};
 ghost use Rattle.lrup_model.specs.Literal.{max_variable, code_of, IsCode};
-ghost use Rattle.idwords.specs.Words.{identity_word, word_state, length_of, start_of, half_of, literal_word};
+ghost use Rattle.idwords.specs.internal.RowWords.{identity_word, literal_word};
+ghost use Rattle.idwords.specs.Words.{word_state, length_of, start_of, half_of};
 
 use lrup_model::Lit;
 

@@ -9,11 +9,12 @@ use Rattle.std.specs.Ordering.{nat_cmp}
 use Rattle.std.proofs.lemmas.Bool.{cases_lt}
 use Rattle.std.proofs.lemmas.List.Sorted.{IsPermutation-map, IsPermutation-sym, Contains-permutation, searched}
 use Rattle.std.proofs.lemmas.Option.{slice_get_read}
-use Rattle.lrup_model.specs.Literal.{IsLiteral, IsCode, code_of, literal_of, max_variable}
-use Rattle.lrup_model.specs.LiteralLaws.{code_of-injective, code_of-literal_of, parity, literal_of-even, literal_of-odd}
+use Rattle.lrup_model.specs.Literal.{IsLiteral, IsCode, code_of, max_variable}
+use Rattle.lrup_model.specs.internal.Codes.{literal_of, AreCubeCodes}
+use Rattle.lrup_model.specs.lemmas.CodeLemmas.{code_of-injective, code_of-literal_of, parity, literal_of-even, literal_of-odd}
 use Rattle.lrup_model.specs.Clause.{Has}
-use Rattle.lrup_model.specs.ClauseLemmas.{Has-at, All-Has, All-from_Has}
-use Rattle.lrup_model.specs.Cube.{IsCubeOf, IsCubeOver, AreCubeCodes}
+use Rattle.lrup_model.specs.lemmas.ClauseLemmas.{Has-at, All-Has, All-from_Has}
+use Rattle.lrup_model.specs.Cube.{IsCubeOf, IsCubeOver}
 
 -- A clause's literal is an element of its list.
 

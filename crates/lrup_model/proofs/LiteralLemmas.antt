@@ -4,8 +4,8 @@ use Rattle.std.specs.Int.RustNames.{bit_xor}
 use Rattle.std.specs.Int.Bits.{xor_add_and}
 use Rattle.std.proofs.Math.IntN.{neg_ℤ-neg_ℤ}
 use Rattle.std.proofs.lemmas.Nat.{and_mask}
-use Rattle.lrup_model.specs.Literal.{literal_of}
-use Rattle.lrup_model.specs.LiteralLaws.{parity, literal_of-even, literal_of-odd}
+use Rattle.lrup_model.specs.internal.Codes.{literal_of}
+use Rattle.lrup_model.specs.lemmas.CodeLemmas.{parity, literal_of-even, literal_of-odd}
 
 xor_one : (code : ℕ) → bit_xor code 1 + 2 * (code % 2) ≡ code + 1
 xor_one code = omega (arith, xor_add_and code 1, and_mask code 1)

@@ -17,12 +17,12 @@ use Rattle.lrup_model.specs.State as slots
 use Rattle.lrup_model.specs.State.{State, opening}
 use Rattle.lrup_model.specs.Place.{Kept}
 use Rattle.lrup_model.specs.Plain as plain
-use Rattle.lrup_model.specs.Plain.{Stored, Plain, formula_of, plain_state, stored_at, StoresClause, slot_of, clause_of}
-use Rattle.lrup_model.specs.PlainInside.{stored_in, plain_of, LiesWithin, IsPlainSound, flat, entries_from}
+use Rattle.lrup_model.specs.Plain.{Stored, Plain, formula_of, plain_state, stored_at, slot_of, clause_of}
+use Rattle.lrup_model.specs.internal.PlainInside.{StoresClause, stored_in, plain_of, LiesWithin, IsPlainSound, flat, entries_from}
 use Rattle.lrup_model.specs.declared.plain_map.Entry.{Entry}
 use Rattle.lrup_model.specs.declared.plain_map.Entry.TheVariants.{Vacant, Live}
 use Rattle.lrup_model.proofs.PieceLemmas.{slice_range-append, slice_range-end}
-use Rattle.lrup_model.specs.HistoryLemmas.{opening-formula, opening-above}
+use Rattle.lrup_model.specs.lemmas.HistoryLemmas.{opening-formula, opening-above}
 
 -- The loop that keeps the clauses
 

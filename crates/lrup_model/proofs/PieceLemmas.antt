@@ -8,8 +8,8 @@ use Rattle.std.proofs.Math.Seq.{drop-append_seam, take-length}
 use Rattle.std.proofs.lemmas.List.Sums.{sum_by-cons}
 use Rattle.lrup_model.specs.Clause.{Clause}
 use Rattle.lrup_model.specs.Formula.{Cnf, IsCnf, IsFormulaClause, max_clauses}
-use Rattle.lrup_model.specs.Pieces.{pieces, AreEnds}
-use Rattle.lrup_model.specs.ListLemmas.{All-push}
+use Rattle.lrup_model.specs.internal.Pieces.{pieces, AreEnds}
+use Rattle.lrup_model.specs.lemmas.ListLemmas.{All-push}
 
 pub length-pieces : (ls : Clause) (from : ℕ) (ends : List ℕ) → length (pieces ls from ends) ≡ length ends
 length-pieces ls from [] = refl

@@ -14,17 +14,17 @@ use Rattle.lrup_model.specs.Entailment.{Follows, IsDerived}
 use Rattle.lrup_model.specs.Layout.{LayoutValue, Owns, last_identity}
 use Rattle.lrup_model.specs.Place.{Kept, ClipValue, IsKnown, AllFollow, clip_clause}
 use Rattle.lrup_model.specs.Plain as plain
-use Rattle.lrup_model.specs.Plain.{Stored, Plain, formula_of, IsFormulaLive, StoresClause, kept_of, slot_of, stored_at, plain_place}
-use Rattle.lrup_model.specs.Plain.{AfterPublish, AfterRetire}
+use Rattle.lrup_model.specs.Plain.{Stored, Plain, formula_of, kept_of, slot_of, stored_at, plain_place}
+use Rattle.lrup_model.specs.internal.PlainInside.{IsFormulaLive, StoresClause, AfterPublish, AfterRetire}
 use Rattle.lrup_model.specs.History.{IsPublishable}
 use Rattle.lrup_model.specs.declared.clause_map.Published.TheVariants as publishing
 use Rattle.lrup_model.specs.declared.clause_map.Retired.TheVariants as retiring
-use Rattle.lrup_model.specs.PlainInside.{stored_in, plain_of, LiesWithin, IsPlainSound}
+use Rattle.lrup_model.specs.internal.PlainInside.{stored_in, plain_of, LiesWithin, IsPlainSound}
 use Rattle.lrup_model.specs.declared.plain_map.Entry.{Entry}
 use Rattle.lrup_model.specs.declared.plain_map.Entry.TheVariants.{Vacant, Live, Retired}
 use Rattle.lrup_model.proofs.PieceLemmas.{slice_range-append, slice_range-end}
-use Rattle.lrup_model.specs.OwnerLemmas.{owned}
-use Rattle.lrup_model.specs.ListLemmas.{All-map}
+use Rattle.lrup_model.specs.lemmas.OwnerLemmas.{owned}
+use Rattle.lrup_model.specs.lemmas.ListLemmas.{All-map}
 use Rattle.lrup_model.proofs.PlainLemmas.{formula_of-set, formula_live-set, nothing_kept}
 
 -- Lists

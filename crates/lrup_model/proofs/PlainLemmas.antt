@@ -12,8 +12,7 @@ use Rattle.std.proofs.lemmas.Option.{same_Some}
 use Rattle.lrup_model.specs.Clause.{Clause}
 use Rattle.lrup_model.specs.Layout.{Owns}
 use Rattle.lrup_model.specs.Event as events
-use Rattle.lrup_model.specs.Event.{Event, History, Reply, stream_of, own, spent}
-use Rattle.lrup_model.specs.RunningLemmas.{size_of}
+use Rattle.lrup_model.specs.Event.{Event, History, Reply, stream_of, own, spent, size_of}
 use Rattle.lrup_model.specs.State as slots
 use Rattle.lrup_model.specs.State.{State, Slot, IsLive, IsRetired, Answers, after, retire_slot, run}
 use Rattle.lrup_model.specs.History.{IsAllowed, IsPublishable}
@@ -24,9 +23,10 @@ use Rattle.lrup_model.specs.Replies.{IsFetched, reply_of}
 use Rattle.lrup_model.specs.declared.clause_map.Fetched.{Fetched}
 use Rattle.lrup_model.specs.declared.clause_map.Retired.{Retired}
 use Rattle.lrup_model.specs.declared.clause_map.Retired.TheVariants as retiring
-use Rattle.lrup_model.specs.HistoryLemmas.{put, owned_above, spent_one}
+use Rattle.lrup_model.specs.lemmas.HistoryLemmas.{put, owned_above, spent_one}
 use Rattle.lrup_model.specs.Plain.{Stored, vacant, live, retired, Plain, slot_of, kept_of, clause_of, stored_at, formula_of, plain_state}
-use Rattle.lrup_model.specs.Plain.{free_at, plain_place, IsFormulaLive, PlainMoves, AfterPublish, AfterRetire, fetched_of}
+use Rattle.lrup_model.specs.Plain.{free_at, plain_place, PlainMoves}
+use Rattle.lrup_model.specs.internal.PlainInside.{IsFormulaLive, AfterPublish, AfterRetire, fetched_of}
 use Rattle.lrup_model.specs.declared.clause_map.Published.{Published}
 use Rattle.lrup_model.specs.declared.clause_map.Published.TheVariants as publishing
 

@@ -1,8 +1,7 @@
 -- Cubes: sets of literals that are assumed (textbook). A cube is kept as a list, and what is said of it reads the list as a set.
 use Rattle.std.specs.Prelude.{◌↔◌, ℕ, ℤ, neg_ℤ, List}
-use Rattle.std.specs.List.{All, AllByRecursion}
-use Rattle.std.specs.List.Sorted.{IsNonDecreasingBy}
-use Rattle.lrup_model.specs.Literal.{IsLiteral, IsCode, max_variable}
+use Rattle.std.specs.List.{AllByRecursion}
+use Rattle.lrup_model.specs.Literal.{IsLiteral}
 use Rattle.lrup_model.specs.Clause.{Clause, Has}
 use Rattle.lrup_model.specs.Formula.{Cnf}
 use Rattle.lrup_model.specs.Entailment.{Assignment, MakesTrue, SatisfiesAll}
@@ -31,17 +30,3 @@ MakesAllTrue assignment cube = AllByRecursion (MakesTrue assignment) cube
 abbrev pub IsUnsatisfiableUnder : Cnf → CubeValue → Type 0
 IsUnsatisfiableUnder formula cube =
     (assignment : Assignment) → SatisfiesAll assignment formula → MakesAllTrue assignment cube → ⊥
-
--- How a cube is kept: the codes of its literals, in order.
-pub record AreCubeCodes (codes : List ℕ) : Type 0 where
-  pub each : All (IsCode max_variable) codes
-  pub sorted : IsNonDecreasingBy (λ code. code) codes
-
--- Laws
-
--- of a cube's literals only the set counts
-pub record SameCube (literals : List ℤ) (cube : CubeValue) : Type 0 where
-  pub within : (clause : Clause) → Within clause cube ↔ Within clause literals
-  pub refutes : (formula : Cnf)
-      → IsUnsatisfiableUnder formula cube ↔ IsUnsatisfiableUnder formula literals
-  pub over : (vars : ℕ) → IsCubeOver vars cube ↔ IsCubeOver vars literals

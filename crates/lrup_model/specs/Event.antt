@@ -44,3 +44,10 @@ published (retire s id reply ∷ history) = published history
 -- the sizes of the clauses that a stream published with Done, added up
 abbrev pub spent : ℕ → History → ℕ
 spent s history = sum_by (λ entry. length entry.1) (published (own history s))
+
+-- the literals that an event takes of its stream's room
+abbrev pub size_of : Event → ℕ
+size_of (fetch s id reply) = 0
+size_of (publish s id clause publishing.Done) = length clause
+size_of (publish s id clause publishing.Taken) = 0
+size_of (retire s id reply) = 0

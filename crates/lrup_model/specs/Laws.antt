@@ -1,15 +1,13 @@
 -- Laws of the definitions: what holds of every formula, layout, history and pass. Each is the contract of a function of laws.
-use Rattle.std.specs.Prelude.{◌≡◌, ◌++◌, ℕ, Bool, List, [], ◌∷◌, IsTrue}
-use Rattle.std.specs.List.{filter}
-use Rattle.lrup_model.specs.Clause.{Clause}
+use Rattle.std.specs.Prelude.{◌≡◌, ℕ, Bool, IsTrue}
 use Rattle.lrup_model.specs.Formula.{Cnf}
 use Rattle.lrup_model.specs.Layout.{LayoutValue, Owns}
 use Rattle.lrup_model.specs.Event as events
-use Rattle.lrup_model.specs.Event.{Event, Reply, History, stream_of}
+use Rattle.lrup_model.specs.Event.{Event, Reply, History}
 use Rattle.lrup_model.specs.State.{State, Slot, absent, live, retired, run}
 use Rattle.lrup_model.specs.History.{LegalFrom}
 use Rattle.lrup_model.specs.Place.{Place, ClipValue, clip_clause, IsKnown, Tells}
-use Rattle.lrup_model.specs.Pass.{View, Spelling, PassMoves, pass_place}
+use Rattle.lrup_model.specs.Pass.{View, PassMoves, pass_place}
 
 -- What a history leaves at an identity
 
@@ -28,20 +26,6 @@ abbrev pub EntriesAdvance : Type 0
 EntriesAdvance = (f : Cnf) (p : LayoutValue) (m : State) (h : History) (id : ℕ) → LegalFrom f p m h
     → Advances (m id) (run m h id)
 
--- the event changes an identity of its own stream, if any
-abbrev pub IsByOwner : LayoutValue → Event → Type 0
-IsByOwner p (events.fetch s id r) = Unit {0}
-IsByOwner p (events.publish s id c r) = Owns p s id
-IsByOwner p (events.retire s id r) = Owns p s id
-
--- Clauses that follow
-
--- the slot has the clause, live or retired
-abbrev pub HasClause : Slot → Clause → Type 0
-HasClause absent c = ⊥
-HasClause (live d) c = d ≡ c
-HasClause (retired d) c = d ≡ c
-
 -- Places and passes
 
 -- a clip that is known at a place stays known, with the same literals, whatever calls follow
@@ -53,26 +37,7 @@ KnownStays = (a b : Place) (es : History) (clip : ClipValue) → Tells a b es �
 abbrev pub PassTells : Type 0
 PassTells = (a b : View) (es : History) → PassMoves a b es → Tells (pass_place a) (pass_place b) es
 
--- the pass when it has seen these events of others, with what is then kept
-abbrev pub learned : View → History → List Spelling → View
-learned v more xs = record v {
-  seen = v.seen ++ more;
-  spelt = xs;
-}
-
--- the pass when it has seen these events of others, and then made this call, with what is then kept
-abbrev pub stepped : View → History → Event → List Spelling → View
-stepped v between e xs = record v {
-  seen = v.seen ++ between ++ e ∷ [];
-  mine = v.mine ++ e ∷ [];
-  spelt = xs;
-}
-
 -- The events of some streams
-
--- the events of the streams of a set, given as a test, in order
-abbrev pub among : (ℕ → Bool) → History → History
-among set h = filter (λ e. set (stream_of e)) h
 
 -- the reply shows a clause
 abbrev pub IsFound : Reply → Type 0

@@ -1,5 +1,5 @@
 -- Literals, as DIMACS CNF writes them: a nonzero whole number, whose negative is its complement and whose magnitude is its variable.
-use Rattle.std.specs.Prelude.{◌+◌, ◌*◌, ◌/◌, ◌%◌, ◌==◌, ◌≤◌, ◌<◌, ℕ, ℤ, pos, negsuc, neg_ℤ, nat_abs, if◌then◌else◌}
+use Rattle.std.specs.Prelude.{◌+◌, ◌*◌, ◌≤◌, ◌<◌, ℕ, ℤ, pos, negsuc, nat_abs}
 
 -- the greatest variable that a formula may have
 abbrev pub max_variable : ℕ
@@ -17,7 +17,3 @@ code_of (negsuc v) = 2 * v + 3
 -- the code of a literal over the variables 1 to vars
 abbrev pub IsCode : ℕ → ℕ → Type 0
 IsCode vars code = (2 ≤ code) × (code ≤ 2 * vars + 1)
-
--- the literal that has this code
-abbrev pub literal_of : ℕ → ℤ
-literal_of code = (if code % 2 == 0 then pos (code / 2) else neg_ℤ (pos (code / 2)))

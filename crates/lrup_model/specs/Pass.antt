@@ -98,10 +98,6 @@ AreMet (old ∷ before) (new ∷ after) = PassMoves old new [] × IsFair new × 
 AreMet [] (new ∷ after) = ⊥
 AreMet (old ∷ before) [] = ⊥
 
--- a pass that has seen nothing and made no call
-abbrev pub opened : Caller → List Spelling → View
-opened caller spellings = record { caller = caller; seen = []; mine = []; spelt = spellings }
-
 -- all have seen this history
 abbrev pub AllSaw : History → List View → Type 0
 AllSaw history passes = AllByRecursion (λ view. view.seen ≡ history) passes

@@ -1,21 +1,14 @@
 -- The clause map of one thread, as its contracts see it, and a stream's desk at it (this project's own).
-use Rattle.std.specs.Prelude.{◌≡◌, ◌≢◌, ◌+◌, ◌-◌, ◌<◌, ◌≤◌, ℕ, List, [], length, map, take, drop, slice_index, slice_index_or, slice_set, Option, None, Some}
+use Rattle.std.specs.Prelude.{◌≡◌, ◌≢◌, ◌+◌, ◌-◌, ◌<◌, ℕ, List, [], map, take, drop, slice_index, slice_index_or, Option, None, Some}
 use Rattle.std.specs.List.{AllByRecursion}
 use Rattle.lrup_model.specs.Clause.{Clause}
 use Rattle.lrup_model.specs.Formula.{Cnf}
-use Rattle.lrup_model.specs.Entailment.{IsDerived}
 use Rattle.lrup_model.specs.Layout.{LayoutValue}
 use Rattle.lrup_model.specs.Event.{History, stream_of, spent}
-use Rattle.lrup_model.specs.State.{Slot, absent, State, run, IsLive}
+use Rattle.lrup_model.specs.State.{Slot, absent, State, run}
 use Rattle.lrup_model.specs.State as slots
 use Rattle.lrup_model.specs.History.{LegalFrom}
 use Rattle.lrup_model.specs.Place.{Kept, Place, KeepsSpelt, AllFollow}
-use Rattle.lrup_model.specs.declared.clause_map.Fetched.{Fetched}
-use Rattle.lrup_model.specs.declared.clause_map.Fetched.TheVariants as fetched
-use Rattle.lrup_model.specs.declared.clause_map.Published.{Published}
-use Rattle.lrup_model.specs.declared.clause_map.Published.TheVariants as publishing
-use Rattle.lrup_model.specs.declared.clause_map.Retired.{Retired}
-use Rattle.lrup_model.specs.declared.clause_map.Retired.TheVariants as retiring
 
 -- what is stored under an identity
 pub data Stored : Type 0 where
@@ -61,11 +54,6 @@ plain_state plain = λ id. slot_of (stored_at plain id)
 abbrev pub free_at : Plain → ℕ → ℕ
 free_at plain s = slice_index plain.free (s - 1)
 
--- the formula's clauses are live, for good
-abbrev pub IsFormulaLive : Plain → Type 0
-IsFormulaLive plain =
-    (id : ℕ) → 0 < id → id ≤ plain.layout.clauses → (kept : Kept) × (stored_at plain id ≡ live kept)
-
 -- what a stream's caller knows at the map
 abbrev pub plain_place : Plain → ℕ → Place
 plain_place plain s = record {
@@ -86,38 +74,3 @@ pub record PlainMoves (old new : Plain) (s : ℕ) (history : History) : Type 0 w
   pub others : (t : ℕ) → 0 < t → t ≢ s → free_at new t ≡ free_at old t
   pub spelt : KeepsSpelt (λ id. kept_of (stored_at old id)) (λ id. kept_of (stored_at new id))
   pub follow : AllFollow (plain_place old s) → AllFollow (plain_place new s)
-
--- what a fetch of the identity answers where this is stored
-abbrev pub fetched_of : ℕ → Stored → Fetched
-fetched_of id vacant = fetched.Vacant
-fetched_of id (live kept) =
-    fetched.Live (record { id = id; len = length kept.literals; start = kept.start })
-fetched_of id (retired kept) = fetched.Retired
-
--- the clause of what is stored follows from the formula
-abbrev pub StoresClause : Cnf → Stored → Type 0
-StoresClause formula vacant = Unit {0}
-StoresClause formula (live kept) = IsDerived formula kept.literals
-StoresClause formula (retired kept) = IsDerived formula kept.literals
-
--- the map after a publish, and after a retire, by its answer; index is the stream's place in the list of rooms, from 0 on
-abbrev pub AfterPublish : Plain → Plain → ℕ → ℕ → Clause → Published → Type 0
-AfterPublish old new index id clause publishing.Done =
-    (index < length old.free) × (id < length old.stored) × (stored_at old id ≡ vacant)
-    × (start : ℕ) × (new
-    ≡ record {
-      layout = old.layout;
-      stored = slice_set old.stored id (live (record { start = start; literals = clause }));
-      free = slice_set old.free index (slice_index old.free index - length clause);
-    })
-AfterPublish old new index id clause publishing.Taken = (stored_at old id ≢ vacant) × (new ≡ old)
-
-abbrev pub AfterRetire : Plain → Plain → ℕ → Retired → Type 0
-AfterRetire old new id retiring.Done =
-    (id < length old.stored) × (kept : Kept) × (stored_at old id ≡ live kept)
-    × (new ≡ record {
-      layout = old.layout;
-      stored = slice_set old.stored id (retired kept);
-      free = old.free;
-    })
-AfterRetire old new id retiring.NotLive = (¬ IsLive (slot_of (stored_at old id))) × (new ≡ old)

@@ -1,7 +1,8 @@
 //! Cubes: literals that are assumed.
 ghost use Rattle.std.specs.Prelude.{◌≡◌, ◌↔◌, ◌≤◌, ℕ, [], IsTrue, IfOk, map};
 ghost use Rattle.std.specs.List.{All};
-ghost use Rattle.lrup_model.specs.Literal.{literal_of, IsCode, max_variable};
+ghost use Rattle.lrup_model.specs.internal.Codes.{literal_of};
+ghost use Rattle.lrup_model.specs.Literal.{IsCode, max_variable};
 ghost use Rattle.lrup_model.specs.Clause.{Has};
 ghost use Rattle.lrup_model.specs.Cube.{IsCubeOf, IsCubeOver, Within};
 
@@ -19,8 +20,8 @@ pub struct Cube {
 
 impl Model for Cube {
     ghost use Rattle.std.specs.Prelude.{map};
-    ghost use Rattle.lrup_model.specs.Literal.{literal_of};
-    ghost use Rattle.lrup_model.specs.Cube.{CubeValue, AreCubeCodes};
+    ghost use Rattle.lrup_model.specs.internal.Codes.{literal_of, AreCubeCodes};
+    ghost use Rattle.lrup_model.specs.Cube.{CubeValue};
 
     ghost Value = { CubeValue };
 

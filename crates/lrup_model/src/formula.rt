@@ -2,7 +2,7 @@
 ghost use Rattle.std.specs.Prelude.{◌≡◌, ◌↔◌, ◌+◌, ◌-◌, ◌≤◌, ◌<◌, [], ◌∷◌, ◌++◌, IsTrue, OnOk, OnErr, length, slice_index, slice_index_or, slice_range};
 ghost use Rattle.lrup_model.specs.Literal.{max_variable};
 ghost use Rattle.lrup_model.specs.Formula.{IsCnf, IsFormulaClause, clause_at, formula_literals, max_clauses};
-ghost use Rattle.lrup_model.specs.Pieces.{pieces, AreEnds};
+ghost use Rattle.lrup_model.specs.internal.Pieces.{pieces, AreEnds};
 
 use crate::lit::Lit;
 use std::alloc::{AllocError, Global};
@@ -19,7 +19,7 @@ pub struct Formula {
 
 impl Model for Formula {
     ghost use Rattle.lrup_model.specs.Formula.{Cnf, IsCnf};
-    ghost use Rattle.lrup_model.specs.Pieces.{pieces, AreEnds};
+    ghost use Rattle.lrup_model.specs.internal.Pieces.{pieces, AreEnds};
     ghost use Rattle.std.specs.Prelude.{length};
 
     ghost Value = { Cnf };

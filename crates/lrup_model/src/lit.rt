@@ -16,8 +16,9 @@ pub struct Lit {
 impl Model for Lit {
     ghost use Rattle.std.specs.Prelude.{ℤ};
     ghost use Rattle.std.proofs.Common.{ap};
-    ghost use Rattle.lrup_model.specs.Literal.{max_variable, code_of, literal_of, IsCode};
-    ghost use Rattle.lrup_model.specs.LiteralLaws.{code_of-literal_of};
+    ghost use Rattle.lrup_model.specs.Literal.{max_variable, code_of, IsCode};
+    ghost use Rattle.lrup_model.specs.internal.Codes.{literal_of};
+    ghost use Rattle.lrup_model.specs.lemmas.CodeLemmas.{code_of-literal_of};
 
     ghost Value = { ℤ };
 

@@ -3,9 +3,9 @@ ghost use Rattle.std.specs.Prelude.{◌≡◌, ◌+◌, ◌-◌, ◌^◌, ◌≤
 ghost use Rattle.lrup_model.specs.Layout.{IsLayout, Fits, IsStream, Owns, last_identity};
 ghost use Rattle.lrup_model.specs.Formula.{formula_literals};
 ghost use Rattle.lrup_model.specs.State.{opening};
-ghost use Rattle.lrup_model.specs.PlainInside.{flat, entries_from};
+ghost use Rattle.lrup_model.specs.internal.PlainInside.{flat, entries_from, fetched_of, IsFormulaLive, AfterPublish, AfterRetire};
 ghost use Rattle.lrup_model.specs.Desk.{IsDesk};
-ghost use Rattle.lrup_model.specs.Plain.{stored_at, formula_of, plain_state, plain_place, fetched_of, IsFormulaLive, AfterPublish, AfterRetire};
+ghost use Rattle.lrup_model.specs.Plain.{stored_at, formula_of, plain_state, plain_place};
 ghost use Rattle.lrup_model.specs.History.{IsPublishable};
 ghost use Rattle.lrup_model.specs.Place.{IsKnown, AllFollow, clip_clause};
 
@@ -40,7 +40,7 @@ impl Model for PlainMap {
 
     ghost Value = { Plain };
 
-    ghost use Rattle.lrup_model.specs.PlainInside.{plain_of, IsPlainSound};
+    ghost use Rattle.lrup_model.specs.internal.PlainInside.{plain_of, IsPlainSound};
 
     ghost view = { λ m. plain_of m.layout m.entries.items m.literals.items m.free.items };
 
@@ -226,7 +226,8 @@ impl Drop for PlainDesk<'_> {
 }
 
 impl ClauseMap for PlainDesk<'_> {
-    ghost use Rattle.lrup_model.specs.Desk.{plain_desk_place, PlainDeskMoves, plain_desk_none, plain_desk_append, plain_desk_tells};
+    ghost use Rattle.lrup_model.specs.Desk.{plain_desk_place, PlainDeskMoves};
+    ghost use Rattle.lrup_model.specs.lemmas.DeskLemmas.{plain_desk_none, plain_desk_append, plain_desk_tells};
 
     ghost place = { plain_desk_place };
 

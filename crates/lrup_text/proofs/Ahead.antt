@@ -5,16 +5,17 @@ use Rattle.std.specs.declared.alloc.Global.{Global}
 use Rattle.std.specs.Fmt.{decimal, signed_decimal}
 use Rattle.std.specs.List.{AllByRecursion, flat_map}
 use Rattle.std.proofs.lemmas.List.{append_assoc, append-nil, length-append, length-take-le, take-take}
-use Rattle.lrup_model.specs.ListLemmas.{All-append}
+use Rattle.lrup_model.specs.lemmas.ListLemmas.{All-append}
 use Rattle.lrup_text.specs.declared.machine.Place.TheVariants as places
 use Rattle.lrup_text.specs.declared.machine.PartialLine.{PartialLine}
-use Rattle.lrup_text.specs.ByteNames.{space, minus}
+use Rattle.lrup_text.specs.Writing.{space}
+use Rattle.lrup_text.specs.internal.ByteNames.{minus}
 use Rattle.lrup_text.specs.Grammar.{IsDigit, SpellsNumber, SpellsLiteral}
-use Rattle.lrup_text.specs.Kernel.{ReadsLiterals, ReadsItems, numbers_text}
+use Rattle.lrup_text.specs.internal.Kernel.{ReadsLiterals, ReadsItems, numbers_text}
 use Rattle.lrup_text.specs.Lines.{IsStreamNumber, IsStreamLiteral}
-use Rattle.lrup_text.specs.Reading.{IsPartialLine, ReadsAhead, pending, pending_at, spot_at, IsRoomy, literals_text, items_text}
-use Rattle.lrup_text.specs.Reading.{clause_front, list_front, literals_read, identities_read}
-use Rattle.lrup_text.specs.Rests.{Spot, BeforeLiteral, AfterMinus, InLiteral, BeforeItem, InItem, Tracks}
+use Rattle.lrup_text.specs.internal.Reading.{IsPartialLine, ReadsAhead, pending, pending_at, spot_at, IsRoomy, literals_text, items_text}
+use Rattle.lrup_text.specs.internal.Reading.{clause_front, list_front, literals_read, identities_read}
+use Rattle.lrup_text.specs.internal.Rests.{Spot, BeforeLiteral, AfterMinus, InLiteral, BeforeItem, InItem, Tracks}
 use Rattle.lrup_text.proofs.Steps.{tracks_more, item_digit, number_digit, number_space, body_minus, body_digit, minus_digit, literal_digit}
 use Rattle.lrup_text.proofs.Steps.{literal_space}
 use Rattle.lrup_text.proofs.Bytes.{clause_more}

@@ -7,20 +7,22 @@ use Rattle.std.specs.Prelude.{Vec, vec_len, slice_set}
 use Rattle.std.specs.declared.alloc.Global.{Global}
 use Rattle.std.proofs.lemmas.List.{append_assoc, append-nil, flat_map_more, take_more_set, length-set, length-take-le}
 use Rattle.std.proofs.lemmas.Bool.{cases_eq}
-use Rattle.lrup_model.specs.ListLemmas.{All-push}
+use Rattle.lrup_model.specs.lemmas.ListLemmas.{All-push}
 use Rattle.lrup_text.specs.declared.LineFault.TheVariants.{Spelling, TooLong, RatHint}
 use Rattle.lrup_text.specs.declared.machine.Place.{Place}
 use Rattle.lrup_text.specs.declared.machine.Place.TheVariants as places
 use Rattle.lrup_text.specs.declared.machine.PartialLine.{PartialLine}
-use Rattle.lrup_text.specs.ByteNames.{space, minus, zero_digit, letter_d, letter_i, line_feed}
+use Rattle.lrup_text.specs.Writing.{space}
+use Rattle.lrup_text.specs.internal.ByteNames.{minus, zero_digit, letter_d, letter_i, line_feed}
 use Rattle.lrup_text.specs.Grammar.{IsDigit, list_text, clause_text}
 use Rattle.lrup_text.specs.Faults.{IsRefused}
 use Rattle.lrup_text.specs.Lines.{IsWithinLimits, IsStreamNumber, IsStreamLiteral, LineText, line_text}
-use Rattle.lrup_text.specs.Rests.{Spot, InLead, AfterImport, BeforeLiteral, AfterMinus, InLiteral, BeforeList, BeforeItem, InItem, AtEnd}
-use Rattle.lrup_text.specs.Rests.{Tracks, Moves, Blocks, Allows}
-use Rattle.lrup_text.specs.Reading.{FitsDigits, CanStandInLine, IsPartialLine, pending_at, spot_at, pending, IsRoomy, clause_front}
-use Rattle.lrup_text.specs.Reading.{list_front, item_front, end_front, literal_front, literals_read, identities_read, literals_text}
-use Rattle.lrup_text.specs.Reading.{items_text, line_so_far, line_of_parts}
+use Rattle.lrup_text.specs.internal.Rests.{Spot, InLead, AfterImport, BeforeLiteral, AfterMinus, InLiteral, BeforeList, BeforeItem}
+use Rattle.lrup_text.specs.internal.Rests.{InItem, AtEnd, Tracks, Moves, Blocks, Allows}
+use Rattle.lrup_text.specs.internal.Reading.{FitsDigits, CanStandInLine, IsPartialLine, pending_at, spot_at, pending, IsRoomy}
+use Rattle.lrup_text.specs.internal.Reading.{clause_front}
+use Rattle.lrup_text.specs.internal.Reading.{list_front, item_front, end_front, literal_front, literals_read, identities_read}
+use Rattle.lrup_text.specs.internal.Reading.{literals_text, items_text, line_so_far, line_of_parts}
 use Rattle.lrup_text.proofs.Decisions.{decides_spelling, decides_long, decides_rat}
 use Rattle.lrup_text.proofs.Rests.{list_is_clause}
 use Rattle.lrup_text.proofs.Numerals.{decimal_one, decimal_byte, power_more, power_below}

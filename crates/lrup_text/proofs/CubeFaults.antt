@@ -6,12 +6,13 @@ use Rattle.lrup_text.specs.declared.LineFault.{LineFault}
 use Rattle.lrup_text.specs.declared.LineFault.TheVariants as lines
 use Rattle.lrup_text.specs.declared.cube.CubeFault.{CubeFault}
 use Rattle.lrup_text.specs.declared.cube.CubeFault.TheVariants.{Spelling, TooLong}
-use Rattle.lrup_text.specs.CubeReading.{EndsAtSpot, IsRestFault, import_front}
+use Rattle.lrup_text.specs.internal.CubeReading.{EndsAtSpot, IsRestFault, import_front}
 use Rattle.lrup_text.specs.Cubes.{IsCubeLine, BeginsOne, BeginsOneLifted, BeginsNone, IsTextFault}
 use Rattle.lrup_text.specs.Faults.{IsRefused}
-use Rattle.lrup_text.specs.ByteNames.{line_feed, space, letter_i, zero_digit}
+use Rattle.lrup_text.specs.internal.ByteNames.{line_feed, letter_i, zero_digit}
+use Rattle.lrup_text.specs.Writing.{space}
 use Rattle.lrup_text.specs.Grammar.{Limits, AreLifted, standard, IsLine, clause_text}
-use Rattle.lrup_text.specs.Rests.{Spot, AtStart, InLead, AfterImport, BeforeLiteral, AtEnd, BodyFollows, Moves, Blocks}
+use Rattle.lrup_text.specs.internal.Rests.{Spot, AtStart, InLead, AfterImport, BeforeLiteral, AtEnd, BodyFollows, Moves, Blocks}
 use Rattle.lrup_text.proofs.Decisions.{decides_spelling, decides_long}
 use Rattle.lrup_text.proofs.Steps.{IsBounded, Exceeds, tracks_more, tracks_begins, standard_lifted, at_start, start_digit, lead_space}
 use Rattle.lrup_text.proofs.Steps.{body_import, import_space, body_end, end_blocks}

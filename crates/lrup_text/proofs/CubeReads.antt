@@ -6,17 +6,19 @@ use Rattle.std.specs.Fmt.{decimal, signed_decimal}
 use Rattle.std.specs.List.{AllByRecursion}
 use Rattle.std.proofs.lemmas.List.{append_assoc, length-append}
 use Rattle.lrup_model.specs.Cube.{IsCubeOver}
-use Rattle.lrup_model.specs.ListLemmas.{All-push}
+use Rattle.lrup_model.specs.lemmas.ListLemmas.{All-push}
 use Rattle.lrup_text.specs.declared.cube.CubeFault.{CubeFault}
 use Rattle.lrup_text.specs.declared.cube.CubeFault.TheVariants.{Spelling, TooLong, Range, Memory}
-use Rattle.lrup_text.specs.CubeReading.{EndsAtSpot, import_front, IsRestFault, BeginsWithNumber, ReadsLiteral, AreKept, AreNotKept}
+use Rattle.lrup_text.specs.internal.CubeReading.{EndsAtSpot, import_front, IsRestFault, BeginsWithNumber, ReadsLiteral, AreKept}
+use Rattle.lrup_text.specs.internal.CubeReading.{AreNotKept}
 use Rattle.lrup_text.specs.Cubes.{IsCubeLine, IsLiteralsText, IsTextFault, IsCubeFault}
-use Rattle.lrup_text.specs.ByteNames.{line_feed, space, zero_digit}
+use Rattle.lrup_text.specs.internal.ByteNames.{line_feed, zero_digit}
+use Rattle.lrup_text.specs.Writing.{space}
 use Rattle.lrup_text.specs.Grammar.{IsDigit}
 use Rattle.lrup_text.specs.Lines.{IsStreamLiteral}
-use Rattle.lrup_text.specs.Reading.{FitsDigits, literals_text}
+use Rattle.lrup_text.specs.internal.Reading.{FitsDigits, literals_text}
 use Rattle.lrup_text.proofs.Bytes.{first_digit, more_digits, below_limit, decimal_next, positive, text_more, literals_end}
-use Rattle.lrup_text.specs.Rests.{BeforeLiteral, InLiteral}
+use Rattle.lrup_text.specs.internal.Rests.{BeforeLiteral, InLiteral}
 use Rattle.lrup_text.proofs.Ahead.{tracks_as, literal_digits, tracks_literals}
 use Rattle.lrup_text.proofs.CubeFaults.{nothing_read}
 use Rattle.lrup_text.proofs.Numerals.{decimal_one}

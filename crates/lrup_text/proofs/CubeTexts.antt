@@ -1,12 +1,12 @@
 -- A cube's text, as it is printed, is the text of its literals that is read.
 use Rattle.std.proofs.Common.{ℕ, ℤ, pos, negsuc, ◌<◌, ◌^◌, List, [], ◌∷◌, sym, ◌∙◌, arith}
 use Rattle.lrup_model.specs.Cube.{CubeValue, IsCubeOf, IsCubeOver}
-use Rattle.lrup_model.specs.ListLemmas.{All-map}
+use Rattle.lrup_model.specs.lemmas.ListLemmas.{All-map}
 use Rattle.lrup_model.specs.Literal.{IsLiteral}
 use Rattle.lrup_text.specs.Cubes.{IsLiteralsText, IsCubeText, CubeTextIsRead}
-use Rattle.lrup_text.specs.ByteNames.{line_feed}
+use Rattle.lrup_text.specs.internal.ByteNames.{line_feed}
 use Rattle.lrup_text.specs.Lines.{IsStreamLiteral}
-use Rattle.lrup_text.specs.Reading.{literals_text}
+use Rattle.lrup_text.specs.internal.Reading.{literals_text}
 use Rattle.lrup_text.proofs.Bytes.{literals_end}
 
 stream_literal : (vars : ℕ) → vars < 10 ^ 18 → (z : ℤ) → IsLiteral vars z → IsStreamLiteral z

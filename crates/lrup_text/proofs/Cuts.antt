@@ -5,16 +5,17 @@ use Rattle.std.specs.List.{flat_map}
 use Rattle.std.proofs.lemmas.Bool.{cases_eq, cases_lt}
 use Rattle.std.proofs.lemmas.Grind.{flat_map-append}
 use Rattle.std.proofs.lemmas.List.{append_assoc, append-nil, length-append, nil_from_length}
-use Rattle.lrup_model.specs.ListLemmas.{All-append}
+use Rattle.lrup_model.specs.lemmas.ListLemmas.{All-append}
 use Rattle.lrup_text.specs.declared.LineFault.{LineFault}
 use Rattle.lrup_text.specs.declared.LineFault.TheVariants.{Spelling, TooLong, RatHint}
 use Rattle.lrup_text.specs.Faults.{IsRefused, HasTextFault}
-use Rattle.lrup_text.specs.ByteNames.{line_feed, space, minus, zero_digit, letter_d, letter_i}
+use Rattle.lrup_text.specs.internal.ByteNames.{line_feed, minus, zero_digit, letter_d, letter_i}
+use Rattle.lrup_text.specs.Writing.{space}
 use Rattle.lrup_text.specs.Grammar.{IsDigit, IsLine, standard}
 use Rattle.lrup_text.specs.Laws.{BeginningCut, CutGoesOn, EveryCut, PendingOrFaulty}
 use Rattle.lrup_text.specs.Lines.{StreamLine, IsWithinLimits, line_text, HasNoLine, Cut, IsPending}
-use Rattle.lrup_text.specs.Rests.{Spot, AtStart, InLead, AfterImport, BeforeLiteral, AfterMinus, InLiteral, BeforeList, BeforeItem, InItem}
-use Rattle.lrup_text.specs.Rests.{AtEnd, MayComplete, Tracks, Moves, Blocks, Allows}
+use Rattle.lrup_text.specs.internal.Rests.{Spot, AtStart, InLead, AfterImport, BeforeLiteral, AfterMinus, InLiteral, BeforeList}
+use Rattle.lrup_text.specs.internal.Rests.{BeforeItem, InItem, AtEnd, MayComplete, Tracks, Moves, Blocks, Allows}
 use Rattle.lrup_text.proofs.Decisions.{decides_spelling, decides_long, decides_rat}
 use Rattle.lrup_text.proofs.Steps.{IsBounded, Exceeds, NoFirst, NoDigit, at_start, start_digit, lead_digit, lead_space, body_hints}
 use Rattle.lrup_text.proofs.Steps.{body_end, body_deletion, body_import, import_space, import_blocks, body_minus, body_digit, minus_digit}

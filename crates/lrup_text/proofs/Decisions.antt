@@ -3,7 +3,7 @@ use Rattle.std.proofs.Common.{ℕ, Bool, true, false, List, [], ◌∷◌, ◌++
 use Rattle.lrup_text.specs.declared.LineFault.TheVariants.{Spelling, TooLong, RatHint}
 use Rattle.lrup_text.specs.Faults.{IsRefused}
 use Rattle.lrup_text.specs.Grammar.{IsLine, standard, Begins, BeginsLifted}
-use Rattle.lrup_text.specs.Rests.{Spot, MayComplete, Tracks, Blocks, Allows}
+use Rattle.lrup_text.specs.internal.Rests.{Spot, MayComplete, Tracks, Blocks, Allows}
 use Rattle.lrup_text.proofs.TextLaws.{tracks_pending}
 use Rattle.lrup_text.proofs.Steps.{IsBounded, Exceeds, one_more, standard_lifted}
 

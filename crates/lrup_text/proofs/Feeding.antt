@@ -7,8 +7,8 @@ use Rattle.lrup_text.specs.declared.machine.PartialLine.{PartialLine}
 use Rattle.lrup_text.specs.declared.reader.ReaderTurn.{ReaderTurn}
 use Rattle.lrup_text.specs.declared.reader.ReaderTurn.TheVariants as turns
 use Rattle.lrup_text.specs.Lines.{IsPending, LineText, line_of}
-use Rattle.lrup_text.specs.Reading.{StepsThrough, pending, line_so_far}
-use Rattle.lrup_text.specs.Feeding.{ReaderState, reader_state, Feeds, ReaderLeaves}
+use Rattle.lrup_text.specs.internal.Reading.{StepsThrough, pending, line_so_far, reader_state}
+use Rattle.lrup_text.specs.Feeding.{ReaderState, Feeds, ReaderLeaves}
 use Rattle.lrup_text.proofs.TextLaws.{empty_pending}
 use Rattle.lrup_text.proofs.Readers.{reads_pending}
 

@@ -2,10 +2,11 @@
 use Rattle.std.proofs.Common.{◌≡◌, ℕ, ℤ, List, [], ◌∷◌, ◌++◌, map, sym, ◌∙◌, ap}
 use Rattle.std.specs.Fmt.{decimal, signed_decimal}
 use Rattle.std.proofs.lemmas.List.{append_assoc}
-use Rattle.lrup_text.specs.ByteNames.{space, zero_digit, letter_d, letter_i, line_feed}
+use Rattle.lrup_text.specs.Writing.{space}
+use Rattle.lrup_text.specs.internal.ByteNames.{zero_digit, letter_d, letter_i, line_feed}
 use Rattle.lrup_text.specs.Grammar.{list_text}
 use Rattle.lrup_text.specs.Lines.{Addition, Deletion, Import, line_text}
-use Rattle.lrup_text.specs.Reading.{literals_text}
+use Rattle.lrup_text.specs.internal.Reading.{literals_text}
 use Rattle.lrup_text.proofs.Bytes.{literals_end}
 use Rattle.lrup_text.proofs.Rests.{list_is_clause}
 

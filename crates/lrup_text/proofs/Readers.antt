@@ -10,12 +10,14 @@ use Rattle.lrup_text.specs.declared.machine.ByteStep.{ByteStep}
 use Rattle.lrup_text.specs.declared.machine.ByteStep.TheVariants.{More, Done, Refused}
 use Rattle.lrup_text.specs.Faults.{IsRefused}
 use Rattle.lrup_text.specs.declared.machine.PartialLine.{PartialLine}
-use Rattle.lrup_text.specs.ByteNames.{space, minus, zero_digit, letter_i}
+use Rattle.lrup_text.specs.Writing.{space}
+use Rattle.lrup_text.specs.internal.ByteNames.{minus, zero_digit, letter_i}
 use Rattle.lrup_text.specs.Grammar.{SpellsNumber}
 use Rattle.lrup_text.specs.Lines.{IsPending, IsStreamNumber, LineText}
-use Rattle.lrup_text.specs.Reading.{HasRoom, FitsDigits, CanStandInLine, IsPartialLine, ReadsAhead, ReadsByte, StepsThrough, pending_at}
-use Rattle.lrup_text.specs.Reading.{spot_at, pending, IsRoomy, line_so_far, clause_front, list_front, item_front, end_front, literal_front}
-use Rattle.lrup_text.specs.Reading.{literals_text, items_text, literals_read, identities_read}
+use Rattle.lrup_text.specs.internal.Reading.{HasRoom, FitsDigits, CanStandInLine, IsPartialLine, ReadsAhead, ReadsByte, StepsThrough}
+use Rattle.lrup_text.specs.internal.Reading.{pending_at}
+use Rattle.lrup_text.specs.internal.Reading.{spot_at, pending, IsRoomy, line_so_far, clause_front, list_front, item_front, end_front}
+use Rattle.lrup_text.specs.internal.Reading.{literal_front, literals_text, items_text, literals_read, identities_read}
 use Rattle.lrup_text.proofs.Bytes.{bounded, below_limit}
 use Rattle.lrup_text.proofs.TextLaws.{tracks_pending}
 use Rattle.lrup_text.proofs.Numerals.{number_word}
@@ -36,7 +38,7 @@ start_reads m at room kept number = (
     kept = kept;
     number = number;
     roomy = subst (λ p. IsRoomy p m) (sym at) tt;
-    tracks = subst (λ p. Rattle.lrup_text.specs.Rests.Tracks (pending_at p m) (spot_at p m)) (sym at) at_start;
+    tracks = subst (λ p. Rattle.lrup_text.specs.internal.Rests.Tracks (pending_at p m) (spot_at p m)) (sym at) at_start;
   },
   ap (λ p. pending_at p m) at,
 )

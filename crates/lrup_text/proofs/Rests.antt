@@ -3,11 +3,12 @@ use Rattle.std.proofs.Common.{◌≡◌, ℕ, ◌+◌, ◌<◌, ◌≤◌, ◌�
 use Rattle.std.proofs.Common.{subst, arith}
 use Rattle.std.specs.Prelude.{MatchBool}
 use Rattle.std.specs.List.{AllByRecursion}
-use Rattle.lrup_text.specs.ByteNames.{line_feed, space, letter_d, letter_i, minus, zero_digit}
+use Rattle.lrup_text.specs.internal.ByteNames.{line_feed, letter_d, letter_i, minus, zero_digit}
+use Rattle.lrup_text.specs.Writing.{space}
 use Rattle.lrup_text.specs.Grammar.{Limits, AreFew, IsDigit, SpellsNumber, SpellsLiteral, IsLine, Words, Adds, Deletes, Imports}
 use Rattle.lrup_text.specs.Grammar.{AreWordsWithin, text, list_text, clause_text}
-use Rattle.lrup_text.specs.Rests.{SpellsItem, ListFollows, ClauseEnds, ClauseFollows, LiteralsFollow, BodyFollows, DigitsFollow}
-use Rattle.lrup_text.specs.Rests.{NumberFollows}
+use Rattle.lrup_text.specs.internal.Rests.{SpellsItem, ListFollows, ClauseEnds, ClauseFollows, LiteralsFollow, BodyFollows, DigitsFollow}
+use Rattle.lrup_text.specs.internal.Rests.{NumberFollows}
 
 pub same_head : {a b : ℕ} {xs ys : List ℕ} → a ∷ xs ≡ b ∷ ys → a ≡ b
 same_head e = cc

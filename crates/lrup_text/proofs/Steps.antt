@@ -2,11 +2,13 @@
 use Rattle.std.proofs.Common.{◌≡◌, ℕ, ◌+◌, ◌<◌, ◌≤◌, ◌≢◌, ◌⊎◌, ◌↔◌, inl, inr, Bool, true, false, List, [], ◌∷◌, ◌++◌, refl, sym, ◌∙◌, subst}
 use Rattle.std.proofs.Common.{arith}
 use Rattle.std.proofs.lemmas.List.{append_assoc}
-use Rattle.lrup_text.specs.ByteNames.{line_feed, space, letter_d, letter_i, minus, zero_digit}
+use Rattle.lrup_text.specs.internal.ByteNames.{line_feed, letter_d, letter_i, minus, zero_digit}
+use Rattle.lrup_text.specs.Writing.{space}
 use Rattle.lrup_text.specs.Grammar.{Limits, AreLifted, IsDigit, IsLine, standard, Begins}
-use Rattle.lrup_text.specs.Rests.{Spot, AtStart, InLead, AfterImport, BeforeLiteral, AfterMinus, InLiteral, BeforeList, BeforeItem, InItem}
-use Rattle.lrup_text.specs.Rests.{AtEnd, ListFollows, ClauseEnds, ClauseFollows, LiteralsFollow, DeletionFollows, ImportFollows}
-use Rattle.lrup_text.specs.Rests.{BodyFollows, DigitsFollow, NumberFollows, MayComplete, Tracks, Moves, Blocks, Allows}
+use Rattle.lrup_text.specs.internal.Rests.{Spot, AtStart, InLead, AfterImport, BeforeLiteral, AfterMinus, InLiteral, BeforeList}
+use Rattle.lrup_text.specs.internal.Rests.{BeforeItem, InItem}
+use Rattle.lrup_text.specs.internal.Rests.{AtEnd, ListFollows, ClauseEnds, ClauseFollows, LiteralsFollow, DeletionFollows, ImportFollows}
+use Rattle.lrup_text.specs.internal.Rests.{BodyFollows, DigitsFollow, NumberFollows, MayComplete, Tracks, Moves, Blocks, Allows}
 use Rattle.lrup_text.proofs.Rests as rests
 use Rattle.lrup_text.proofs.Rests.{digits_to, digits_from_digit, digits_from_space, number_to, number_from, list_to_space, item_to}
 use Rattle.lrup_text.proofs.Rests.{item_from_zero, item_from_digit, clause_to, clause_from_zero, clause_from_digit, clause_from_minus}

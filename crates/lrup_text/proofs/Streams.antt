@@ -6,12 +6,12 @@ use Rattle.std.specs.List.{AllByRecursion, flat_map}
 use Rattle.std.proofs.lemmas.Fmt.{decimal_injective, signed_decimal_injective}
 use Rattle.std.proofs.lemmas.List.{append_assoc, length-append, length-map, append-nil, append_cancel_left, nil_from_length, take_all}
 use Rattle.std.proofs.lemmas.List.{flat_map_more}
-use Rattle.lrup_model.specs.ListLemmas.{All-push}
+use Rattle.lrup_model.specs.lemmas.ListLemmas.{All-push}
 use Rattle.lrup_text.specs.declared.LineFault.{LineFault}
 use Rattle.lrup_text.specs.declared.LineFault.TheVariants.{Spelling, TooLong, Truncated, RatHint}
 use Rattle.lrup_text.specs.declared.reader.ReaderTurn.{ReaderTurn}
 use Rattle.lrup_text.specs.declared.reader.ReaderTurn.TheVariants.{Line, NeedMore, Fault}
-use Rattle.lrup_text.specs.ByteNames.{minus}
+use Rattle.lrup_text.specs.internal.ByteNames.{minus}
 use Rattle.lrup_text.specs.Grammar.{standard, IsDigit, SpellsNumber, SpellsLiteral, AreFew, Words, Adds, Deletes, Imports, AreWordsWithin}
 use Rattle.lrup_text.specs.Grammar.{IsLine, text, Begins}
 use Rattle.lrup_text.specs.Lines.{StreamLine, Addition, Deletion, Import, IsStreamNumber, IsStreamLiteral, IsWithinLimits, LineText}

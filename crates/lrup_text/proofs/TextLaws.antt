@@ -4,13 +4,14 @@ use Rattle.std.proofs.Common.{ap, arith}
 use Rattle.std.specs.Fmt.{decimal, signed_decimal}
 use Rattle.std.specs.List.{AllByRecursion}
 use Rattle.std.proofs.lemmas.List.{append_assoc, length-append, length-map, append-nil}
-use Rattle.lrup_text.specs.ByteNames.{space, minus, zero_digit, letter_d, letter_i, line_feed}
+use Rattle.lrup_text.specs.Writing.{space}
+use Rattle.lrup_text.specs.internal.ByteNames.{minus, zero_digit, letter_d, letter_i, line_feed}
 use Rattle.lrup_text.specs.Grammar.{standard, IsDigit, SpellsNumber, SpellsLiteral, AreFew, Words, Adds, Deletes, Imports, AreWordsWithin}
 use Rattle.lrup_text.specs.Grammar.{IsLine, text, list_text, clause_text}
 use Rattle.lrup_text.specs.Laws.{EmptyPending}
 use Rattle.lrup_text.specs.Lines.{StreamLine, Addition, Deletion, Import, IsStreamNumber, IsStreamLiteral, IsWithinLimits, words_of}
 use Rattle.lrup_text.specs.Lines.{line_text, HasNoLine, IsPending}
-use Rattle.lrup_text.specs.Rests.{Spot, AtStart, Tracks}
+use Rattle.lrup_text.specs.internal.Rests.{Spot, AtStart, Tracks}
 use Rattle.lrup_text.proofs.Numerals.{number_word}
 use Rattle.lrup_text.proofs.Rests.{same_head, same_tail, literal_of_number, list_rest, list_text-space, list_is_clause}
 use Rattle.lrup_text.proofs.Steps.{IsBounded, IsOpen, open_spot, standard_lifted, tracks_begins, at_start}

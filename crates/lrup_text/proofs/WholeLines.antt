@@ -6,12 +6,14 @@ use Rattle.std.specs.List.{AllByRecursion}
 use Rattle.std.proofs.Math.Nat.{mod-eq_of_lt}
 use Rattle.std.proofs.lemmas.Bool.{cases_lt}
 use Rattle.std.proofs.lemmas.List.{append_assoc, take_more, take_more_set, length-set, take_all, append-nil}
-use Rattle.lrup_model.specs.ListLemmas.{All-push}
-use Rattle.lrup_text.specs.ByteNames.{space, minus, zero_digit, letter_d, letter_i, line_feed}
+use Rattle.lrup_model.specs.lemmas.ListLemmas.{All-push}
+use Rattle.lrup_text.specs.Writing.{space}
+use Rattle.lrup_text.specs.internal.ByteNames.{minus, zero_digit, letter_d, letter_i, line_feed}
 use Rattle.lrup_text.specs.Lines.{IsStreamNumber, IsStreamLiteral}
-use Rattle.lrup_text.specs.Kernel.{EndsLine, EndsWord, ReadsNumber, ReadsLiterals, ReadsItems, ReadsList, ReadsClause, IsWhole}
-use Rattle.lrup_text.specs.Kernel.{numbers_text}
-use Rattle.lrup_text.specs.Reading.{FitsDigits, CanStandInLine, literals_text, items_text, literal_front, clause_front, list_front}
+use Rattle.lrup_text.specs.internal.Kernel.{EndsLine, EndsWord, ReadsNumber, ReadsLiterals, ReadsItems, ReadsList, ReadsClause, IsWhole}
+use Rattle.lrup_text.specs.internal.Kernel.{numbers_text}
+use Rattle.lrup_text.specs.internal.Reading.{FitsDigits, CanStandInLine, literals_text, items_text, literal_front, clause_front}
+use Rattle.lrup_text.specs.internal.Reading.{list_front}
 use Rattle.lrup_text.proofs.Numerals.{decimal_one}
 use Rattle.lrup_text.proofs.Bytes.{first_digit, more_digits, decimal_next, below_limit, positive, text_more, line_end, line_fits}
 

@@ -1,6 +1,6 @@
 -- What a reader of lines gives for a piece of a stream, and what it is afterwards.
 -- A reader is the text that it has read of a line, `Ok`, or the fault that it gave, `Err`.
-use Rattle.std.specs.Prelude.{◌≡◌, ℕ, ◌<◌, ◌≤◌, List, [], ◌++◌, length, take, Option, Some, None, Result, Ok, Err, IfOk}
+use Rattle.std.specs.Prelude.{◌≡◌, ℕ, ◌<◌, ◌≤◌, List, [], ◌++◌, length, take, Result, Ok, Err, IfOk}
 use Rattle.lrup_text.specs.declared.LineFault.{LineFault}
 use Rattle.lrup_text.specs.declared.LineFault.TheVariants.{Truncated}
 use Rattle.lrup_text.specs.declared.reader.ReaderTurn.{ReaderTurn}
@@ -12,11 +12,6 @@ use Rattle.lrup_text.specs.Lines.{line_of, LineText, IsPending}
 
 abbrev pub ReaderState : Type 0
 ReaderState = Result (List ℕ) LineFault
-
--- the state with this fault, if any, and this text
-abbrev pub reader_state : Option LineFault → List ℕ → ReaderState
-reader_state None read = Ok read
-reader_state (Some fault) read = Err fault
 
 -- what a reader gives for a piece, of which it uses so many bytes
 abbrev pub Feeds : ReaderState → List ℕ → ℕ → ReaderTurn → Type 0

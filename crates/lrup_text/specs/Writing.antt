@@ -1,5 +1,5 @@
 -- What goes out to a sink, where the device tells its bytes, while some bytes are still held back.
-use Rattle.std.specs.Prelude.{◌≡◌, ◌+◌, ◌/◌, ◌%◌, List, ℕ, [], ◌∷◌, ◌++◌, Option, Result, MatchResult}
+use Rattle.std.specs.Prelude.{◌≡◌, List, ℕ, ◌++◌, Option, Result, MatchResult}
 use Rattle.std.specs.Io.KnownBytes.{Appends}
 
 -- The bytes went out after those held before, and the last of them are held now.
@@ -29,7 +29,6 @@ WritesText result before after bytes =
     MatchResult result (λ _. Appends before after bytes) (λ _. (went rest : List ℕ)
     × (bytes ≡ went ++ rest) × Appends before after went)
 
--- the last four digits of a number
-abbrev pub four_digits : ℕ → List ℕ
-four_digits n =
-    (48 + n / 1000 % 10) ∷ (48 + n / 100 % 10) ∷ (48 + n / 10 % 10) ∷ (48 + n % 10) ∷ []
+-- the byte SP
+abbrev pub space : ℕ
+space = 32

@@ -2,11 +2,11 @@
 ghost use Rattle.std.specs.Prelude.{◌≡◌, ◌≢◌, ◌↔◌, ◌≤◌, [], ◌∷◌, ◌++◌, ℕ, ℤ, true, List, IfOk, IfErr, IfSome, IsSome, IsTrue, MatchResult};
 ghost use Rattle.lrup_model.specs.Cube.{IsCubeOver};
 ghost use Rattle.lrup_model.specs.Literal.{IsLiteral, max_variable};
-ghost use Rattle.lrup_text.specs.CubeReading.{EndsAtSpot, IsRestFault, BeginsWithNumber, ReadsLiteral, AreKept, AreNotKept};
+ghost use Rattle.lrup_text.specs.internal.CubeReading.{EndsAtSpot, IsRestFault, BeginsWithNumber, ReadsLiteral, AreKept, AreNotKept};
 ghost use Rattle.lrup_text.specs.Cubes.{IsLiteralsText, IsCubeText, IsCubeLine, IsTextFault, IsCubeFault};
-ghost use Rattle.lrup_text.specs.ByteNames.{line_feed, zero_digit};
+ghost use Rattle.lrup_text.specs.internal.ByteNames.{line_feed, zero_digit};
 ghost use Rattle.lrup_text.specs.Grammar.{IsDigit};
-ghost use Rattle.lrup_text.specs.Rests.{BeforeLiteral, AfterMinus, InLiteral};
+ghost use Rattle.lrup_text.specs.internal.Rests.{BeforeLiteral, AfterMinus, InLiteral};
 ghost use Rattle.lrup_text.specs.declared.cube.CubeFault.TheVariants.{Memory};
 
 use crate::machine::{MAX_DIGITS, MAX_LITERALS, literal_of};

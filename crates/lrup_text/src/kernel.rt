@@ -1,6 +1,6 @@
 //! Reads a whole line at once, and long lists.
 ghost use Rattle.std.specs.Prelude.{◌≡◌, ◌<◌, ◌≤◌, ◌+◌, get_or, length, IfSome};
-ghost use Rattle.lrup_text.specs.Kernel.{EndsLine, EndsWord, ReadsNumber, ReadsLiterals, ReadsItems, ReadsList, ReadsClause, IsWhole};
+ghost use Rattle.lrup_text.specs.internal.Kernel.{EndsLine, EndsWord, ReadsNumber, ReadsLiterals, ReadsItems, ReadsList, ReadsClause, IsWhole};
 
 use crate::machine::{MAX_DIGITS, literal_of};
 

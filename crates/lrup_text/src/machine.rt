@@ -2,9 +2,9 @@
 ghost use Rattle.std.specs.Prelude.{◌≡◌, ◌<◌, ◌+◌, ◌-◌, ◌*◌, ◌^◌, ◌↔◌, [], length, IfOk, IfSome, IfNone, IsTrue, unsigned_abs};
 ghost use Rattle.std.specs.Fmt.{signed_decimal};
 ghost use Rattle.lrup_text.specs.Grammar.{IsDigit};
-ghost use Rattle.lrup_text.specs.Kernel.{EndsLine};
+ghost use Rattle.lrup_text.specs.internal.Kernel.{EndsLine};
 ghost use Rattle.lrup_text.specs.Lines.{line_of, LineText};
-ghost use Rattle.lrup_text.specs.Reading.{IsPartialLine, ReadsAhead, ReadsByte, StepsThrough, literal_front, pending, line_so_far};
+ghost use Rattle.lrup_text.specs.internal.Reading.{IsPartialLine, ReadsAhead, ReadsByte, StepsThrough, literal_front, pending, line_so_far};
 
 use crate::kernel::{read_items, read_line, read_literals};
 use crate::{Line, LineFault};

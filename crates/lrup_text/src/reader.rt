@@ -49,8 +49,8 @@ pub struct LineReader {
 
 impl Model for LineReader {
     ghost use Rattle.std.specs.Prelude.{IfNone};
-    ghost use Rattle.lrup_text.specs.Feeding.{ReaderState, reader_state};
-    ghost use Rattle.lrup_text.specs.Reading.{IsPartialLine, pending};
+    ghost use Rattle.lrup_text.specs.Feeding.{ReaderState};
+    ghost use Rattle.lrup_text.specs.internal.Reading.{reader_state, IsPartialLine, pending};
 
     ghost Value = { ReaderState };
 

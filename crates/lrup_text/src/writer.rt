@@ -1,11 +1,11 @@
 //! Writes texts and lines.
 ghost use Rattle.std.specs.Prelude.{◌≡◌, ◌<◌, ◌≤◌, ◌+◌, [], ◌∷◌, ◌++◌, length, take, false, is_err, map, IsTrue, ◌↔◌, OnErr};
 ghost use Rattle.std.specs.Fmt.{decimal, signed_decimal};
-ghost use Rattle.lrup_text.specs.ByteNames.{space};
+ghost use Rattle.lrup_text.specs.Writing.{space, PutsAll, WritesText};
 ghost use Rattle.lrup_text.specs.Grammar.{list_text};
 ghost use Rattle.lrup_text.specs.Lines.{line_of, line_text, IsWithinLimits};
-ghost use Rattle.lrup_text.specs.Reading.{literals_text};
-ghost use Rattle.lrup_text.specs.Writing.{PutsAll, WritesText, four_digits};
+ghost use Rattle.lrup_text.specs.internal.Reading.{literals_text};
+ghost use Rattle.lrup_text.specs.internal.FourDigits.{four_digits};
 
 use crate::{Line, Sink, WriteFault};
 use std::marker::Model;

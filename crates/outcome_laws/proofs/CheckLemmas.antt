@@ -16,7 +16,7 @@ use Rattle.stream_check.specs.Laws.{EmptyCubeReported}
 use Rattle.runs.specs.Headline.{AreJudgedIn}
 use Rattle.runs.specs.Closed.{IsOfStream}
 use Rattle.runs.specs.Streams.{Stream, Telling, TermsValue, setting_of, tellings}
-use Rattle.runs.specs.StreamLemmas.{judged_count, same_at, told_as_many, telling_at, some_end}
+use Rattle.runs.specs.lemmas.StreamLemmas.{judged_count, same_at, told_as_many, telling_at, some_end}
 use Rattle.runs.specs.Turns.{IsOrderedByTurns}
 use Rattle.run_laws.specs.Blame.{LacksOfAnotherIn}
 use Rattle.run_laws.specs.Groups.{IsRun}

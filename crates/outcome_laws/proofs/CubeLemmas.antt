@@ -13,9 +13,9 @@ use Rattle.stream_check.specs.Setting.{Setting, side_of}
 use Rattle.stream_check.specs.Standing.{standing_of, additions_of}
 use Rattle.stream_check.specs.Verdicts.{LineVerdict, Good, Bad}
 use Rattle.stream_check.specs.Asking.{AsksAt, LooksUp}
-use Rattle.stream_check.specs.MappingLemmas.{LooksOn, line_maps}
+use Rattle.stream_check.specs.lemmas.MappingLemmas.{LooksOn, line_maps}
 use Rattle.stream_check.specs.Judging.{JudgesLine, AreGood, report_of, EndsAfter, at_bad_line, at_bad_text, at_memory, at_end}
-use Rattle.stream_check.specs.ReportLemmas.{all_only_empty}
+use Rattle.stream_check.specs.lemmas.ReportLemmas.{all_only_empty}
 use Rattle.outcome_laws.specs.Outcomes.{bare_setting, bare_report}
 use Rattle.outcome_laws.specs.Laws.{NoCubeJudgesAlike}
 

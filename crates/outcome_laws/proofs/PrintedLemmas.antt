@@ -7,7 +7,7 @@ use Rattle.std.specs.Prelude.{codes, slice_get, if◌then◌else◌}
 use Rattle.std.specs.Fmt.{decimal, digit_glyph, digits, digits_onto}
 use Rattle.std.specs.Io.KnownBytes.{Appends, Keeps}
 use Rattle.std.specs.List.{AllByRecursion}
-use Rattle.lrup_model.specs.ListLemmas.{All-append, All-map}
+use Rattle.lrup_model.specs.lemmas.ListLemmas.{All-append, All-map}
 use Rattle.lrup_text.specs.declared.LineFault.TheVariants as texts
 use Rattle.stream_check.specs.Faults.{fault_text}
 use Rattle.stream_check.specs.declared.fault.Fault.{Fault}

@@ -7,17 +7,21 @@ use Rattle.lrup_model.specs.Formula.{Cnf}
 use Rattle.stream_check.specs.declared.report.Report.{Report}
 use Rattle.stream_check.specs.Setting.{Setting}
 use Rattle.runs.specs.Closed.{IsOfStream}
-use Rattle.runs.specs.EachLemmas.{each_map}
+use Rattle.runs.specs.lemmas.EachLemmas.{each_map}
 use Rattle.runs.specs.Headline.{AreJudgedIn}
 use Rattle.runs.specs.Streams.{Stream, Telling, JudgesStream, TermsValue, setting_of}
 use Rattle.run_laws.specs.Groups.{IsRun}
 use Rattle.run_laws.specs.GroupLaws.{SameBytesAgree}
-use Rattle.outcome_laws.specs.Outcomes.{bare_setting, bare_terms, bare_report}
+use Rattle.outcome_laws.specs.Outcomes.{bare_setting, bare_report}
 use Rattle.outcome_laws.specs.Laws.{NoCubeJudgesAlike, SameBytesSayTheSame}
 
 judges_bare : NoCubeJudgesAlike → (c : Setting) (stream : Stream) (blocks : List History) (report : Report)
     → JudgesStream c stream blocks report → JudgesStream (bare_setting c) stream blocks (bare_report report)
 judges_bare law c stream blocks report judged = λ end its. law c stream.bytes end blocks report (judged end its)
+
+-- the terms of a run, with the empty cube
+abbrev pub bare_terms : TermsValue → TermsValue
+bare_terms terms = record { layout = terms.layout; cube = []; tries = terms.tries }
 
 judged_bare : NoCubeJudgesAlike
     → (terms : TermsValue) (set : ℕ → Bool) (h : History) (s : ℕ) (streams : List Stream) (reports : List Report)

@@ -13,7 +13,7 @@ use Rattle.stream_check.specs.declared.fault.Fault.TheVariants as stream_faults
 use Rattle.stream_check.specs.declared.report.Ending.TheVariants as endings
 use Rattle.stream_check.specs.declared.report.Report.{Report}
 use Rattle.runs.specs.Closed.{IsOfStream}
-use Rattle.runs.specs.StreamLemmas.{judged_count}
+use Rattle.runs.specs.lemmas.StreamLemmas.{judged_count}
 use Rattle.run_laws.specs.Right.{IsCutOffIn}
 use Rattle.run_laws.specs.RightLaws.{RightBegins, RightEmpty, RightReported}
 use Rattle.run_laws.specs.Together.{Step, TogetherBegins, RightTogether, lines_by}

@@ -4,7 +4,6 @@ use Rattle.stream_check.specs.declared.report.Report.{Report}
 use Rattle.stream_check.specs.Laws.{IsOfMemory, IsOfFailure}
 use Rattle.stream_check.specs.Setting.{Setting}
 use Rattle.runs.specs.Closed.{IsOfStream}
-use Rattle.runs.specs.Streams.{TermsValue}
 use Rattle.command_line.specs.declared.words.CommandLine.{CommandLine}
 use Rattle.command.specs.Commands.{FilesView, Text}
 
@@ -14,10 +13,6 @@ use Rattle.command.specs.Commands.{FilesView, Text}
 abbrev pub bare_setting : Setting → Setting
 bare_setting setting =
     record { layout = setting.layout; cube = []; stream = setting.stream; tries = setting.tries }
-
--- the terms of a run, with the empty cube
-abbrev pub bare_terms : TermsValue → TermsValue
-bare_terms terms = record { layout = terms.layout; cube = []; tries = terms.tries }
 
 -- the report, as it is under the empty cube: within that is the empty clause alone
 abbrev pub bare_report : Report → Report

@@ -7,7 +7,7 @@ use Rattle.std.proofs.lemmas.Grind.{flat_map-append}
 use Rattle.lrup_model.specs.Clause.{Clause}
 use Rattle.lrup_model.specs.Formula.{Cnf}
 use Rattle.lrup_model.specs.Cube.{CubeValue, IsUnsatisfiableUnder}
-use Rattle.lrup_model.specs.CubeLemmas.{within_refutes}
+use Rattle.lrup_model.specs.lemmas.CubeLemmas.{within_refutes}
 use Rattle.lrup_model.specs.Layout.{LayoutValue}
 use Rattle.lrup_model.specs.Event as events
 use Rattle.lrup_model.specs.Event.{History, own}
@@ -18,14 +18,14 @@ use Rattle.lrup_text.specs.declared.device.StreamEnd.{StreamEnd}
 use Rattle.stream_check.specs.declared.report.Report.{Report}
 use Rattle.stream_check.specs.Setting.{Setting}
 use Rattle.stream_check.specs.Standing.{is_within}
-use Rattle.stream_check.specs.CubeLemmas.{is_within-decides}
+use Rattle.stream_check.specs.lemmas.CubeLemmas.{is_within-decides}
 use Rattle.stream_check.specs.Judging.{joined, JudgesBlocks}
-use Rattle.stream_check.specs.ReportLemmas.{said_within}
-use Rattle.runs.specs.StreamLemmas.{some_end}
+use Rattle.stream_check.specs.lemmas.ReportLemmas.{said_within}
+use Rattle.runs.specs.lemmas.StreamLemmas.{some_end}
 use Rattle.runs.specs.Streams.{Stream, JudgesStream, Telling, TermsValue, setting_of}
 use Rattle.run_laws.specs.Groups.{IsRun}
 use Rattle.runs.specs.Headline.{AreJudgedIn}
-use Rattle.run_laws.specs.PublishLemmas.{publishes_within}
+use Rattle.run_laws.specs.lemmas.PublishLemmas.{publishes_within}
 use Rattle.portfolio.specs.declared.outcome.Verdict.{Verdict}
 use Rattle.portfolio.specs.declared.outcome.Verdict.TheVariants.{Unsatisfiable, UnsatisfiableUnder, Unknown}
 use Rattle.portfolio.specs.Outcomes.{verdict_of}

@@ -13,7 +13,7 @@ use Rattle.stream_check.specs.Leaving.{Holding, Leaves, LeavesGoing}
 use Rattle.stream_check.specs.Setting.{Setting}
 use Rattle.stream_check.specs.Standing.{is_among, standing_of}
 use Rattle.stream_check.specs.Stopping.{DropsUntilStop}
-use Rattle.stream_check.specs.StoppingLemmas.{drops_none}
+use Rattle.stream_check.specs.lemmas.StoppingLemmas.{drops_none}
 use Rattle.stream_jobs.specs.Judged.{DropsBy, ending_with}
 use Rattle.portfolio.specs.Dropping.{AreDroppedBy, HasDropped}
 

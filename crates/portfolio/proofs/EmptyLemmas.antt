@@ -9,7 +9,7 @@ use Rattle.lrup_model.specs.Clause.{Clause}
 use Rattle.lrup_model.specs.Distinct.{distinct}
 use Rattle.lrup_model.specs.Formula.{Cnf}
 use Rattle.lrup_model.specs.Entailment.{Follows, IsUnsatisfiable}
-use Rattle.lrup_model.specs.EntailmentLemmas.{empty_refutes}
+use Rattle.lrup_model.specs.lemmas.EntailmentLemmas.{empty_refutes}
 use Rattle.lrup_model.specs.Layout.{LayoutValue}
 use Rattle.lrup_model.specs.Event as events
 use Rattle.lrup_model.specs.Event.{Event, Reply, History, own}
@@ -26,9 +26,9 @@ use Rattle.stream_check.specs.Standing.{Standing, additions_of}
 use Rattle.stream_check.specs.Verdicts.{Good}
 use Rattle.stream_check.specs.Additions.{published_by}
 use Rattle.stream_check.specs.Judging.{JudgesLine, AreGood, joined, JudgesBlocks}
-use Rattle.stream_check.specs.ReportLemmas.{said_empty}
-use Rattle.run_laws.specs.PublishLemmas.{publishes_empty}
-use Rattle.runs.specs.StreamLemmas.{some_end}
+use Rattle.stream_check.specs.lemmas.ReportLemmas.{said_empty}
+use Rattle.run_laws.specs.lemmas.PublishLemmas.{publishes_empty}
+use Rattle.runs.specs.lemmas.StreamLemmas.{some_end}
 use Rattle.runs.specs.Streams.{Stream, JudgesStream}
 
 -- ---- some element of a list

@@ -13,7 +13,7 @@ use Rattle.lrup_model.specs.Entailment.{IsUnsatisfiable}
 use Rattle.lrup_model.specs.Event.{History, own, spent}
 use Rattle.lrup_model.specs.Formula.{Cnf}
 use Rattle.lrup_model.specs.History.{IsLegal}
-use Rattle.lrup_model.specs.HistoryLemmas.{opening-owned}
+use Rattle.lrup_model.specs.lemmas.HistoryLemmas.{opening-owned}
 use Rattle.lrup_model.specs.Layout.{LayoutValue, IsLayout, IsFault, IsStream, Fits, Owns}
 use Rattle.lrup_model.specs.declared.layout.LayoutFault.{LayoutFault}
 use Rattle.lrup_model.specs.declared.layout.LayoutFault.TheVariants as faults
@@ -31,13 +31,13 @@ use Rattle.portfolio.specs.declared.outcome.RunFault.{RunFault}
 use Rattle.portfolio.specs.declared.outcome.RunFault.TheVariants.{Layout, Memory, Ring, Spawn}
 use Rattle.portfolio.specs.declared.outcome.Verdict.{Verdict}
 use Rattle.portfolio.specs.declared.outcome.Verdict.TheVariants.{Unsatisfiable, UnsatisfiableUnder, Unknown}
-use Rattle.portfolio.specs.Dropping.{HasDropped, HaveDropped}
+use Rattle.portfolio.specs.Dropping.{HasDropped, HaveDropped, WasReadOut, WereJudged}
 use Rattle.portfolio.specs.Outcomes.{OptionsValue, layout_of, terms_of, verdict_of}
 use Rattle.portfolio.specs.Histories.{InThreads, IsRunOf}
-use Rattle.portfolio.specs.Threads.{AreGathered, HaveReadyJobs, IsBegun, HasReadyJobs, WasReadOut, WereGathered, WereJudged}
+use Rattle.portfolio.specs.internal.Threads.{AreGathered, HaveReadyJobs, IsBegun, HasReadyJobs, WereGathered}
 use Rattle.runs.specs.Each.{EachOfThree}
-use Rattle.runs.specs.EachLemmas.{each_count, each_take, zip_count}
-use Rattle.runs.specs.StreamLemmas.{IsJudgedBy, told_as_many, told_count}
+use Rattle.runs.specs.lemmas.EachLemmas.{each_count, each_take, zip_count}
+use Rattle.runs.specs.lemmas.StreamLemmas.{IsJudgedBy, told_as_many, told_count}
 use Rattle.runs.specs.Headline.{HaveOneHistory, AreJudgedIn, seen_by}
 use Rattle.stream_threads.specs.Jobs.{JobsValue, FoundValue, CanBegin, Finishes, AllFinish, AreJobs, MissesMark}
 use Rattle.lrup_text.specs.ReadOut.{SourceView}

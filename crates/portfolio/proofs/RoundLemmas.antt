@@ -7,16 +7,16 @@ use Rattle.std.proofs.lemmas.Grind.{flat_map-append}
 use Rattle.std.proofs.lemmas.Option.{slice_get_within}
 use Rattle.lrup_model.specs.Event.{History, stream_of}
 use Rattle.lrup_model.specs.Layout.{LayoutValue, IsStream}
-use Rattle.lrup_model.specs.ListLemmas.{All-front}
+use Rattle.lrup_model.specs.lemmas.ListLemmas.{All-front}
 use Rattle.stream_check.specs.declared.report.Ending.{Ending}
 use Rattle.stream_check.specs.Judging.{joined}
 use Rattle.runs.specs.Closed.{IsOfStream}
 use Rattle.runs.specs.Streams.{Block, blocks_of, events_in, IsBlockWithin}
-use Rattle.runs.specs.StreamLemmas.{same_at}
-use Rattle.runs.specs.TurnLemmas.{blocks_of-append, lines_beside, lines_pushed, streams_of-push, turns-pushed}
+use Rattle.runs.specs.lemmas.StreamLemmas.{same_at}
+use Rattle.runs.specs.lemmas.TurnLemmas.{blocks_of-append, lines_beside, lines_pushed, streams_of-push, turns-pushed}
 use Rattle.runs.specs.Turns.{IsByTurns, IsTurnOf, line_count, streams_of}
-use Rattle.portfolio.specs.Turns.{IsInRound}
-use Rattle.portfolio.specs.Working.{AreBlocksOfTurn, WorkerValue}
+use Rattle.portfolio.specs.internal.Turns.{IsInRound}
+use Rattle.portfolio.specs.internal.Working.{AreBlocksOfTurn, WorkerValue}
 
 -- ---- the blocks of one stream's lines, behind others
 

@@ -9,18 +9,18 @@ use Rattle.lrup_model.specs.Event as events
 use Rattle.lrup_model.specs.Event.{Event, History, Reply, own, stream_of}
 use Rattle.lrup_model.specs.Formula.{Cnf}
 use Rattle.lrup_model.specs.History.{IsLegal, LegalFrom}
-use Rattle.lrup_model.specs.HistoryLemmas.{legal-back, own-mine, own-other}
+use Rattle.lrup_model.specs.lemmas.HistoryLemmas.{legal-back, own-mine, own-other}
 use Rattle.lrup_model.specs.Layout.{LayoutValue, Owns}
-use Rattle.lrup_model.specs.OwnerLemmas.{owned}
+use Rattle.lrup_model.specs.lemmas.OwnerLemmas.{owned}
 use Rattle.lrup_model.specs.Pass.{View, IsFair, PassMoves, AreMet, AllSaw}
 use Rattle.lrup_model.specs.Place.{Caller}
-use Rattle.lrup_model.specs.RunningLemmas.{own-append}
+use Rattle.lrup_model.specs.lemmas.RunningLemmas.{own-append}
 use Rattle.lrup_model.specs.State.{State, Answers, opening, state}
-use Rattle.stream_check.specs.Checking.{IsFetch}
+use Rattle.stream_check.specs.internal.Checking.{IsFetch}
 use Rattle.checkpoint.specs.Live.{fetches}
 use Rattle.clause_store.specs.Passes.{AreOf, PassValue, StoreValue, store_of}
 use Rattle.runs.specs.Headline.{HaveOneHistory}
-use Rattle.run_laws.specs.OwnLemmas.{own_all}
+use Rattle.run_laws.specs.lemmas.OwnLemmas.{own_all}
 
 -- ---- histories of fetches
 

@@ -14,10 +14,10 @@ use Rattle.lrup_model.specs.Layout.{LayoutValue, Fits, Owns, IsStream}
 use Rattle.lrup_model.specs.Event.{History, stream_of, own, published, spent}
 use Rattle.lrup_model.specs.State.{State, opening, run, state}
 use Rattle.lrup_model.specs.History.{LegalFrom, IsLegal}
-use Rattle.lrup_model.specs.HistoryLemmas.{opening-owned}
-use Rattle.lrup_model.specs.RunningLemmas.{run-append, legal-append, spent-append}
+use Rattle.lrup_model.specs.lemmas.HistoryLemmas.{opening-owned}
+use Rattle.lrup_model.specs.lemmas.RunningLemmas.{run-append, legal-append, spent-append}
 use Rattle.lrup_model.specs.Plain.{Plain, formula_of, plain_state, free_at, plain_place, PlainMoves}
-use Rattle.lrup_model.specs.ListLemmas.{All-append}
+use Rattle.lrup_model.specs.lemmas.ListLemmas.{All-append}
 use Rattle.stream_check.specs.declared.report.Ending.{Ending}
 use Rattle.stream_check.specs.declared.report.Report.{Report}
 use Rattle.stream_check.specs.Setting.{Setting}
@@ -34,14 +34,14 @@ use Rattle.lrup_text.specs.ReadOut.{SourceView}
 use Rattle.runs.specs.Readings.{AreRead, IsStreamOf}
 use Rattle.runs.specs.Streams.{Stream, tellings, IsTold, JudgesStream, Block, blocks_of, events_in, IsBlockWithin, setting_of, AreJudged}
 use Rattle.runs.specs.Streams.{TermsValue}
-use Rattle.runs.specs.EachLemmas.{each_count, each_push, each_second, each_set, each_within}
-use Rattle.runs.specs.StreamLemmas.{told_as_many, told_count}
+use Rattle.runs.specs.lemmas.EachLemmas.{each_count, each_push, each_second, each_set, each_within}
+use Rattle.runs.specs.lemmas.StreamLemmas.{told_as_many, told_count}
 use Rattle.runs.specs.Turns.{IsOrderedByTurns, streams_of}
-use Rattle.run_laws.specs.OwnLemmas.{ordered_judged}
+use Rattle.run_laws.specs.lemmas.OwnLemmas.{ordered_judged}
 use Rattle.portfolio.specs.Histories.{IsRunOf, OnOneThread}
-use Rattle.portfolio.specs.Working.{AreBlocksOfTurn, WorkerValue, WorksBy, Works, WorksOn, IsStarted}
-use Rattle.portfolio.specs.Turns.{HasRun, IsWorking, AreWorking, Runs, IsRunning, GoesOn, IsOver, AreOver, IsOverAt, AreStarted}
-use Rattle.portfolio.specs.Turns.{AreRun, HaveReports}
+use Rattle.portfolio.specs.internal.Working.{AreBlocksOfTurn, WorkerValue, WorksBy, Works, WorksOn, IsStarted}
+use Rattle.portfolio.specs.internal.Turns.{HasRun, IsWorking, AreWorking, Runs, IsRunning, GoesOn, IsOver, AreOver, IsOverAt, AreStarted}
+use Rattle.portfolio.specs.internal.Turns.{AreRun, HaveReports}
 
 -- ---- room
 

@@ -18,12 +18,12 @@ use Rattle.stream_check.specs.declared.progress.CheckTurn.TheVariants as turns
 use Rattle.stream_check.specs.Leaving.{Leaves}
 use Rattle.stream_check.specs.CheckerValue.{Tally, report_of_tally, CheckerValue}
 use Rattle.stream_check.specs.Checker.{AreBlocksOf, state_by, checker_state, LeavesOn, EndsBy, Ends, ReportsEnd}
-use Rattle.lrup_text.specs.ReadLemmas.{gave_more}
+use Rattle.lrup_text.specs.lemmas.ReadLemmas.{gave_more}
 use Rattle.lrup_text.specs.ReadOut.{EndsSo, IsLastRead, SourceView}
 use Rattle.lrup_text.specs.Reads.{Gave}
-use Rattle.runs.specs.StreamLemmas.{judged_out}
+use Rattle.runs.specs.lemmas.StreamLemmas.{judged_out}
 use Rattle.portfolio.specs.Dropping.{HasDropped}
-use Rattle.portfolio.specs.Working.{AreBlocksOfTurn, WorkerValue, WorksBy, Works, WorksOn}
+use Rattle.portfolio.specs.internal.Working.{AreBlocksOfTurn, WorkerValue, WorksBy, Works, WorksOn}
 use Rattle.portfolio.proofs.DroppingLemmas.{going_drops, stopped_drops}
 
 -- ---- going on

@@ -1,9 +1,7 @@
 pub mod Outcomes
 pub mod ReportText
-pub mod Turns
-pub mod Working
 pub mod Saving
 pub mod Dropping
-pub mod Threads
 pub mod Histories
-pub mod ResultLemmas
+pub mod internal
+pub mod lemmas

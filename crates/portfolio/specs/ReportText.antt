@@ -39,19 +39,3 @@ verdict_line verdicts.Unknown = codes "s UNKNOWN\n"
 -- a line for each stream in order, and the verdict's line
 abbrev pub report_text : List Report → Verdict → List ℕ
 report_text reports verdict = stream_lines 1 reports ++ verdict_line verdict
-
--- While a run goes on
-
--- what is said when a stream is over
-abbrev pub over_line : ℕ → Report → List ℕ
-over_line s report = line_after (codes "lrupd: stream ") s report
-
--- what is said when a stream has waited for the clause of an identity
-abbrev pub wait_line : ℕ → ℕ → List ℕ
-wait_line s id =
-    codes "lrupd: stream " ++ decimal s ++ codes ": waits for " ++ decimal id ++ codes "\n"
-
--- what is said of how many clauses a stream has added so far
-abbrev pub count_line : ℕ → ℕ → List ℕ
-count_line s added =
-    codes "lrupd: stream " ++ decimal s ++ codes ": " ++ decimal added ++ codes " added\n"

@@ -3,7 +3,8 @@ ghost use Rattle.std.specs.Prelude.{◌≡◌, ◌++◌, false, is_err};
 ghost use Rattle.std.specs.Fmt.{decimal};
 ghost use Rattle.lrup_text.specs.Writing.{PutsAll, WritesText};
 ghost use Rattle.stream_check.specs.Faults.{fault_text};
-ghost use Rattle.portfolio.specs.ReportText.{count_line, ending_text, line_after, over_line, report_text, verdict_line, wait_line};
+ghost use Rattle.portfolio.specs.internal.WatchText.{count_line, over_line, wait_line};
+ghost use Rattle.portfolio.specs.ReportText.{ending_text, line_after, report_text, verdict_line};
 
 use crate::outcome::Verdict;
 use lrup_model::Id;

@@ -15,8 +15,8 @@ ghost use Rattle.portfolio.specs.Histories.{IsRunOf, OnOneThread};
 ghost use Rattle.portfolio.specs.Outcomes.{layout_of, terms_of, verdict_of};
 ghost use Rattle.runs.specs.Readings.{readers_view};
 ghost use Rattle.runs.specs.Streams.{tellings};
-ghost use Rattle.portfolio.specs.Turns.{AreOver, AreRun, AreStarted, GoesOn, HaveReports, IsOverAt, IsRunning, Runs};
-ghost use Rattle.portfolio.specs.Working.{AreBlocksOfTurn, WorksOn};
+ghost use Rattle.portfolio.specs.internal.Turns.{AreOver, AreRun, AreStarted, GoesOn, HaveReports, IsOverAt, IsRunning, Runs};
+ghost use Rattle.portfolio.specs.internal.Working.{AreBlocksOfTurn, WorksOn};
 
 use crate::options::Options;
 use crate::outcome::{RunFault, SerialOutcome, Verdict};

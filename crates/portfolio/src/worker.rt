@@ -7,7 +7,7 @@ ghost use Rattle.stream_check.specs.CheckerValue.{report_of_tally};
 ghost use Rattle.stream_check.specs.Checker.{AreBlocksOf, Ends, IsReadyAt, ReportsEnd};
 ghost use Rattle.stream_check.specs.Judging.{joined};
 ghost use Rattle.runs.specs.Readings.{readers_view};
-ghost use Rattle.portfolio.specs.Working.{AreBlocksOfTurn, IsStarted, WorksOn};
+ghost use Rattle.portfolio.specs.internal.Working.{AreBlocksOfTurn, IsStarted, WorksOn};
 
 use lrup_model::ClauseMap;
 use lrup_text::{PIECE, Source, StreamEnd};
@@ -30,7 +30,7 @@ pub struct Worker<R: Source + Drop, G: Gate + Drop> {
 
 impl<R: Source + Drop, G: Gate + Drop> Model for Worker<R, G> {
     ghost use Rattle.std.specs.Prelude.{◌-◌, take, drop, length};
-    ghost use Rattle.portfolio.specs.Working.{WorkerValue, IsWorker};
+    ghost use Rattle.portfolio.specs.internal.Working.{WorkerValue, IsWorker};
 
     ghost Value = { WorkerValue R };
 

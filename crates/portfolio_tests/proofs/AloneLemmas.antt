@@ -7,7 +7,7 @@ use Rattle.std.specs.Prelude.{IsTrue, slice_get, codes, ◌==◌, ◌↔◌, if�
 use Rattle.lrup_model.specs.Layout.{LayoutValue, Owns, owner}
 use Rattle.lrup_model.specs.declared.layout.Owner.{Owner}
 use Rattle.lrup_model.specs.declared.layout.Owner.TheVariants as owners
-use Rattle.lrup_text.specs.ByteNames.{space}
+use Rattle.lrup_text.specs.Writing.{space}
 use Rattle.lrup_text.specs.Lines.{StreamLine, Addition, Deletion, Import, Cut, HasNoLine, line_text}
 use Rattle.lrup_text.specs.Laws.{OneCut}
 use Rattle.stream_check.specs.declared.report.Report.{Report}
@@ -22,13 +22,13 @@ use Rattle.portfolio.specs.declared.outcome.Verdict.TheVariants.{Unsatisfiable, 
 use Rattle.portfolio.specs.Outcomes.{OptionsValue, terms_of, verdict_of}
 use Rattle.run_laws.specs.Serializable.{ComeToVerdict, IsSerializable}
 use Rattle.run_laws.specs.Premises.{FoundStays}
-use Rattle.runs.specs.StreamLemmas.{same_at}
+use Rattle.runs.specs.lemmas.StreamLemmas.{same_at}
 use Rattle.lrup_text.specs.ReadOut.{SourceView}
 use Rattle.runs.specs.Readings.{AreRead}
 use Rattle.runs.specs.Streams.{Stream, Telling, TermsValue, telling_of, tellings, IsOrdered, events_in}
 use Rattle.runs.specs.Closed.{IsOfStream, IsOwnedWithin, CiteWithin}
 use Rattle.run_laws.specs.Groups.{one, AreIsolated, IsRun}
-use Rattle.run_laws.specs.ReportLemmas.{only}
+use Rattle.run_laws.specs.lemmas.ReportLemmas.{only}
 use Rattle.run_laws.specs.GroupLaws.{ReadersClosed, ToldIsReading}
 use Rattle.test_support.specs.Worked.{four}
 use Rattle.portfolio_tests.specs.Alone.{first_bytes, usual, layout_of_two, two_terms, HasOrder, IsOnlyReport}

@@ -6,10 +6,10 @@ use Rattle.std.proofs.lemmas.List.{take-append-drop, take_all, take-take}
 use Rattle.std.proofs.lemmas.Option.{none-some, slice_get_cases}
 use Rattle.lrup_model.specs.Clause.{Clause, Has, EachOnce}
 use Rattle.lrup_model.specs.Propagation.{IsConflict, IsUnit}
-use Rattle.propagate.specs.Left.{IsLeft}
+use Rattle.propagate.specs.internal.Left.{IsLeft}
 use Rattle.propagate.specs.declared.marks.Left.{Left}
 use Rattle.propagate.specs.declared.marks.Left.TheVariants.{Nothing, One, More}
-use Rattle.lrup_model.specs.ClauseLemmas.{Has-append_left, Has-push, Has-push_cases, Has-take, Has-at, Has-before, take-next}
+use Rattle.lrup_model.specs.lemmas.ClauseLemmas.{Has-append_left, Has-push, Has-push_cases, Has-take, Has-at, Has-before, take-next}
 
 -- no literal of a list is left
 pub IsConflict-nil : (n : List ℤ) → IsConflict n []

@@ -9,13 +9,13 @@ use Rattle.std.proofs.lemmas.Bool.{ne_eqb, eqb-true, or_cases, false≢true, fal
 use Rattle.std.proofs.lemmas.List.{length-set, length-map, get_or-set_same, get_or-set_other}
 use Rattle.std.proofs.lemmas.Map.Steps.{length-le_from_distinct_below}
 use Rattle.lrup_model.specs.Literal.{IsLiteral, code_of}
-use Rattle.lrup_model.specs.LiteralLaws.{code_of-injective, IsCode-code_of}
+use Rattle.lrup_model.specs.lemmas.CodeLemmas.{code_of-injective, IsCode-code_of}
 use Rattle.lrup_model.specs.Clause.{Has, IsClause}
 use Rattle.lrup_model.specs.Place.{Place, ClipValue, IsKnown, AllFollow, clip_clause}
-use Rattle.lrup_model.specs.PassLemmas.{known_follows}
-use Rattle.propagate.specs.Trail.{AreApart, AreMarks}
-use Rattle.lrup_model.specs.ClauseLemmas.{Has-append_left, Has-at, Has-push, Has-push_cases, All-Has, int_cases, take-read}
-use Rattle.lrup_model.specs.ListLemmas.{All-push}
+use Rattle.lrup_model.specs.lemmas.PassLemmas.{known_follows}
+use Rattle.propagate.specs.internal.Trail.{AreApart, AreMarks}
+use Rattle.lrup_model.specs.lemmas.ClauseLemmas.{Has-append_left, Has-at, Has-push, Has-push_cases, All-Has, int_cases, take-read}
+use Rattle.lrup_model.specs.lemmas.ListLemmas.{All-push}
 
 pub IsLiteral-neg : (vars : ℕ) (l : ℤ) → IsLiteral vars l → IsLiteral vars (neg_ℤ l)
 IsLiteral-neg vars (pos zero) h = h

@@ -7,11 +7,11 @@ use Rattle.std.proofs.lemmas.Bool.{false≢true}
 use Rattle.std.proofs.lemmas.List.{get_or-set_same, get_or-set_other, take_all}
 use Rattle.std.proofs.lemmas.Option.{none-some, slice_get_cases, slice_get_read}
 use Rattle.lrup_model.specs.Literal.{IsLiteral, code_of}
-use Rattle.lrup_model.specs.LiteralLaws.{code_of-injective}
+use Rattle.lrup_model.specs.lemmas.CodeLemmas.{code_of-injective}
 use Rattle.lrup_model.specs.Clause.{Has, EachOnce}
-use Rattle.lrup_model.specs.ClauseLemmas.{All-Has, All-from_Has, All-read, Has-append_left, Has-at, Has-before, Has-push, Has-push_cases}
-use Rattle.lrup_model.specs.ClauseLemmas.{Has_cases, int_cases, take-next, take-read}
-use Rattle.propagate.specs.Trail.{HaveMarks, IsMarked, AreTaken}
+use Rattle.lrup_model.specs.lemmas.ClauseLemmas.{All-Has, All-from_Has, All-read, Has-append_left, Has-at, Has-before, Has-push}
+use Rattle.lrup_model.specs.lemmas.ClauseLemmas.{Has-push_cases, Has_cases, int_cases, take-next, take-read}
+use Rattle.propagate.specs.internal.Trail.{HaveMarks, IsMarked, AreTaken}
 use Rattle.propagate.proofs.MarkLemmas.{code_of-lt}
 
 -- one mark more

@@ -1,6 +1,5 @@
-pub mod Trail
 pub mod Marks
-pub mod Left
 pub mod Hints
 pub mod Laws
-pub mod HintLemmas
+pub mod internal
+pub mod lemmas

@@ -7,7 +7,7 @@ ghost use Rattle.lrup_model.specs.Place.{IsKnown, AllFollow, clip_clause};
 ghost use Rattle.lrup_model.specs.Propagation.{IsConflict, IsUnit};
 ghost use Rattle.lrup_model.specs.Distinct.{distinct};
 ghost use Rattle.propagate.specs.Marks.{Propagation, Steps};
-ghost use Rattle.propagate.specs.Left.{IsLeft};
+ghost use Rattle.propagate.specs.internal.Left.{IsLeft};
 
 use crate::tautology::Tautology;
 use crate::trail::Trail;

@@ -5,7 +5,7 @@ ghost use Rattle.lrup_model.specs.Literal.{IsLiteral, code_of};
 ghost use Rattle.lrup_model.specs.Clause.{Has, EachOnce, IsTautology};
 ghost use Rattle.lrup_model.specs.Place.{IsKnown, AllFollow, clip_clause};
 ghost use Rattle.lrup_model.specs.Distinct.{distinct};
-ghost use Rattle.propagate.specs.Trail.{AreTaken, HaveMarks, IsMarked};
+ghost use Rattle.propagate.specs.internal.Trail.{AreTaken, HaveMarks, IsMarked};
 
 use crate::tautology::Tautology;
 use lrup_model::{ClauseMap, Clip, Lit};
@@ -21,7 +21,7 @@ pub struct Trail {
 }
 
 impl Model for Trail {
-    ghost use Rattle.propagate.specs.Trail.{FalseLiterals, AreMarks};
+    ghost use Rattle.propagate.specs.internal.Trail.{FalseLiterals, AreMarks};
     ghost use Rattle.std.specs.Prelude.{vec_capacity};
 
     ghost Value = { FalseLiterals };

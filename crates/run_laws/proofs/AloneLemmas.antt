@@ -6,7 +6,7 @@ use Rattle.std.proofs.lemmas.Bool.{cond-true}
 use Rattle.lrup_model.specs.Formula.{Cnf}
 use Rattle.lrup_model.specs.Event.{History, stream_of, own}
 use Rattle.lrup_text.specs.Laws.{EveryCut, BeginningCut}
-use Rattle.lrup_model.specs.ListLemmas.{All-front}
+use Rattle.lrup_model.specs.lemmas.ListLemmas.{All-front}
 use Rattle.lrup_text.specs.declared.device.StreamEnd.{StreamEnd}
 use Rattle.lrup_text.specs.declared.device.StreamEnd.TheVariants as stream_ends
 use Rattle.stream_check.specs.declared.report.Report.{Report}

@@ -7,8 +7,7 @@ use Rattle.lrup_model.specs.Event as events
 use Rattle.lrup_model.specs.Event.{Event, History, own, stream_of}
 use Rattle.lrup_model.specs.Formula.{Cnf}
 use Rattle.lrup_model.specs.History.{IsLegal}
-use Rattle.lrup_model.specs.HistoryLemmas.{opening-owned, own-all, own-none, run-own}
-use Rattle.lrup_model.specs.Laws.{HasClause}
+use Rattle.lrup_model.specs.lemmas.HistoryLemmas.{opening-owned, own-all, own-none, run-own, HasClause}
 use Rattle.lrup_model.specs.Layout.{Fits, Owns, owner}
 use Rattle.lrup_model.specs.State.{Slot, opening, run, state}
 use Rattle.lrup_text.specs.Laws.{EmptyCut, OneCut, OneFirstLine, RefusedStays}
@@ -16,14 +15,14 @@ use Rattle.lrup_text.specs.Lines.{StreamLine, line_text}
 use Rattle.stream_check.specs.declared.setting.Side.TheVariants as sides
 use Rattle.stream_check.specs.Judging.{EndsAfter, joined}
 use Rattle.stream_check.specs.Laws.{EndJudged, FreshLeft, GoodLineTaken}
-use Rattle.stream_check.specs.ReportLemmas.{joined-append}
+use Rattle.stream_check.specs.lemmas.ReportLemmas.{joined-append}
 use Rattle.stream_check.specs.Setting.{Setting, side_of}
 use Rattle.runs.specs.Streams.{setting_of}
 use Rattle.run_laws.specs.Right.{right_report}
 use Rattle.run_laws.specs.RightLaws.{RightBegins}
 use Rattle.run_laws.proofs.BlameLemmas.{foreign_by, IsReadIn, read_in}
 use Rattle.run_laws.proofs.BlameLines.{IsFoundIn, AreFair}
-use Rattle.run_laws.specs.OwnLemmas.{own_all}
+use Rattle.run_laws.specs.lemmas.OwnLemmas.{own_all}
 use Rattle.run_laws.proofs.BlameStreams.{near_fair, IsStillThere, all_still_there, Anything, all_anything, fair_front, has_ended}
 use Rattle.run_laws.proofs.BlameStreams.{lines_go_on, goes_on_tells}
 use Rattle.run_laws.proofs.RightLemmas.{all_others, right_judged}

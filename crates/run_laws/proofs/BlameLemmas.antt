@@ -6,13 +6,13 @@ use Rattle.std.specs.List.{AllByRecursion, flat_map}
 use Rattle.std.specs.Io.KnownBytes.{Consumes}
 use Rattle.std.proofs.lemmas.Option.{slice_get_within}
 use Rattle.lrup_model.specs.Clause.{Clause}
-use Rattle.lrup_model.specs.EntryLemmas.{published_stay}
+use Rattle.lrup_model.specs.lemmas.EntryLemmas.{published_stay}
 use Rattle.lrup_model.specs.Event as events
 use Rattle.lrup_model.specs.Event.{Event, History, own, published, stream_of}
 use Rattle.lrup_model.specs.Formula.{Cnf}
 use Rattle.lrup_model.specs.History.{IsLegal}
-use Rattle.lrup_model.specs.HistoryLemmas.{opening-owned, run-own}
-use Rattle.lrup_model.specs.Laws.{HasClause, FindsWithin}
+use Rattle.lrup_model.specs.lemmas.HistoryLemmas.{opening-owned, run-own, HasClause}
+use Rattle.lrup_model.specs.Laws.{FindsWithin}
 use Rattle.lrup_model.specs.Layout.{LayoutValue, Fits, Owns, owner}
 use Rattle.lrup_model.specs.State.{Slot, opening, run, state}
 use Rattle.lrup_model.specs.declared.layout.Owner.{Owner}
@@ -26,18 +26,18 @@ use Rattle.stream_check.specs.declared.report.Report.{Report}
 use Rattle.stream_check.specs.declared.setting.Side.TheVariants as sides
 use Rattle.stream_check.specs.Judging.{EndsAfter, joined, JudgesBlocks}
 use Rattle.stream_check.specs.Laws.{CitedFetched, IsOfMemory, IsOfFailure}
-use Rattle.stream_check.specs.ReportLemmas.{additions-append, joined-append, split_first}
+use Rattle.stream_check.specs.lemmas.ReportLemmas.{additions-append, joined-append, split_first}
 use Rattle.stream_check.specs.Setting.{Setting}
 use Rattle.stream_check.specs.Standing.{additions_of}
 use Rattle.runs.specs.Closed.{IsOfStream, IsClosed}
 use Rattle.runs.specs.Headline.{AreJudgedIn}
 use Rattle.runs.specs.Streams.{Stream, Telling, TermsValue, setting_of}
-use Rattle.runs.specs.StreamLemmas.{judged_count, same_at, some_end, told_count}
+use Rattle.runs.specs.lemmas.StreamLemmas.{judged_count, same_at, some_end, told_count}
 use Rattle.run_laws.specs.Blame.{HaveBytesOf, LacksOfAnother, LacksOfAnotherIn, NoFalseBlame}
 use Rattle.run_laws.specs.Right.{IsCutOffIn, TellsAtLeast}
 use Rattle.run_laws.specs.Groups.{IsRun}
 use Rattle.run_laws.proofs.BlameLines.{IsFoundIn, AreFair, FindAlike, same_clause}
-use Rattle.run_laws.specs.OwnLemmas.{own_all}
+use Rattle.run_laws.specs.lemmas.OwnLemmas.{own_all}
 use Rattle.run_laws.proofs.BlameStreams.{near_fair, IsStillThere, all_still_there, IsIn, in_left, in_all, own_published, left_published}
 use Rattle.run_laws.proofs.BlameStreams.{stream_publishes, has_ended, fair_front, IsBlameless, GoesOn, lines_go_on, goes_on_tells}
 use Rattle.run_laws.proofs.BlameStreams.{whole_told}

@@ -8,10 +8,9 @@ use Rattle.lrup_model.specs.Clause.{Clause, Has}
 use Rattle.lrup_model.specs.Distinct.{distinct}
 use Rattle.lrup_model.specs.Event as events
 use Rattle.lrup_model.specs.Event.{Event, History, Reply, published}
-use Rattle.lrup_model.specs.HistoryLemmas.{published-append}
-use Rattle.lrup_model.specs.Laws.{HasClause}
+use Rattle.lrup_model.specs.lemmas.HistoryLemmas.{published-append, HasClause}
 use Rattle.lrup_model.specs.Propagation.{Refutes}
-use Rattle.lrup_model.specs.RunningLemmas.{run-append}
+use Rattle.lrup_model.specs.lemmas.RunningLemmas.{run-append}
 use Rattle.lrup_model.specs.State.{State, Slot, absent, live, retired, IsRetired, after, run, Answers}
 use Rattle.lrup_model.specs.declared.clause_map.Retired.TheVariants as retiring
 use Rattle.lrup_text.specs.Lines.{StreamLine, Addition, Deletion, Import}
@@ -19,12 +18,12 @@ use Rattle.stream_check.specs.declared.fault.Fault.{Fault}
 use Rattle.stream_check.specs.declared.fault.Fault.TheVariants as faults
 use Rattle.stream_check.specs.declared.setting.Side.{Side}
 use Rattle.stream_check.specs.declared.setting.Side.TheVariants as sides
-use Rattle.stream_check.specs.AdditionLemmas.{run-fetches, valid_passes, found_live, no_help, refutes_on}
+use Rattle.stream_check.specs.lemmas.AdditionLemmas.{run-fetches, valid_passes, found_live, no_help, refutes_on}
 use Rattle.stream_check.specs.Additions.{AreFound, FailsBy, FailsHints, JudgesAddition, published_by}
 use Rattle.stream_check.specs.Asking.{AsksAt, answer_of, LooksUp}
-use Rattle.stream_check.specs.Checking.{IsFetch, IsRetire}
-use Rattle.stream_check.specs.Deletions.{DeletesAt, JudgesDeletion}
-use Rattle.stream_check.specs.EventLemmas.{found_all, addition_all, import_all}
+use Rattle.stream_check.specs.internal.Checking.{IsFetch}
+use Rattle.stream_check.specs.Deletions.{IsRetire, DeletesAt, JudgesDeletion}
+use Rattle.stream_check.specs.lemmas.EventLemmas.{found_all, addition_all, import_all}
 use Rattle.stream_check.specs.Imports.{JudgesImport}
 use Rattle.stream_check.specs.Judging.{JudgesLine}
 use Rattle.stream_check.specs.Setting.{Setting, side_of}

@@ -9,13 +9,13 @@ use Rattle.std.proofs.lemmas.List.{append_cancel_left, length-append}
 use Rattle.std.proofs.lemmas.List.Folds.{list_any-append}
 use Rattle.std.proofs.lemmas.List.Sums.{sum_by-append}
 use Rattle.lrup_model.specs.Clause.{Clause}
-use Rattle.lrup_model.specs.EntryLemmas.{run-advances, has_stays}
+use Rattle.lrup_model.specs.lemmas.EntryLemmas.{run-advances, has_stays}
 use Rattle.lrup_model.specs.Event as events
 use Rattle.lrup_model.specs.Event.{Event, History, own, published, stream_of}
 use Rattle.lrup_model.specs.Formula.{Cnf}
 use Rattle.lrup_model.specs.History.{LegalFrom}
-use Rattle.lrup_model.specs.HistoryLemmas.{after-agrees, after-foreign, own-mine, own-other, published-append, put, put-same, put-other}
-use Rattle.lrup_model.specs.Laws.{HasClause}
+use Rattle.lrup_model.specs.lemmas.HistoryLemmas.{after-agrees, after-foreign, own-mine, own-other, published-append, put, put-same}
+use Rattle.lrup_model.specs.lemmas.HistoryLemmas.{put-other, HasClause}
 use Rattle.lrup_model.specs.Layout.{LayoutValue, Owns}
 use Rattle.lrup_model.specs.State.{State, Slot, absent, live, retired, retire_slot, after, run}
 use Rattle.lrup_model.specs.declared.clause_map.Published.TheVariants as publishing
@@ -34,7 +34,7 @@ use Rattle.stream_check.specs.declared.setting.Side.TheVariants as sides
 use Rattle.stream_check.specs.Judging.{JudgesLine, AreGood, EndsAfter, at_bad_line, at_bad_text, at_memory, at_end, ending_at, joined}
 use Rattle.stream_check.specs.Judging.{report_of, JudgesBlocks}
 use Rattle.stream_check.specs.Laws.{IsOfMemory, IsOfFailure}
-use Rattle.stream_check.specs.ReportLemmas.{additions-append, joined-append, split_first}
+use Rattle.stream_check.specs.lemmas.ReportLemmas.{additions-append, joined-append, split_first}
 use Rattle.stream_check.specs.Setting.{Setting, side_of}
 use Rattle.stream_check.specs.Standing.{standing_of, additions_of, capped, deleted_by, is_within}
 use Rattle.stream_check.specs.Verdicts.{Good, Bad}

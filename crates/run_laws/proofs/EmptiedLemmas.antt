@@ -4,7 +4,7 @@ use Rattle.std.specs.Prelude.{IsTrue}
 use Rattle.std.specs.List.{AllByRecursion}
 use Rattle.std.proofs.lemmas.Bool.{cases_Bool, cond-true, cond-false, true≢false}
 use Rattle.lrup_model.specs.Event.{History, stream_of, own}
-use Rattle.lrup_model.specs.HistoryLemmas.{own-none}
+use Rattle.lrup_model.specs.lemmas.HistoryLemmas.{own-none}
 use Rattle.lrup_text.specs.declared.device.StreamEnd.TheVariants as stream_ends
 use Rattle.stream_check.specs.declared.report.Report.{Report}
 use Rattle.stream_check.specs.Setting.{Setting}
@@ -12,7 +12,7 @@ use Rattle.stream_check.specs.Standing.{standing_of}
 use Rattle.stream_check.specs.Leaving.{Holding}
 use Rattle.stream_check.specs.Laws.{FreshLeft, EndJudged}
 use Rattle.runs.specs.Streams.{Stream, JudgesStream, TermsValue, setting_of}
-use Rattle.runs.specs.StreamLemmas.{IsJudgedBy, judged_out}
+use Rattle.runs.specs.lemmas.StreamLemmas.{IsJudgedBy, judged_out}
 use Rattle.runs.specs.Headline.{AreJudgedIn}
 use Rattle.run_laws.specs.Groups.{empty_stream, empty_report, with_others}
 use Rattle.run_laws.specs.GroupLaws.{OthersEmpty}

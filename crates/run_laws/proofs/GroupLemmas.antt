@@ -7,26 +7,25 @@ use Rattle.std.proofs.lemmas.Bool.{cases_Bool, cases_eq, and_from, true≢false,
 use Rattle.lrup_model.specs.declared.layout.Owner.{Owner}
 use Rattle.lrup_model.specs.declared.layout.Owner.TheVariants as owners
 use Rattle.lrup_model.specs.Layout.{LayoutValue, IsStream, Owns, owner}
-use Rattle.lrup_model.specs.OwnerLemmas.{owned}
+use Rattle.lrup_model.specs.lemmas.OwnerLemmas.{owned}
 use Rattle.lrup_model.specs.Event as events
 use Rattle.lrup_model.specs.Event.{Event, History, stream_of, own}
-use Rattle.lrup_model.specs.Laws.{among, FindsWithin}
-use Rattle.lrup_model.specs.HistoryLemmas.{own-mine, own-other}
-use Rattle.lrup_model.specs.RestrictionLemmas.{among-members, own-among, restriction_legal}
-use Rattle.lrup_model.specs.ListLemmas.{All-map}
+use Rattle.lrup_model.specs.lemmas.RestrictionLemmas.{among, among-members, own-among, restriction_legal}
+use Rattle.lrup_model.specs.Laws.{FindsWithin}
+use Rattle.lrup_model.specs.lemmas.HistoryLemmas.{own-mine, own-other}
+use Rattle.lrup_model.specs.lemmas.ListLemmas.{All-map}
 use Rattle.lrup_text.specs.Lines.{StreamLine}
 use Rattle.stream_check.specs.declared.report.Report.{Report}
 use Rattle.stream_check.specs.Setting.{Setting}
 use Rattle.stream_check.specs.Judging.{joined}
 use Rattle.stream_check.specs.Laws.{cited_by, FetchesOnly, CitedFetched}
-use Rattle.runs.specs.EachLemmas.{each_within}
-use Rattle.runs.specs.StreamLemmas.{IsJudgedBy, some_end}
+use Rattle.runs.specs.lemmas.EachLemmas.{each_within}
+use Rattle.runs.specs.lemmas.StreamLemmas.{IsJudgedBy, some_end, judged_count}
 use Rattle.runs.specs.Streams.{Stream, JudgesStream, TermsValue, setting_of}
 use Rattle.runs.specs.Headline.{AreJudgedIn}
 use Rattle.runs.specs.Closed.{IsOwnedWithin, CiteWithin, IsClosed}
 use Rattle.run_laws.specs.GroupLaws.{ClosedIsGroup}
 use Rattle.run_laws.proofs.Places.{has_place, judged_at}
-use Rattle.runs.specs.StreamLemmas.{judged_count}
 
 -- The set's streams that are streams of the layout
 

@@ -3,7 +3,7 @@ use Rattle.std.proofs.Common.{◌≡◌, ℕ, Bool, List, [], ◌∷◌, ◌++�
 use Rattle.std.specs.Prelude.{IsTrue}
 use Rattle.std.specs.List.{AllByRecursion, flat_map}
 use Rattle.lrup_model.specs.Event.{Event, History}
-use Rattle.lrup_model.specs.ListLemmas.{All-append}
+use Rattle.lrup_model.specs.lemmas.ListLemmas.{All-append}
 use Rattle.lrup_text.specs.Lines.{StreamLine, Deletion, IsWithinLimits, line_text, HasNoLine}
 use Rattle.lrup_text.specs.Laws.{OneFirstLine}
 use Rattle.lrup_text.specs.declared.device.StreamEnd.{StreamEnd}
@@ -14,7 +14,7 @@ use Rattle.stream_check.specs.Verdicts.{LineVerdict, Good, Bad}
 use Rattle.stream_check.specs.Judging.{JudgesLine, AreGood, EndsAfter, at_bad_line, at_bad_text, at_memory, at_end, joined}
 use Rattle.stream_check.specs.Reducing.{IsEarly}
 use Rattle.stream_check.specs.Laws.{EarlyEvents, VacantTriesAgain}
-use Rattle.stream_check.specs.ReportLemmas.{split_first, joined-append}
+use Rattle.stream_check.specs.lemmas.ReportLemmas.{split_first, joined-append}
 use Rattle.run_laws.specs.Lines.{IsEarlyBefore, AreEarly, IsLineBlock}
 use Rattle.run_laws.specs.OrderLaws.{JudgedBlocks, RetiresOnly, DeletedRetired}
 use Rattle.run_laws.proofs.KindLemmas.{line_last, line_retires}

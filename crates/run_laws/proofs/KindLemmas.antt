@@ -9,10 +9,9 @@ use Rattle.lrup_text.specs.Lines.{StreamLine, Addition, Deletion, Import}
 use Rattle.stream_check.specs.Setting.{Setting}
 use Rattle.stream_check.specs.Standing.{Standing, deleted_by}
 use Rattle.stream_check.specs.Verdicts.{LineVerdict}
-use Rattle.stream_check.specs.Deletions.{JudgesDeletion}
-use Rattle.stream_check.specs.EventLemmas.{identities_hold, addition_all, import_all}
+use Rattle.stream_check.specs.Deletions.{JudgesDeletion, IsRetire}
+use Rattle.stream_check.specs.lemmas.EventLemmas.{identities_hold, addition_all, import_all}
 use Rattle.stream_check.specs.Judging.{JudgesLine}
-use Rattle.stream_check.specs.Checking.{IsRetire}
 use Rattle.run_laws.specs.Lines.{RetiresLast}
 use Rattle.run_laws.specs.OrderLaws.{RetiresOnly}
 

@@ -7,7 +7,7 @@ use Rattle.std.proofs.lemmas.List.Sums.{sum_by-cons}
 use Rattle.lrup_model.specs.Event.{History}
 use Rattle.lrup_model.specs.Formula.{Cnf}
 use Rattle.lrup_model.specs.History.{LegalFrom}
-use Rattle.lrup_model.specs.HistoryLemmas.{legal-back}
+use Rattle.lrup_model.specs.lemmas.HistoryLemmas.{legal-back}
 use Rattle.lrup_model.specs.Layout.{IsStream}
 use Rattle.lrup_model.specs.State.{State, opening, run}
 use Rattle.lrup_text.specs.declared.device.StreamEnd.{StreamEnd}
@@ -16,8 +16,8 @@ use Rattle.stream_check.specs.Judging.{JudgesBlocks}
 use Rattle.stream_check.specs.Laws.{BlocksGoAlike, GoAlike, IsOfMemory, LegalNeverFork}
 use Rattle.stream_check.specs.Setting.{Setting}
 use Rattle.runs.specs.Streams.{Block, blocks_of, events_in, IsBlockWithin, TermsValue, setting_of}
-use Rattle.runs.specs.StreamLemmas.{blocks-same, blocks-other}
-use Rattle.runs.specs.TurnLemmas.{blocks_of-append, lines_before, lines_beside, lines_pushed, streams_of-push}
+use Rattle.runs.specs.lemmas.StreamLemmas.{blocks-same, blocks-other}
+use Rattle.runs.specs.lemmas.TurnLemmas.{blocks_of-append, lines_before, lines_beside, lines_pushed, streams_of-push}
 use Rattle.runs.specs.Turns.{AreTurns, IsByTurns, IsTurnOf, line_count, streams_of}
 
 -- Turns

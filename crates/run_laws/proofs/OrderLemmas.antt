@@ -8,21 +8,21 @@ use Rattle.std.proofs.lemmas.List.Sums.{sum_by-append, sum_by-cons}
 use Rattle.lrup_model.specs.Formula.{Cnf}
 use Rattle.lrup_model.specs.Layout.{LayoutValue, Fits, IsStream}
 use Rattle.lrup_model.specs.Event as events
-use Rattle.lrup_model.specs.Event.{Event, History, stream_of, own, spent}
+use Rattle.lrup_model.specs.Event.{Event, History, stream_of, own, spent, size_of}
 use Rattle.lrup_model.specs.State.{State, IsRetired, retire_slot, opening, after, run, state}
 use Rattle.lrup_model.specs.History.{LegalFrom, IsLegal}
-use Rattle.lrup_model.specs.RunningLemmas.{size_of, spent-sizes, own-append}
-use Rattle.lrup_model.specs.HistoryLemmas.{put-same, own-mine, own-other, own-all}
-use Rattle.lrup_model.specs.EntryLemmas.{run-advances, retired_now}
-use Rattle.lrup_model.specs.OwnerLemmas.{IsOwned, owned}
-use Rattle.lrup_model.specs.Laws.{among, FindsWithin}
+use Rattle.lrup_model.specs.lemmas.RunningLemmas.{spent-sizes, own-append}
+use Rattle.lrup_model.specs.lemmas.HistoryLemmas.{put-same, own-mine, own-other, own-all}
+use Rattle.lrup_model.specs.lemmas.EntryLemmas.{run-advances, retired_now}
+use Rattle.lrup_model.specs.lemmas.OwnerLemmas.{IsOwned, owned}
+use Rattle.lrup_model.specs.lemmas.RestrictionLemmas.{among, restriction_legal, among-members, own-among}
+use Rattle.lrup_model.specs.Laws.{FindsWithin}
 use Rattle.lrup_model.specs.declared.clause_map.Retired.TheVariants as retiring
-use Rattle.lrup_model.specs.RestrictionLemmas.{restriction_legal, among-members, own-among}
 use Rattle.stream_check.specs.Judging.{joined}
 use Rattle.stream_check.specs.Reducing.{is_vacant, reduced}
-use Rattle.stream_check.specs.ReducingLemmas.{reduced_kept, reduced_left_out}
+use Rattle.stream_check.specs.lemmas.ReducingLemmas.{reduced_kept, reduced_left_out}
 use Rattle.runs.specs.Streams.{Block, blocks_of, events_in, IsBlockWithin}
-use Rattle.runs.specs.StreamLemmas.{blocks-same, blocks-other}
+use Rattle.runs.specs.lemmas.StreamLemmas.{blocks-same, blocks-other}
 use Rattle.run_laws.specs.Lines.{IsLineBlock, IsOrder}
 use Rattle.run_laws.specs.Premises.{FindsKept, FoundStays}
 use Rattle.run_laws.specs.OrderLaws.{LinesOrdered}

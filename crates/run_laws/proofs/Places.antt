@@ -5,8 +5,8 @@ use Rattle.std.proofs.lemmas.Option.{slice_get_cases}
 use Rattle.lrup_model.specs.Event.{History, own}
 use Rattle.stream_check.specs.declared.report.Report.{Report}
 use Rattle.runs.specs.Streams.{Stream, TermsValue, setting_of}
-use Rattle.runs.specs.EachLemmas.{each_at, each_more}
-use Rattle.runs.specs.StreamLemmas.{IsJudgedBy}
+use Rattle.runs.specs.lemmas.EachLemmas.{each_at, each_more}
+use Rattle.runs.specs.lemmas.StreamLemmas.{IsJudgedBy}
 use Rattle.runs.specs.Headline.{AreJudgedIn}
 use Rattle.runs.specs.Closed.{IsOfStream}
 

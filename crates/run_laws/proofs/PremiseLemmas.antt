@@ -11,9 +11,9 @@ use Rattle.lrup_model.specs.Event as events
 use Rattle.lrup_model.specs.Event.{Event, Reply, History, stream_of, own}
 use Rattle.lrup_model.specs.State.{State, absent, live, IsRetired, retire_slot, opening, after, run, state}
 use Rattle.lrup_model.specs.History.{IsAllowed, LegalFrom, IsLegal}
-use Rattle.lrup_model.specs.HistoryLemmas.{put-same, put-other, own-mine, own-other}
-use Rattle.lrup_model.specs.EntryLemmas.{run-advances, retired_now}
-use Rattle.lrup_model.specs.OwnerLemmas.{IsOwned, owned}
+use Rattle.lrup_model.specs.lemmas.HistoryLemmas.{put-same, put-other, own-mine, own-other}
+use Rattle.lrup_model.specs.lemmas.EntryLemmas.{run-advances, retired_now}
+use Rattle.lrup_model.specs.lemmas.OwnerLemmas.{IsOwned, owned}
 use Rattle.lrup_model.specs.declared.clause_map.Published.TheVariants as publishing
 use Rattle.lrup_model.specs.declared.clause_map.Retired.TheVariants as retiring
 use Rattle.lrup_text.specs.Lines.{StreamLine}
@@ -21,7 +21,7 @@ use Rattle.lrup_text.specs.Laws.{BeginningCut, EveryCut}
 use Rattle.stream_check.specs.Standing.{is_among, deleted_by}
 use Rattle.stream_check.specs.Laws.{cited_by, FetchesOnly, CitedFetched}
 use Rattle.runs.specs.Streams.{setting_of}
-use Rattle.runs.specs.StreamLemmas.{told_from, told_begins}
+use Rattle.runs.specs.lemmas.StreamLemmas.{told_from, told_begins}
 use Rattle.runs.specs.Closed.{CiteWithin}
 use Rattle.run_laws.specs.Premises.{FindsKept, FindsUnretired, MeetsUnretired, IsRetireOf, HistoryRetires, cites, deletes, Cites}
 use Rattle.run_laws.specs.Premises.{SomeLineDeletes}

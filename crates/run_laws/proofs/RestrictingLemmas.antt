@@ -7,14 +7,13 @@ use Rattle.std.proofs.lemmas.List.Elements.{filter-append}
 use Rattle.lrup_model.specs.Layout.{LayoutValue}
 use Rattle.lrup_model.specs.Event.{History, stream_of}
 use Rattle.lrup_model.specs.History.{IsLegal}
-use Rattle.lrup_model.specs.Laws.{among}
-use Rattle.lrup_model.specs.RestrictionLemmas.{restriction_legal}
+use Rattle.lrup_model.specs.lemmas.RestrictionLemmas.{among, restriction_legal}
 use Rattle.stream_check.specs.declared.report.Report.{Report}
 use Rattle.stream_check.specs.Laws.{CitedFetched}
 use Rattle.runs.specs.Streams.{Stream, TermsValue, Block, blocks_of, events_in, IsBlockWithin, AreJudged}
-use Rattle.runs.specs.StreamLemmas.{blocks-same, blocks-other}
+use Rattle.runs.specs.lemmas.StreamLemmas.{blocks-same, blocks-other}
 use Rattle.run_laws.specs.GroupLaws.{ClosedIsGroup, OrderedIsGroup, OrderedRestricts}
-use Rattle.run_laws.specs.OwnLemmas.{ordered_judged}
+use Rattle.run_laws.specs.lemmas.OwnLemmas.{ordered_judged}
 use Rattle.run_laws.proofs.Places.{judged_fewer}
 use Rattle.run_laws.proofs.GroupLemmas.{inside, is_inside, inside_is, closed_finds}
 

@@ -13,7 +13,7 @@ use Rattle.lrup_model.specs.Event.{Event, History, own, stream_of}
 use Rattle.lrup_model.specs.Formula.{Cnf, clause_at}
 use Rattle.lrup_model.specs.Layout.{Fits, Owns, owner}
 use Rattle.lrup_model.specs.State.{State, Slot, absent, live, retired, IsLive, retire_slot, opening, run}
-use Rattle.lrup_model.specs.HistoryLemmas.{opening-formula, put, put-same, put-other}
+use Rattle.lrup_model.specs.lemmas.HistoryLemmas.{opening-formula, put, put-same, put-other}
 use Rattle.lrup_model.specs.declared.clause_map.Retired.TheVariants as retiring
 use Rattle.lrup_model.specs.declared.layout.Owner.{Owner}
 use Rattle.lrup_model.specs.declared.layout.Owner.TheVariants as owners
@@ -23,17 +23,17 @@ use Rattle.lrup_text.specs.declared.device.StreamEnd.TheVariants as stream_ends
 use Rattle.stream_check.specs.declared.fault.Fault.TheVariants as faults
 use Rattle.stream_check.specs.declared.setting.Side.{Side}
 use Rattle.stream_check.specs.declared.setting.Side.TheVariants as sides
-use Rattle.stream_check.specs.AdditionLemmas.{run-fetches, found_live}
+use Rattle.stream_check.specs.lemmas.AdditionLemmas.{run-fetches, found_live}
 use Rattle.stream_check.specs.Additions.{AreFound, IsValidAddition, published_by, JudgesAddition}
 use Rattle.stream_check.specs.Laws.{cited_by, OverStays}
-use Rattle.stream_check.specs.Checking.{IsFetch}
+use Rattle.stream_check.specs.internal.Checking.{IsFetch}
 use Rattle.stream_check.specs.Judging.{JudgesLine, AreGood, joined}
 use Rattle.stream_check.specs.Asking.{AsksAt, Asks}
 use Rattle.stream_check.specs.Deletions.{DeletesAt, JudgesDeletion}
 use Rattle.stream_check.specs.Imports.{JudgesImport}
 use Rattle.stream_check.specs.Leaving.{SameStanding, standing_after}
-use Rattle.stream_check.specs.ReportLemmas.{joined-append}
-use Rattle.stream_check.specs.StandingLemmas.{standing_of-snoc}
+use Rattle.stream_check.specs.lemmas.ReportLemmas.{joined-append}
+use Rattle.stream_check.specs.lemmas.StandingLemmas.{standing_of-snoc}
 use Rattle.stream_check.specs.Setting.{Setting, side_of, is_shared}
 use Rattle.stream_check.specs.Standing.{Standing, standing_of, deleted_by, is_among}
 use Rattle.stream_check.specs.Verdicts.{Good}
@@ -45,7 +45,7 @@ use Rattle.run_laws.specs.Right.{IsRightImport}
 use Rattle.run_laws.specs.RightLaws.{EndedIsRight}
 use Rattle.run_laws.proofs.AloneLemmas.{alone_judged, own-one}
 use Rattle.run_laws.proofs.BlameLines.{IsNearSide, AreFair, IsAsked, asked_fair, fails_not, good_runs}
-use Rattle.stream_check.specs.EventLemmas.{import_all}
+use Rattle.stream_check.specs.lemmas.EventLemmas.{import_all}
 use Rattle.run_laws.proofs.BlameStreams.{fair_front, fair_back, near_fair, Anything, all_anything, has_ended}
 use Rattle.run_laws.proofs.RightLines.{side_by, formulas_side, own_side, formulas_near, not_or, not_same, neither}
 use Rattle.run_laws.proofs.VerdictLemmas.{or_none}

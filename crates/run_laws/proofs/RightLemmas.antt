@@ -7,13 +7,13 @@ use Rattle.std.proofs.lemmas.Bool.{cases_eq, true≢false}
 use Rattle.std.proofs.lemmas.List.Sums.{sum_by-append}
 use Rattle.lrup_model.specs.Clause.{Clause, IsClause}
 use Rattle.lrup_model.specs.Entailment.{Follows}
-use Rattle.lrup_model.specs.EntailmentLemmas.{formula_sound}
-use Rattle.lrup_model.specs.Event.{History, stream_of, own, spent}
+use Rattle.lrup_model.specs.lemmas.EntailmentLemmas.{formula_sound}
+use Rattle.lrup_model.specs.Event.{History, stream_of, own, spent, size_of}
 use Rattle.lrup_model.specs.Formula.{Cnf, IsCnf, clause_at}
 use Rattle.lrup_model.specs.History.{LegalFrom}
-use Rattle.lrup_model.specs.HistoryLemmas.{formula_owned, opening-formula, opening-owned, own-all, own-none}
+use Rattle.lrup_model.specs.lemmas.HistoryLemmas.{formula_owned, opening-formula, opening-owned, own-all, own-none}
 use Rattle.lrup_model.specs.Layout.{LayoutValue, Fits, IsStream, last_identity}
-use Rattle.lrup_model.specs.RunningLemmas.{legal-append, callers-append, size_of, spent-sizes}
+use Rattle.lrup_model.specs.lemmas.RunningLemmas.{legal-append, callers-append, spent-sizes}
 use Rattle.lrup_model.specs.State.{State, live, opening, run}
 use Rattle.lrup_text.specs.Lines.{StreamLine, IsWithinLimits, line_text, Cut}
 use Rattle.lrup_text.specs.Laws.{EmptyCut, OneCut}
@@ -30,10 +30,10 @@ use Rattle.stream_check.specs.Standing.{standing_of, capped, deleted_by}
 use Rattle.runs.specs.Closed.{IsOfStream}
 use Rattle.runs.specs.Headline.{AreJudgedIn}
 use Rattle.runs.specs.Streams.{Stream, TermsValue, setting_of}
-use Rattle.runs.specs.StreamLemmas.{IsJudgedBy, same_at, judged_out}
+use Rattle.runs.specs.lemmas.StreamLemmas.{IsJudgedBy, same_at, judged_out}
 use Rattle.run_laws.specs.GroupLaws.{AloneHasOneReport, BeginningsWithin, ClosedIsGroup}
 use Rattle.run_laws.specs.Groups.{one, empty_stream, empty_report}
-use Rattle.run_laws.specs.ReportLemmas.{only}
+use Rattle.run_laws.specs.lemmas.ReportLemmas.{only}
 use Rattle.run_laws.specs.Right.{Database, first_database, after_line, AreRight, IsRightStream, right_report}
 use Rattle.run_laws.specs.RightLaws.{RightCiteWithin, RightAccepted, RightCounted, RightHasOneReport, RightReported}
 use Rattle.run_laws.proofs.RightLines.{Agrees, Goes, line_goes, neither}

@@ -7,29 +7,29 @@ use Rattle.std.proofs.lemmas.Bool.{cases_Bool, cases_eq, cond-true, cond-false, 
 use Rattle.std.proofs.lemmas.List.Sums.{sum_by-append, sum_by-cons}
 use Rattle.lrup_model.specs.Literal.{IsLiteral}
 use Rattle.lrup_model.specs.Clause.{Clause, IsClause}
-use Rattle.lrup_model.specs.ClauseLemmas.{All-Has, All-from_Has}
+use Rattle.lrup_model.specs.lemmas.ClauseLemmas.{All-Has, All-from_Has}
 use Rattle.lrup_model.specs.Distinct.{distinct}
-use Rattle.lrup_model.specs.DistinctLemmas.{IsClause-distinct, length-distinct}
+use Rattle.lrup_model.specs.lemmas.DistinctLemmas.{IsClause-distinct, length-distinct}
 use Rattle.lrup_model.specs.Entailment.{Follows}
 use Rattle.lrup_model.specs.Event as events
-use Rattle.lrup_model.specs.Event.{Event, History, Reply, stream_of}
+use Rattle.lrup_model.specs.Event.{Event, History, Reply, stream_of, size_of}
 use Rattle.lrup_model.specs.Formula.{Cnf}
 use Rattle.lrup_model.specs.History.{LegalFrom}
-use Rattle.lrup_model.specs.HistoryLemmas.{put, put-same, put-other, vacant_above_stays}
-use Rattle.lrup_model.specs.EntryLemmas.{run-advances}
+use Rattle.lrup_model.specs.lemmas.HistoryLemmas.{put, put-same, put-other, vacant_above_stays}
+use Rattle.lrup_model.specs.lemmas.EntryLemmas.{run-advances}
 use Rattle.lrup_model.specs.Laws.{Advances}
 use Rattle.lrup_model.specs.Layout.{LayoutValue, Fits, IsIdentity, Owns, owner, last_identity}
-use Rattle.lrup_model.specs.OwnerLemmas.{owned}
-use Rattle.lrup_model.specs.RunningLemmas.{run-append, legal-append, callers-append, size_of}
+use Rattle.lrup_model.specs.lemmas.OwnerLemmas.{owned}
+use Rattle.lrup_model.specs.lemmas.RunningLemmas.{run-append, legal-append, callers-append}
 use Rattle.lrup_model.specs.State.{State, Slot, absent, live, retired, IsLive, retire_slot, run, AreVacantAbove}
 use Rattle.lrup_model.specs.declared.clause_map.Retired.TheVariants as retiring
 use Rattle.lrup_model.specs.declared.layout.Owner.{Owner}
 use Rattle.lrup_model.specs.declared.layout.Owner.TheVariants as owners
-use Rattle.lrup_model.specs.EntailmentLemmas.{propagation_sound}
+use Rattle.lrup_model.specs.lemmas.EntailmentLemmas.{propagation_sound}
 use Rattle.lrup_text.specs.Lines.{StreamLine, Addition, Deletion, Import, IsWithinLimits}
 use Rattle.stream_check.specs.declared.setting.Side.{Side}
 use Rattle.stream_check.specs.declared.setting.Side.TheVariants as sides
-use Rattle.stream_check.specs.AdditionLemmas.{literals_within}
+use Rattle.stream_check.specs.lemmas.AdditionLemmas.{literals_within}
 use Rattle.stream_check.specs.Additions.{AreFound, IsValidAddition, published_by}
 use Rattle.stream_check.specs.Asking.{AsksAt, Asks}
 use Rattle.stream_check.specs.Deletions.{DeletesAt, DropsThen, JudgesDeletion}

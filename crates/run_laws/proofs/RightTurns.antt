@@ -14,7 +14,7 @@ use Rattle.stream_check.specs.Laws.{BlocksGoAlike, DecidedBeforeFailure, EndJudg
 use Rattle.stream_check.specs.Laws.{LegalNeverFork, OneReport}
 use Rattle.runs.specs.Closed.{IsOfStream}
 use Rattle.runs.specs.Streams.{Block, blocks_of, TermsValue, setting_of}
-use Rattle.runs.specs.StreamLemmas.{judged_out, told_count}
+use Rattle.runs.specs.lemmas.StreamLemmas.{judged_out, told_count}
 use Rattle.runs.specs.Turns.{IsByTurns, IsOrderedByTurns}
 use Rattle.run_laws.specs.Right.{right_report}
 use Rattle.run_laws.specs.Together.{Step, lines_by}

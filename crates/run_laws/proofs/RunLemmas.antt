@@ -19,13 +19,12 @@ use Rattle.stream_check.specs.Judging.{JudgesBlocks, Judges}
 use Rattle.stream_check.specs.Laws.{AloneDecides, DecidedBeforeFailure, IsOfMemory, IsOfFailure}
 use Rattle.runs.specs.Streams.{Stream, Telling, IsTold, TermsValue, setting_of}
 use Rattle.runs.specs.Closed.{IsOfStream, CiteWithin, IsClosed}
-use Rattle.runs.specs.StreamLemmas.{told_from, told_begins, same_at}
+use Rattle.runs.specs.lemmas.StreamLemmas.{told_from, told_begins, same_at, judged_count}
 use Rattle.run_laws.specs.Groups.{one, IsGroup, IsRun, NoneOutOfMemory}
 use Rattle.run_laws.specs.GroupLaws.{BeginningsWithin, ReadersClosed, ClosedIsGroup, AloneHasOneReport, RunIsolated}
 use Rattle.run_laws.specs.GroupLaws.{ToldIsReading, FailedIsReading, SameReadingAgrees, SameBytesAgree}
 use Rattle.run_laws.proofs.Places.{has_place, judged_at, judged_fewer}
-use Rattle.runs.specs.StreamLemmas.{judged_count}
-use Rattle.run_laws.specs.ReportLemmas.{only}
+use Rattle.run_laws.specs.lemmas.ReportLemmas.{only}
 use Rattle.run_laws.proofs.AloneLemmas.{ReadsTo, me, own-one}
 
 -- What a reader told

@@ -9,7 +9,7 @@ use Rattle.lrup_model.specs.declared.layout.Owner.{Owner}
 use Rattle.lrup_model.specs.declared.layout.Owner.TheVariants as owners
 use Rattle.lrup_model.specs.Event as events
 use Rattle.lrup_model.specs.Event.{Event, History, stream_of, own}
-use Rattle.lrup_model.specs.OwnerLemmas.{IsOwned, owned}
+use Rattle.lrup_model.specs.lemmas.OwnerLemmas.{IsOwned, owned}
 use Rattle.lrup_model.specs.Laws.{FindsWithin}
 use Rattle.lrup_text.specs.Lines.{StreamLine}
 use Rattle.lrup_text.specs.Laws.{EveryCut}
@@ -23,8 +23,8 @@ use Rattle.runs.specs.Streams.{Stream, JudgesStream, Block, blocks_of, IsBlockWi
 use Rattle.runs.specs.Headline.{AreJudgedIn}
 use Rattle.runs.specs.Closed.{IsOfStream, IsOwnedWithin, CiteWithin}
 use Rattle.runs.specs.Each.{Each}
-use Rattle.runs.specs.EachLemmas.{each_at, each_count, each_more, each_within}
-use Rattle.runs.specs.StreamLemmas.{IsJudgedBy, some_end}
+use Rattle.runs.specs.lemmas.EachLemmas.{each_at, each_count, each_more, each_within}
+use Rattle.runs.specs.lemmas.StreamLemmas.{IsJudgedBy, some_end}
 use Rattle.run_laws.specs.Lines.{IsOrder}
 use Rattle.run_laws.specs.OrderLaws.{JudgedBlocks, LinesOrdered, ClosedOrdered, AllClosed, AllOrdered, RunSerializable}
 use Rattle.run_laws.proofs.OrderLemmas.{streams_in, streams_are, are_streams, own_each}

@@ -10,9 +10,10 @@ use Rattle.lrup_model.specs.Event.{Event, Reply, History, stream_of}
 use Rattle.lrup_model.specs.State.{State, Slot, absent, live, retired, IsLive, IsRetired, retire_slot, after, Answers}
 use Rattle.lrup_model.specs.History.{IsAllowed, LegalFrom}
 use Rattle.lrup_model.specs.Laws.{Advances}
-use Rattle.stream_check.specs.Checking.{IsFetch, IsRetire}
-use Rattle.lrup_model.specs.HistoryLemmas.{put-other, after-agrees, after-foreign, one_owner}
-use Rattle.lrup_model.specs.EntryLemmas.{after-advances}
+use Rattle.stream_check.specs.internal.Checking.{IsFetch}
+use Rattle.stream_check.specs.Deletions.{IsRetire}
+use Rattle.lrup_model.specs.lemmas.HistoryLemmas.{put-other, after-agrees, after-foreign, one_owner}
+use Rattle.lrup_model.specs.lemmas.EntryLemmas.{after-advances}
 use Rattle.lrup_model.specs.declared.clause_map.Published.TheVariants as publishing
 use Rattle.lrup_model.specs.declared.clause_map.Retired.TheVariants as retiring
 use Rattle.lrup_model.specs.declared.layout.Owner.{Owner}

@@ -7,12 +7,12 @@ use Rattle.std.proofs.lemmas.Bool.{cases_eq, cond-true, cond-false, true≢false
 use Rattle.std.proofs.lemmas.Option.{slice_get_within}
 use Rattle.lrup_model.specs.Clause.{Clause}
 use Rattle.lrup_model.specs.Distinct.{distinct}
-use Rattle.lrup_model.specs.Event.{History, own, spent}
+use Rattle.lrup_model.specs.Event.{History, own, spent, size_of}
 use Rattle.lrup_model.specs.Formula.{Cnf, IsCnf}
 use Rattle.lrup_model.specs.History.{LegalFrom, IsLegal}
-use Rattle.lrup_model.specs.HistoryLemmas.{formula_owned, one_owner, own-all, own-none}
+use Rattle.lrup_model.specs.lemmas.HistoryLemmas.{formula_owned, one_owner, own-all, own-none}
 use Rattle.lrup_model.specs.Layout.{LayoutValue, Fits, IsStream, Owns}
-use Rattle.lrup_model.specs.RunningLemmas.{legal-append, own-append, size_of, spent-append, spent-sizes}
+use Rattle.lrup_model.specs.lemmas.RunningLemmas.{legal-append, own-append, spent-append, spent-sizes}
 use Rattle.lrup_model.specs.State.{State, opening, run}
 use Rattle.lrup_model.specs.declared.layout.Owner.TheVariants as owners
 use Rattle.lrup_text.specs.Laws.{EmptyCut, OneCut, OneFirstLine, RefusedStays}
@@ -26,7 +26,7 @@ use Rattle.stream_check.specs.Standing.{is_among, standing_of}
 use Rattle.runs.specs.Closed.{IsOfStream, IsOwnedWithin, CiteWithin, IsClosed}
 use Rattle.runs.specs.Headline.{AreJudgedIn}
 use Rattle.runs.specs.Streams.{Stream, Block, blocks_of, events_in, IsBlockWithin, JudgesStream, AreJudged, Telling, TermsValue, setting_of}
-use Rattle.runs.specs.StreamLemmas.{IsJudgedBy, blocks-same, blocks-other, judged_count, judged_out}
+use Rattle.runs.specs.lemmas.StreamLemmas.{IsJudgedBy, blocks-same, blocks-other, judged_count, judged_out}
 use Rattle.runs.specs.Turns.{streams_of}
 use Rattle.run_laws.specs.Blame.{HaveBytesOf, LacksOfAnotherIn, NoFalseBlame}
 use Rattle.run_laws.specs.Groups.{IsRun}

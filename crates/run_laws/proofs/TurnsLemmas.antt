@@ -12,8 +12,8 @@ use Rattle.stream_check.specs.Judging.{joined}
 use Rattle.stream_check.specs.Laws.{BlocksGoAlike, DecidedBeforeFailure, LegalNeverFork, OneReport, OverStays}
 use Rattle.runs.specs.Closed.{IsOfStream}
 use Rattle.runs.specs.Streams.{Stream, JudgesStream, blocks_of, AreJudged, TermsValue, setting_of}
-use Rattle.runs.specs.EachLemmas.{each_at, each_count}
-use Rattle.runs.specs.StreamLemmas.{told_count}
+use Rattle.runs.specs.lemmas.EachLemmas.{each_at, each_count}
+use Rattle.runs.specs.lemmas.StreamLemmas.{told_count}
 use Rattle.runs.specs.Turns.{IsOrderedByTurns}
 use Rattle.run_laws.specs.TurnsLaws.{BytesDecide, TurnsDecide}
 use Rattle.run_laws.proofs.AloneLemmas.{judged_whole}

@@ -22,13 +22,13 @@ use Rattle.stream_check.specs.Setting.{Setting}
 use Rattle.stream_check.specs.Standing.{Standing, standing_of, additions_of, is_within}
 use Rattle.stream_check.specs.Verdicts.{Good, Bad}
 use Rattle.stream_check.specs.Additions.{published_by}
-use Rattle.stream_check.specs.EventLemmas.{addition_all, import_all}
+use Rattle.stream_check.specs.lemmas.EventLemmas.{addition_all, import_all}
 use Rattle.stream_check.specs.Judging.{JudgesLine, AreGood, EndsAfter, at_bad_line, at_bad_text, at_memory, at_end, joined, JudgesBlocks}
-use Rattle.stream_check.specs.ReportLemmas.{additions-append, said_empty, said_within, joined-append}
+use Rattle.stream_check.specs.lemmas.ReportLemmas.{additions-append, said_empty, said_within, joined-append}
 use Rattle.runs.specs.Streams.{Stream, JudgesStream, Block, blocks_of, events_in, IsBlockWithin, AreJudged, TermsValue, setting_of}
 use Rattle.runs.specs.Streams.{IsOrdered}
-use Rattle.runs.specs.StreamLemmas.{blocks-same, blocks-other, some_end}
-use Rattle.run_laws.specs.PublishLemmas.{publishes_empty, publishes_within, published_some}
+use Rattle.runs.specs.lemmas.StreamLemmas.{blocks-same, blocks-other, some_end}
+use Rattle.run_laws.specs.lemmas.PublishLemmas.{publishes_empty, publishes_within, published_some}
 use Rattle.run_laws.specs.OrderLaws.{ClosedOrdered, AllClosed, AllOrdered}
 use Rattle.run_laws.proofs.KindLemmas.{identities_all}
 

@@ -10,12 +10,13 @@ use Rattle.lrup_model.specs.State.{State, after}
 use Rattle.lrup_model.specs.History.{LegalFrom, IsAllowed}
 use Rattle.lrup_model.specs.State.{Answers}
 use Rattle.lrup_model.specs.declared.clause_map.Retired.{Retired}
-use Rattle.lrup_model.specs.HistoryLemmas.{own-mine, own-other}
+use Rattle.lrup_model.specs.lemmas.HistoryLemmas.{own-mine, own-other}
 use Rattle.stream_check.specs.Judging.{joined}
 use Rattle.stream_check.specs.Reducing.{is_vacant, IsEarly, IsFetchOf, TriesAgain, reduced}
-use Rattle.stream_check.specs.ReducingLemmas.{reduced_kept, reduced_left_out, all_vacant_stay}
+use Rattle.stream_check.specs.lemmas.ReducingLemmas.{reduced_kept, reduced_left_out, all_vacant_stay}
 use Rattle.runs.specs.Streams.{Block, blocks_of}
-use Rattle.stream_check.specs.Checking.{IsFetch, IsRetire}
+use Rattle.stream_check.specs.internal.Checking.{IsFetch}
+use Rattle.stream_check.specs.Deletions.{IsRetire}
 use Rattle.run_laws.specs.Lines.{IsLineBlock, RetiresLast}
 use Rattle.run_laws.proofs.SwapLemmas.{Settles}
 use Rattle.run_laws.proofs.BlockLemmas.{IsSettled, join, join-own, join-others, join-settled, join-legal, join-again, without, without-own}

@@ -5,10 +5,8 @@ pub mod Serializable
 pub mod Right
 pub mod Blame
 pub mod Together
-pub mod ReportLemmas
-pub mod PublishLemmas
-pub mod OwnLemmas
 pub mod GroupLaws
 pub mod OrderLaws
 pub mod RightLaws
 pub mod TurnsLaws
+pub mod lemmas

@@ -5,7 +5,7 @@ use Rattle.lrup_model.specs.Formula.{Cnf}
 use Rattle.lrup_model.specs.Layout.{LayoutValue, IsStream}
 use Rattle.lrup_model.specs.Event.{Event, History}
 use Rattle.lrup_model.specs.History.{IsLegal}
-use Rattle.stream_check.specs.Checking.{IsRetire}
+use Rattle.stream_check.specs.Deletions.{IsRetire}
 use Rattle.stream_check.specs.Reducing.{IsEarly, TriesAgain, reduced}
 use Rattle.runs.specs.Streams.{Block, blocks_of, events_in, IsBlockWithin}
 

@@ -15,7 +15,7 @@ use Rattle.lrup_model.specs.Layout.{Owns}
 use Rattle.lrup_model.specs.declared.layout.Owner.TheVariants as owners
 use Rattle.run_laws_tests.specs.Worked.{at_first, one_stream, two_streams, refutation, shared}
 use Rattle.test_support.specs.Worked.{four, first, second, third, fourth, unit}
-use Rattle.test_support.specs.WorkedLemmas.{two_not_one, signs, unit_is_proper, first_is_unit, second_is_conflict, swapped}
+use Rattle.test_support.specs.lemmas.WorkedLemmas.{two_not_one, signs, unit_is_proper, first_is_unit, second_is_conflict, swapped}
 
 pub unit_is_shown : Accepts unit (first ∷ second ∷ [])
 unit_is_shown = (unit_is_proper, (pos 1, first_is_unit, second_is_conflict))

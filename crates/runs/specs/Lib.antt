@@ -1,9 +1,7 @@
-pub mod Closed
 pub mod Each
-pub mod EachLemmas
-pub mod Headline
-pub mod Readings
 pub mod Streams
-pub mod StreamLemmas
+pub mod Readings
+pub mod Closed
+pub mod Headline
 pub mod Turns
-pub mod TurnLemmas
+pub mod lemmas

@@ -15,16 +15,17 @@ use Rattle.lrup_model.specs.Place.{Caller, Place, Tells, IsVacantAbove}
 use Rattle.lrup_model.specs.declared.clause_map.Published.{Published}
 use Rattle.lrup_model.specs.declared.clause_map.Published.TheVariants as publishing
 use Rattle.lrup_model.specs.Distinct.{distinct}
-use Rattle.lrup_model.specs.DistinctLemmas.{IsTautology-in_distinct, length-distinct}
-use Rattle.lrup_model.specs.EntailmentLemmas.{propagation_sound}
+use Rattle.lrup_model.specs.lemmas.DistinctLemmas.{IsTautology-in_distinct, length-distinct}
+use Rattle.lrup_model.specs.lemmas.EntailmentLemmas.{propagation_sound}
 use Rattle.propagate.specs.Marks.{Propagation}
 use Rattle.stream_check.specs.declared.fault.Fault.{Fault}
 use Rattle.stream_check.specs.Setting.{Setting}
 use Rattle.stream_check.specs.Standing.{Standing}
-use Rattle.stream_check.specs.AdditionLemmas.{run-fetches, before_maps}
+use Rattle.stream_check.specs.lemmas.AdditionLemmas.{run-fetches, before_maps}
 use Rattle.stream_check.specs.Additions.{context_of, IsValidAddition, BeforeHints, published_by}
-use Rattle.stream_check.specs.Checking.{IsPlaceOf, IsFetch, KeepsClause, Shows}
-use Rattle.stream_check.specs.Checker.{Admits}
+use Rattle.stream_check.specs.Checker.{IsPlaceOf}
+use Rattle.stream_check.specs.internal.Checking.{IsFetch, KeepsClause, Shows}
+use Rattle.stream_check.specs.internal.CheckerInside.{Admits}
 
 -- Fetches take no room and change nothing
 

@@ -10,7 +10,7 @@ use Rattle.lrup_model.specs.Propagation.{IsUnit, Refutes}
 use Rattle.lrup_model.specs.declared.clause_map.Retired.TheVariants as retiring
 use Rattle.lrup_text.specs.Lines.{StreamLine, Addition, Deletion, Import}
 use Rattle.lrup_model.specs.Distinct.{distinct}
-use Rattle.propagate.specs.HintLemmas.{unit_is_unique, unit_is_no_conflict}
+use Rattle.propagate.specs.lemmas.HintLemmas.{unit_is_unique, unit_is_no_conflict}
 use Rattle.stream_check.specs.declared.fault.Fault.{Fault}
 use Rattle.stream_check.specs.declared.fault.Fault.TheVariants as faults
 use Rattle.stream_check.specs.declared.setting.Side.{Side}
@@ -20,7 +20,7 @@ use Rattle.stream_check.specs.Standing.{Standing}
 use Rattle.stream_check.specs.Verdicts.{LineVerdict, Good, Bad, Fails, Violates}
 use Rattle.stream_check.specs.Asking.{answer_of, LooksUp}
 use Rattle.stream_check.specs.Additions.{AreFound, Misleads, FailsBy, FailsHints, published_by, JudgesAddition}
-use Rattle.stream_check.specs.AdditionLemmas.{valid_passes, no_help, refutes_on}
+use Rattle.stream_check.specs.lemmas.AdditionLemmas.{valid_passes, no_help, refutes_on}
 use Rattle.stream_check.specs.Deletions.{RetiresThen, DropsThen, DeletesAt, JudgesDeletion}
 use Rattle.stream_check.specs.Imports.{JudgesImport}
 use Rattle.stream_check.specs.Judging.{JudgesLine}

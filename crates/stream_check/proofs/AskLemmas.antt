@@ -13,10 +13,11 @@ use Rattle.lrup_model.specs.Place.{Place, AllFollow}
 use Rattle.lrup_model.specs.declared.clause_map.Fetched.{Fetched}
 use Rattle.lrup_model.specs.declared.clause_map.Fetched.TheVariants as answers
 use Rattle.lrup_model.specs.Replies.{reply_of, IsFetched}
-use Rattle.stream_check.specs.Checking.{Gives}
+use Rattle.stream_check.specs.internal.Checking.{Gives}
 use Rattle.stream_check.specs.declared.setting.Side.{Side}
 use Rattle.stream_check.specs.declared.setting.Side.TheVariants as sides
-use Rattle.stream_check.specs.Setting.{Setting, side_of, tries_on}
+use Rattle.stream_check.specs.Setting.{Setting, side_of}
+use Rattle.stream_check.specs.internal.CheckerInside.{tries_on}
 use Rattle.stream_check.specs.Asking.{FetchesUpTo, AsksAt, Asks}
 use Rattle.stream_check.proofs.TryLemmas.{replicate-more}
 

@@ -10,7 +10,7 @@ use Rattle.lrup_model.specs.State.{State, Slot, absent, live, retired, IsLive, I
 use Rattle.lrup_model.specs.History.{LegalFrom}
 use Rattle.lrup_model.specs.declared.clause_map.Published.TheVariants as publishing
 use Rattle.lrup_model.specs.declared.clause_map.Retired.TheVariants as retiring
-use Rattle.lrup_model.specs.HistoryLemmas.{put, one_owner}
+use Rattle.lrup_model.specs.lemmas.HistoryLemmas.{put, one_owner}
 
 -- The state at one identity, after a put
 

@@ -5,9 +5,9 @@ use Rattle.std.proofs.lemmas.List.Folds.{Any-from_list_any, list_any-from_Any}
 use Rattle.lrup_model.specs.Clause.{Clause}
 use Rattle.lrup_model.specs.Cube.{CubeValue}
 use Rattle.stream_check.specs.Standing.{additions_of, is_within}
-use Rattle.stream_check.specs.CubeLemmas.{is_within-decides}
+use Rattle.stream_check.specs.lemmas.CubeLemmas.{is_within-decides}
 use Rattle.stream_check.specs.Laws.{WithinReported, EmptyCubeReported}
-use Rattle.stream_check.specs.ReportLemmas.{said_within, said_empty, all_only_empty}
+use Rattle.stream_check.specs.lemmas.ReportLemmas.{said_within, said_empty, all_only_empty}
 
 pub within_reported : WithinReported
 within_reported c bytes end blocks report j =

@@ -15,7 +15,7 @@ use Rattle.stream_check.specs.Setting.{Setting, side_of, is_shared}
 use Rattle.stream_check.specs.Standing.{is_among}
 use Rattle.stream_check.specs.Verdicts.{LineVerdict, Good, Bad}
 use Rattle.stream_check.specs.Deletions.{DeletesAt, JudgesDeletion}
-use Rattle.stream_check.specs.Checking.{DeletesSide, DeletesOne, AreDropped, Deletes}
+use Rattle.stream_check.specs.internal.Checking.{DeletesSide, DeletesOne, AreDropped, Deletes}
 
 -- The dropped ones
 

@@ -11,9 +11,9 @@ use Rattle.lrup_model.specs.declared.layout.Owner.TheVariants as owners
 use Rattle.lrup_model.specs.Event as events
 use Rattle.lrup_model.specs.Event.{Event, History, Reply, stream_of}
 use Rattle.lrup_model.specs.State.{State, Slot, absent, live, retired, IsLive, IsRetired, retire_slot, after, run}
-use Rattle.lrup_model.specs.RunningLemmas.{run-append}
+use Rattle.lrup_model.specs.lemmas.RunningLemmas.{run-append}
 use Rattle.lrup_model.specs.declared.clause_map.Retired.TheVariants as retiring
-use Rattle.lrup_model.specs.EntryLemmas.{retired_now}
+use Rattle.lrup_model.specs.lemmas.EntryLemmas.{retired_now}
 use Rattle.lrup_text.specs.Lines.{StreamLine, Addition, Deletion, Import}
 use Rattle.stream_check.specs.declared.fault.Fault.{Fault}
 use Rattle.stream_check.specs.declared.fault.Fault.TheVariants as faults

@@ -14,7 +14,7 @@ use Rattle.stream_check.specs.Setting.{Setting, side_of}
 use Rattle.stream_check.specs.Standing.{Standing}
 use Rattle.stream_check.specs.Verdicts.{LineVerdict}
 use Rattle.stream_check.specs.Asking.{AsksAt, Asks}
-use Rattle.stream_check.specs.EventLemmas.{addition_holds, import_holds, identities_hold, IsAny, all_any, asked_are, asked_more}
+use Rattle.stream_check.specs.lemmas.EventLemmas.{addition_holds, import_holds, identities_hold, IsAny, all_any, asked_are, asked_more}
 use Rattle.stream_check.specs.Judging.{JudgesLine}
 use Rattle.stream_check.specs.Reducing.{IsEarly, StartsWithFetchOf, TriesAgain}
 use Rattle.stream_check.specs.Laws.{LineCalls, EarlyEvents, VacantTriesAgain, cited_by, FetchesOnly}

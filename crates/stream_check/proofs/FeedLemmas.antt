@@ -9,7 +9,8 @@ use Rattle.lrup_model.specs.Cube.{CubeValue}
 use Rattle.lrup_model.specs.Layout.{LayoutValue}
 use Rattle.lrup_model.specs.Event.{History}
 use Rattle.lrup_model.specs.Place.{Place}
-use Rattle.lrup_text.specs.ByteNames.{space, letter_d, letter_i}
+use Rattle.lrup_text.specs.Writing.{space}
+use Rattle.lrup_text.specs.internal.ByteNames.{letter_d, letter_i}
 use Rattle.lrup_text.specs.Grammar.{clause_text, list_text}
 use Rattle.lrup_text.specs.Lines.{StreamLine, Addition, Deletion, Import, Cut, IsPending, HasNoLine, LineText, line_text}
 use Rattle.lrup_text.specs.Feeding as feeding
@@ -30,11 +31,11 @@ use Rattle.stream_check.specs.Standing.{is_among}
 use Rattle.stream_check.specs.Judging.{ending_at, JudgesBlocks}
 use Rattle.stream_check.specs.Leaving.{Going, Over, JudgesBothEnds, Leaves, IsFresh}
 use Rattle.stream_check.specs.CheckerValue.{Tally, report_of_tally, CheckerValue}
-use Rattle.stream_check.specs.Checker.{read_of, value_of, checker_state, state_by, holding_of, tally_at, IsReadyAt, IsSound, LeavesOn}
-use Rattle.stream_check.specs.Checker.{IsNew, EndsBy, Ends, ReportsEnd}
-use Rattle.stream_check.specs.Taking.{IsReady, hold}
+use Rattle.stream_check.specs.internal.CheckerInside.{read_of, value_of, tally_at, IsSound}
+use Rattle.stream_check.specs.Checker.{checker_state, state_by, holding_of, IsReadyAt, LeavesOn, IsNew, EndsBy, Ends, ReportsEnd}
+use Rattle.stream_check.specs.internal.Taking.{IsReady, hold}
 use Rattle.stream_check.proofs.LeavingLemmas.{end_judged, line_grows, all_snoc}
-use Rattle.stream_check.specs.StandingLemmas.{same_tally}
+use Rattle.stream_check.specs.lemmas.StandingLemmas.{same_tally}
 use Rattle.stream_check.proofs.TakeLemmas.{leaves_front}
 
 pub some_of : (o : Option Ending) → is_some o ≡ true → (ending : Ending) × (o ≡ Some ending)

@@ -7,13 +7,13 @@ use Rattle.lrup_model.specs.Entailment.{Follows}
 use Rattle.lrup_model.specs.Event as events
 use Rattle.lrup_model.specs.Event.{Event, History}
 use Rattle.lrup_model.specs.Distinct.{distinct}
-use Rattle.lrup_model.specs.EntailmentLemmas.{propagation_sound}
+use Rattle.lrup_model.specs.lemmas.EntailmentLemmas.{propagation_sound}
 use Rattle.stream_check.specs.declared.setting.Side.{Side}
 use Rattle.stream_check.specs.declared.setting.Side.TheVariants as sides
 use Rattle.stream_check.specs.Setting.{Setting, side_of}
 use Rattle.stream_check.specs.Asking.{AsksAt}
 use Rattle.stream_check.specs.Additions.{AreFound, published_by}
-use Rattle.stream_check.specs.AdditionLemmas.{found_live}
+use Rattle.stream_check.specs.lemmas.AdditionLemmas.{found_live}
 use Rattle.stream_check.specs.Finding.{FindsSound}
 use Rattle.stream_check.specs.Laws.{GoodFollows}
 

@@ -25,8 +25,8 @@ use Rattle.stream_check.specs.CheckerValue.{Tally, report_of_tally}
 use Rattle.stream_check.specs.Leaving.{Holding, SameStanding, LeavesGoing, standing_after, tally_after}
 use Rattle.stream_check.specs.Laws.{FreshLeft, PendingGrows, GoodLineTaken, BadLineTaken, BadTextRead, MemoryWanted, EndJudged, OverStays}
 use Rattle.stream_check.specs.Laws.{IsDecided, EitherEnd, DecidedBeforeFailure}
-use Rattle.stream_check.specs.StandingLemmas.{standing_of-snoc, counts_of, tally_is, tally_says, counts_of-snoc, same_standing}
-use Rattle.stream_check.specs.StoppingLemmas.{drops_none}
+use Rattle.stream_check.specs.lemmas.StandingLemmas.{standing_of-snoc, counts_of, tally_is, tally_says, counts_of-snoc, same_standing}
+use Rattle.stream_check.specs.lemmas.StoppingLemmas.{drops_none}
 
 -- one good line more, with its block
 good_snoc : (c : Setting) (before lines : List StreamLine) (blocks : List History) (line : StreamLine) (block : History)

@@ -10,8 +10,8 @@ use Rattle.lrup_model.specs.Event as events
 use Rattle.lrup_model.specs.Event.{Event, History, stream_of, own, spent}
 use Rattle.lrup_model.specs.State.{State, Slot, absent, live, retire_slot, run}
 use Rattle.lrup_model.specs.Place.{Caller, Place, Tells, IsVacantAbove}
-use Rattle.lrup_model.specs.RunningLemmas.{run-append, spent-append}
-use Rattle.lrup_model.specs.HistoryLemmas.{put, put-same, put-other, spent_one}
+use Rattle.lrup_model.specs.lemmas.RunningLemmas.{run-append, spent-append}
+use Rattle.lrup_model.specs.lemmas.HistoryLemmas.{put, put-same, put-other, spent_one}
 use Rattle.lrup_model.specs.declared.clause_map.Retired.TheVariants as retiring
 use Rattle.lrup_text.specs.Lines.{StreamLine, Addition, Deletion, Import}
 use Rattle.lrup_model.specs.Distinct.{distinct}
@@ -22,18 +22,20 @@ use Rattle.stream_check.specs.declared.line_stop.LineStop.TheVariants as stops
 use Rattle.stream_check.specs.Setting.{Setting, side_of, is_shared}
 use Rattle.stream_check.specs.Standing.{capped, is_among, is_within}
 use Rattle.stream_check.specs.Verdicts.{Good, Bad}
-use Rattle.stream_check.specs.EventLemmas.{found_all}
+use Rattle.stream_check.specs.lemmas.EventLemmas.{found_all}
 use Rattle.stream_check.specs.Additions.{published_by, JudgesAddition}
 use Rattle.stream_check.specs.Imports.{JudgesImport}
 use Rattle.stream_check.specs.Leaving.{tally_after}
 use Rattle.stream_check.specs.DroppedValue.{DroppedValue}
-use Rattle.stream_check.specs.Checking.{IsPlaceOf, IsFetch, IsRetire, AreDropped, Deletes}
-use Rattle.stream_check.specs.Checker.{standing_at, tally_at, deleted_at, KeepsLines}
-use Rattle.stream_check.specs.Taking.{IsReady, DeletesMore, TakesBy}
+use Rattle.stream_check.specs.Checker.{IsPlaceOf}
+use Rattle.stream_check.specs.internal.Checking.{IsFetch, AreDropped, Deletes}
+use Rattle.stream_check.specs.Deletions.{IsRetire}
+use Rattle.stream_check.specs.internal.CheckerInside.{standing_at, tally_at, deleted_at, KeepsLines}
+use Rattle.stream_check.specs.internal.Taking.{IsReady, DeletesMore, TakesBy}
 use Rattle.stream_check.proofs.AddLemmas.{spent-skips, spent-fetches, still_at}
-use Rattle.stream_check.specs.AdditionLemmas.{run-fetches}
-use Rattle.stream_check.specs.StandingLemmas.{same_tally}
-use Rattle.stream_check.specs.StoppingLemmas.{drops_none}
+use Rattle.stream_check.specs.lemmas.AdditionLemmas.{run-fetches}
+use Rattle.stream_check.specs.lemmas.StandingLemmas.{same_tally}
+use Rattle.stream_check.specs.lemmas.StoppingLemmas.{drops_none}
 
 -- The place after fetches alone
 

@@ -11,7 +11,7 @@ use Rattle.stream_check.specs.Verdicts.{LineVerdict, Good, Bad}
 use Rattle.stream_check.specs.Judging.{JudgesLine, AreGood, joined, at_bad_line, at_bad_text, at_memory, at_end}
 use Rattle.stream_check.specs.Forks.{NeverFork}
 use Rattle.stream_check.specs.Laws.{GoAlike, BlocksGoAlike}
-use Rattle.stream_check.specs.ReportLemmas.{split_first}
+use Rattle.stream_check.specs.lemmas.ReportLemmas.{split_first}
 use Rattle.stream_check.proofs.ForkLemmas.{never_fork_alone}
 use Rattle.stream_check.proofs.AgreeLemmas.{line_agrees}
 use Rattle.stream_check.proofs.StreamLemmas.{TextLaws, EndsWithout, same_first, faulty_has_no_line, out_of_memory, ends_not_good}

@@ -5,8 +5,8 @@ use Rattle.lrup_model.specs.Layout.{LayoutValue, Owns}
 use Rattle.lrup_model.specs.State.{State}
 use Rattle.lrup_model.specs.Place.{Caller}
 use Rattle.lrup_model.specs.Plain.{plain_place}
-use Rattle.lrup_model.specs.HistoryLemmas.{opening-owned, vacant_above_stays}
-use Rattle.lrup_model.specs.CallerLemmas.{calls_differ}
+use Rattle.lrup_model.specs.lemmas.HistoryLemmas.{opening-owned, vacant_above_stays}
+use Rattle.lrup_model.specs.lemmas.CallerLemmas.{calls_differ}
 use Rattle.stream_check.specs.Setting.{Setting}
 use Rattle.stream_check.specs.Laws.{ReadyNew, ReadyStays, ReadyBeside}
 

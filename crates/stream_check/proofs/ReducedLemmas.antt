@@ -17,10 +17,10 @@ use Rattle.stream_check.specs.Standing.{standing_of}
 use Rattle.stream_check.specs.Verdicts.{Good, Bad}
 use Rattle.stream_check.specs.Asking.{AsksAt, Asks, answer_of, LooksUp}
 use Rattle.stream_check.specs.Judging.{AreGood, EndsAfter, at_bad_line, at_bad_text, at_memory, at_end}
-use Rattle.stream_check.specs.MappingLemmas.{LooksOn, line_maps}
+use Rattle.stream_check.specs.lemmas.MappingLemmas.{LooksOn, line_maps}
 use Rattle.stream_check.specs.Reducing.{is_vacant, reduced}
 use Rattle.stream_check.specs.Laws.{ReducedLine, ReducedStream}
-use Rattle.stream_check.specs.ReducingLemmas.{reduced_kept, reduced_left_out, all_vacant_stay}
+use Rattle.stream_check.specs.lemmas.ReducingLemmas.{reduced_kept, reduced_left_out, all_vacant_stay}
 
 -- Reducing
 

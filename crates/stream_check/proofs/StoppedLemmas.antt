@@ -7,7 +7,7 @@ use Rattle.lrup_text.specs.Lines.{StreamLine, IsWithinLimits, line_text}
 use Rattle.stream_check.specs.declared.report.Ending.{Ending}
 use Rattle.stream_check.specs.declared.report.Ending.TheVariants as endings
 use Rattle.stream_check.specs.Laws.{DroppedOnce}
-use Rattle.stream_check.specs.ReportLemmas.{split_first}
+use Rattle.stream_check.specs.lemmas.ReportLemmas.{split_first}
 use Rattle.stream_check.specs.Setting.{side_of, is_shared}
 use Rattle.stream_check.specs.Standing.{standing_of, is_among, deleted_by}
 use Rattle.stream_check.specs.Stopping.{StopsAtLine, AreDeletedFirst}

@@ -18,7 +18,7 @@ use Rattle.stream_check.specs.Verdicts.{Good, Bad}
 use Rattle.stream_check.specs.Judging.{JudgesLine, AreGood, joined, report_of, EndsAfter, at_bad_line, at_bad_text, at_memory, at_end}
 use Rattle.stream_check.specs.Forks.{NeverFork}
 use Rattle.stream_check.specs.Laws.{IsOfMemory, RepliesDecide, OneReport}
-use Rattle.stream_check.specs.ReportLemmas.{split_first, joined-append}
+use Rattle.stream_check.specs.lemmas.ReportLemmas.{split_first, joined-append}
 use Rattle.stream_check.proofs.ForkLemmas.{never_fork_turned, never_fork_alone, never_fork_behind}
 use Rattle.stream_check.proofs.AgreeLemmas.{line_agrees}
 

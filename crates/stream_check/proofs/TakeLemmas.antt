@@ -14,8 +14,9 @@ use Rattle.stream_check.specs.declared.line_stop.LineStop.TheVariants as stops
 use Rattle.stream_check.specs.Standing.{capped, is_among}
 use Rattle.stream_check.specs.CheckerValue.{report_of_tally}
 use Rattle.stream_check.specs.Leaving.{Going, Over, Leaves}
-use Rattle.stream_check.specs.Checker.{tally_at, LeavesOn}
-use Rattle.stream_check.specs.Taking.{hold, DeletesMore, TakesBy, ending_of}
+use Rattle.stream_check.specs.internal.CheckerInside.{tally_at}
+use Rattle.stream_check.specs.Checker.{LeavesOn}
+use Rattle.stream_check.specs.internal.Taking.{hold, DeletesMore, TakesBy, ending_of}
 use Rattle.stream_check.specs.Laws.{GoodLineTaken}
 use Rattle.stream_check.proofs.LeavingLemmas.{pending_grows, bad_line_taken, bad_text_read, memory_wanted}
 

@@ -10,16 +10,17 @@ use Rattle.lrup_model.specs.Entailment.{IsDerived}
 use Rattle.lrup_model.specs.Layout.{LayoutValue}
 use Rattle.lrup_model.specs.Event.{Event, History}
 use Rattle.lrup_model.specs.Place.{Caller, Place, Tells, ClipValue, IsKnown, AllFollow, clip_clause}
-use Rattle.lrup_model.specs.PassLemmas.{known_follows}
+use Rattle.lrup_model.specs.lemmas.PassLemmas.{known_follows}
 use Rattle.lrup_model.specs.Propagation.{IsConflict, IsUnit}
 use Rattle.propagate.specs.Hints.{Leads}
-use Rattle.propagate.specs.HintLemmas.{leads_on, accepts_exactly}
+use Rattle.propagate.specs.lemmas.HintLemmas.{leads_on, accepts_exactly}
 use Rattle.stream_check.specs.declared.fault.Fault.{Fault}
 use Rattle.stream_check.specs.declared.fault.Fault.TheVariants as faults
 use Rattle.stream_check.specs.Setting.{Setting}
 use Rattle.stream_check.specs.Asking.{LooksUp}
 use Rattle.stream_check.specs.Additions.{AreFound, Misleads, FailsHints}
-use Rattle.stream_check.specs.Checking.{IsPlaceOf, Shows, excess_of}
+use Rattle.stream_check.specs.Checker.{IsPlaceOf}
+use Rattle.stream_check.specs.internal.Checking.{Shows, excess_of}
 
 -- one more at the end
 pub replicate-more : (k : ℕ) (e : Event) → replicate k e ++ e ∷ [] ≡ replicate (k + 1) e

@@ -17,8 +17,8 @@ use Rattle.stream_check.specs.Standing.{standing_of, additions_of, deleted_by}
 use Rattle.stream_check.specs.Verdicts.{Good, Bad}
 use Rattle.stream_check.specs.Judging.{JudgesLine, AreGood, joined, EndsAfter, at_bad_line, at_bad_text, at_memory, at_end}
 use Rattle.stream_check.specs.Laws.{CountsWithin}
-use Rattle.stream_check.specs.ReportLemmas.{joined-append}
-use Rattle.stream_check.specs.StandingLemmas.{last_below, same_last, added-snoc}
+use Rattle.stream_check.specs.lemmas.ReportLemmas.{joined-append}
+use Rattle.stream_check.specs.lemmas.StandingLemmas.{last_below, same_last, added-snoc}
 use Rattle.stream_check.proofs.AskLemmas.{side_for}
 use Rattle.stream_check.proofs.CountLemmas.{SameOwn, OwnRun, own_runs, run_on}
 use Rattle.stream_check.proofs.DeletedLemmas.{identity_below, TakenAt, Taken, Apart, are_distinct, AreTaken, identities_took, lines_took}

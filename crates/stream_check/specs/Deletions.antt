@@ -3,6 +3,7 @@ use Rattle.std.specs.Prelude.{◌≡◌, ◌⊎◌, ◌++◌, ◌||◌, ℕ, Boo
 use Rattle.lrup_model.specs.Event as events
 use Rattle.lrup_model.specs.Event.{History}
 use Rattle.lrup_model.specs.declared.clause_map.Retired.TheVariants as retiring
+use Rattle.lrup_model.specs.Event.{Event}
 use Rattle.stream_check.specs.declared.fault.Fault.TheVariants as faults
 use Rattle.stream_check.specs.declared.setting.Side.{Side}
 use Rattle.stream_check.specs.declared.setting.Side.TheVariants as sides
@@ -56,3 +57,9 @@ pub record StopsDeletion (setting : Setting) (gone : ℕ → Bool) (ids : List �
   pub before : JudgesDeletion setting gone [] earlier history Good
   pub shared : is_shared (side_of setting id) ≡ true
   pub new : (gone id || is_among earlier id) ≡ false
+
+-- the event is a retire
+abbrev pub IsRetire : Event → Type 0
+IsRetire (events.fetch s id reply) = ⊥
+IsRetire (events.publish s id clause reply) = ⊥
+IsRetire (events.retire s id reply) = Unit {0}

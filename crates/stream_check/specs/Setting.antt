@@ -27,13 +27,6 @@ side_of setting id =
       | owners.Outside ↦ sides.Outside
     ]
 
--- how often a hint of this side is fetched again at most, where another stream's is fetched again so often
-abbrev pub tries_on : Side → ℕ → ℕ
-tries_on sides.Formula tries = 0
-tries_on sides.Own tries = 0
-tries_on sides.Foreign tries = tries
-tries_on sides.Outside tries = 0
-
 -- The stream may drop it, but not retire it: it is the formula's or another stream's.
 abbrev pub is_shared : Side → Bool
 is_shared sides.Formula = true

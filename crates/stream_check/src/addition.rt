@@ -9,8 +9,9 @@ ghost use Rattle.lrup_model.specs.Place.{IsVacantAbove};
 ghost use Rattle.lrup_text.specs.Lines.{IsStreamLiteral};
 ghost use Rattle.lrup_model.specs.Distinct.{distinct};
 ghost use Rattle.stream_check.specs.Additions.{JudgesAddition};
-ghost use Rattle.stream_check.specs.Checking.{IsPlaceOf, line_verdict};
-ghost use Rattle.stream_check.specs.Checker.{standing_at, AdmitsBy};
+ghost use Rattle.stream_check.specs.Checker.{IsPlaceOf};
+ghost use Rattle.stream_check.specs.internal.Checking.{line_verdict};
+ghost use Rattle.stream_check.specs.internal.CheckerInside.{standing_at, AdmitsBy};
 
 use crate::fault::Fault;
 use crate::gate::Gate;

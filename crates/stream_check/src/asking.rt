@@ -5,7 +5,8 @@ ghost use Rattle.lrup_model.specs.Layout.{IsIdentity};
 ghost use Rattle.lrup_model.specs.Replies.{reply_of};
 ghost use Rattle.stream_check.specs.Asking.{Asks, FetchesUpTo, LooksUp};
 ghost use Rattle.stream_check.specs.Standing.{is_among};
-ghost use Rattle.stream_check.specs.Checking.{IsPlaceOf, Gives, found_by};
+ghost use Rattle.stream_check.specs.Checker.{IsPlaceOf};
+ghost use Rattle.stream_check.specs.internal.Checking.{Gives, found_by};
 
 use crate::fault::Fault;
 use crate::gate::Gate;

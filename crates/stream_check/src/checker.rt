@@ -39,7 +39,7 @@ impl Model for Checker {
 
     ghost Value = { CheckerValue };
 
-    ghost use Rattle.stream_check.specs.Checker.{value_of, read_of, IsSound};
+    ghost use Rattle.stream_check.specs.internal.CheckerInside.{value_of, read_of, IsSound};
 
     ghost view = { λ c. value_of c.state (read_of c.reader) c.ending };
 

@@ -3,9 +3,11 @@ ghost use Rattle.std.specs.Prelude.{◌≡◌, ◌+◌, ℕ, IsErrOf};
 ghost use Rattle.std.specs.List.{AllByRecursion};
 ghost use Rattle.lrup_model.specs.Event.{History};
 ghost use Rattle.lrup_model.specs.Layout.{Owns};
-ghost use Rattle.stream_check.specs.Checking.{IsPlaceOf, DeletesOwn, DeletesOne, Deletes, IsRetire, counted};
+ghost use Rattle.stream_check.specs.Checker.{IsPlaceOf};
+ghost use Rattle.stream_check.specs.internal.Checking.{DeletesOwn, DeletesOne, Deletes, counted};
+ghost use Rattle.stream_check.specs.Deletions.{IsRetire};
 ghost use Rattle.stream_check.specs.Standing.{capped};
-ghost use Rattle.stream_check.specs.Checker.{KeepsLines, deleted_at};
+ghost use Rattle.stream_check.specs.internal.CheckerInside.{KeepsLines, deleted_at};
 
 use crate::fault::Fault;
 use crate::line_stop::LineStop;

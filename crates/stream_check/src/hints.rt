@@ -3,7 +3,8 @@ ghost use Rattle.std.specs.Prelude.{◌≡◌, ◌≤◌, ◌<◌, ◌^◌, IsTr
 ghost use Rattle.lrup_model.specs.Clause.{IsTautology};
 ghost use Rattle.lrup_model.specs.Event.{History};
 ghost use Rattle.stream_check.specs.Standing.{is_among};
-ghost use Rattle.stream_check.specs.Checking.{IsPlaceOf, KeepsClause, Shows, excess_of};
+ghost use Rattle.stream_check.specs.Checker.{IsPlaceOf};
+ghost use Rattle.stream_check.specs.internal.Checking.{KeepsClause, Shows, excess_of};
 
 use crate::asking::look_up;
 use crate::fault::Fault;

@@ -5,8 +5,9 @@ ghost use Rattle.lrup_model.specs.Event.{History};
 ghost use Rattle.lrup_model.specs.History.{max_line_literals};
 ghost use Rattle.lrup_text.specs.Lines.{IsStreamLiteral};
 ghost use Rattle.stream_check.specs.Imports.{JudgesImport};
-ghost use Rattle.stream_check.specs.Checking.{IsPlaceOf, line_verdict};
-ghost use Rattle.stream_check.specs.Checker.{standing_at};
+ghost use Rattle.stream_check.specs.Checker.{IsPlaceOf};
+ghost use Rattle.stream_check.specs.internal.Checking.{line_verdict};
+ghost use Rattle.stream_check.specs.internal.CheckerInside.{standing_at};
 
 use crate::addition::{Buffers, make_literals};
 use crate::asking::look_up;

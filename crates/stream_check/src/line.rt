@@ -2,7 +2,7 @@
 ghost use Rattle.std.specs.Prelude.{◌≡◌, ◌<◌, ◌^◌, ℕ};
 ghost use Rattle.lrup_model.specs.Event.{History};
 ghost use Rattle.lrup_text.specs.Lines.{IsWithinLimits, Addition, Deletion, Import, line_of};
-ghost use Rattle.stream_check.specs.Taking.{IsReady, TakesBy};
+ghost use Rattle.stream_check.specs.internal.Taking.{IsReady, TakesBy};
 
 use crate::addition::Buffers;
 use crate::deletion::delete;

@@ -1,6 +1,6 @@
 //! Why a line ends its stream.
 ghost use Rattle.std.specs.Prelude.{◌≡◌};
-ghost use Rattle.stream_check.specs.Taking.{ending_of};
+ghost use Rattle.stream_check.specs.internal.Taking.{ending_of};
 
 use crate::fault::Fault;
 use crate::report::Ending;

@@ -1,7 +1,8 @@
 //! The stream whose lines are checked, and the terms of the checking.
 ghost use Rattle.std.specs.Prelude.{◌≡◌, ◌↔◌, IsTrue};
 ghost use Rattle.lrup_model.specs.Layout.{IsIdentity};
-ghost use Rattle.stream_check.specs.Setting.{side_of, is_shared, tries_on};
+ghost use Rattle.stream_check.specs.Setting.{side_of, is_shared};
+ghost use Rattle.stream_check.specs.internal.CheckerInside.{tries_on};
 ghost use Rattle.stream_check.specs.Standing.{is_within};
 
 use lrup_model::{Cube, Id, Layout, Lit, Owner};

@@ -1,6 +1,6 @@
 //! What a checker keeps of the good lines.
 ghost use Rattle.std.specs.Prelude.{◌≡◌, ◌≤◌, ◌<◌, ◌^◌, ◌+◌, ◌-◌, ◌||◌, min, [], false, length, IsErrOf};
-ghost use Rattle.stream_check.specs.Checking.{DropsShared, counted};
+ghost use Rattle.stream_check.specs.internal.Checking.{DropsShared, counted};
 ghost use Rattle.stream_check.specs.Standing.{capped, is_among};
 
 use crate::dropped::Dropped;

@@ -7,13 +7,13 @@ use Rattle.lrup_model.specs.State.{State}
 use Rattle.lrup_model.specs.Place.{Place, Tells}
 use Rattle.lrup_model.specs.Replies.{reply_of}
 use Rattle.lrup_model.specs.Plain.{Plain, formula_of, plain_place, plain_state, PlainMoves}
-use Rattle.lrup_model.specs.PlainLaws.{plain_moves_tells}
+use Rattle.lrup_model.specs.lemmas.PlainMoveLemmas.{plain_moves_tells}
 use Rattle.lrup_model.specs.Desk.{map_of, stream_at, plain_desk_place, PlainDeskMoves}
 use Rattle.lrup_model.specs.declared.clause_map.Fetched.{Fetched}
 use Rattle.lrup_model.specs.declared.plain_map.PlainDesk.{PlainDesk}
-use Rattle.lrup_model.specs.HistoryLemmas.{run-others}
-use Rattle.lrup_model.specs.CallerLemmas.{calls_differ}
-use Rattle.stream_check_tests.specs.TellsLemmas.{tells_append}
+use Rattle.lrup_model.specs.lemmas.HistoryLemmas.{run-others}
+use Rattle.lrup_model.specs.lemmas.CallerLemmas.{calls_differ}
+use Rattle.stream_check_tests.specs.lemmas.TellsLemmas.{tells_append}
 
 -- the calls of stream t are none of stream s
 pub tells_beside : (old new : Plain) (s t : ℕ) (es : History) → 0 < s → s ≢ t → PlainMoves old new t es

@@ -5,7 +5,7 @@ use Rattle.std.specs.List.{AllByRecursion}
 use Rattle.lrup_model.specs.Clause.{Has}
 use Rattle.lrup_model.specs.Event.{History, live}
 use Rattle.test_support.specs.Worked.{first, second, unit}
-use Rattle.test_support.specs.WorkedLemmas.{unit_is_proper, first_is_unit, second_is_conflict}
+use Rattle.test_support.specs.lemmas.WorkedLemmas.{unit_is_proper, first_is_unit, second_is_conflict}
 use Rattle.lrup_text.specs.Lines.{Addition, Import}
 use Rattle.stream_check.specs.Verdicts.{LineVerdict}
 use Rattle.stream_check.specs.Additions.{JudgesHints, AtConflict, published_by}

@@ -1,2 +1,2 @@
-pub mod TellsLemmas
 pub mod Worked
+pub mod lemmas

@@ -15,7 +15,7 @@ use Rattle.stream_check.specs.Laws.{OverStays}
 use Rattle.stream_check.specs.Leaving.{CheckerState, Over, Leaves}
 use Rattle.stream_check.specs.Setting.{Setting}
 use Rattle.stream_check.specs.Standing.{is_among}
-use Rattle.stream_check.specs.StoppingLemmas.{drops_longer}
+use Rattle.stream_check.specs.lemmas.StoppingLemmas.{drops_longer}
 use Rattle.stream_jobs.specs.Judged.{ending_with}
 use Rattle.stream_ring.specs.Items.{EndsBeforeMark}
 

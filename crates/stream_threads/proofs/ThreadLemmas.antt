@@ -15,12 +15,12 @@ use Rattle.stream_check.specs.CheckerValue.{CheckerValue}
 use Rattle.stream_check.specs.Judging.{joined}
 use Rattle.stream_jobs.specs.Judged.{JudgesAtMark}
 use Rattle.lrup_text.specs.ReadOut.{SourceView}
-use Rattle.stream_threads.specs.Faults.{IsFaultWithin, IsFirstFault, IsRingBehind}
-use Rattle.stream_threads.specs.Jobs.{AllEnd, AllFinish, AreJobs, FoundValue, IsEndOf, IsJob, JobsValue, JudgesAtPass, MissesMark}
-use Rattle.stream_threads.specs.Jobs.{StartedValue, started_with}
+use Rattle.stream_threads.specs.Faults.{IsFaultWithin, IsFirstFault}
+use Rattle.stream_threads.specs.internal.Workers.{IsRingBehind, AllEnd, IsEndOf, JudgesAtPass, StartedValue, started_with}
+use Rattle.stream_threads.specs.Jobs.{AllFinish, AreJobs, FoundValue, IsJob, JobsValue, MissesMark}
 use Rattle.stream_threads.specs.declared.jobs.ThreadFault.{ThreadFault}
 use Rattle.stream_threads.specs.declared.jobs.ThreadFault.TheVariants.{Spawn, Ring}
-use Rattle.runs.specs.EachLemmas.{zip_count}
+use Rattle.runs.specs.lemmas.EachLemmas.{zip_count}
 use Rattle.runs.specs.Streams.{TermsValue}
 
 -- what was judged at a desk was judged at its pass

@@ -1,14 +1,9 @@
 -- What is said where threads didn't find something of each stream (this project's own).
-use Rattle.std.specs.Prelude.{◌≡◌, ◌≤◌, ◌<◌, ◌+◌, ℕ, List, IsSomeAnd, length, slice_get, take}
+use Rattle.std.specs.Prelude.{◌≤◌, ◌<◌, ◌+◌, ℕ, List, IsSomeAnd, length, slice_get, take}
 use Rattle.lrup_text.specs.ReadOut.{SourceView}
-use Rattle.stream_threads.specs.Jobs.{AllFinish, FoundValue, JobsValue, MissesMark}
+use Rattle.stream_threads.specs.Jobs.{AllFinish, JobsValue, MissesMark}
 use Rattle.stream_threads.specs.declared.jobs.ThreadFault.{ThreadFault}
 use Rattle.stream_threads.specs.declared.jobs.ThreadFault.TheVariants.{Spawn, Ring}
-
--- the fault is that of a ring, behind the streams of which this was found
-abbrev pub IsRingBehind : {S : Type 0} → List (FoundValue S) → ThreadFault S → Type 0
-IsRingBehind found (Spawn stream) = ⊥
-IsRingBehind found (Ring before) = before.items ≡ found
 
 -- where a stream's mark was missed, this was found of each stream before it
 abbrev pub IsFirstFault : {S : Type 0} → SourceView S → List (JobsValue S) → ThreadFault S → Type 0

@@ -1,5 +1,5 @@
 -- The two jobs of a stream, and what comes of them (this project's own).
-use Rattle.std.specs.Prelude.{◌≡◌, ◌++◌, ℕ, List, [], Option, Some, None, IsSome}
+use Rattle.std.specs.Prelude.{◌≡◌, ◌++◌, ℕ, List, [], IsSome}
 use Rattle.std.specs.List.{AllZip}
 use Rattle.lrup_model.specs.Event.{History}
 use Rattle.lrup_model.specs.Pass.{PassMoves, pass_place}
@@ -14,7 +14,7 @@ use Rattle.lrup_text.specs.ReadOut.{SourceView}
 use Rattle.runs.specs.Each.{EachOfThree}
 use Rattle.runs.specs.Readings.{IsStreamOf}
 use Rattle.runs.specs.Streams.{Stream, JudgesStream, TermsValue}
-use Rattle.stream_jobs.specs.Judged.{DropsBy, JudgesAtMark}
+use Rattle.stream_jobs.specs.Judged.{DropsBy}
 use Rattle.stream_ring.specs.Items.{EndsBeforeMark, SendsAll}
 
 -- what a stream's threads start with: its reader, its checker, and its pass
@@ -22,15 +22,6 @@ pub record JobsValue (S : Type 0) : Type 0 where
   pub reader : S
   pub checker : CheckerValue
   pub pass : PassValue
-
--- what they were started with: the jobs, and the signal for which they wait
-pub record StartedValue (S : Type 0) : Type 0 where
-  pub jobs : JobsValue S
-  pub signal : ℕ
-
--- threads that were started with these
-abbrev pub started_with : {S : Type 0} → ℕ → JobsValue S → StartedValue S
-started_with signal jobs = record { jobs = jobs; signal = signal }
 
 -- the jobs of a stream, from 1 on, before its first byte: its reader, a checker of that stream, and its pass
 pub record IsJob {S : Type 0} (terms : TermsValue) (s : ℕ) (reader : S) (at : PassValue)
@@ -55,15 +46,6 @@ pub record FoundValue (S : Type 0) : Type 0 where
 pub record CanBegin {S : Type 0} (store : StoreValue) (jobs : JobsValue S) : Type 0 where
   pub here : store_of jobs.pass ≡ store
   pub ready : IsReadyAt jobs.checker (pass_place jobs.pass.view)
-
--- The report judges the bytes received up to a mark by the calls that the pass made since, and these identities are dropped by
--- them.
-pub record JudgesAtPass (checker : CheckerValue) (old new : PassValue) (items : List ℕ)
-    (ids : List ℕ) (report : Report) : Type 0 where
-  pub store : store_of new ≡ store_of old
-  pub blocks : List History
-  pub moves : PassMoves old.view new.view (joined blocks)
-  pub judged : JudgesAtMark checker (pass_place old.view).room items blocks ids report
 
 -- What was found is how the stream that the reader told, and its reads gave, is judged, by the calls that the pass made, where
 -- the checker had taken no byte before; and what its bytes dropped.
@@ -97,13 +79,3 @@ pub record MissesMark {S : Type 0} (view : SourceView S) (reader : S) : Type 0 w
   pub left : List ℕ
   pub items_are : items ≡ came ++ left
   pub no_mark : EndsBeforeMark came
-
--- what came of a stream: what was found of it, or that its mark was missed
-abbrev pub IsEndOf : {S : Type 0} → SourceView S → JobsValue S → Option (FoundValue S) → Type 0
-IsEndOf view jobs (Some found) = Finishes view jobs found
-IsEndOf view jobs None = MissesMark view jobs.reader
-
--- what came of each stream, in order
-abbrev pub AllEnd : {S : Type 0} → SourceView S → List (JobsValue S) → List (Option (FoundValue S))
-    → Type 0
-AllEnd view all ends = AllZip (IsEndOf view) all ends

@@ -1,2 +1,3 @@
 pub mod Jobs
 pub mod Faults
+pub mod internal

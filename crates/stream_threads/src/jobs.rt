@@ -115,7 +115,7 @@ pub(crate) struct HalfStarted<'a, R: Source + Drop, G: Gate + Drop> {
 
 impl<'a, R: Source + Drop, G: Gate + Drop> Model for HalfStarted<'a, R, G> {
     ghost use Rattle.rtrb.specs.Ring.{IsPair};
-    ghost use Rattle.stream_threads.specs.Jobs.{StartedValue};
+    ghost use Rattle.stream_threads.specs.internal.Workers.{StartedValue};
 
     ghost Value = { StartedValue R };
 
@@ -142,7 +142,7 @@ pub(crate) struct Started<'a, R: Source + Drop, G: Gate + Drop> {
 impl<'a, R: Source + Drop, G: Gate + Drop> Model for Started<'a, R, G> {
     ghost use Rattle.std.specs.Prelude.{◌≡◌};
     ghost use Rattle.rtrb.specs.Ring.{IsPair};
-    ghost use Rattle.stream_threads.specs.Jobs.{StartedValue};
+    ghost use Rattle.stream_threads.specs.internal.Workers.{StartedValue};
 
     ghost Value = { StartedValue R };
 

@@ -4,8 +4,9 @@ ghost use Rattle.std.specs.List.{AllByRecursion};
 ghost use Rattle.rtrb.specs.Ring.{received, IsPair};
 ghost use Rattle.stream_ring.specs.Items.{EndsBeforeMark, SendsAll};
 ghost use Rattle.runs.specs.Readings.{readers_view};
-ghost use Rattle.stream_threads.specs.Faults.{IsFaultWithin, IsFirstFault, IsRingBehind};
-ghost use Rattle.stream_threads.specs.Jobs.{AllEnd, AllFinish, CanBegin, Finishes, FoundValue, IsEndOf, JobsValue, JudgesAtPass, MissesMark};
+ghost use Rattle.stream_threads.specs.Faults.{IsFaultWithin, IsFirstFault};
+ghost use Rattle.stream_threads.specs.internal.Workers.{IsRingBehind, AllEnd, IsEndOf, JudgesAtPass};
+ghost use Rattle.stream_threads.specs.Jobs.{AllFinish, CanBegin, Finishes, FoundValue, JobsValue, MissesMark};
 
 use crate::jobs::{HalfStarted, Started, StreamJobs, ThreadFault};
 use crate::starting::{start_all_checking, start_all_reading};

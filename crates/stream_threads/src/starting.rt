@@ -1,7 +1,8 @@
 //! The threads' start: all that check, and then all that read.
 ghost use Rattle.std.specs.Prelude.{◌≡◌, ◌-◌, ◌<◌, ◌≤◌, [], IfErr, IfSome, OnOk, map, take, vec_capacity, vec_len};
 ghost use Rattle.std.specs.List.{AllByRecursion};
-ghost use Rattle.stream_threads.specs.Jobs.{CanBegin, started_with};
+ghost use Rattle.stream_threads.specs.Jobs.{CanBegin};
+ghost use Rattle.stream_threads.specs.internal.Workers.{started_with};
 
 use crate::jobs::{HalfStarted, Started, StreamJobs};
 use crate::tasks::{CheckTask, ReadTask, check};

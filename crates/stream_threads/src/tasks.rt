@@ -6,7 +6,7 @@ ghost use Rattle.rtrb.specs.Ring.{received, SameConsumer, SameProducer};
 ghost use Rattle.stream_check.specs.Checker.{IsReadyAt};
 ghost use Rattle.stream_ring.specs.Items.{EndsBeforeMark, SendsAll};
 ghost use Rattle.runs.specs.Readings.{readers_view};
-ghost use Rattle.stream_threads.specs.Jobs.{JudgesAtPass};
+ghost use Rattle.stream_threads.specs.internal.Workers.{JudgesAtPass};
 
 use clause_store::{Desk, Pass, Store};
 use lrup_text::Source;

@@ -132,7 +132,7 @@ fn call_late(map: &mut PlainMap, late: Late, fetch: u64)
 }
 
 impl ClauseMap for LateMap<'_> {
-    ghost use Rattle.stream_check_tests.specs.TellsLemmas.{tells_none, tells_append};
+    ghost use Rattle.stream_check_tests.specs.lemmas.TellsLemmas.{tells_none, tells_append};
 
     ghost place = { λ m. plain_place m.map 1 };
 

@@ -1,4 +1,4 @@
-use Rattle.checker_support.specs.OpenedLemmas.{ready_opened}
+use Rattle.checker_support.specs.lemmas.OpenedLemmas.{ready_opened}
 use Rattle.checker_support.proofs.opened.checker_under.Goals as goal
 
 -- the map was just opened

@@ -1,5 +1,5 @@
 use Rattle.std.proofs.Common.{◌++◌, ◌∷◌, [], ap, sym, ◌∙◌, add-one, take}
-use Rattle.lrup_model.specs.ClauseLemmas.{take-next}
+use Rattle.lrup_model.specs.lemmas.ClauseLemmas.{take-next}
 use Rattle.lrup_model.specs.Place.{clip_clause}
 use Rattle.checkpoint.proofs.carrying.spell.Goals as goal
 

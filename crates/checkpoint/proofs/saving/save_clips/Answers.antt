@@ -1,5 +1,5 @@
 use Rattle.std.proofs.lemmas.Bool.{iff_false}
-use Rattle.lrup_text.specs.WritingLemmas.{appends_nothing}
+use Rattle.lrup_text.specs.lemmas.WritingLemmas.{appends_nothing}
 use Rattle.checkpoint.specs.Live.{entries_of}
 use Rattle.checkpoint.specs.Printing.{formula_text}
 use Rattle.checkpoint.proofs.SaveLemmas.{few_clauses, checkpoint_of}

@@ -1,7 +1,7 @@
 use Rattle.std.proofs.Common.{◌++◌, ◌+◌, ◌*◌, ◌≤◌, drop, length, sym, ◌∙◌, arith}
 use Rattle.std.specs.Prelude.{codes}
 use Rattle.lrup_model.specs.Place.{clip_clause}
-use Rattle.lrup_text.specs.WritingLemmas.{at_err, breaks_next, puts_next, puts_all_next, puts_then}
+use Rattle.lrup_text.specs.lemmas.WritingLemmas.{at_err, breaks_next, puts_next, puts_all_next, puts_then}
 use Rattle.checkpoint.proofs.PrintLemmas.{puts_as, literals_text, literals_split, literals_all, pair_alone, pair_both, pair_split}
 use Rattle.checkpoint.proofs.text.put_clause.Goals as goal
 use Rattle.checkpoint.proofs.text.put_clause.Goals.{in-Some+in_ok-put_literal-2, in_default}

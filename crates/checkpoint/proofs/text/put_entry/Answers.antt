@@ -1,4 +1,4 @@
-use Rattle.lrup_text.specs.WritingLemmas.{at_err, breaks_as, breaks_more, puts_all_next}
+use Rattle.lrup_text.specs.lemmas.WritingLemmas.{at_err, breaks_as, breaks_more, puts_all_next}
 use Rattle.std.proofs.Common.{◌++◌, ap, sym}
 use Rattle.lrup_model.specs.Place.{clip_clause}
 use Rattle.checkpoint.specs.Printing.{clause_line, note}

@@ -1,6 +1,6 @@
 use Rattle.std.specs.Prelude.{codes}
 use Rattle.std.specs.Fmt.{decimal}
-use Rattle.lrup_text.specs.WritingLemmas.{at_err, breaks_more, breaks_then, puts_then, puts_all_next}
+use Rattle.lrup_text.specs.lemmas.WritingLemmas.{at_err, breaks_more, breaks_then, puts_then, puts_all_next}
 use Rattle.std.proofs.Common.{refl}
 use Rattle.checkpoint.proofs.text.put_header.Goals as goal
 

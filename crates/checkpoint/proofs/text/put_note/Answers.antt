@@ -1,6 +1,6 @@
 use Rattle.std.specs.Prelude.{codes}
 use Rattle.std.specs.Fmt.{decimal}
-use Rattle.lrup_text.specs.WritingLemmas.{at_err, breaks_as, breaks_more, breaks_then, puts_nothing, puts_then, puts_all_next}
+use Rattle.lrup_text.specs.lemmas.WritingLemmas.{at_err, breaks_as, breaks_more, breaks_then, puts_nothing, puts_then, puts_all_next}
 use Rattle.checkpoint.proofs.PrintLemmas.{note_none, note_some, puts_as}
 use Rattle.checkpoint.proofs.text.put_note.Goals as goal
 

@@ -1,5 +1,5 @@
 use Rattle.std.proofs.Common.{◌++◌, ◌+◌, sym, ap, ◌∙◌}
-use Rattle.lrup_text.specs.WritingLemmas.{at_err, breaks_first, breaks_from_empty, breaks_next, puts_next, writes_all_next}
+use Rattle.lrup_text.specs.lemmas.WritingLemmas.{at_err, breaks_first, breaks_from_empty, breaks_next, puts_next, writes_all_next}
 use Rattle.checkpoint.specs.Live.{entry_of}
 use Rattle.checkpoint.specs.Printing.{entry_text}
 use Rattle.checkpoint.proofs.PrintLemmas.{header_first, header_entries, entries_next, entries_split, entries_all, later_entries, puts_as}

@@ -1,4 +1,4 @@
-use Rattle.lrup_model.specs.PassLemmas.{met_keep}
+use Rattle.lrup_model.specs.lemmas.PassLemmas.{met_keep}
 use Rattle.clause_store.proofs.laws.meeting_keeps.Goals as goal
 
 pub returns : goal.returns

@@ -1,4 +1,4 @@
-use Rattle.lrup_model.specs.PassLemmas as passes
+use Rattle.lrup_model.specs.lemmas.PassLemmas as passes
 use Rattle.clause_store.proofs.laws.meets_twice.Goals as goal
 
 pub returns : goal.returns

@@ -4,8 +4,8 @@ use Rattle.portfolio.specs.Outcomes.{layout_of, terms_of}
 use Rattle.command_line.specs.CommandLine.{IsCommandLineOf}
 use Rattle.command.specs.Commands.{FilesView, HasNoFault, IsCause, IsFormulaAt, IsLeftUnused, IsStartCause, Text, WasReadIn, checkpoint_at}
 use Rattle.command.specs.Commands.{created_at, created_path, files_view, from_first}
-use Rattle.command.specs.Running.{IsLayoutCause}
-use Rattle.command.specs.Saving.{IsNotCreated}
+use Rattle.command.specs.internal.Running.{IsLayoutCause}
+use Rattle.command.specs.internal.Saving.{IsNotCreated}
 use Rattle.command.specs.declared.fault.CommandFault.{CommandFault}
 use Rattle.command.proofs.CheckingLemmas.{begun_cause, create_start, err_given, is_outcome, layout_start, run_start, some_given}
 use Rattle.command.proofs.SavingLemmas.{leaves_behind, left_unused}

@@ -1,6 +1,6 @@
 use Rattle.std.proofs.Common.{◌∙◌, ◌≡◌, [], false, inl, inr, refl, sym, subst, arith}
 use Rattle.std.specs.List.{AllByRecursion}
-use Rattle.lrup_model.specs.ListLemmas.{All-push}
+use Rattle.lrup_model.specs.lemmas.ListLemmas.{All-push}
 use Rattle.clap.specs.Walk.{texts}
 use Rattle.command.specs.Commands.{IsOpenCause, deeds}
 use Rattle.command.specs.declared.fault.CommandFault.{CommandFault}

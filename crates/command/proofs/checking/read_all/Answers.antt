@@ -1,10 +1,11 @@
 use Rattle.std.proofs.Common.{arith, ◌≡◌, ℕ, List, None, rules, subst, sym, true}
 use Rattle.std.specs.Io.KnownBytes.{Consumes}
 use Rattle.std.proofs.lemmas.List.{length-take-le}
-use Rattle.lrup_text.specs.ReadLemmas.{gave_more}
+use Rattle.lrup_text.specs.lemmas.ReadLemmas.{gave_more}
 use Rattle.lrup_text.specs.ReadOut.{SourceView}
 use Rattle.lrup_text.specs.Reads.{Gave}
-use Rattle.command.specs.Commands.{HasBrokenOff, IsFailedRead}
+use Rattle.command.specs.Commands.{HasBrokenOff}
+use Rattle.command.specs.internal.Running.{IsFailedRead}
 use Rattle.runs.specs.Readings.{readers_view}
 use Rattle.command.specs.declared.fault.CommandFault.{CommandFault}
 use Rattle.command.specs.declared.fault.CommandFault.TheVariants as faults

@@ -1,5 +1,5 @@
 use Rattle.std.proofs.Common.{refl}
-use Rattle.lrup_text.specs.WritingLemmas.{at_err, breaks_more, breaks_then, puts_then, puts_all_next}
+use Rattle.lrup_text.specs.lemmas.WritingLemmas.{at_err, breaks_more, breaks_then, puts_then, puts_all_next}
 use Rattle.stream_check.specs.Faults.{number_text}
 use Rattle.command.proofs.fault.put_cause.Goals as goal
 

@@ -1,6 +1,7 @@
 use Rattle.std.specs.Prelude.{codes}
-use Rattle.lrup_text.specs.WritingLemmas.{at_err, breaks_more, breaks_then, puts_then, writes_from_empty}
-use Rattle.command.specs.Faults.{cause_bytes, of_round}
+use Rattle.lrup_text.specs.lemmas.WritingLemmas.{at_err, breaks_more, breaks_then, puts_then, writes_from_empty}
+use Rattle.command.specs.internal.FaultSources.{cause_bytes}
+use Rattle.command.specs.Faults.{of_round}
 use Rattle.command.proofs.WritingLemmas.{starts_empty}
 use Rattle.command.proofs.fault.write_line.Goals as goal
 

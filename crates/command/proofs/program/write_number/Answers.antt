@@ -1,6 +1,6 @@
 use Rattle.std.specs.Fmt.{decimal}
 use Rattle.std.specs.Prelude.{codes}
-use Rattle.lrup_text.specs.WritingLemmas.{at_err, breaks_more, breaks_then, puts_then, writes_from_empty}
+use Rattle.lrup_text.specs.lemmas.WritingLemmas.{at_err, breaks_more, breaks_then, puts_then, writes_from_empty}
 use Rattle.command.proofs.WritingLemmas.{starts_empty}
 use Rattle.command.proofs.program.write_number.Goals as goal
 

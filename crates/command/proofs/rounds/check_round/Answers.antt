@@ -3,9 +3,9 @@ use Rattle.command.specs.Commands.{Text, deeds}
 use Rattle.runs.specs.Readings.{readers_view}
 use Rattle.command.specs.Paths.{formula_path}
 use Rattle.command.specs.Rounds.{CarriesCheckpoint, HaveEnded, terms_by}
-use Rattle.command.specs.Running.{StandsBehind}
-use Rattle.command.specs.Saving.{CreatesCheckpoint}
-use Rattle.command.specs.Standing.{plan_of}
+use Rattle.command.specs.internal.Running.{StandsBehind}
+use Rattle.command.specs.internal.Saving.{CreatesCheckpoint}
+use Rattle.command.specs.internal.Standing.{plan_of}
 use Rattle.portfolio.specs.declared.outcome.Verdict.TheVariants.{Unknown}
 use Rattle.command.proofs.CheckingLemmas.{some_given}
 use Rattle.command.proofs.SavingLemmas.{leaves_behind, stands_moved}

@@ -1,6 +1,5 @@
 use Rattle.std.proofs.Common.{length, subst, sym, true}
-use Rattle.command.specs.Commands.{terms_on}
-use Rattle.command.specs.Running.{IsRunCause}
+use Rattle.command.specs.internal.Running.{terms_on, IsRunCause}
 use Rattle.command.proofs.CheckingLemmas.{err_given, has_layout, run_cause}
 use Rattle.command.proofs.running.run_by_turns.Goals as goal
 

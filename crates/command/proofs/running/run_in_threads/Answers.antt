@@ -3,8 +3,7 @@ use Rattle.clause_store.specs.Passes.{views}
 use Rattle.lrup_model.specs.Event.{History}
 use Rattle.lrup_model.specs.Layout.{LayoutValue}
 use Rattle.runs.specs.Headline.{HaveOneHistory, seen_by}
-use Rattle.command.specs.Commands.{terms_on}
-use Rattle.command.specs.Running.{IsRunCause}
+use Rattle.command.specs.internal.Running.{terms_on, IsRunCause}
 use Rattle.command.proofs.CheckingLemmas.{err_given, has_layout, run_cause}
 use Rattle.command.proofs.running.run_in_threads.Goals as goal
 

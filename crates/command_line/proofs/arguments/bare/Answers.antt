@@ -1,7 +1,7 @@
 use Rattle.std.proofs.Common.{◌≡◌, ◌∙◌, ap, true}
 use Rattle.clap.specs.Words.{App, app_of}
 use Rattle.clap.specs.Simple.{Shape, app_of_fields, on_top}
-use Rattle.command_line.specs.Matches.{without_arguments}
+use Rattle.command_line.specs.internal.Matches.{without_arguments}
 use Rattle.command_line.proofs.arguments.bare.Goals as goal
 
 -- a command whose words don't begin with the program's name

@@ -1,5 +1,5 @@
 use Rattle.std.proofs.Common.{◌≡◌, ◌∙◌, ◌∷◌, ◌++◌, List, ℕ, None, Some, ap, false, sym, subst, true}
-use Rattle.command_line.specs.Sizes.{BeginsAsNumber}
+use Rattle.command_line.specs.internal.Numbers.{BeginsAsNumber}
 use Rattle.command_line.proofs.SizesLemmas.{decimal_begins, decimal_read, number_read, number_splits, splits}
 use Rattle.command_line.proofs.sizes.number_before.Goals as goal
 

@@ -1,5 +1,5 @@
 use Rattle.std.proofs.Common.{length}
-use Rattle.dimacs.specs.Places.{tokens_at}
+use Rattle.dimacs.specs.internal.Places.{tokens_at}
 use Rattle.dimacs.proofs.BuildLemmas.{Reads}
 use Rattle.dimacs.proofs.body.read_clauses.Given as goal
 

@@ -1,6 +1,6 @@
 use Rattle.std.proofs.Common.{List, ℕ, ap, sym, ◌∙◌}
 use Rattle.dimacs.specs.Lines.{runs}
-use Rattle.dimacs.specs.Places.{first_run, after_run, with_run}
+use Rattle.dimacs.specs.internal.Places.{first_run, after_run, with_run}
 use Rattle.dimacs.proofs.HeaderLemmas.{runs-at_token, first_run-run}
 use Rattle.dimacs.proofs.header.next_run.Goals as goal
 

@@ -1,6 +1,6 @@
 use Rattle.std.proofs.Common.{◌≡◌, ◌++◌, List, ℕ, [], take, drop, ap, sym, ◌∙◌, arith}
 use Rattle.std.proofs.lemmas.List.{append-nil}
-use Rattle.dimacs.specs.Places.{first_run, after_run}
+use Rattle.dimacs.specs.internal.Places.{first_run, after_run}
 use Rattle.dimacs.proofs.HeaderLemmas.{run_more, left_more, ended_within, ended_past}
 use Rattle.dimacs.proofs.header.split_run.Goals as goal
 use Rattle.dimacs.proofs.header.split_run.Goals.{then-loop-end-test+else-not-is_separator, else-loop-end-test}

@@ -1,5 +1,5 @@
 use Rattle.std.proofs.Common.{take}
-use Rattle.dimacs.specs.Marks.{MarksAre}
+use Rattle.dimacs.specs.internal.Marks.{MarksAre}
 use Rattle.dimacs.proofs.marks.mark_all.Given as goal
 
 abbrev pub invariant-loop-l : goal.invariant-loop-l

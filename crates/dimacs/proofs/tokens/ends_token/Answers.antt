@@ -1,5 +1,5 @@
 use Rattle.std.proofs.Common.{◌∙◌, ap, sym, refl}
-use Rattle.dimacs.specs.Places.{first_run}
+use Rattle.dimacs.specs.internal.Places.{first_run}
 use Rattle.dimacs.proofs.LineLemmas.{ends_from_run, first_run-ended, first_run-nil}
 use Rattle.std.proofs.lemmas.List.{nil_from_length}
 use Rattle.dimacs.proofs.tokens.ends_token.Goals as goal

@@ -1,6 +1,6 @@
 use Rattle.std.proofs.Common.{◌≡◌, ℕ, List, [], refl, sym, ap, ◌∙◌, inl, inr, arith}
 use Rattle.dimacs.specs.Numerals.{is_numeral, all_digits}
-use Rattle.dimacs.specs.Places.{first_run, after_run}
+use Rattle.dimacs.specs.internal.Places.{first_run, after_run}
 use Rattle.dimacs.proofs.NumeralLemmas.{numeral_none, numeral_broken, numeral_stops, numeral_read, numeral_large, ended_at_separator}
 use Rattle.dimacs.proofs.NumeralLemmas.{ended_at_end, digits_more, value_more, after_run_more, is_numeral-begun}
 use Rattle.dimacs.proofs.tokens.numeral.Goals as goal

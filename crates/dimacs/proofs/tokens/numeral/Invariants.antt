@@ -1,6 +1,6 @@
 use Rattle.std.proofs.Common.{◌≡◌, ◌<◌, length}
 use Rattle.dimacs.specs.Numerals.{all_digits, value_after}
-use Rattle.dimacs.specs.Places.{first_run, after_run}
+use Rattle.dimacs.specs.internal.Places.{first_run, after_run}
 use Rattle.dimacs.proofs.tokens.numeral.Given as goal
 
 abbrev pub invariant-loop-byte : goal.invariant-loop-byte

@@ -1,6 +1,6 @@
 use Rattle.std.proofs.Common.{◌≡◌, ℕ, List, [], refl, sym, ap, ◌∙◌}
 use Rattle.dimacs.specs.Numerals.{all_digits}
-use Rattle.dimacs.specs.Places.{first_run, after_run}
+use Rattle.dimacs.specs.internal.Places.{first_run, after_run}
 use Rattle.dimacs.proofs.NumeralLemmas.{ended_at_separator, ended_at_end, digits_more, digits_broken, after_run_more}
 use Rattle.dimacs.proofs.tokens.skip_digits.Goals as goal
 use Rattle.dimacs.proofs.tokens.skip_digits.Goals.{in-Some+then-is_separator, in_default}

@@ -1,6 +1,6 @@
 use Rattle.std.proofs.Common.{◌≡◌, length}
 use Rattle.dimacs.specs.Numerals.{all_digits}
-use Rattle.dimacs.specs.Places.{first_run, after_run}
+use Rattle.dimacs.specs.internal.Places.{first_run, after_run}
 use Rattle.dimacs.proofs.tokens.skip_digits.Given as goal
 
 abbrev pub invariant-loop-byte : goal.invariant-loop-byte

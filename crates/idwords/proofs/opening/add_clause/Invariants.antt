@@ -1,5 +1,5 @@
 use Rattle.std.proofs.Common.{◌≡◌, ◌++◌, length}
-use Rattle.idwords.specs.Words.{packed}
+use Rattle.idwords.specs.internal.RowWords.{packed}
 use Rattle.idwords.proofs.opening.add_clause.Given as goal
 
 abbrev pub invariant-pairs : goal.invariant-pairs

@@ -1,6 +1,6 @@
 use Rattle.std.proofs.Common.{◌≡◌, ◌<◌, [], length, get_or, ◌∙◌, arith}
 use Rattle.lrup_model.specs.Clause.{Clause}
-use Rattle.lrup_model.specs.HistoryLemmas.{clause_at-suc}
+use Rattle.lrup_model.specs.lemmas.HistoryLemmas.{clause_at-suc}
 use Rattle.idwords.proofs.OpeningLemmas.{words_in-take, clause_words_more, words_more}
 use Rattle.idwords.proofs.opening.add_clauses.Goals as goal
 

@@ -1,5 +1,5 @@
 use Rattle.std.proofs.Common.{◌≡◌, ◌+◌, ◌++◌, take}
-use Rattle.idwords.specs.Opening.{clause_words}
+use Rattle.idwords.specs.internal.Opening.{clause_words}
 use Rattle.idwords.proofs.OpeningLemmas.{words_in}
 use Rattle.idwords.proofs.opening.add_clauses.Given as goal
 

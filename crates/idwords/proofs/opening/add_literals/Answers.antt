@@ -1,5 +1,5 @@
 use Rattle.std.proofs.Common.{◌≡◌, ◌<◌, [], length, get_or, ◌∙◌, arith}
-use Rattle.lrup_model.specs.HistoryLemmas.{clause_at-suc}
+use Rattle.lrup_model.specs.lemmas.HistoryLemmas.{clause_at-suc}
 use Rattle.idwords.proofs.OpeningLemmas.{literal_words_more}
 use Rattle.idwords.proofs.opening.add_literals.Goals as goal
 

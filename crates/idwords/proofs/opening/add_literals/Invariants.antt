@@ -1,5 +1,5 @@
 use Rattle.std.proofs.Common.{◌≡◌, ◌++◌, take}
-use Rattle.idwords.specs.Opening.{literal_words}
+use Rattle.idwords.specs.internal.Opening.{literal_words}
 use Rattle.idwords.proofs.opening.add_literals.Given as goal
 
 abbrev pub invariant-loop-i : goal.invariant-loop-i

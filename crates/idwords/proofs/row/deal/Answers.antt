@@ -1,8 +1,8 @@
 use Rattle.std.proofs.Common.{◌≡◌, ◌<◌, ◌+◌, ℕ, List, [], Some, length, slice_get, sym, ap, ap₂, ◌∙◌, arith, below_more}
 use Rattle.atomic_table.specs.Seated.{TableId}
 use Rattle.atomic_table.specs.Table.{Me}
-use Rattle.idwords.specs.Rule.{Part, opening_part}
-use Rattle.idwords.specs.Seats.{SeatValue, first_part, first_only, others, seat_value, opening_seat}
+use Rattle.idwords.specs.Seats.{Part, opening_part, SeatValue, seat_value, opening_seat}
+use Rattle.idwords.specs.internal.Seating.{first_part, first_only, others}
 use Rattle.idwords.proofs.MeetLemmas.{splits_deal}
 use Rattle.idwords.proofs.OpeningLemmas.{parts_next, first_next, dealt, get_old, get_new}
 use Rattle.idwords.proofs.row.deal.Goals as goal

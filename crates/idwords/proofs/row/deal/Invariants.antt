@@ -1,7 +1,7 @@
 use Rattle.std.proofs.Common.{◌≡◌, ◌+◌, ◌-◌, ◌<◌, ◌≤◌, ℕ, [], Some, slice_get, vec_len}
 use Rattle.std.specs.Vec.{vec_capacity}
 use Rattle.idwords.specs.Spelling.{first_place}
-use Rattle.idwords.specs.Rule.{opening_parts}
+use Rattle.idwords.specs.internal.Rule.{opening_parts}
 use Rattle.idwords.specs.Seats.{opening_seat}
 use Rattle.idwords.proofs.row.deal.Given as goal
 

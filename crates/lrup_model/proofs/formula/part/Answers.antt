@@ -1,5 +1,5 @@
 use Rattle.std.proofs.Common.{arith, ◌≡◌, get_or}
-use Rattle.lrup_model.specs.Pieces.{pieces}
+use Rattle.lrup_model.specs.internal.Pieces.{pieces}
 use Rattle.lrup_model.proofs.PieceLemmas.{AreEnds-at, pieces-at}
 use Rattle.lrup_model.proofs.formula.part.Goals as goal
 

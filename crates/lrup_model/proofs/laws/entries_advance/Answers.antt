@@ -1,4 +1,4 @@
-use Rattle.lrup_model.specs.EntryLemmas.{run-advances}
+use Rattle.lrup_model.specs.lemmas.EntryLemmas.{run-advances}
 use Rattle.lrup_model.proofs.laws.entries_advance.Goals as goal
 
 pub returns : goal.returns

@@ -1,4 +1,4 @@
-use Rattle.lrup_model.specs.PassLemmas.{known_stays}
+use Rattle.lrup_model.specs.lemmas.PassLemmas.{known_stays}
 use Rattle.lrup_model.proofs.laws.known_stays.Goals as goal
 
 pub returns : goal.returns

@@ -1,4 +1,4 @@
-use Rattle.lrup_model.specs.PassLemmas.{moves_tells}
+use Rattle.lrup_model.specs.lemmas.PassLemmas.{moves_tells}
 use Rattle.lrup_model.proofs.laws.pass_tells.Goals as goal
 
 pub returns : goal.returns

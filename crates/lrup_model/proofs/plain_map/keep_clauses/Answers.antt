@@ -1,6 +1,6 @@
 use Rattle.std.proofs.Common.{arith, ◌≡◌, ◌<◌, [], length, get_or, take, ap, ◌∙◌}
-use Rattle.lrup_model.specs.PlainInside.{flat}
-use Rattle.lrup_model.specs.HistoryLemmas.{clause_at-suc}
+use Rattle.lrup_model.specs.internal.PlainInside.{flat}
+use Rattle.lrup_model.specs.lemmas.HistoryLemmas.{clause_at-suc}
 use Rattle.lrup_model.proofs.OpeningLemmas.{kept_more, kept_fits}
 use Rattle.lrup_model.proofs.plain_map.keep_clauses.Goals as goal
 

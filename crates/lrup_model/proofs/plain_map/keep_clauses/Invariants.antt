@@ -1,6 +1,6 @@
 use Rattle.std.proofs.Common.{◌≡◌, ◌++◌, ◌+◌, ◌≤◌, take, vec_len}
 use Rattle.std.specs.Vec.{vec_capacity}
-use Rattle.lrup_model.specs.PlainInside.{flat, entries_from}
+use Rattle.lrup_model.specs.internal.PlainInside.{flat, entries_from}
 use Rattle.lrup_model.proofs.plain_map.keep_clauses.Given as goal
 
 abbrev pub invariant-loop-i : goal.invariant-loop-i

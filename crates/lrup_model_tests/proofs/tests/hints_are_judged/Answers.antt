@@ -1,7 +1,7 @@
 use Rattle.std.proofs.Common.{◌≡◌, ℤ, pos, negsuc, neg_ℤ, nat_abs, [], ◌∷◌, refl, sym, ap, ◌∙◌, inl, inr, arith}
 use Rattle.lrup_model.specs.Propagation.{IsUnit}
 use Rattle.test_support.specs.Worked.{second, third, unit}
-use Rattle.test_support.specs.WorkedLemmas.{two_not_one, signs, unit_is_proper, first_is_unit, second_is_conflict, swapped}
+use Rattle.test_support.specs.lemmas.WorkedLemmas.{two_not_one, signs, unit_is_proper, first_is_unit, second_is_conflict, swapped}
 use Rattle.lrup_model_tests.proofs.tests.hints_are_judged.Goals as goal
 
 minus_two_not_minus_one : negsuc 1 ≡ negsuc 0 → ⊥

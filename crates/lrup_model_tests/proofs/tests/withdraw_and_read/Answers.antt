@@ -1,4 +1,4 @@
-use Rattle.lrup_model.specs.PassLemmas.{known_stays}
+use Rattle.lrup_model.specs.lemmas.PassLemmas.{known_stays}
 use Rattle.lrup_model_tests.proofs.tests.withdraw_and_read.Goals as goal
 
 pub literal-requires-clause-known : goal.literal-requires-clause-known

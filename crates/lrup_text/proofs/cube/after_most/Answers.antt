@@ -1,6 +1,6 @@
 use Rattle.std.proofs.Common.{true, sym, subst, ◌∙◌, arith}
 use Rattle.std.proofs.lemmas.Bool.{true≢false, eq-eqb}
-use Rattle.lrup_text.specs.Rests.{BeforeLiteral}
+use Rattle.lrup_text.specs.internal.Rests.{BeforeLiteral}
 use Rattle.lrup_text.proofs.CubeFaults.{misspelled, too_long}
 use Rattle.lrup_text.proofs.Steps.{Exceeds, body_blocks, body_exceeds_digit, body_exceeds_minus}
 use Rattle.lrup_text.proofs.cube.after_most.Goals as goal

@@ -4,9 +4,9 @@ use Rattle.std.proofs.lemmas.Int.{to_z-of_z, fits_signed_from_abs}
 use Rattle.std.proofs.lemmas.List.{nil_from_length}
 use Rattle.std.proofs.lemmas.Result.{err_from_is_err_and}
 use Rattle.lrup_text.specs.declared.cube.CubeFault.TheVariants.{Spelling}
-use Rattle.lrup_text.specs.CubeReading.{EndsAtSpot, ReadsLiteral, AreKept, AreNotKept}
+use Rattle.lrup_text.specs.internal.CubeReading.{EndsAtSpot, ReadsLiteral, AreKept, AreNotKept}
 use Rattle.lrup_text.specs.Cubes.{IsCubeLine, IsTextFault}
-use Rattle.lrup_text.specs.Rests.{BeforeLiteral}
+use Rattle.lrup_text.specs.internal.Rests.{BeforeLiteral}
 use Rattle.lrup_text.proofs.CubeFaults.{too_short, wrong_end}
 use Rattle.lrup_text.proofs.CubeReads.{literals_start, literals_next, literals_fault, text_read, kept_text, kept_fault, spelling_fault}
 use Rattle.lrup_text.proofs.cube.read_cube_literals.Goals as goal

@@ -1,5 +1,5 @@
 use Rattle.std.proofs.Common.{ℤ, List, MatchResult, length}
-use Rattle.lrup_text.specs.CubeReading.{AreKept, AreNotKept}
+use Rattle.lrup_text.specs.internal.CubeReading.{AreKept, AreNotKept}
 use Rattle.lrup_text.proofs.CubeReads.{LiteralsSoFar}
 use Rattle.lrup_text.proofs.cube.read_cube_literals.Given as goal
 

@@ -1,9 +1,9 @@
 use Rattle.std.proofs.Common.{ℕ, true, List, ◌∷◌, ◌++◌, ◌+◌, ◌*◌, ◌<◌, ◌∙◌, ap, sym, subst, arith}
 use Rattle.std.proofs.lemmas.List.{nil_from_length}
 use Rattle.lrup_text.specs.declared.cube.CubeFault.TheVariants.{Spelling, TooLong}
-use Rattle.lrup_text.specs.CubeReading.{IsRestFault}
+use Rattle.lrup_text.specs.internal.CubeReading.{IsRestFault}
 use Rattle.lrup_text.specs.Cubes.{IsCubeLine, IsTextFault}
-use Rattle.lrup_text.specs.Rests.{InLiteral}
+use Rattle.lrup_text.specs.internal.Rests.{InLiteral}
 use Rattle.lrup_text.proofs.CubeReads.{DigitsSoFar, digits_start, digits_next, next_fits, digits_read, digits_fault}
 use Rattle.lrup_text.proofs.CubeFaults.{misspelled, too_long, too_short}
 use Rattle.lrup_text.proofs.Steps.{literal_blocks, literal_exceeds}

@@ -1,7 +1,7 @@
 use Rattle.std.proofs.Common.{true, ◌∷◌, sym, subst, arith}
 use Rattle.std.proofs.lemmas.Result.{err_from_is_err_and}
-use Rattle.lrup_text.specs.CubeReading.{IsRestFault}
-use Rattle.lrup_text.specs.Rests.{BeforeLiteral, AfterMinus, InLiteral}
+use Rattle.lrup_text.specs.internal.CubeReading.{IsRestFault}
+use Rattle.lrup_text.specs.internal.Rests.{BeforeLiteral, AfterMinus, InLiteral}
 use Rattle.lrup_text.proofs.CubeFaults.{misspelled, rest_fault}
 use Rattle.lrup_text.proofs.Steps.{body_minus, body_digit, body_blocks}
 use Rattle.lrup_text.proofs.cube.read_literal.Goals as goal

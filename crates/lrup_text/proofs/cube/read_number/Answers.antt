@@ -2,9 +2,9 @@ use Rattle.std.proofs.Common.{ℕ, true, List, ◌++◌, sym, subst}
 use Rattle.std.proofs.lemmas.List.{nil_from_length}
 use Rattle.std.proofs.lemmas.Result.{IfErr-weaker}
 use Rattle.lrup_text.specs.declared.cube.CubeFault.TheVariants.{Spelling}
-use Rattle.lrup_text.specs.CubeReading.{IsRestFault}
+use Rattle.lrup_text.specs.internal.CubeReading.{IsRestFault}
 use Rattle.lrup_text.specs.Cubes.{IsCubeLine, IsTextFault}
-use Rattle.lrup_text.specs.Rests.{AfterMinus, InLiteral}
+use Rattle.lrup_text.specs.internal.Rests.{AfterMinus, InLiteral}
 use Rattle.lrup_text.proofs.CubeFaults.{misspelled, rest_fault, too_short}
 use Rattle.lrup_text.proofs.Steps.{minus_blocks, minus_digit}
 use Rattle.lrup_text.proofs.cube.read_number.Goals as goal

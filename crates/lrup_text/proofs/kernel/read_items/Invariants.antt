@@ -1,5 +1,5 @@
 use Rattle.std.proofs.Common.{◌-◌, length}
-use Rattle.lrup_text.specs.Kernel.{ReadsItems}
+use Rattle.lrup_text.specs.internal.Kernel.{ReadsItems}
 use Rattle.lrup_text.proofs.kernel.read_items.Given as goal
 
 abbrev pub invariant-loop-at : goal.invariant-loop-at

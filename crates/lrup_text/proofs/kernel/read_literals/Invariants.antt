@@ -1,5 +1,5 @@
 use Rattle.std.proofs.Common.{◌-◌, length}
-use Rattle.lrup_text.specs.Kernel.{ReadsLiterals}
+use Rattle.lrup_text.specs.internal.Kernel.{ReadsLiterals}
 use Rattle.lrup_text.proofs.kernel.read_literals.Given as goal
 
 abbrev pub invariant-loop-at : goal.invariant-loop-at

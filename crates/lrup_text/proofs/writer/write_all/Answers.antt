@@ -2,7 +2,7 @@ use Rattle.std.proofs.Common.{List, ℕ, ◌≡◌, ◌-◌, ◌++◌, length, t
 use Rattle.std.specs.Io.KnownBytes.{Appends}
 use Rattle.std.proofs.lemmas.List.{take-append-drop, length-drop, take_rest}
 use Rattle.std.proofs.Math.Seq.{take-add}
-use Rattle.lrup_text.specs.WritingLemmas.{appends_then, appends_keeps, at_err}
+use Rattle.lrup_text.specs.lemmas.WritingLemmas.{appends_then, appends_keeps, at_err}
 use Rattle.lrup_text.proofs.writer.write_all.Goals as goal
 
 pub returns-in_err-at-clause-text : goal.returns-in_err-at-clause-text

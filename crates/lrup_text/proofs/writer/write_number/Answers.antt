@@ -1,6 +1,6 @@
 use Rattle.std.proofs.Common.{◌/◌, ◌%◌, take, arith}
 use Rattle.std.specs.Fmt.{decimal}
-use Rattle.lrup_text.specs.Writing.{four_digits}
+use Rattle.lrup_text.specs.internal.FourDigits.{four_digits}
 use Rattle.lrup_text.proofs.Digits.{decimal_fours, fours_room, length-decimal_fours, written_more}
 use Rattle.lrup_text.proofs.writer.write_number.Goals as goal
 

@@ -1,7 +1,7 @@
 use Rattle.std.proofs.Common.{ap}
 use Rattle.std.specs.Prelude.{codes}
 use Rattle.stream_check.specs.Faults.{fault_text}
-use Rattle.lrup_text.specs.WritingLemmas.{at_err, breaks_as, breaks_more, breaks_then, puts_then, puts_all_next}
+use Rattle.lrup_text.specs.lemmas.WritingLemmas.{at_err, breaks_as, breaks_more, breaks_then, puts_then, puts_all_next}
 use Rattle.portfolio.specs.ReportText.{ending_text}
 use Rattle.portfolio.proofs.report_text.put_ending.Goals as goal
 

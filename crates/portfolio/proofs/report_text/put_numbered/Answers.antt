@@ -1,6 +1,6 @@
 use Rattle.std.proofs.Common.{refl}
 use Rattle.std.specs.Fmt.{decimal}
-use Rattle.lrup_text.specs.WritingLemmas.{at_err, breaks_more, puts_all_next}
+use Rattle.lrup_text.specs.lemmas.WritingLemmas.{at_err, breaks_more, puts_all_next}
 use Rattle.portfolio.proofs.report_text.put_numbered.Goals as goal
 
 pub returns-in_err-put-clause-puts : goal.returns-in_err-put-clause-puts

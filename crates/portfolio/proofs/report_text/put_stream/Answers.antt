@@ -1,5 +1,5 @@
 use Rattle.std.specs.Prelude.{codes}
-use Rattle.lrup_text.specs.WritingLemmas.{at_err, breaks_as, breaks_more, breaks_then, puts_then, puts_all_next}
+use Rattle.lrup_text.specs.lemmas.WritingLemmas.{at_err, breaks_as, breaks_more, breaks_then, puts_then, puts_all_next}
 use Rattle.portfolio.specs.ReportText.{ending_text}
 use Rattle.portfolio.proofs.ReportLines.{added_part, deleted_part, line_after-parts}
 use Rattle.portfolio.proofs.report_text.put_stream.Goals as goal

@@ -1,7 +1,8 @@
 use Rattle.std.proofs.Common.{◌++◌}
 use Rattle.std.specs.Prelude.{codes}
 use Rattle.std.specs.Fmt.{decimal}
-use Rattle.lrup_text.specs.WritingLemmas.{breaks_as, breaks_from_empty, breaks_more, breaks_then, puts_next, puts_then, writes_from_empty}
+use Rattle.lrup_text.specs.lemmas.WritingLemmas.{breaks_as, breaks_from_empty, breaks_more, breaks_then, puts_next, puts_then}
+use Rattle.lrup_text.specs.lemmas.WritingLemmas.{writes_from_empty}
 use Rattle.portfolio.proofs.ReportLines.{numbers-parts}
 use Rattle.portfolio.proofs.report_text.write_count.Goals as goal
 

@@ -1,4 +1,4 @@
-use Rattle.lrup_text.specs.WritingLemmas.{writes_from_empty}
+use Rattle.lrup_text.specs.lemmas.WritingLemmas.{writes_from_empty}
 use Rattle.portfolio.proofs.report_text.write_over.Goals as goal
 
 pub returns-clause-text : goal.returns-clause-text

@@ -1,5 +1,5 @@
 use Rattle.std.proofs.Common.{◌++◌, take, ap, ◌∙◌, sym}
-use Rattle.lrup_text.specs.WritingLemmas.{at_err, breaks_as, breaks_next, breaks_then, puts_next, writes_all_next}
+use Rattle.lrup_text.specs.lemmas.WritingLemmas.{at_err, breaks_as, breaks_next, breaks_then, puts_next, writes_all_next}
 use Rattle.portfolio.specs.ReportText.{stream_lines, verdict_line}
 use Rattle.portfolio.proofs.ReportLines.{lines_all, lines_more, lines_split}
 use Rattle.portfolio.proofs.report_text.write_report.Goals as goal

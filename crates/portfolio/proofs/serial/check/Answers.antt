@@ -1,8 +1,8 @@
 use Rattle.std.proofs.Common.{◌∙◌, List, length, map, drop, sym, ap, subst}
 use Rattle.lrup_model.specs.Plain.{Plain}
 use Rattle.runs.specs.Readings.{readers_view}
-use Rattle.portfolio.specs.Turns.{AreOver, GoesOn, HaveReports, IsRunning}
-use Rattle.portfolio.specs.Working.{WorkerValue}
+use Rattle.portfolio.specs.internal.Turns.{AreOver, GoesOn, HaveReports, IsRunning}
+use Rattle.portfolio.specs.internal.Working.{WorkerValue}
 use Rattle.portfolio.proofs.TurnsLemmas.{written_back}
 use Rattle.portfolio.proofs.serial.check.Goals as goal
 

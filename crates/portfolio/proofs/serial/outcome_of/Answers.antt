@@ -1,12 +1,12 @@
 use Rattle.std.proofs.Common.{◌≡◌, ◌∷◌, ◌∙◌, List, map, ap, subst, arith}
 use Rattle.std.specs.Vec.Iter.{into_iter_items}
-use Rattle.lrup_model.specs.ListLemmas.{whole_end}
+use Rattle.lrup_model.specs.lemmas.ListLemmas.{whole_end}
 use Rattle.stream_check.specs.DroppedValue.{DroppedValue}
 use Rattle.stream_check.specs.declared.report.Report.{Report}
 use Rattle.runs.specs.Readings.{readers_view}
 use Rattle.portfolio.specs.Outcomes.{verdict_of}
-use Rattle.portfolio.specs.Turns.{AreOver, HaveReports}
-use Rattle.portfolio.specs.Working.{WorkerValue}
+use Rattle.portfolio.specs.internal.Turns.{AreOver, HaveReports}
+use Rattle.portfolio.specs.internal.Working.{WorkerValue}
 use Rattle.portfolio.proofs.JoiningLemmas.{pushed_both, pushed_more, whole_more}
 use Rattle.portfolio.proofs.TurnsLemmas.{reports_pushed}
 use Rattle.portfolio.proofs.serial.outcome_of.Goals as goal

@@ -1,6 +1,6 @@
 use Rattle.std.proofs.Common.{◌≡◌, ◌+◌, ◌++◌, map, vec_len, vec_capacity}
 use Rattle.std.specs.Vec.Iter.{into_iter_items, into_iter_len}
-use Rattle.portfolio.specs.Turns.{AreOver, HaveReports}
+use Rattle.portfolio.specs.internal.Turns.{AreOver, HaveReports}
 use Rattle.portfolio.proofs.serial.outcome_of.Given as goal
 
 abbrev pub invariant-loop-worker : goal.invariant-loop-worker

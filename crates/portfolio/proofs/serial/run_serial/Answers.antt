@@ -4,8 +4,8 @@ use Rattle.lrup_model.specs.Layout.{Fits, LayoutValue}
 use Rattle.runs.specs.Readings.{readers_view}
 use Rattle.runs.specs.Streams.{TermsValue}
 use Rattle.portfolio.specs.Outcomes.{terms_of}
-use Rattle.portfolio.specs.ResultLemmas.{if_both}
-use Rattle.portfolio.specs.Turns.{Runs}
+use Rattle.portfolio.specs.lemmas.ResultLemmas.{if_both}
+use Rattle.portfolio.specs.internal.Turns.{Runs}
 use Rattle.portfolio.proofs.CubeLemmas.{sound_under_run}
 use Rattle.portfolio.proofs.HeadlineLemmas.{is_memory, none_of_layout, not_layout, not_ring, not_spawn, sound_run, terms_made}
 use Rattle.portfolio.proofs.TurnsLemmas.{run_ordered}

@@ -1,6 +1,6 @@
 use Rattle.std.proofs.Common.{◌≡◌, ◌+◌, ℕ, length, refl, subst, arith}
 use Rattle.runs.specs.Readings.{readers_view}
-use Rattle.portfolio.specs.Turns.{Runs}
+use Rattle.portfolio.specs.internal.Turns.{Runs}
 use Rattle.portfolio.proofs.TurnsLemmas.{goes_twice, over_each, over_more, runs_round, running_on}
 use Rattle.portfolio.proofs.serial.take_round.Goals as goal
 

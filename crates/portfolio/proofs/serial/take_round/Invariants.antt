@@ -1,6 +1,6 @@
 use Rattle.std.proofs.Common.{◌≡◌, ◌<◌, ℕ, false}
 use Rattle.runs.specs.Readings.{readers_view}
-use Rattle.portfolio.specs.Turns.{GoesOn, IsOverAt}
+use Rattle.portfolio.specs.internal.Turns.{GoesOn, IsOverAt}
 use Rattle.portfolio.proofs.serial.take_round.Given as goal
 
 abbrev pub invariant-loop-i : goal.invariant-loop-i

@@ -1,5 +1,5 @@
 use Rattle.runs.specs.Readings.{readers_view}
-use Rattle.portfolio.specs.Turns.{GoesOn}
+use Rattle.portfolio.specs.internal.Turns.{GoesOn}
 use Rattle.portfolio.proofs.serial.take_turns.Given as goal
 
 abbrev pub invariant-loop : goal.invariant-loop

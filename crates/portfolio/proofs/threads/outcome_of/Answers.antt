@@ -1,7 +1,7 @@
 use Rattle.std.proofs.Common.{◌≡◌, ◌∙◌, List, length, map, drop, sym, ap, subst, arith}
 use Rattle.std.specs.Vec.Iter.{into_iter_items}
 use Rattle.lrup_model.specs.Pass.{AreMet}
-use Rattle.lrup_model.specs.ListLemmas.{whole_end}
+use Rattle.lrup_model.specs.lemmas.ListLemmas.{whole_end}
 use Rattle.clause_store.specs.Passes.{HaveMet, PassValue, views}
 use Rattle.stream_threads.specs.Jobs.{FoundValue}
 use Rattle.portfolio.proofs.JoiningLemmas.{pushed_more, whole_more}

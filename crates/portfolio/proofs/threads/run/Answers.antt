@@ -5,8 +5,8 @@ use Rattle.lrup_model.specs.Layout.{Fits, IsLayout, LayoutValue}
 use Rattle.runs.specs.Readings.{readers_view}
 use Rattle.runs.specs.Streams.{TermsValue}
 use Rattle.portfolio.specs.Outcomes.{terms_of}
-use Rattle.portfolio.specs.ResultLemmas.{if_both}
-use Rattle.portfolio.specs.Threads.{IsBegun}
+use Rattle.portfolio.specs.lemmas.ResultLemmas.{if_both}
+use Rattle.portfolio.specs.internal.Threads.{IsBegun}
 use Rattle.portfolio.proofs.CubeLemmas.{sound_under_run}
 use Rattle.portfolio.proofs.HeadlineLemmas.{can_begin, no_fault, sound_run, stream_within}
 use Rattle.portfolio.proofs.HeadlineLemmas.{is_memory, none_of_layout, not_layout, terms_made}

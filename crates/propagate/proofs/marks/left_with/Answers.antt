@@ -1,6 +1,6 @@
 use Rattle.std.proofs.Common.{[], ◌∷◌, inl, inr, subst}
 use Rattle.std.proofs.lemmas.Bool.{iff_false}
-use Rattle.propagate.specs.Left.{IsLeft}
+use Rattle.propagate.specs.internal.Left.{IsLeft}
 use Rattle.propagate.proofs.LeftLemmas.{IsLeft-false, IsLeft-true, IsLeft-one, IsLeft-two, IsLeft-more}
 use Rattle.propagate.proofs.marks.left_with.Goals as goal
 

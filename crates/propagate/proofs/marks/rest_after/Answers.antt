@@ -1,6 +1,6 @@
 use Rattle.std.proofs.Common.{◌+◌, ◌*◌, ◌∙◌}
 use Rattle.lrup_model.specs.Place.{clip_clause}
-use Rattle.lrup_model.specs.PassLemmas.{known_follows}
+use Rattle.lrup_model.specs.lemmas.PassLemmas.{known_follows}
 use Rattle.propagate.specs.declared.marks.Left.TheVariants.{One}
 use Rattle.propagate.proofs.MarkLemmas.{IsLiteral-known}
 use Rattle.propagate.proofs.LeftLemmas.{IsLeft-pair, IsLeft-open_pair}

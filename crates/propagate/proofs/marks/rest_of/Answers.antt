@@ -1,8 +1,8 @@
 use Rattle.std.proofs.Common.{◌+◌, ◌*◌, ◌∙◌, take, subst, sym}
 use Rattle.lrup_model.specs.Place.{clip_clause}
-use Rattle.lrup_model.specs.PassLemmas.{known_follows}
+use Rattle.lrup_model.specs.lemmas.PassLemmas.{known_follows}
 use Rattle.lrup_model.specs.Propagation.{IsUnit}
-use Rattle.propagate.specs.Left.{IsLeft}
+use Rattle.propagate.specs.internal.Left.{IsLeft}
 use Rattle.propagate.specs.declared.marks.Left.TheVariants.{Nothing}
 use Rattle.propagate.proofs.MarkLemmas.{IsLiteral-known}
 use Rattle.propagate.proofs.LeftLemmas.{IsLeft-pair, IsLeft-whole}

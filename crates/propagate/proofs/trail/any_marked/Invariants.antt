@@ -1,6 +1,6 @@
 use Rattle.std.proofs.Common.{ℤ, take}
 use Rattle.lrup_model.specs.Clause.{Has}
-use Rattle.propagate.specs.Trail.{IsMarked}
+use Rattle.propagate.specs.internal.Trail.{IsMarked}
 use Rattle.propagate.proofs.trail.any_marked.Given as goal
 
 abbrev pub invariant-loop-lit : goal.invariant-loop-lit

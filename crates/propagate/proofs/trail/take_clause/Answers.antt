@@ -1,5 +1,5 @@
 use Rattle.lrup_model.specs.Place.{clip_clause}
-use Rattle.lrup_model.specs.PassLemmas.{known_follows}
+use Rattle.lrup_model.specs.lemmas.PassLemmas.{known_follows}
 use Rattle.propagate.proofs.trail.take_clause.Goals as goal
 
 pub returns-then-not-take_pair-clause-no : goal.returns-then-not-take_pair-clause-no

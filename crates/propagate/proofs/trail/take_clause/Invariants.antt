@@ -1,6 +1,6 @@
 use Rattle.std.proofs.Common.{◌≡◌, ◌*◌, take, []}
 use Rattle.lrup_model.specs.Place.{clip_clause}
-use Rattle.propagate.specs.Trail.{AreTaken}
+use Rattle.propagate.specs.internal.Trail.{AreTaken}
 use Rattle.propagate.proofs.trail.take_clause.Given as goal
 
 abbrev pub invariant-loop-i : goal.invariant-loop-i

@@ -1,7 +1,7 @@
 use Rattle.std.proofs.Common.{[], ◌∷◌, refl, arith}
 use Rattle.run_laws_tests.proofs.worked.repeats_are_left_out.Goals as goal
 use Rattle.test_support.specs.Worked.{unit}
-use Rattle.test_support.specs.WorkedLemmas.{unit_is_proper}
+use Rattle.test_support.specs.lemmas.WorkedLemmas.{unit_is_proper}
 
 pub returns-clause-room : goal.returns-clause-room
 returns-clause-room c = record {

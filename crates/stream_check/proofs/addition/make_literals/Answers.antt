@@ -4,8 +4,8 @@ use Rattle.std.specs.List.{AllByRecursion}
 use Rattle.std.proofs.lemmas.Int.{to_z-of_z}
 use mir.Val.{SFits}
 use Rattle.lrup_model.specs.Literal.{IsLiteral, max_variable}
-use Rattle.lrup_model.specs.ClauseLemmas.{take-read}
-use Rattle.lrup_model.specs.ListLemmas.{All-push}
+use Rattle.lrup_model.specs.lemmas.ClauseLemmas.{take-read}
+use Rattle.lrup_model.specs.lemmas.ListLemmas.{All-push}
 use Rattle.std.proofs.lemmas.List.Elements.{All-from_recursion}
 use Rattle.stream_check.proofs.addition.make_literals.Goals as goal
 

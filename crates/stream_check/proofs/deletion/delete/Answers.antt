@@ -1,11 +1,12 @@
 use Rattle.std.proofs.Common.{◌≡◌, ◌∙◌, ◌+◌, ℕ, List, [], ◌∷◌, ◌++◌, length, take, drop, get_or, Ok, Err, sym, subst, arith, length-take}
 use Rattle.std.proofs.lemmas.List.{take_more, take_all}
 use Rattle.std.proofs.lemmas.Result.{err_from_is_err_and}
-use Rattle.lrup_model.specs.ListLemmas.{All-append}
+use Rattle.lrup_model.specs.lemmas.ListLemmas.{All-append}
 use Rattle.stream_check.specs.Setting.{Setting}
 use Rattle.stream_check.specs.declared.stream_state.StreamState.{StreamState}
-use Rattle.stream_check.specs.Checking.{IsRetire, DeletesOne, AreDropped}
-use Rattle.stream_check.specs.Checker.{KeepsLines}
+use Rattle.stream_check.specs.Deletions.{IsRetire}
+use Rattle.stream_check.specs.internal.Checking.{DeletesOne, AreDropped}
+use Rattle.stream_check.specs.internal.CheckerInside.{KeepsLines}
 use Rattle.stream_check.proofs.DeleteLemmas.{GoesOn, goes_on, among_ids, stopped_deletion, good_deletion, dropped_more}
 use Rattle.stream_check.proofs.deletion.delete.Goals as goal
 

@@ -3,9 +3,9 @@ use Rattle.std.specs.List.{AllByRecursion}
 use Rattle.lrup_model.specs.Event.{History}
 use Rattle.stream_check.specs.Standing.{is_among, capped}
 use Rattle.stream_check.specs.Verdicts.{LineVerdict}
-use Rattle.stream_check.specs.Deletions.{JudgesDeletion}
-use Rattle.stream_check.specs.Checking.{IsRetire, AreDropped}
-use Rattle.stream_check.specs.Checker.{KeepsLines, deleted_at}
+use Rattle.stream_check.specs.Deletions.{JudgesDeletion, IsRetire}
+use Rattle.stream_check.specs.internal.Checking.{AreDropped}
+use Rattle.stream_check.specs.internal.CheckerInside.{KeepsLines, deleted_at}
 use Rattle.stream_check.proofs.deletion.delete.Given as goal
 
 abbrev pub invariant-loop-id : goal.invariant-loop-id

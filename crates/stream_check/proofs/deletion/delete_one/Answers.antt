@@ -2,7 +2,7 @@ use Rattle.std.proofs.Common.{[], Err, refl, sym, subst}
 use Rattle.stream_check.specs.declared.setting.Side.{Side}
 use Rattle.stream_check.specs.declared.line_stop.LineStop.TheVariants as stops
 use Rattle.stream_check.specs.declared.fault.Fault.TheVariants as faults
-use Rattle.stream_check.specs.Checking.{DeletesSide}
+use Rattle.stream_check.specs.internal.Checking.{DeletesSide}
 use Rattle.stream_check.proofs.deletion.delete_one.Goals as goal
 
 pub returns-in-Outside-clause-deletes : goal.returns-in-Outside-clause-deletes

@@ -4,7 +4,7 @@ use Rattle.lrup_model.specs.Place.{clip_clause}
 use Rattle.propagate.specs.Marks.{Propagation}
 use Rattle.stream_check.specs.declared.fault.Fault.{Fault}
 use Rattle.stream_check.specs.Standing.{is_among}
-use Rattle.stream_check.specs.Checking.{Shows}
+use Rattle.stream_check.specs.internal.Checking.{Shows}
 use Rattle.stream_check.proofs.TryLemmas.{derived_before, variables_before, HasLed, goes_on, shows_unfound}
 use Rattle.stream_check.proofs.TryLemmas.{shows_not_unit, shows_none, shows_conflict}
 use Rattle.stream_check.proofs.hints.try_hints.Goals as goal

@@ -1,7 +1,7 @@
 use Rattle.std.proofs.Common.{◌≡◌, length, true}
 use Rattle.lrup_model.specs.Event.{History}
 use Rattle.stream_check.specs.Standing.{is_among}
-use Rattle.stream_check.specs.Checking.{KeepsClause}
+use Rattle.stream_check.specs.internal.Checking.{KeepsClause}
 use Rattle.stream_check.proofs.TryLemmas.{HasLed}
 use Rattle.stream_check.proofs.hints.try_hints.Given as goal
 

@@ -3,9 +3,9 @@ use Rattle.std.proofs.lemmas.Result.{err_from_is_err_and}
 use Rattle.lrup_model.specs.Distinct.{distinct}
 use Rattle.stream_check.specs.Standing.{is_within}
 use Rattle.stream_check.specs.Verdicts.{Bad}
-use Rattle.stream_check.specs.Checking.{IsFetch}
-use Rattle.stream_check.specs.Checker.{standing_at}
-use Rattle.stream_check.specs.EventLemmas.{addition_all}
+use Rattle.stream_check.specs.internal.Checking.{IsFetch}
+use Rattle.stream_check.specs.internal.CheckerInside.{standing_at}
+use Rattle.stream_check.specs.lemmas.EventLemmas.{addition_all}
 use Rattle.stream_check.proofs.LineLemmas.{Adds, ready_fetches, ready_publish, room_publish, takes_addition, stops_addition}
 use Rattle.stream_check.proofs.line.take_addition.Goals as goal
 

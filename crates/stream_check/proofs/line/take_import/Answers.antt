@@ -1,8 +1,8 @@
 use Rattle.std.proofs.lemmas.Result.{err_from_is_err_and}
 use Rattle.stream_check.specs.Verdicts.{Good, Bad}
-use Rattle.stream_check.specs.Checking.{IsFetch}
-use Rattle.stream_check.specs.Checker.{standing_at}
-use Rattle.stream_check.specs.EventLemmas.{import_all}
+use Rattle.stream_check.specs.internal.Checking.{IsFetch}
+use Rattle.stream_check.specs.internal.CheckerInside.{standing_at}
+use Rattle.stream_check.specs.lemmas.EventLemmas.{import_all}
 use Rattle.stream_check.proofs.AddLemmas.{room_stays}
 use Rattle.stream_check.proofs.LineLemmas.{Counts, ready_fetches, takes_import, stops_import, still_ready}
 use Rattle.stream_check.proofs.line.take_import.Goals as goal

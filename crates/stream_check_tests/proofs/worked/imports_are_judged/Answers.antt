@@ -4,7 +4,7 @@ use Rattle.stream_check.specs.Verdicts.{Good, Bad}
 use Rattle.stream_check.specs.declared.fault.Fault.TheVariants as faults
 use Rattle.stream_check_tests.specs.Worked.{six_vacant}
 use Rattle.stream_check_tests.proofs.WorkedLemmas.{first_is_compared}
-use Rattle.test_support.specs.WorkedLemmas.{same_first}
+use Rattle.test_support.specs.lemmas.WorkedLemmas.{same_first}
 use Rattle.stream_check_tests.proofs.worked.imports_are_judged.Goals as goal
 
 pub returns-clause-good : goal.returns-clause-good

@@ -2,7 +2,7 @@ use Rattle.std.proofs.Common.{◌++◌, ◌∙◌, ℕ, List, [], refl, sym, sub
 use Rattle.std.proofs.lemmas.List.{length-take-le}
 use Rattle.rtrb.specs.Ring.{received}
 use Rattle.stream_check.specs.Checker.{LeavesOn, checker_state}
-use Rattle.stream_check.specs.ReportLemmas.{joined-append, leaves_still}
+use Rattle.stream_check.specs.lemmas.ReportLemmas.{joined-append, leaves_still}
 use Rattle.stream_ring.specs.Items.{EndsBeforeMark, byte_of}
 use Rattle.stream_jobs.proofs.JudgingLemmas.{leaves_more, none_before}
 use Rattle.stream_jobs.proofs.checking.check_received.Goals as goal

@@ -1,7 +1,7 @@
 use Rattle.std.proofs.Common.{◌≡◌, ◌++◌, ◌∙◌, ℕ, List, [], refl, sym, ap, subst, arith, take, drop, length, append_assoc, append-nil}
 use Rattle.std.proofs.lemmas.List.{take-append-drop, length-drop, nil_from_length}
 use Rattle.stream_check.specs.Checker.{LeavesOn, checker_state}
-use Rattle.stream_check.specs.ReportLemmas.{joined-append, leaves_still}
+use Rattle.stream_check.specs.lemmas.ReportLemmas.{joined-append, leaves_still}
 use Rattle.stream_jobs.proofs.JudgingLemmas.{leaves_more, no_line, stopped_takes}
 use Rattle.stream_jobs.proofs.checking.take_all.Goals as goal
 

@@ -2,7 +2,7 @@ use Rattle.std.proofs.Common.{List, [], ℕ, Some, refl, sym, subst, append-nil}
 use Rattle.std.specs.Io.KnownBytes.{Consumes}
 use Rattle.lrup_text.specs.declared.device.StreamEnd.{StreamEnd}
 use Rattle.stream_check.specs.Judging.{JudgesBlocks}
-use Rattle.runs.specs.StreamLemmas.{judged_out}
+use Rattle.runs.specs.lemmas.StreamLemmas.{judged_out}
 use Rattle.stream_jobs.specs.Judged.{DropsBy}
 use Rattle.stream_jobs.proofs.pair.meet.Goals as goal
 

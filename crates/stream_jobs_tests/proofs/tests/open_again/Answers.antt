@@ -1,4 +1,4 @@
-use Rattle.checker_support.specs.OpenedLemmas.{ready_opened}
+use Rattle.checker_support.specs.lemmas.OpenedLemmas.{ready_opened}
 use Rattle.std.specs.Prelude.{[]}
 use Rattle.stream_jobs_tests.proofs.tests.open_again.Goals as goal
 

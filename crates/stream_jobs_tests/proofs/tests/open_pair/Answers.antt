@@ -1,5 +1,5 @@
 use Rattle.std.proofs.Common.{subst}
-use Rattle.checker_support.specs.OpenedLemmas.{ready_opened}
+use Rattle.checker_support.specs.lemmas.OpenedLemmas.{ready_opened}
 use Rattle.runs.specs.Streams.{TermsValue}
 use Rattle.stream_check.specs.Checker.{IsNew}
 use Rattle.stream_jobs_tests.proofs.tests.open_pair.Goals as goal

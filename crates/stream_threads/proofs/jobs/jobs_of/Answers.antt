@@ -2,7 +2,7 @@ use Rattle.std.proofs.Common.{◌≡◌, [], ◌∷◌, ◌∙◌, inl, inr, fal
 use Rattle.std.specs.Iterator.Adapters.{zip_first, zip_second}
 use Rattle.std.specs.List.{AllByRecursion}
 use Rattle.std.specs.Vec.Iter.{into_iter_items, into_iter_len}
-use Rattle.lrup_model.specs.ListLemmas.{taken_next}
+use Rattle.lrup_model.specs.lemmas.ListLemmas.{taken_next}
 use Rattle.stream_threads.specs.Jobs.{AreJobs}
 use Rattle.stream_threads.proofs.ThreadLemmas.{jobs_pushed, jobs_whole, none_to_come}
 use Rattle.stream_threads.proofs.jobs.jobs_of.Goals as goal

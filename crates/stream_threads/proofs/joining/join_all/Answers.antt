@@ -3,7 +3,8 @@ use Rattle.std.specs.List.{AllByRecursion}
 use Rattle.std.proofs.lemmas.List.{map-append}
 use Rattle.std.specs.Vec.Iter.{into_iter_items}
 use Rattle.runs.specs.Readings.{readers_view}
-use Rattle.stream_threads.specs.Jobs.{AllEnd, JobsValue, StartedValue}
+use Rattle.stream_threads.specs.internal.Workers.{AllEnd, StartedValue}
+use Rattle.stream_threads.specs.Jobs.{JobsValue}
 use Rattle.stream_threads.proofs.ThreadLemmas.{all_end-more, moved_more}
 use Rattle.stream_threads.proofs.joining.join_all.Goals as goal
 

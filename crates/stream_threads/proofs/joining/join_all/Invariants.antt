@@ -2,7 +2,7 @@ use Rattle.std.proofs.Common.{◌≡◌, ◌+◌, ◌++◌, map, vec_capacity, v
 use Rattle.std.specs.List.{AllByRecursion}
 use Rattle.std.specs.Vec.Iter.{into_iter_items, into_iter_len}
 use Rattle.runs.specs.Readings.{readers_view}
-use Rattle.stream_threads.specs.Jobs.{AllEnd}
+use Rattle.stream_threads.specs.internal.Workers.{AllEnd}
 use Rattle.stream_threads.proofs.joining.join_all.Given as goal
 
 abbrev pub invariant-loop-started : goal.invariant-loop-started

@@ -3,7 +3,8 @@ use Rattle.lrup_model.specs.Pass.{pass_place}
 use Rattle.runs.specs.Readings.{IsStreamOf, readers_view}
 use Rattle.stream_check.specs.DroppedValue.{DroppedValue}
 use Rattle.stream_jobs.specs.Judged.{DropsBy}
-use Rattle.stream_threads.specs.Jobs.{IsEndOf, MissesMark}
+use Rattle.stream_threads.specs.internal.Workers.{IsEndOf}
+use Rattle.stream_threads.specs.Jobs.{MissesMark}
 use Rattle.stream_threads.proofs.joining.meet_ends.Goals as goal
 
 pub returns-clause-end : goal.returns-clause-end

@@ -1,7 +1,8 @@
 use Rattle.std.proofs.Common.{◌≡◌, ℕ, List, length, vec_capacity, vec_len, ◌∙◌, sym, arith, subst, eqb-true}
 use Rattle.std.specs.List.{AllByRecursion}
 use Rattle.runs.specs.Readings.{readers_view}
-use Rattle.stream_threads.specs.Jobs.{AllEnd, JobsValue, StartedValue}
+use Rattle.stream_threads.specs.internal.Workers.{AllEnd, StartedValue}
+use Rattle.stream_threads.specs.Jobs.{JobsValue}
 use Rattle.stream_threads.proofs.ThreadLemmas.{finish_if_ok, first_fault, first_within}
 use Rattle.stream_threads.proofs.ThreadLemmas.{jobs_started, none_to_find, one_signal, started_count}
 use Rattle.stream_threads.proofs.joining.start_and_join.Goals as goal

@@ -1,7 +1,8 @@
 use Rattle.std.proofs.Common.{◌≡◌, ◌+◌, ◌++◌, map, vec_capacity, vec_len}
 use Rattle.std.specs.List.{AllByRecursion}
 use Rattle.std.specs.Vec.Iter.{into_iter_items, into_iter_len}
-use Rattle.stream_threads.specs.Jobs.{CanBegin, started_with}
+use Rattle.stream_threads.specs.Jobs.{CanBegin}
+use Rattle.stream_threads.specs.internal.Workers.{started_with}
 use Rattle.stream_threads.proofs.starting.start_all_checking.Given as goal
 
 abbrev pub invariant-loop-jobs : goal.invariant-loop-jobs

@@ -1,7 +1,7 @@
 use Rattle.std.proofs.Common.{◌≡◌, replicate, sym, subst, ◌∙◌}
 use Rattle.std.specs.List.{AllByRecursion}
 use Rattle.lrup_model.specs.Entailment.{IsDerived}
-use Rattle.lrup_model.specs.PassLemmas.{known_follows}
+use Rattle.lrup_model.specs.lemmas.PassLemmas.{known_follows}
 use Rattle.lrup_model.specs.Place.{IsKnown}
 use Rattle.checkpoint.specs.Live.{clauses_of, entries_of}
 use Rattle.checkpoint_tests.proofs.Copies.{All-replicate, All-clauses}

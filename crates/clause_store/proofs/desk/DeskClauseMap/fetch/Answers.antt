@@ -1,6 +1,6 @@
 use Rattle.lrup_model.specs.Replies.{reply_of}
 use Rattle.lrup_model.specs.Pass.{pass_place}
-use Rattle.lrup_model.specs.PassLemmas.{pass_fetches, fair_follows}
+use Rattle.lrup_model.specs.lemmas.PassLemmas.{pass_fetches, fair_follows}
 use Rattle.clause_store.proofs.desk.DeskClauseMap.fetch.Goals as goal
 
 pub returns-clause-own : goal.returns-clause-own

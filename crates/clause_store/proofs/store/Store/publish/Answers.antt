@@ -5,8 +5,9 @@ use Rattle.lrup_model.specs.Event as events
 use Rattle.lrup_model.specs.Pass.{View}
 use Rattle.lrup_model.specs.declared.clause_map.Published.{Published}
 use Rattle.idwords.specs.Seats.{SeatValue}
-use Rattle.idwords.specs.Steps.{Calls}
-use Rattle.clause_store.specs.Passes.{PassValue, pass_value}
+use Rattle.idwords.specs.RowCalls.{Calls}
+use Rattle.clause_store.specs.Passes.{PassValue}
+use Rattle.clause_store.specs.internal.AtRest.{pass_value}
 use Rattle.clause_store.specs.declared.pass.Pass.TheInside.{Inside}
 use Rattle.clause_store.proofs.RestLemmas.{rests}
 use Rattle.clause_store.proofs.store.Store.publish.Goals as goal

@@ -1,6 +1,6 @@
 use Rattle.std.proofs.Common.{true, false, sym, ◌∙◌, ◌≡◌}
 use Rattle.lrup_model.specs.Clause.{Has}
-use Rattle.dimacs.specs.Marks.{MarksFit}
+use Rattle.dimacs.specs.internal.Marks.{MarksFit}
 use Rattle.dimacs.proofs.SetLemmas.{EachOnce-push, AddsLiteral-push}
 use Rattle.dimacs.proofs.open_clause.OpenClause.add.Goals as goal
 

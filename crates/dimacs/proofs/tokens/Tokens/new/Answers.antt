@@ -1,4 +1,4 @@
-use Rattle.dimacs.specs.Places.{lines_at_start}
+use Rattle.dimacs.specs.internal.Places.{lines_at_start}
 use Rattle.dimacs.proofs.tokens.Tokens.new.Goals as goal
 
 pub returns : goal.returns

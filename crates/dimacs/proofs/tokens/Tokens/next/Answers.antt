@@ -1,6 +1,6 @@
 use Rattle.std.proofs.Common.{◌≡◌, ◌==◌, ℕ, ℤ, pos, neg_ℤ, List, [], ◌∷◌, length, Some, cond, refl, sym, ap, ◌∙◌, arith}
 use Rattle.dimacs.specs.Numerals.{number_of, value}
-use Rattle.dimacs.specs.Places.{tokens_at, first_run, after_run}
+use Rattle.dimacs.specs.internal.Places.{tokens_at, first_run, after_run}
 use Rattle.dimacs.proofs.TokenLemmas.{no_token, token_taken, number_of-zero, number_of-leading_zero, number_of-none, number_of-some}
 use Rattle.dimacs.proofs.TokenLemmas.{after_run_digits, digits_within, above_range, within_range, after_run_at_end, digits_of}
 use Rattle.dimacs.proofs.tokens.Tokens.next.Goals as goal

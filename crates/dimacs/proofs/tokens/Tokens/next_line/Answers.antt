@@ -1,7 +1,7 @@
 use Rattle.std.proofs.Common.{◌∙◌, ap, sym, arith, length, ℕ, List, ◌∷◌, drop}
 use Rattle.std.proofs.lemmas.List.{nil_from_length}
 use Rattle.std.proofs.lemmas.Bool.{eqb-true, eqb-false}
-use Rattle.dimacs.specs.Places.{lines_at}
+use Rattle.dimacs.specs.internal.Places.{lines_at}
 use Rattle.dimacs.specs.Lines.{runs}
 use Rattle.dimacs.proofs.LineLemmas.{lines_at-nil, lines_at-line}
 use Rattle.dimacs.proofs.tokens.Tokens.next_line.Goals as goal

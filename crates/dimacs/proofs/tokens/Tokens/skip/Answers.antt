@@ -1,6 +1,6 @@
 use Rattle.std.proofs.Common.{length, ◌∙◌, ap, sym, arith, eq-eqb}
 use Rattle.std.proofs.lemmas.Bool.{ne_eqb}
-use Rattle.dimacs.specs.Places.{lines_at}
+use Rattle.dimacs.specs.internal.Places.{lines_at}
 use Rattle.dimacs.proofs.LineLemmas.{lines_at-line_end, lines_at-separator}
 use Rattle.dimacs.proofs.tokens.Tokens.skip.Goals as goal
 

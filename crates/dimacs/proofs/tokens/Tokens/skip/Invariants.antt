@@ -1,5 +1,5 @@
 use Rattle.std.proofs.Common.{◌≡◌, ◌≤◌, length}
-use Rattle.dimacs.specs.Places.{lines_at}
+use Rattle.dimacs.specs.internal.Places.{lines_at}
 use Rattle.dimacs.proofs.tokens.Tokens.skip.Given as goal
 
 abbrev pub invariant-loop-byte : goal.invariant-loop-byte

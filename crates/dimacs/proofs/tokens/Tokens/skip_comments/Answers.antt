@@ -1,6 +1,6 @@
 use Rattle.std.proofs.Common.{◌+◌, length, ◌∙◌, ap, sym, arith}
 use Rattle.std.proofs.lemmas.List.{take_rest, length-drop, nil_from_length}
-use Rattle.dimacs.specs.Places.{lines_at, lines_at_start}
+use Rattle.dimacs.specs.internal.Places.{lines_at, lines_at_start}
 use Rattle.dimacs.proofs.LineLemmas.{lines_at_start-comment, lines_at_start-last_comment, lines_at_start-no_comment, lines_at_start-nil}
 use Rattle.dimacs.proofs.LineLemmas.{lines_at-nil}
 use Rattle.dimacs.proofs.tokens.Tokens.skip_comments.Goals as goal

@@ -1,5 +1,5 @@
 use Rattle.std.proofs.Common.{◌≡◌, ◌≤◌, length}
-use Rattle.dimacs.specs.Places.{lines_at_start}
+use Rattle.dimacs.specs.internal.Places.{lines_at_start}
 use Rattle.dimacs.proofs.tokens.Tokens.skip_comments.Given as goal
 
 abbrev pub invariant-loop-first : goal.invariant-loop-first

@@ -2,17 +2,18 @@ use Rattle.std.proofs.Common.{rules, ◌≡◌, ◌+◌, ◌≤◌, ℕ, eqb, le
 use prog.Atomic.{either}
 use mathlib.Core.Option.{none}
 use Rattle.atomic_table.specs.Table.{step}
-use Rattle.idwords.specs.Words.{identity_word}
-use Rattle.idwords.specs.Rule.{Part, part_stream}
-use Rattle.idwords.specs.Seats.{first_part, part_of}
-use Rattle.idwords.specs.Steps.{Changes, Claims}
+use Rattle.idwords.specs.internal.RowWords.{identity_word}
+use Rattle.idwords.specs.Seats.{Part}
+use Rattle.idwords.specs.internal.Rule.{part_stream}
+use Rattle.idwords.specs.internal.Seating.{first_part, part_of}
+use Rattle.idwords.specs.internal.Steps.{Changes, Claims}
 use Rattle.idwords.proofs.StepLemmas.{changes}
 use Rattle.idwords.proofs.ClaimLemmas.{claims}
 use Rattle.idwords.proofs.PlaceLemmas.{top_within}
 use Rattle.idwords.proofs.SeatLemmas.{asks, seated_claim}
 use Rattle.lrup_model.specs.Layout.{row_words}
 use Rattle.lrup_model.specs.Pass.{IsFair}
-use Rattle.lrup_model.specs.OwnerLemmas.{owned}
+use Rattle.lrup_model.specs.lemmas.OwnerLemmas.{owned}
 use Rattle.idwords.proofs.row.Row.claim.Goals as goal
 
 pub live_word-word-requires-clause-start : goal.live_word-word-requires-clause-start

@@ -1,9 +1,9 @@
 use Rattle.std.proofs.Common.{rules, ℕ, List, refl, sym, ap, ◌∙◌, arith}
 use mathlib.Core.Option.{none}
 use Rattle.atomic_table.specs.Table.{step, Me}
-use Rattle.idwords.specs.Rule.{Part}
-use Rattle.idwords.specs.Seats.{first_part, part_of}
-use Rattle.idwords.specs.Steps.{Changes, Looks}
+use Rattle.idwords.specs.Seats.{Part}
+use Rattle.idwords.specs.internal.Seating.{first_part, part_of}
+use Rattle.idwords.specs.internal.Steps.{Changes, Looks}
 use Rattle.idwords.proofs.StepLemmas.{changes}
 use Rattle.idwords.proofs.LookLemmas.{looks}
 use Rattle.idwords.proofs.SeatLemmas.{asks, seated_call}

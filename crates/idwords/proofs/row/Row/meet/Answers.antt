@@ -1,9 +1,10 @@
 use Rattle.std.proofs.Common.{◌≡◌, ℕ, ◌++◌, List, [], ◌∷◌, refl, sym, ap, ap₂, subst, ◌∙◌, arith}
 use mathlib.Core.Option.{none}
 use Rattle.atomic_table.specs.Table.{step, Me, Allows}
-use Rattle.idwords.specs.Rule.{Part, IsKept}
-use Rattle.idwords.specs.Seats.{SeatValue, first_part}
-use Rattle.idwords.specs.Steps.{Joined, Met}
+use Rattle.idwords.specs.Seats.{Part, SeatValue}
+use Rattle.idwords.specs.internal.Rule.{IsKept}
+use Rattle.idwords.specs.internal.Seating.{first_part}
+use Rattle.idwords.specs.internal.Steps.{Joined, Met}
 use Rattle.idwords.proofs.MeetLemmas.{splits_hand, splits_part, joins, meets, joined, parted}
 use Rattle.idwords.proofs.SeatLemmas.{words_of, seated_on}
 use Rattle.idwords.proofs.row.Row.meet.Goals as goal

@@ -1,6 +1,6 @@
 use Rattle.std.proofs.Common.{arith, ℕ, List, [], ◌∷◌, length, sym, ap, subst, ◌∙◌}
 use Rattle.lrup_model.specs.Formula.{Cnf}
-use Rattle.idwords.specs.Rule.{Keeps, IsPlan, opening_parts}
+use Rattle.idwords.specs.internal.Rule.{Keeps, IsPlan, opening_parts}
 use Rattle.idwords.proofs.SpellingLemmas.{lies_within}
 use Rattle.idwords.proofs.OpeningLemmas.{opens, length-opening_words, opening_fair}
 use Rattle.idwords.proofs.row.Row.open.Goals as goal

@@ -3,12 +3,13 @@ use prog.Atomic.{either}
 use mathlib.Core.Option.{none}
 use Rattle.atomic_table.specs.Table.{step, Me}
 use Rattle.lrup_model.specs.Pass.{IsFair}
-use Rattle.lrup_model.specs.OwnerLemmas.{owned}
+use Rattle.lrup_model.specs.lemmas.OwnerLemmas.{owned}
 use Rattle.lrup_model.specs.Layout.{Owns}
 use Rattle.idwords.specs.Words.{word_state}
-use Rattle.idwords.specs.Rule.{Part, part_stream}
-use Rattle.idwords.specs.Seats.{SeatValue, first_part, part_of}
-use Rattle.idwords.specs.Steps.{Changes, Finds, Retires}
+use Rattle.idwords.specs.Seats.{Part, SeatValue}
+use Rattle.idwords.specs.internal.Rule.{part_stream}
+use Rattle.idwords.specs.internal.Seating.{first_part, part_of}
+use Rattle.idwords.specs.internal.Steps.{Changes, Finds, Retires}
 use Rattle.idwords.proofs.StepLemmas.{changes}
 use Rattle.idwords.proofs.RetireLemmas.{finds, retires}
 use Rattle.idwords.proofs.SeatLemmas.{asks, asks_part, words_of, seated_call}

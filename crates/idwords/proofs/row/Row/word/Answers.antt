@@ -1,8 +1,8 @@
 use Rattle.std.proofs.Common.{ℕ, sym, ◌∙◌}
 use mathlib.Core.Option.{none}
 use Rattle.atomic_table.specs.Table.{step}
-use Rattle.idwords.specs.Seats.{part_of}
-use Rattle.idwords.specs.Steps.{Changes, Reads}
+use Rattle.idwords.specs.internal.Seating.{part_of}
+use Rattle.idwords.specs.internal.Steps.{Changes, Reads}
 use Rattle.idwords.proofs.StepLemmas.{changes}
 use Rattle.idwords.proofs.PlaceLemmas.{reads}
 use Rattle.idwords.proofs.SeatLemmas.{asks}

@@ -4,9 +4,10 @@ use Rattle.atomic_table.specs.Table.{step, Me}
 use Rattle.lrup_model.specs.Layout.{row_words}
 use Rattle.lrup_model.specs.Event.{spent}
 use Rattle.idwords.specs.Words.{pair_of}
-use Rattle.idwords.specs.Rule.{Part, part_stream}
-use Rattle.idwords.specs.Seats.{first_part, part_of}
-use Rattle.idwords.specs.Steps.{Stores, Writes}
+use Rattle.idwords.specs.Seats.{Part}
+use Rattle.idwords.specs.internal.Rule.{part_stream}
+use Rattle.idwords.specs.internal.Seating.{first_part, part_of}
+use Rattle.idwords.specs.internal.Steps.{Stores, Writes}
 use Rattle.idwords.proofs.StepLemmas.{stores}
 use Rattle.idwords.proofs.WordLemmas.{some_literals, two_literals, one_literal}
 use Rattle.idwords.proofs.PlaceLemmas.{top_within, written_at}

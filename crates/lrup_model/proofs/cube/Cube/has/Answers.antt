@@ -3,7 +3,8 @@ use Rattle.std.specs.Prelude.{◌↔◌, IsTrue}
 use Rattle.std.specs.Result.{is_ok}
 use Rattle.std.specs.Ordering.{nat_cmp}
 use Rattle.std.specs.List.Sorted.{IsBinarySearchResult}
-use Rattle.lrup_model.specs.Literal.{code_of, IsCode, literal_of, max_variable}
+use Rattle.lrup_model.specs.Literal.{code_of, IsCode, max_variable}
+use Rattle.lrup_model.specs.internal.Codes.{literal_of}
 use Rattle.lrup_model.specs.Clause.{Clause, Has}
 use Rattle.lrup_model.proofs.CubeCodes.{found}
 use Rattle.lrup_model.proofs.cube.Cube.has.Goals as goal

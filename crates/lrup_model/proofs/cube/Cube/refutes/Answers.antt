@@ -1,9 +1,9 @@
 use Rattle.std.proofs.Common.{◌≡◌, [], length, map, sym, subst, ap, ◌∙◌, arith}
 use Rattle.std.proofs.lemmas.Bool.Decides.{nat_tests}
 use Rattle.std.proofs.lemmas.List.{nil_from_length}
-use Rattle.lrup_model.specs.Literal.{literal_of}
+use Rattle.lrup_model.specs.internal.Codes.{literal_of}
 use Rattle.lrup_model.specs.Cube.{Within}
-use Rattle.lrup_model.specs.CubeLemmas.{empty_cube_within}
+use Rattle.lrup_model.specs.lemmas.CubeLemmas.{empty_cube_within}
 use Rattle.lrup_model.proofs.cube.Cube.refutes.Goals as goal
 
 pub returns-then-is_empty : goal.returns-then-is_empty

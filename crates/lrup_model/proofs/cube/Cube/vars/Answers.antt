@@ -2,7 +2,7 @@ use Rattle.std.proofs.Common.{◌≡◌, ◌-◌, ◌/◌, ◌≤◌, ◌<◌, �
 use Rattle.std.specs.Prelude.{◌↔◌, slice_get}
 use Rattle.std.proofs.lemmas.Option.{get_or_from_slice_get, slice_get_within}
 use Rattle.lrup_model.specs.Cube.{IsCubeOver}
-use Rattle.lrup_model.specs.Literal.{literal_of}
+use Rattle.lrup_model.specs.internal.Codes.{literal_of}
 use Rattle.lrup_model.proofs.CubeCodes.{greatest}
 use Rattle.lrup_model.proofs.cube.Cube.vars.Goals as goal
 

@@ -1,7 +1,7 @@
 use Rattle.std.proofs.Common.{◌≡◌, ap, sym, ◌∙◌, length, eq-eqb}
 use Rattle.std.proofs.lemmas.Bool.{eqb-true}
 use Rattle.std.proofs.lemmas.List.{nil_from_length}
-use Rattle.lrup_model.specs.Pieces.{pieces}
+use Rattle.lrup_model.specs.internal.Pieces.{pieces}
 use Rattle.lrup_model.proofs.PieceLemmas.{length-pieces}
 use Rattle.lrup_model.proofs.formula.Formula.is_empty.Goals as goal
 

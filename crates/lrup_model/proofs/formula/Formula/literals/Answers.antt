@@ -1,6 +1,6 @@
 use Rattle.std.proofs.Common.{arith, ◌≡◌, ◌+◌, ap, length, ◌∙◌}
 use Rattle.lrup_model.specs.Formula.{formula_literals}
-use Rattle.lrup_model.specs.Pieces.{pieces}
+use Rattle.lrup_model.specs.internal.Pieces.{pieces}
 use Rattle.std.specs.List.{sum_by}
 use Rattle.lrup_model.proofs.PieceLemmas.{sum_by-pieces}
 use Rattle.lrup_model.proofs.formula.Formula.literals.Goals as goal

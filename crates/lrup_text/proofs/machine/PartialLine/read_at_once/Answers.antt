@@ -1,6 +1,6 @@
 use Rattle.std.proofs.Common.{◌≤◌, ◌+◌, ◌++◌, length, take, refl, sym, ◌∙◌, subst, arith}
 use Rattle.lrup_text.specs.Lines.{LineText}
-use Rattle.lrup_text.specs.Reading.{line_so_far}
+use Rattle.lrup_text.specs.internal.Reading.{line_so_far}
 use Rattle.lrup_text.proofs.Readers.{is_empty}
 use Rattle.lrup_text.proofs.machine.PartialLine.read_at_once.Goals as goal
 

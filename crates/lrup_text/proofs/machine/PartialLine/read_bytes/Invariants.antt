@@ -1,5 +1,5 @@
 use Rattle.std.proofs.Common.{◌-◌, length}
-use Rattle.lrup_text.specs.Reading.{ReadsAhead}
+use Rattle.lrup_text.specs.internal.Reading.{ReadsAhead}
 use Rattle.lrup_text.proofs.machine.PartialLine.read_bytes.Given as goal
 
 abbrev pub invariant-loop-used : goal.invariant-loop-used

@@ -1,6 +1,6 @@
 use Rattle.std.proofs.Common.{◌≤◌, ◌+◌, ◌∙◌, ap, subst, length, take, arith}
 use Rattle.std.proofs.lemmas.List.{with_items_is}
-use Rattle.lrup_text.specs.Kernel.{ReadsItems}
+use Rattle.lrup_text.specs.internal.Kernel.{ReadsItems}
 use Rattle.lrup_text.proofs.Ahead.{items_ahead}
 use Rattle.lrup_text.proofs.machine.PartialLine.read_items_ahead.Goals as goal
 

@@ -1,6 +1,6 @@
 use Rattle.std.proofs.Common.{◌≤◌, ◌+◌, ◌∙◌, ap, subst, length, take, arith}
 use Rattle.std.proofs.lemmas.List.{with_items_is}
-use Rattle.lrup_text.specs.Kernel.{ReadsLiterals}
+use Rattle.lrup_text.specs.internal.Kernel.{ReadsLiterals}
 use Rattle.lrup_text.proofs.Ahead.{literals_ahead}
 use Rattle.lrup_text.proofs.machine.PartialLine.read_literals_ahead.Goals as goal
 

@@ -1,6 +1,6 @@
 use Rattle.std.proofs.Common.{◌≡◌, ◌≢◌, ℕ, Bool, true, false, arith, subst, sym, ◌∙◌}
 use Rattle.lrup_text.specs.declared.machine.Place.TheVariants as places
-use Rattle.lrup_text.specs.ByteNames.{letter_d, letter_i}
+use Rattle.lrup_text.specs.internal.ByteNames.{letter_d, letter_i}
 use Rattle.lrup_text.proofs.Bytes.{GoesOn, body_hints_goes_on, body_end_goes_on, body_deletion_goes_on, body_import_goes_on}
 use Rattle.lrup_text.proofs.Bytes.{body_minus_goes_on, body_digit_goes_on, body_too_long, body_spelling}
 use Rattle.lrup_text.proofs.machine.PartialLine.step_in_body.Goals as goal

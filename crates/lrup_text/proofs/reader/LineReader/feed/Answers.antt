@@ -1,6 +1,5 @@
 use Rattle.std.proofs.Common.{refl, ◌∙◌, ap, subst}
-use Rattle.lrup_text.specs.Feeding.{reader_state}
-use Rattle.lrup_text.specs.Reading.{StepsThrough, pending}
+use Rattle.lrup_text.specs.internal.Reading.{reader_state, StepsThrough, pending}
 use Rattle.lrup_text.proofs.Feeding.{fed_more, fed_line, fed_fault, fed_at, fed_bound, no_fault}
 use Rattle.lrup_text.proofs.reader.LineReader.feed.Goals as goal
 use Rattle.lrup_text.proofs.reader.LineReader.feed.Goals.{in-More, in-Done, in-Refused}

@@ -1,6 +1,6 @@
 use Rattle.std.proofs.Common.{List, ℕ, ◌+◌, ◌++◌, drop, sym, ◌∙◌, ap}
 use Rattle.std.proofs.lemmas.List.{take_more, take-append-drop}
-use Rattle.lrup_text.specs.WritingLemmas.{puts_next, breaks_next, at_err}
+use Rattle.lrup_text.specs.lemmas.WritingLemmas.{puts_next, breaks_next, at_err}
 use Rattle.lrup_text.proofs.writer.WriteBuffer.put.Goals as goal
 
 pub returns-in_err-put_byte-clause-puts : goal.returns-in_err-put_byte-clause-puts

@@ -1,5 +1,5 @@
 use Rattle.std.proofs.Common.{◌∷◌, []}
-use Rattle.lrup_text.specs.WritingLemmas.{breaks_held, breaks_more, at_err}
+use Rattle.lrup_text.specs.lemmas.WritingLemmas.{breaks_held, breaks_more, at_err}
 use Rattle.lrup_text.proofs.writer.WriteBuffer.put_byte.Goals as goal
 
 pub returns-in_err-flush-clause-puts : goal.returns-in_err-flush-clause-puts

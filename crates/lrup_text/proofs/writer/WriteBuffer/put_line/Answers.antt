@@ -1,12 +1,13 @@
 use Rattle.std.proofs.Common.{List, ℕ, ◌∷◌, [], ◌++◌, map, ◌∙◌, ap}
 use Rattle.std.specs.Fmt.{decimal}
 use Rattle.std.proofs.lemmas.List.{append_assoc}
-use Rattle.lrup_text.specs.ByteNames.{space, zero_digit, letter_d, letter_i, line_feed}
+use Rattle.lrup_text.specs.Writing.{space}
+use Rattle.lrup_text.specs.internal.ByteNames.{zero_digit, letter_d, letter_i, line_feed}
 use Rattle.lrup_text.specs.Grammar.{list_text}
 use Rattle.lrup_text.specs.Lines.{line_text, line_of}
-use Rattle.lrup_text.specs.Reading.{literals_text}
+use Rattle.lrup_text.specs.internal.Reading.{literals_text}
 use Rattle.lrup_text.proofs.LineTexts.{addition_text, deletion_text, import_text}
-use Rattle.lrup_text.specs.WritingLemmas.{breaks_next, breaks_first, puts_then, puts_all_next, at_err}
+use Rattle.lrup_text.specs.lemmas.WritingLemmas.{breaks_next, breaks_first, puts_then, puts_all_next, at_err}
 use Rattle.lrup_text.proofs.writer.WriteBuffer.put_line.Goals as goal
 
 pub returns-in_err-put_lead-in-Add-clause-puts : goal.returns-in_err-put_lead-in-Add-clause-puts

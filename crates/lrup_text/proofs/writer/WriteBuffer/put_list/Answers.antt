@@ -2,10 +2,11 @@ use Rattle.std.proofs.Common.{List, ℕ, ◌+◌, ◌∷◌, [], ◌++◌, take,
 use Rattle.std.specs.Fmt.{decimal}
 use Rattle.std.specs.List.{flat_map}
 use Rattle.std.proofs.lemmas.List.{append_assoc, take_all}
-use Rattle.lrup_text.specs.ByteNames.{space, zero_digit, line_feed}
-use Rattle.lrup_text.specs.Reading.{items_text}
+use Rattle.lrup_text.specs.Writing.{space}
+use Rattle.lrup_text.specs.internal.ByteNames.{zero_digit, line_feed}
+use Rattle.lrup_text.specs.internal.Reading.{items_text}
 use Rattle.lrup_text.proofs.Bytes.{items_end}
-use Rattle.lrup_text.specs.WritingLemmas.{puts_nothing, puts_next, breaks_next, puts_all_next, at_err, texts_more, texts_split}
+use Rattle.lrup_text.specs.lemmas.WritingLemmas.{puts_nothing, puts_next, breaks_next, puts_all_next, at_err, texts_more, texts_split}
 use Rattle.lrup_text.proofs.writer.WriteBuffer.put_list.Goals as goal
 
 pub loop-id-init : goal.loop-id-init

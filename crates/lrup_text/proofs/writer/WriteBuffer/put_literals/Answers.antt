@@ -3,9 +3,9 @@ use Rattle.std.specs.Prelude.{FitsSigned}
 use Rattle.std.proofs.lemmas.Int.{to_z-of_z}
 use Rattle.std.specs.Fmt.{signed_decimal}
 use Rattle.std.specs.List.{flat_map}
-use Rattle.lrup_text.specs.ByteNames.{space}
-use Rattle.lrup_text.specs.Reading.{literals_text}
-use Rattle.lrup_text.specs.WritingLemmas.{puts_nothing, puts_next, breaks_next, at_err, texts_more, texts_split}
+use Rattle.lrup_text.specs.Writing.{space}
+use Rattle.lrup_text.specs.internal.Reading.{literals_text}
+use Rattle.lrup_text.specs.lemmas.WritingLemmas.{puts_nothing, puts_next, breaks_next, at_err, texts_more, texts_split}
 use Rattle.lrup_text.proofs.writer.WriteBuffer.put_literals.Goals as goal
 
 pub loop-literal-init : goal.loop-literal-init

@@ -1,5 +1,5 @@
 use Rattle.std.proofs.Common.{◌≡◌, take, false}
-use Rattle.lrup_text.specs.Reading.{literals_text}
+use Rattle.lrup_text.specs.internal.Reading.{literals_text}
 use Rattle.lrup_text.specs.Writing.{Puts}
 use Rattle.lrup_text.proofs.writer.WriteBuffer.put_literals.Given as goal
 

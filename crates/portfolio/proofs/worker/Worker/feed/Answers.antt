@@ -1,6 +1,6 @@
 use Rattle.std.proofs.Common.{◌≡◌, ◌+◌, ◌-◌, ◌∙◌, None, ap, subst, take, drop}
 use Rattle.runs.specs.Readings.{readers_view}
-use Rattle.portfolio.specs.Working.{WorkerValue, WorksOn}
+use Rattle.portfolio.specs.internal.Working.{WorkerValue, WorksOn}
 use Rattle.portfolio.proofs.WorkingLemmas.{worker_of, works_fed, unread_split}
 use Rattle.portfolio.proofs.worker.Worker.feed.Goals as goal
 

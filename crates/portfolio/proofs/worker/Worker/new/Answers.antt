@@ -2,11 +2,11 @@ use Rattle.std.proofs.Common.{ℕ, [], Option, sym, subst}
 use Rattle.std.proofs.KnownBytes.{Consumes-nil}
 use Rattle.lrup_model.specs.Cube.{CubeValue}
 use Rattle.lrup_model.specs.Layout.{LayoutValue}
-use Rattle.lrup_text.specs.ReadLemmas.{gave_none}
+use Rattle.lrup_text.specs.lemmas.ReadLemmas.{gave_none}
 use Rattle.stream_check.specs.declared.report.Ending.{Ending}
 use Rattle.stream_check.specs.Checker.{IsNew}
 use Rattle.runs.specs.Readings.{readers_view}
-use Rattle.portfolio.specs.Working.{WorksBy}
+use Rattle.portfolio.specs.internal.Working.{WorksBy}
 use Rattle.portfolio.proofs.worker.Worker.new.Goals as goal
 
 pub returns : goal.returns

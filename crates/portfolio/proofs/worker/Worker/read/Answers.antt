@@ -6,7 +6,7 @@ use Rattle.std.proofs.KnownBytes.{Consumes-nil, Consumes-kept}
 use Rattle.lrup_text.specs.declared.device.StreamEnd.TheVariants as stream_ends
 use Rattle.lrup_text.specs.ReadOut.{EndsSo}
 use Rattle.runs.specs.Readings.{readers_view}
-use Rattle.portfolio.specs.Working.{WorkerValue, WorksOn}
+use Rattle.portfolio.specs.internal.Working.{WorkerValue, WorksOn}
 use Rattle.portfolio.proofs.WorkingLemmas.{worker_of, works_read, works_over, none_between}
 use Rattle.portfolio.proofs.worker.Worker.read.Goals as goal
 

@@ -6,7 +6,7 @@ use Rattle.stream_check.specs.declared.progress.CheckTurn.{CheckTurn}
 use Rattle.stream_check.specs.declared.progress.CheckTurn.TheVariants as turns
 use Rattle.stream_check.specs.Checker.{AreBlocksOf}
 use Rattle.runs.specs.Readings.{readers_view}
-use Rattle.portfolio.specs.Working.{AreBlocksOfTurn, WorkerValue, WorksOn}
+use Rattle.portfolio.specs.internal.Working.{AreBlocksOfTurn, WorkerValue, WorksOn}
 use Rattle.portfolio.proofs.WorkingLemmas.{over_without, turn_blocks, works_append, works_none, works_turn}
 use Rattle.portfolio.proofs.worker.Worker.turn.Goals as goal
 

@@ -1,7 +1,7 @@
 use Rattle.std.proofs.Common.{◌≡◌, [], None}
 use Rattle.stream_check.specs.Checker.{IsReadyAt}
 use Rattle.runs.specs.Readings.{readers_view}
-use Rattle.portfolio.specs.Working.{WorksOn}
+use Rattle.portfolio.specs.internal.Working.{WorksOn}
 use Rattle.portfolio.proofs.worker.Worker.turn.Given as goal
 
 abbrev pub invariant-loop : goal.invariant-loop

@@ -1,4 +1,4 @@
-use Rattle.lrup_model.specs.DistinctLemmas.{Has-distinct, Has-from_distinct, IsClause-distinct, IsTautology-distinct, all_taken}
+use Rattle.lrup_model.specs.lemmas.DistinctLemmas.{Has-distinct, Has-from_distinct, IsClause-distinct, IsTautology-distinct, all_taken}
 use Rattle.propagate.proofs.marks.Marks.begin.Goals as goal
 
 pub returns-clause-clause : goal.returns-clause-clause

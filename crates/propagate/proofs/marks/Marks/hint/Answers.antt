@@ -1,8 +1,8 @@
 use Rattle.std.proofs.Common.{false, refl, ap, subst}
 use Rattle.lrup_model.specs.Place.{clip_clause}
-use Rattle.lrup_model.specs.PassLemmas.{known_follows}
+use Rattle.lrup_model.specs.lemmas.PassLemmas.{known_follows}
 use Rattle.lrup_model.specs.Propagation.{IsConflict, IsUnit}
-use Rattle.propagate.specs.Left.{IsLeft}
+use Rattle.propagate.specs.internal.Left.{IsLeft}
 use Rattle.propagate.specs.Marks.{Propagation}
 use Rattle.propagate.specs.declared.marks.Left.TheVariants.{More}
 use Rattle.propagate.proofs.MarkLemmas.{IsLiteral-neg, IsLiteral-read}

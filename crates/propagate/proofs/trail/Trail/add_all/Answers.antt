@@ -2,9 +2,9 @@ use Rattle.std.proofs.Common.{take, rules}
 use Rattle.std.proofs.lemmas.Bool.{iff_false}
 use Rattle.std.proofs.lemmas.List.{take_all}
 use Rattle.lrup_model.specs.Literal.{IsLiteral}
-use Rattle.lrup_model.specs.ClauseLemmas.{All-read, take-read}
+use Rattle.lrup_model.specs.lemmas.ClauseLemmas.{All-read, take-read}
 use Rattle.propagate.proofs.MarkLemmas.{IsLiteral-neg, ne_neg_ℤ}
-use Rattle.lrup_model.specs.DistinctLemmas.{IsTaken-nil, IsTaken-push, IsTaken-push_same, IsTautology-next}
+use Rattle.lrup_model.specs.lemmas.DistinctLemmas.{IsTaken-nil, IsTaken-push, IsTaken-push_same, IsTautology-next}
 use Rattle.propagate.proofs.trail.Trail.add_all.Goals as goal
 use Rattle.propagate.proofs.trail.Trail.add_all.Goals.{then-not-has, else-not-has}
 

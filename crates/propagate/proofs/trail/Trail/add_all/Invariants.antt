@@ -1,5 +1,5 @@
 use Rattle.std.proofs.Common.{◌≡◌, take}
-use Rattle.lrup_model.specs.DistinctLemmas.{IsTaken}
+use Rattle.lrup_model.specs.lemmas.DistinctLemmas.{IsTaken}
 use Rattle.propagate.proofs.trail.Trail.add_all.Given as goal
 
 abbrev pub invariant-loop-lit : goal.invariant-loop-lit

@@ -1,7 +1,7 @@
-use Rattle.lrup_model.specs.ClauseLemmas.{All-from_Has}
+use Rattle.lrup_model.specs.lemmas.ClauseLemmas.{All-from_Has}
 use Rattle.lrup_model.specs.Literal.{IsLiteral}
 use Rattle.lrup_model.specs.Place.{clip_clause}
-use Rattle.lrup_model.specs.PassLemmas.{known_follows}
+use Rattle.lrup_model.specs.lemmas.PassLemmas.{known_follows}
 use Rattle.propagate.proofs.MarkLemmas.{IsLiteral-read}
 use Rattle.propagate.proofs.TakenLemmas.{HaveMarks-literals}
 use Rattle.propagate.proofs.trail.Trail.same.Goals as goal

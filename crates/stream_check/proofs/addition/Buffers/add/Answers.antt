@@ -8,9 +8,9 @@ use Rattle.lrup_model.specs.Distinct.{distinct}
 use Rattle.propagate.specs.Marks.{Propagation}
 use Rattle.stream_check.specs.Standing.{Standing}
 use Rattle.stream_check.specs.Additions.{published_by, FailsHints}
-use Rattle.stream_check.specs.Checking.{IsFetch}
-use Rattle.stream_check.specs.Checker.{standing_at}
-use Rattle.stream_check.specs.EventLemmas.{found_all}
+use Rattle.stream_check.specs.internal.Checking.{IsFetch}
+use Rattle.stream_check.specs.internal.CheckerInside.{standing_at}
+use Rattle.stream_check.specs.lemmas.EventLemmas.{found_all}
 use Rattle.stream_check.proofs.AddLemmas.{owns_at, still_at, room_stays, clause_is, shown_is, publishable, still_vacant, published_is}
 use Rattle.stream_check.proofs.AddLemmas.{fails_before, fails_behind, valid_is}
 use Rattle.stream_check.proofs.addition.Buffers.add.Goals as goal

@@ -9,7 +9,7 @@ use Rattle.lrup_model.specs.Layout.{Owns}
 use Rattle.lrup_model.specs.Distinct.{distinct}
 use Rattle.propagate.specs.Marks.{Propagation}
 use Rattle.stream_check.proofs.AddLemmas.{owns_at, owned_by, variables_within}
-use Rattle.stream_check.specs.AdditionLemmas.{literals_within}
+use Rattle.stream_check.specs.lemmas.AdditionLemmas.{literals_within}
 use Rattle.stream_check.proofs.addition.Buffers.admit.Goals.{then-not-owns-via-then-not-owns, then-not-owns-via-else-not-owns+then-id-last}
 use Rattle.stream_check.proofs.addition.Buffers.admit.Goals as goal
 

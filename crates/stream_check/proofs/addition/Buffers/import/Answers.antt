@@ -6,9 +6,9 @@ use Rattle.std.proofs.lemmas.Result.{err_from_is_err_and}
 use Rattle.lrup_model.specs.Clause.{Clause, Has}
 use Rattle.lrup_model.specs.Literal.{IsLiteral}
 use Rattle.lrup_model.specs.Place.{clip_clause}
-use Rattle.stream_check.specs.Checker.{standing_at}
+use Rattle.stream_check.specs.internal.CheckerInside.{standing_at}
 use Rattle.stream_check.proofs.AddLemmas.{variables_within}
-use Rattle.stream_check.specs.AdditionLemmas.{literals_within}
+use Rattle.stream_check.specs.lemmas.AdditionLemmas.{literals_within}
 use Rattle.stream_check.proofs.ImportLemmas.{bad_literal, import_unfound, import_differs, import_same}
 use Rattle.stream_check.proofs.addition.Buffers.import.Goals as goal
 

@@ -5,7 +5,8 @@ use Rattle.stream_check.specs.declared.report.Ending.{Ending}
 use Rattle.stream_check.specs.declared.report.Ending.TheVariants as endings
 use Rattle.stream_check.specs.Judging.{ending_at}
 use Rattle.stream_check.specs.CheckerValue.{CheckerValue}
-use Rattle.stream_check.specs.Checker.{read_of, value_of, Ends, ReportsEnd}
+use Rattle.stream_check.specs.internal.CheckerInside.{read_of, value_of}
+use Rattle.stream_check.specs.Checker.{Ends, ReportsEnd}
 use Rattle.stream_check.proofs.FeedLemmas.{some_of, none_of, ends_over, reports_over, ends_now, reports_now, ended_clean, ended_fault}
 use Rattle.lrup_text.specs.Feeding as feeding
 use Rattle.lrup_text.specs.declared.reader.End.{End}

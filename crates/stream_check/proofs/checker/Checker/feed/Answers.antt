@@ -11,9 +11,10 @@ use Rattle.stream_check.specs.declared.report.Ending.TheVariants as endings
 use Rattle.stream_check.specs.Leaving.{Going, Over}
 use Rattle.stream_check.specs.Standing.{is_among}
 use Rattle.stream_check.specs.CheckerValue.{report_of_tally, CheckerValue}
-use Rattle.stream_check.specs.Checker.{read_of, value_of, checker_state, tally_at, LeavesOn}
-use Rattle.stream_check.specs.Taking.{hold, ending_of}
-use Rattle.stream_check.specs.ReportLemmas.{leaves_still}
+use Rattle.stream_check.specs.internal.CheckerInside.{read_of, value_of, tally_at}
+use Rattle.stream_check.specs.Checker.{checker_state, LeavesOn}
+use Rattle.stream_check.specs.internal.Taking.{hold, ending_of}
+use Rattle.stream_check.specs.lemmas.ReportLemmas.{leaves_still}
 use Rattle.stream_check.proofs.TakeLemmas.{leaves_good, leaves_stopped, leaves_refused}
 use Rattle.stream_check.proofs.FeedLemmas.{some_of, none_of, feeds_line, feeds_more, front_cut, line_cut, feeds_over}
 use Rattle.stream_check.proofs.checker.Checker.feed.Goals as goal

@@ -2,7 +2,8 @@ use Rattle.std.proofs.Common.{◌∙◌, ℕ, Some, refl, sym, ap, subst}
 use Rattle.stream_check.specs.declared.report.Ending.TheVariants as endings
 use Rattle.lrup_text.specs.declared.device.StreamEnd.TheVariants as stream_ends
 use Rattle.stream_check.specs.CheckerValue.{CheckerValue}
-use Rattle.stream_check.specs.Checker.{read_of, value_of, Ends, ReportsEnd}
+use Rattle.stream_check.specs.internal.CheckerInside.{read_of, value_of}
+use Rattle.stream_check.specs.Checker.{Ends, ReportsEnd}
 use Rattle.stream_check.proofs.FeedLemmas.{some_of, none_of, ends_over, reports_over, ends_now, reports_now}
 use Rattle.stream_check.proofs.checker.Checker.read_failed.Goals as goal
 

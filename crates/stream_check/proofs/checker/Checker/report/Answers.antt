@@ -2,7 +2,7 @@ use Rattle.std.proofs.Common.{◌≡◌, Option, sym, subst}
 use Rattle.std.specs.Option.{IfSome}
 use Rattle.stream_check.specs.declared.report.Ending.{Ending}
 use Rattle.stream_check.specs.CheckerValue.{report_of_tally, CheckerValue}
-use Rattle.stream_check.specs.Checker.{tally_at}
+use Rattle.stream_check.specs.internal.CheckerInside.{tally_at}
 use Rattle.stream_check.proofs.checker.Checker.report.Goals as goal
 
 pub returns : goal.returns

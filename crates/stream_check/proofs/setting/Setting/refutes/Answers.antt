@@ -2,7 +2,7 @@ use Rattle.std.proofs.Common.{◌∙◌, ap}
 use Rattle.lrup_model.specs.Cube.{Within}
 use Rattle.stream_check.specs.Setting.{Setting}
 use Rattle.stream_check.specs.Standing.{is_within}
-use Rattle.stream_check.specs.CubeLemmas.{is_within-decides, same_test}
+use Rattle.stream_check.specs.lemmas.CubeLemmas.{is_within-decides, same_test}
 use Rattle.stream_check.proofs.setting.Setting.refutes.Goals as goal
 
 pub returns : goal.returns

@@ -2,7 +2,7 @@ use Rattle.std.proofs.Common.{arith, rules}
 use Rattle.std.proofs.KnownBytes.{Consumes-kept, Consumes-trans}
 use Rattle.std.proofs.lemmas.Grind.{common_steps}
 use Rattle.std.proofs.lemmas.List.{length-take-le}
-use Rattle.lrup_text.specs.ReadLemmas.{gave_more}
+use Rattle.lrup_text.specs.lemmas.ReadLemmas.{gave_more}
 use Rattle.rtrb.specs.Ring.{sent}
 use Rattle.lrup_text.specs.declared.device.StreamEnd.TheVariants as stream_ends
 use Rattle.stream_ring.proofs.channel.Sender.send_all.Goals as goal

@@ -1,6 +1,7 @@
 use Rattle.std.proofs.Common.{subst}
 use Rattle.runs.specs.Readings.{readers_view}
-use Rattle.stream_threads.specs.Jobs.{IsEndOf, JobsValue, StartedValue}
+use Rattle.stream_threads.specs.internal.Workers.{IsEndOf, StartedValue}
+use Rattle.stream_threads.specs.Jobs.{JobsValue}
 use Rattle.stream_threads.proofs.ThreadLemmas.{if_stayed}
 use Rattle.stream_threads.proofs.jobs.Started.join.Goals as goal
 

@@ -1,6 +1,6 @@
 use Rattle.std.proofs.Common.{ap, arith}
 use Rattle.lrup_model.specs.Layout.{LayoutValue}
-use Rattle.checker_support.specs.OpenedLemmas.{ready_for}
+use Rattle.checker_support.specs.lemmas.OpenedLemmas.{ready_for}
 use Rattle.stream_check_tests.proofs.tests.two_streams.Two.feed_second.Goals as goal
 
 pub invariant_of-self : goal.invariant_of-self

@@ -1,0 +1,6 @@
+-- What contracts of private functions say.
+pub mod FaultSources
+pub mod Saving
+pub mod Running
+pub mod Standing
+pub mod Watching

@@ -1,0 +1,80 @@
+-- What the check of streams leaves: what private functions say of it (this project's own).
+use Rattle.std.specs.Prelude.{◌≡◌, ◌<◌, Bool, false, List, vec_len}
+use Rattle.std.specs.Prelude.{ℕ}
+use Rattle.lrup_model.specs.Event.{History}
+use Rattle.lrup_model.specs.Formula.{Cnf}
+use Rattle.lrup_model.specs.Layout.{Fits, IsFault, IsStream, LayoutValue}
+use Rattle.lrup_model.specs.Plain.{formula_of, plain_state}
+use Rattle.lrup_model.specs.State.{state}
+use Rattle.clause_store.specs.Passes.{AreOf, views}
+use Rattle.lrup_text.specs.ReadOut.{SourceView}
+use Rattle.runs.specs.Headline.{HaveOneHistory}
+use Rattle.runs.specs.Streams.{TermsValue}
+use Rattle.stream_check.specs.DroppedValue.{DroppedValue}
+use Rattle.stream_check.specs.declared.report.Report.{Report}
+use Rattle.portfolio.specs.Histories.{IsRunOf, way_of}
+use Rattle.portfolio.specs.Outcomes.{terms_of}
+use Rattle.command.specs.Commands.{HasNoFault}
+use Rattle.command.specs.declared.fault.CommandFault.{CommandFault}
+use Rattle.command.specs.declared.fault.CommandFault.TheVariants as faults
+use Rattle.command.specs.declared.running.LeftClauses.{LeftClauses}
+use Rattle.command.specs.declared.running.LeftClauses.TheVariants as lefts
+use Rattle.command.specs.declared.running.Setup.{Setup}
+use Rattle.command.specs.Commands.{HasBrokenOff}
+
+-- the layout by which clauses were left
+abbrev pub left_layout : LeftClauses → LayoutValue
+left_layout (lefts.Shared left) = left.store.layout
+left_layout (lefts.Plain left) = left.map.layout
+
+-- the identities that the streams dropped
+abbrev pub dropped_in : LeftClauses → List DroppedValue
+dropped_in (lefts.Shared left) = left.dropped.items
+dropped_in (lefts.Plain left) = left.dropped.items
+
+-- these clauses of a formula are left by this history
+abbrev pub HasHistory : Cnf → History → LeftClauses → Type 0
+HasHistory formula history (lefts.Shared left) =
+    HaveOneHistory formula left.store.layout history (views left.passes.items)
+HasHistory formula history (lefts.Plain left) =
+    (formula_of left.map ≡ formula) × (plain_state left.map ≡ state formula history)
+
+-- they can be saved
+abbrev pub CanBeSaved : LeftClauses → Type 0
+CanBeSaved (lefts.Shared left) =
+    AreOf left.store left.passes.items × (0 < vec_len left.passes)
+CanBeSaved (lefts.Plain left) = Fits left.map.layout (formula_of left.map)
+
+-- It is a run that has these reports, and these clauses were left by its history.
+pub record StandsBehind {R : Type 0} (view : SourceView R) (serial : Bool) (formula : Cnf)
+    (terms : TermsValue) (firsts : List R) (reports : List Report)
+    (left : LeftClauses) : Type 0 where
+  pub lasts : List R
+  pub ran : IsRunOf (way_of serial) view formula terms firsts lasts reports (dropped_in left)
+  pub layout : left_layout left ≡ terms.layout
+  pub has : HasHistory formula ran.run.history left
+
+-- why streams aren't checked: there is no layout
+abbrev pub IsLayoutCause : LayoutValue → CommandFault → Type 0
+IsLayoutCause layout (faults.Layout fault) = IsFault layout fault
+IsLayoutCause layout fault = ⊥
+
+-- why streams weren't checked: there is no layout; or there is one, and a thread wasn't started, or what it sent had no end
+abbrev pub IsRunCause : Bool → LayoutValue → CommandFault → Type 0
+IsRunCause serial layout (faults.Layout fault) = IsFault layout fault
+IsRunCause serial layout (faults.Spawn stream) =
+    HasNoFault layout × (serial ≡ false) × IsStream layout stream
+IsRunCause serial layout (faults.Ring stream) =
+    HasNoFault layout × (serial ≡ false) × IsStream layout stream
+IsRunCause serial layout faults.Memory = Unit {0}
+IsRunCause serial layout fault = ⊥
+
+-- the same, of a setup and so many streams
+abbrev pub terms_on : Setup → ℕ → TermsValue
+terms_on setup streams = terms_of setup.options setup.cube.now setup.formula.now streams
+
+-- why a file that was opened wasn't read to its end
+abbrev pub IsFailedRead : {R : Type 0} → SourceView R → R → CommandFault → Type 0
+IsFailedRead reading first faults.Unread = HasBrokenOff reading first
+IsFailedRead reading first faults.Memory = Unit {0}
+IsFailedRead reading first fault = ⊥

@@ -1,0 +1,3 @@
+-- What contracts of private functions say.
+pub mod Places
+pub mod Marks

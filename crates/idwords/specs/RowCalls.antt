@@ -1,0 +1,36 @@
+-- What a call of the row tells the pass that makes it (this project's own).
+use Rattle.std.specs.Prelude.{◌≡◌, ◌+◌, ◌/◌, ◌%◌, ◌++◌, ℕ, ℤ, List, [], ◌∷◌, Some, length, slice_get}
+use Rattle.lrup_model.specs.Clause.{Clause}
+use Rattle.lrup_model.specs.Event.{Event, History}
+use Rattle.lrup_model.specs.Layout.{row_words}
+use Rattle.lrup_model.specs.Place.{Kept}
+use Rattle.lrup_model.specs.Pass.{View, Spelling, IsFair, PassMoves, kept_in}
+use Rattle.lrup_model.specs.declared.clause_map.Published.{Published}
+use Rattle.lrup_model.specs.declared.clause_map.Published.TheVariants as publishing
+use Rattle.lrup_model.specs.Literal.{code_of}
+use Rattle.idwords.specs.Words.{words_for, half_of}
+use Rattle.idwords.specs.Spelling.{LieWithin}
+
+-- the history ends with the event
+abbrev pub EndsWith : History → Event → Type 0
+EndsWith history event = (before : History) × (history ≡ before ++ event ∷ [])
+
+-- a fair pass that moved by one call, which is the last that it has seen; its clauses lie inside the row
+pub record Calls (old new : View) (event : Event) : Type 0 where
+  pub moves : PassMoves old new (event ∷ [])
+  pub last : EndsWith new.seen event
+  pub fair : IsFair new
+  pub within : LieWithin (row_words new.caller.layout) new.spelt
+
+-- where the place is that of a literal of a clause that is kept, the word has the literal's code in its half: 0 for an even place among the clause's
+-- literals, 1 for an odd one
+abbrev pub IsText : List Spelling → ℕ → ℕ → Type 0
+IsText spellings place word =
+    (id k : ℕ) (kept : Kept) (l : ℤ) → kept_in spellings id ≡ Some kept
+    → slice_get kept.literals k ≡ Some l → place ≡ kept.start + k / 2
+    → half_of (k % 2) word ≡ code_of l
+
+-- the top after a publish of a draft
+abbrev pub top_after_reply : Published → ℕ → Clause → ℕ
+top_after_reply publishing.Done top draft = top + words_for (length draft)
+top_after_reply publishing.Taken top draft = top

@@ -1,0 +1,27 @@
+-- The words of the row at the opening (this project's own).
+use Rattle.std.specs.Prelude.{◌+◌, ◌-◌, ◌*◌, ◌++◌, ℕ, List, [], ◌∷◌, length, replicate}
+use Rattle.lrup_model.specs.Clause.{Clause}
+use Rattle.lrup_model.specs.Formula.{Cnf}
+use Rattle.lrup_model.specs.Layout.{LayoutValue, last_identity}
+use Rattle.idwords.specs.internal.RowWords.{identity_word, packed}
+use Rattle.idwords.specs.Words.{words_for}
+
+-- the words of live clauses, whose literals lie one clause after the other, from this place on
+abbrev pub clause_words : ℕ → List Clause → List ℕ
+clause_words start [] = []
+clause_words start (clause ∷ clauses) =
+    identity_word 1 (length clause) start ∷ clause_words (start + words_for (length clause)) clauses
+
+abbrev pub literal_words : List Clause → List ℕ
+literal_words [] = []
+literal_words (clause ∷ clauses) = packed clause ++ literal_words clauses
+
+-- 0, the formula's identities, the streams' vacant ones, the formula's literals, and zeros to the end of the row: the words that literals two in a
+-- word leave, and the streams' rooms, where nothing is written
+abbrev pub opening_words : Cnf → LayoutValue → List ℕ
+opening_words formula layout =
+    0 ∷ clause_words (1 + last_identity layout) formula.clauses
+    ++ replicate (layout.streams * layout.lines) 0
+    ++ literal_words formula.clauses
+    ++ replicate
+    (layout.literals + layout.streams * layout.room - length (literal_words formula.clauses)) 0

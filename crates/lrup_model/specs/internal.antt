@@ -1,0 +1,4 @@
+-- What contracts of private functions say.
+pub mod Codes
+pub mod Pieces
+pub mod PlainInside

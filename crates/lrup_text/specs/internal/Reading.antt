@@ -1,0 +1,173 @@
+-- A line as far as it was read: what was read, and what a byte does.
+use Rattle.std.specs.Prelude.{◌≡◌, ℕ, ◌<◌, ◌≤◌, ◌^◌, ℤ, Bool, true, false, List, [], ◌∷◌, ◌++◌, length, take}
+use Rattle.std.specs.Fmt.{decimal, signed_decimal}
+use Rattle.std.specs.List.{AllByRecursion, flat_map}
+use Rattle.std.specs.Prelude.{Option, Some, None, Ok, Err}
+use Rattle.lrup_text.specs.declared.machine.Place.{Place}
+use Rattle.lrup_text.specs.declared.machine.Place.TheVariants as places
+use Rattle.lrup_text.specs.declared.machine.ByteStep.{ByteStep}
+use Rattle.lrup_text.specs.declared.machine.ByteStep.TheVariants.{More, Done, Refused}
+use Rattle.lrup_text.specs.declared.machine.PartialLine.{PartialLine}
+use Rattle.lrup_text.specs.Writing.{space}
+use Rattle.lrup_text.specs.internal.ByteNames.{minus, zero_digit, letter_d, letter_i}
+use Rattle.lrup_text.specs.Faults.{IsRefused}
+use Rattle.lrup_text.specs.Lines.{StreamLine, Addition, Deletion, Import, LineText, IsStreamNumber, IsStreamLiteral}
+use Rattle.lrup_text.specs.internal.Rests.{Spot, AtStart, InLead, AfterImport, BeforeLiteral, AfterMinus, InLiteral, BeforeList}
+use Rattle.lrup_text.specs.internal.Rests.{BeforeItem, InItem, AtEnd, Tracks}
+use Rattle.lrup_text.specs.declared.LineFault.{LineFault}
+use Rattle.lrup_text.specs.Feeding.{ReaderState}
+
+-- the literals, and the hints or identities, read so far
+abbrev pub literals_read : PartialLine → List ℤ
+literals_read partial = take partial.literal_count partial.literals.items
+
+abbrev pub identities_read : PartialLine → List ℕ
+identities_read partial = take partial.identity_count partial.identities.items
+
+-- a line by its parts
+abbrev pub line_of_parts : (imports deletes : Bool) → ℕ → List ℤ → List ℕ → StreamLine
+line_of_parts true deletes lead lits ids = Import lead lits
+line_of_parts false true lead lits ids = Deletion lead ids
+line_of_parts false false lead lits ids = Addition lead lits ids
+
+-- the line that was read
+abbrev pub line_so_far : PartialLine → StreamLine
+line_so_far partial =
+    line_of_parts partial.imports partial.deletes partial.lead (literals_read partial)
+    (identities_read partial)
+
+-- literals and the space after each; items and the space before each
+unfoldable pub literals_text : List ℤ → List ℕ
+literals_text lits = flat_map (λ z. signed_decimal z ++ space ∷ []) lits
+
+unfoldable pub items_text : List ℕ → List ℕ
+items_text items = flat_map (λ n. space ∷ decimal n) items
+
+-- the text up to more literals; up to the list; up to more of its items
+abbrev pub clause_front : (imports : Bool) → ℕ → List ℤ → List ℕ
+clause_front true lead lits = decimal lead ++ space ∷ letter_i ∷ space ∷ literals_text lits
+clause_front false lead lits = decimal lead ++ space ∷ literals_text lits
+
+abbrev pub list_front : Bool → ℕ → List ℤ → List ℕ
+list_front true lead lits = decimal lead ++ space ∷ letter_d ∷ []
+list_front false lead lits = clause_front false lead lits ++ zero_digit ∷ []
+
+abbrev pub item_front : PartialLine → List ℕ
+item_front partial =
+    list_front partial.deletes partial.lead (literals_read partial)
+    ++ items_text (identities_read partial)
+
+-- the text up to the end of the line
+abbrev pub end_front : (imports deletes : Bool) → ℕ → List ℤ → List ℕ → List ℕ
+end_front true deletes lead lits ids = clause_front true lead lits ++ zero_digit ∷ []
+end_front false deletes lead lits ids =
+    (list_front deletes lead lits ++ items_text ids) ++ space ∷ zero_digit ∷ []
+
+-- a literal as far as it was read
+abbrev pub literal_front : Bool → ℕ → List ℕ
+literal_front true number = minus ∷ decimal number
+literal_front false number = decimal number
+
+-- the bytes of the line that were read
+unfoldable pub pending_at : Place → PartialLine → List ℕ
+pending_at places.Start partial = []
+pending_at places.Lead partial = decimal partial.number
+pending_at places.Import partial = decimal partial.lead ++ space ∷ letter_i ∷ []
+pending_at places.Body partial = clause_front partial.imports partial.lead (literals_read partial)
+pending_at places.Minus partial =
+    clause_front partial.imports partial.lead (literals_read partial) ++ minus ∷ []
+pending_at places.Literal partial =
+    clause_front partial.imports partial.lead (literals_read partial)
+    ++ literal_front partial.negative partial.number
+pending_at places.List partial = list_front partial.deletes partial.lead (literals_read partial)
+pending_at places.Item partial = item_front partial ++ space ∷ []
+pending_at places.Number partial = item_front partial ++ space ∷ decimal partial.number
+pending_at places.LineEnd partial =
+    end_front partial.imports partial.deletes partial.lead (literals_read partial)
+    (identities_read partial)
+
+abbrev pub pending : PartialLine → List ℕ
+pending partial = pending_at partial.place partial
+
+-- where in a line that is
+unfoldable pub spot_at : Place → PartialLine → Spot
+spot_at places.Start partial = AtStart
+spot_at places.Lead partial = InLead partial.digits
+spot_at places.Import partial = AfterImport
+spot_at places.Body partial = BeforeLiteral partial.imports partial.literal_count
+spot_at places.Minus partial = AfterMinus partial.imports partial.literal_count
+spot_at places.Literal partial = InLiteral partial.imports partial.digits partial.literal_count
+spot_at places.List partial = BeforeList partial.deletes
+spot_at places.Item partial = BeforeItem partial.deletes partial.identity_count
+spot_at places.Number partial = InItem partial.deletes partial.digits partial.identity_count
+spot_at places.LineEnd partial = AtEnd
+
+-- what a place asks of the counts, and of the line's kind
+unfoldable pub IsRoomy : Place → PartialLine → Type 0
+IsRoomy places.Import partial =
+    (partial.identity_count ≡ 0) × (partial.literal_count ≡ 0) × (partial.imports ≡ true)
+IsRoomy places.Body partial = partial.identity_count ≡ 0
+IsRoomy places.Minus partial = (partial.identity_count ≡ 0) × (partial.literal_count < 65535)
+IsRoomy places.Literal partial = (partial.identity_count ≡ 0) × (partial.literal_count < 65535)
+IsRoomy places.List partial = (partial.identity_count ≡ 0) × (partial.imports ≡ false)
+IsRoomy places.Item partial = partial.imports ≡ false
+IsRoomy places.Number partial = (partial.identity_count < 65536) × (partial.imports ≡ false)
+IsRoomy _ partial = Unit {0}
+
+-- the buffers have room for all that a line may hold
+pub record HasRoom (lits : List ℤ) (ids : List ℕ) : Type 0 where
+  pub literals : length lits ≡ 65535
+  pub identities : length ids ≡ 65536
+
+-- the first number, and the literals and identities in front of the buffers, can stand in a line
+pub record CanStandInLine (first : ℕ) (lits : List ℤ) (literal_count : ℕ) (ids : List ℕ)
+    (identity_count : ℕ) : Type 0 where
+  pub lead : IsStreamNumber first
+  pub few_literals : literal_count ≤ 65535
+  pub few_identities : identity_count ≤ 65536
+  pub literals : AllByRecursion IsStreamLiteral (take literal_count lits)
+  pub identities : AllByRecursion IsStreamNumber (take identity_count ids)
+
+-- a number of so many digits
+pub record FitsDigits (number digits : ℕ) : Type 0 where
+  pub low : 0 < number
+  pub high : number < 10 ^ digits
+  pub few : digits ≤ 18
+
+-- what is kept between two bytes
+pub record IsPartialLine (partial : PartialLine) : Type 0 where
+  pub room : HasRoom partial.literals.items partial.identities.items
+  pub kept : CanStandInLine partial.lead partial.literals.items partial.literal_count
+      partial.identities.items partial.identity_count
+  pub number : FitsDigits partial.number partial.digits
+  pub roomy : IsRoomy partial.place partial
+  pub tracks : Tracks (pending partial) (spot_at partial.place partial)
+
+-- What a byte does. The line goes on; or it is whole, and reading stands before the next; or no line begins so.
+abbrev pub ReadsByte : PartialLine → ℕ → ByteStep → PartialLine → Type 0
+ReadsByte old byte More new = IsPartialLine new × (pending new ≡ pending old ++ byte ∷ [])
+ReadsByte old byte Done new =
+    IsPartialLine new × (pending new ≡ []) × LineText (line_so_far new) (pending old ++ byte ∷ [])
+ReadsByte old byte (Refused fault) new = IsRefused (pending old ++ byte ∷ []) fault
+
+-- So many bytes of a piece were read, and the line goes on.
+pub record ReadsAhead (old : PartialLine) (piece : List ℕ) (used : ℕ)
+    (new : PartialLine) : Type 0 where
+  pub bound : used ≤ length piece
+  pub reads : IsPartialLine new
+  pub is : pending new ≡ pending old ++ take used piece
+
+-- What the bytes of a piece do, of which so many were used.
+abbrev pub StepsThrough : PartialLine → List ℕ → ℕ → ByteStep → PartialLine → Type 0
+StepsThrough old piece used More new =
+    (used ≡ length piece) × IsPartialLine new × (pending new ≡ pending old ++ piece)
+StepsThrough old piece used Done new =
+    (0 < used) × (used ≤ length piece) × IsPartialLine new × (pending new ≡ [])
+    × LineText (line_so_far new) (pending old ++ take used piece)
+StepsThrough old piece used (Refused fault) new =
+    (0 < used) × (used ≤ length piece) × IsRefused (pending old ++ take used piece) fault
+
+-- the state with this fault, if any, and this text
+abbrev pub reader_state : Option LineFault → List ℕ → ReaderState
+reader_state None read = Ok read
+reader_state (Some fault) read = Err fault

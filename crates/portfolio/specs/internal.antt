@@ -1,0 +1,5 @@
+-- What contracts of private functions say.
+pub mod WatchText
+pub mod Working
+pub mod Turns
+pub mod Threads

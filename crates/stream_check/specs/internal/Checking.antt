@@ -1,0 +1,129 @@
+-- What the parts of a checker do: a lookup, the hints of an addition, an addition, the identities of a deletion (this project's own).
+use Rattle.std.specs.Prelude.{◌≡◌, ◌==◌, ◌++◌, ◌||◌, ℕ, Bool, true, false, List, [], ◌∷◌, length, Result, Ok, Err}
+use Rattle.std.specs.List.{AllByRecursion}
+use Rattle.lrup_model.specs.Clause.{Clause}
+use Rattle.lrup_model.specs.Formula.{Cnf}
+use Rattle.lrup_model.specs.Entailment.{IsDerived}
+use Rattle.lrup_model.specs.Event as events
+use Rattle.lrup_model.specs.Event.{Event, History}
+use Rattle.lrup_model.specs.Place.{Place, ClipValue, IsKnown, AllFollow, clip_clause}
+use Rattle.lrup_model.specs.Propagation.{Accepts}
+use Rattle.lrup_model.specs.declared.clause_map.Fetched.{Fetched}
+use Rattle.lrup_model.specs.declared.clause_map.Fetched.TheVariants as fetched
+use Rattle.lrup_model.specs.declared.clause_map.Retired.TheVariants as retiring
+use Rattle.propagate.specs.Marks.{Propagation}
+use Rattle.stream_check.specs.declared.fault.Fault.{Fault}
+use Rattle.stream_check.specs.declared.fault.Fault.TheVariants as faults
+use Rattle.stream_check.specs.declared.setting.Side.{Side}
+use Rattle.stream_check.specs.declared.setting.Side.TheVariants as sides
+use Rattle.stream_check.specs.declared.line_stop.LineStop.{LineStop}
+use Rattle.stream_check.specs.declared.line_stop.LineStop.TheVariants as stops
+use Rattle.stream_check.specs.Setting.{Setting, side_of}
+use Rattle.stream_check.specs.Standing.{is_among}
+use Rattle.stream_check.specs.Verdicts.{LineVerdict, Good, Bad}
+use Rattle.stream_check.specs.Additions.{AreFound, FailsHints}
+use Rattle.stream_check.specs.Deletions.{JudgesDeletion, StopsDeletion}
+use Rattle.stream_check.specs.Stopping.{DropsMore}
+
+-- a live clause that a fetch gave is known at the place, every clause there follows, and the layout has the formula's variables
+abbrev pub Gives : Place → Fetched → Type 0
+Gives place fetched.Vacant = Unit {0}
+Gives place (fetched.Live clip) =
+    IsKnown place clip × AllFollow place × (place.caller.formula.vars ≡ place.caller.layout.vars)
+Gives place fetched.Retired = Unit {0}
+
+-- the event is a fetch
+abbrev pub IsFetch : Event → Type 0
+IsFetch (events.fetch s id reply) = Unit {0}
+IsFetch (events.publish s id clause reply) = ⊥
+IsFetch (events.retire s id reply) = ⊥
+
+-- Additions
+
+-- hints leave the clause that was taken up
+abbrev pub KeepsClause : Propagation → Propagation → Type 0
+KeepsClause old new = (new.vars ≡ old.vars) × (new.clause ≡ old.clause)
+
+-- what a look-up found: the clause of the clip, or the fault
+abbrev pub found_by : Place → Result ClipValue Fault → Result Clause Fault
+found_by place (Ok clip) = Ok (clip_clause place clip)
+found_by place (Err fault) = Err fault
+
+-- what the hints of an addition come to: they show its clause, or there is a fault
+abbrev pub Shows : Setting → (ℕ → Bool) → Cnf → Clause → List ℕ → History → Result (Unit {0}) Fault
+    → Type 0
+Shows setting gone formula clause hints history (Ok _) =
+    (hinted : List Clause) × AllByRecursion (IsDerived formula) hinted × Accepts clause hinted
+    × (formula.vars ≡ setting.layout.vars) × AreFound setting gone hints hinted history
+Shows setting gone formula clause hints history (Err fault) =
+    FailsHints setting gone clause hints history fault
+
+-- no hint may be left after the conflict
+abbrev pub excess_of : List ℕ → Result (Unit {0}) Fault
+excess_of [] = Ok tt
+excess_of (hint ∷ hints) = Err (faults.Excess hint)
+
+-- the verdict of an addition or an import that is good, or has this fault
+abbrev pub line_verdict : Result (Unit {0}) Fault → LineVerdict
+line_verdict (Ok _) = Good
+line_verdict (Err fault) = Bad 0 fault
+
+-- Deletions
+
+-- An identity to delete that is an own one: the reply to one retire decides. No other has an event.
+abbrev pub DeletesOwn : Setting → ℕ → List ℕ → List ℕ → History → Result (Unit {0}) LineStop
+    → Type 0
+DeletesOwn setting id old new history (Ok _) =
+    (history ≡ events.retire setting.stream id retiring.Done ∷ []) × (new ≡ old)
+DeletesOwn setting id old new history (Err (stops.Bad fault)) =
+    (history ≡ events.retire setting.stream id retiring.NotLive ∷ []) × (fault ≡ faults.NotLive id)
+    × (new ≡ old)
+DeletesOwn setting id old new history (Err stops.Memory) = ⊥
+
+-- one of the formula's or of another stream's: it is kept among the dropped ones, where it isn't yet
+abbrev pub DropsShared : ℕ → List ℕ → List ℕ → Result (Unit {0}) LineStop → Type 0
+DropsShared id old new (Ok _) =
+    (is_among old id ≡ false) × ((j : ℕ) → is_among new j ≡ (is_among old j || id == j))
+DropsShared id old new (Err (stops.Bad fault)) =
+    (is_among old id ≡ true) × (fault ≡ faults.NotLive id) × (new ≡ old)
+DropsShared id old new (Err stops.Memory) = (is_among old id ≡ false) × (new ≡ old)
+
+abbrev pub DeletesSide : Side → Setting → ℕ → List ℕ → List ℕ → History
+    → Result (Unit {0}) LineStop → Type 0
+DeletesSide sides.Formula setting id old new history result =
+    (history ≡ []) × DropsShared id old new result
+DeletesSide sides.Own setting id old new history result =
+    DeletesOwn setting id old new history result
+DeletesSide sides.Foreign setting id old new history result =
+    (history ≡ []) × DropsShared id old new result
+DeletesSide sides.Outside setting id old new history result =
+    (history ≡ []) × (result ≡ Err (stops.Bad (faults.NotLive id))) × (new ≡ old)
+
+-- what became of one identity to delete, where these were dropped before, and these are afterwards
+abbrev pub DeletesOne : Setting → ℕ → List ℕ → List ℕ → History → Result (Unit {0}) LineStop
+    → Type 0
+DeletesOne setting id old new history result =
+    DeletesSide (side_of setting id) setting id old new history result
+
+-- so many identities more were deleted with this one
+abbrev pub counted : Result (Unit {0}) LineStop → ℕ
+counted (Ok _) = 1
+counted (Err stop) = 0
+
+-- The dropped ones are those of before, and the shared ones of these identities.
+abbrev pub AreDropped : Setting → List ℕ → List ℕ → List ℕ → Type 0
+AreDropped setting old ids new = DropsMore setting (is_among old) ids (is_among new)
+
+-- What a deletion came to: it is good, or bad, or out of memory, after so many identities; the shared ones of these were dropped.
+abbrev pub Deletes : Setting → List ℕ → List ℕ → List ℕ → History → ℕ → Result (Unit {0}) LineStop
+    → Type 0
+Deletes setting old new ids history count (Ok _) =
+    JudgesDeletion setting (is_among old) [] ids history Good × (count ≡ length ids)
+    × AreDropped setting old ids new
+Deletes setting old new ids history count (Err (stops.Bad fault)) =
+    (earlier later : List ℕ) × (count ≡ length earlier) × (ids ≡ earlier ++ later)
+    × JudgesDeletion setting (is_among old) [] ids history (Bad (length earlier) fault)
+    × AreDropped setting old earlier new
+Deletes setting old new ids history count (Err stops.Memory) =
+    (earlier : List ℕ) × (count ≡ length earlier)
+    × StopsDeletion setting (is_among old) ids history earlier × AreDropped setting old earlier new

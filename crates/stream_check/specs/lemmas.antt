@@ -1,0 +1,9 @@
+-- Lemmas, which other crates' proofs may cite.
+pub mod CubeLemmas
+pub mod AdditionLemmas
+pub mod EventLemmas
+pub mod MappingLemmas
+pub mod ReportLemmas
+pub mod StandingLemmas
+pub mod StoppingLemmas
+pub mod ReducingLemmas

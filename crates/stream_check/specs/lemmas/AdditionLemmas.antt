@@ -1,0 +1,92 @@
+-- Lemmas on additions: their literals, their conditions and their hints; and on what fetches change.
+use Rattle.std.proofs.Common.{◌≡◌, ◌≤◌, ◌++◌, ℕ, ℤ, neg_ℤ, nat_abs, Bool, false, List, [], ◌∷◌, Ok, inl, inr, refl, sym, subst, ◌∙◌}
+use Rattle.std.specs.List.{AllByRecursion}
+use Rattle.lrup_model.specs.Clause.{Clause}
+use Rattle.lrup_model.specs.Literal.{IsLiteral}
+use Rattle.lrup_model.specs.lemmas.DistinctLemmas.{IsTautology-in_distinct}
+use Rattle.lrup_model.specs.Event as events
+use Rattle.lrup_model.specs.Event.{History}
+use Rattle.lrup_model.specs.Propagation.{IsUnit, Refutes}
+use Rattle.lrup_model.specs.State.{State, run}
+use Rattle.lrup_text.specs.Lines.{IsStreamLiteral}
+use Rattle.stream_check.specs.declared.fault.Fault.{Fault}
+use Rattle.stream_check.specs.Setting.{Setting}
+use Rattle.stream_check.specs.Standing.{Standing}
+use Rattle.stream_check.specs.Verdicts.{Violates}
+use Rattle.stream_check.specs.Asking.{Asks, LooksUp}
+use Rattle.stream_check.specs.Additions.{AreFound, BeforeHints, context_of, IsValidAddition, Misleads}
+use Rattle.stream_check.specs.internal.Checking.{IsFetch}
+
+-- none of the literals of a line is 0
+pub literals_within : (vars : ℕ) (ls : List ℤ) → AllByRecursion IsStreamLiteral ls
+    → AllByRecursion (λ l. nat_abs l ≤ vars) ls → AllByRecursion (IsLiteral vars) ls
+literals_within vars [] nonzero all = tt
+literals_within vars (l ∷ ls) nonzero all = ((nonzero.0.0, all.0), literals_within vars ls nonzero.1 all.1)
+
+-- fetches change nothing
+pub run-fetches : (m : State) (es : History) → AllByRecursion IsFetch es → run m es ≡ m
+run-fetches m [] h = refl
+run-fetches m (events.fetch s id r ∷ es) h = run-fetches m es h.1
+run-fetches m (events.publish s id c r ∷ es) h = absurd h.0
+run-fetches m (events.retire s id r ∷ es) h = absurd h.0
+
+-- a violated condition has no events, and so it is of other events, where these are none then
+pub violates_maps : (Holds : Type 0) (its : Fault) (es fs : History) (fault : Fault) (A B : Type 0)
+    → (es ≡ [] → fs ≡ []) → (A → B) → Violates Holds its es fault A → Violates Holds its fs fault B
+violates_maps Holds its es fs fault A B none next (inl bad) = inl (bad.0, none bad.1, bad.2)
+violates_maps Holds its es fs fault A B none next (inr good) = inr (good.0, next good.1)
+
+pub before_maps : (c : Setting) (st : Standing) (id : ℕ) (lits : List ℤ) (es fs : History)
+    (fault : Fault) (A B : Type 0)
+    → (es ≡ [] → fs ≡ []) → (A → B) → BeforeHints c st id lits es fault A
+    → BeforeHints c st id lits fs fault B
+before_maps c st id lits es fs fault A B none next before =
+    violates_maps _ _ es fs fault _ _ none (λ a. violates_maps _ _ es fs fault _ _ none (λ a. violates_maps _ _ es fs fault _ _ none
+    (λ a. violates_maps _ _ es fs fault _ _ none next a) a) a) before
+
+-- a valid addition violates none of the conditions before those of its hints
+pub valid_passes : (c : Setting) (st : Standing) (fetches : History) (id : ℕ) (lits : List ℤ)
+    (hints : List ℕ) (es : History) (fault : Fault) (A : Type 0)
+    → IsValidAddition c.layout c.stream (context_of c st fetches) id lits hints
+    → BeforeHints c st id lits es fault A → A
+valid_passes c st fetches id lits hints es fault A valid (inl bad) = absurd (bad.0 (valid.owns, valid.above))
+valid_passes c st fetches id lits hints es fault A valid (inr (a, inl bad)) = absurd (bad.0 valid.literals)
+valid_passes c st fetches id lits hints es fault A valid (inr (a, inr (b, inl bad))) =
+    absurd (bad.0 (λ t. valid.shown.0 (IsTautology-in_distinct lits t)))
+valid_passes c st fetches id lits hints es fault A valid (inr (a, inr (b, inr (d, inl bad)))) = absurd (bad.0 valid.room)
+valid_passes c st fetches id lits hints es fault A valid (inr (a, inr (b, inr (d, inr (e, next))))) = next
+
+-- a look-up that came to a clause fetched it
+pub found_live : (c : Setting) (gone : ℕ → Bool) (h : ℕ) (es : History) (d : Clause)
+    → LooksUp c gone h es (Ok d) → (gone h ≡ false) × Asks c h es (events.live d)
+found_live c gone h es d (inl dropped) = absurd (let e = dropped.2 in cc)
+found_live c gone h es d (inr (kept, events.vacant, asks, is)) = absurd (cc)
+found_live c gone h es d (inr (kept, events.live e, asks, is)) =
+    let same : e ≡ d = cc in (kept, subst (λ (x : Clause). Asks c h es (events.live x)) same asks)
+found_live c gone h es d (inr (kept, events.retired, asks, is)) = absurd (cc)
+
+pub no_hints_left : (c : Setting) (gone : ℕ → Bool) (hints : List ℕ) (es : History)
+    → AreFound c gone hints [] es → hints ≡ []
+no_hints_left c gone [] es found = refl
+no_hints_left c gone (h ∷ hints) es found = absurd found
+
+-- a clause that is needed is of help
+pub no_help : (n : List ℤ) (d : Clause) (ds : List Clause) (c : Setting) (gone : ℕ → Bool) (h : ℕ)
+    (hints : List ℕ) (es : History) (fault : Fault)
+    → Refutes n (d ∷ ds) → AreFound c gone hints ds es → Misleads n d h hints fault → ⊥
+no_help n d [] c gone h hints es fault refutes found (inl neither) = neither.0 refutes
+no_help n d [] c gone h hints es fault refutes found (inr excess) =
+    let none = sym (no_hints_left c gone hints es found) ∙ excess.3 in cc
+no_help n d (e ∷ ds) c gone h hints es fault refutes found (inl neither) =
+    neither.1 refutes.0 refutes.1
+no_help n d (e ∷ ds) c gone h hints es fault refutes found (inr excess) =
+    refutes.1.not_false (excess.0 refutes.0 refutes.1.here)
+
+-- behind a clause that is unit the others refute
+pub refutes_on : (n : List ℤ) (d : Clause) (ds : List Clause) (l : ℤ) → Refutes n (d ∷ ds)
+    → IsUnit n d l → Refutes (n ++ neg_ℤ l ∷ []) ds
+refutes_on n d [] l refutes unit = absurd (unit.not_false (refutes l unit.here))
+refutes_on n d (e ∷ ds) l refutes unit = elim (refutes.1.others l unit.here) [
+  | inl same ↦ subst (λ (k : ℤ). Refutes (n ++ neg_ℤ k ∷ []) (e ∷ ds)) (sym same) refutes.2
+  | inr there ↦ absurd (unit.not_false there)
+]

@@ -1,0 +1,182 @@
+-- A line of which other events are made, or that is judged under another cube, is judged alike.
+use Rattle.std.proofs.Common.{◌≡◌, ◌∙◌, ℕ, ℤ, neg_ℤ, Bool, List, [], ◌∷◌, ◌++◌, Result, Ok, Err, inl, inr, refl, sym, ap, subst}
+use Rattle.std.proofs.Common.{append_assoc, append-nil}
+use Rattle.lrup_model.specs.Clause.{Clause}
+use Rattle.lrup_model.specs.Cube.{CubeValue}
+use Rattle.lrup_model.specs.Distinct.{distinct}
+use Rattle.lrup_model.specs.Event as events
+use Rattle.lrup_model.specs.Event.{History}
+use Rattle.lrup_model.specs.declared.clause_map.Retired.{Retired}
+use Rattle.lrup_model.specs.declared.clause_map.Retired.TheVariants as retiring
+use Rattle.lrup_text.specs.Lines.{StreamLine, Addition, Deletion, Import}
+use Rattle.stream_check.specs.declared.fault.Fault.{Fault}
+use Rattle.stream_check.specs.declared.setting.Side.{Side}
+use Rattle.stream_check.specs.declared.setting.Side.TheVariants as sides
+use Rattle.stream_check.specs.Setting.{Setting, side_of}
+use Rattle.stream_check.specs.Standing.{Standing}
+use Rattle.stream_check.specs.Verdicts.{LineVerdict, Good, Bad}
+use Rattle.stream_check.specs.Asking.{answer_of, LooksUp}
+use Rattle.stream_check.specs.Additions.{AreFound, FailsBy, FailsHints, published_by, JudgesAddition}
+use Rattle.stream_check.specs.lemmas.AdditionLemmas.{violates_maps, before_maps}
+use Rattle.stream_check.specs.Deletions.{RetiresThen, DropsThen, DeletesAt, JudgesDeletion}
+use Rattle.stream_check.specs.Imports.{JudgesImport}
+use Rattle.stream_check.specs.Judging.{JudgesLine}
+
+-- the same setting, under this cube
+abbrev pub under : Setting → CubeValue → Setting
+under c cube = record c { cube = cube }
+
+-- the events of a look-up, and those behind them, become others that come to the same
+pub record LooksOn (c : Setting) (f : History → History) (gone : ℕ → Bool) (h : ℕ)
+    (asked rest : History) (answer : Result Clause Fault) : Type 0 where
+  pub fewer : History
+  pub events : f (asked ++ rest) ≡ fewer ++ f rest
+  pub looks : LooksUp c gone h fewer answer
+
+module _ (c : Setting) (cube : CubeValue) (f : History → History) (none : f [] ≡ [])
+    (published : (id : ℕ) (lits : List ℤ)
+    → f (published_by c id lits ∷ []) ≡ published_by c id lits ∷ [])
+    (retired : (id : ℕ) (r : Retired) (rest : History)
+    → f (events.retire c.stream id r ∷ rest) ≡ events.retire c.stream id r ∷ f rest)
+    (looked : (gone : ℕ → Bool) (h : ℕ) (asked rest : History) (answer : Result Clause Fault)
+    → LooksUp c gone h asked answer → (answer ≡ answer_of h events.vacant → rest ≡ [])
+    → LooksOn (under c cube) f gone h asked rest answer) where
+  nothing : (es : History) → es ≡ [] → f es ≡ []
+  nothing es e = ap f e ∙ none
+
+  looks_last : (gone : ℕ → Bool) (h : ℕ) (es : History) (answer : Result Clause Fault)
+      → LooksUp c gone h es answer → LooksUp (under c cube) gone h (f es) answer
+  looks_last gone h es answer looks =
+      let r = looked gone h es [] answer looks (λ vacant. refl) in
+      let is = ap f (sym (append-nil es)) ∙ r.events ∙ ap (λ a. r.fewer ++ a) none in
+      subst (λ (x : History). LooksUp (under c cube) gone h x answer)
+      (sym (is ∙ append-nil r.fewer)) r.looks
+
+  found_maps : (gone : ℕ → Bool) (hints : List ℕ) (ds : List Clause) (es rest : History)
+      → AreFound c gone hints ds es → (fewer : History) × (f (es ++ rest) ≡ fewer ++ f rest)
+      × AreFound (under c cube) gone hints ds fewer
+  found_maps gone [] [] es rest found = ([], ap (λ a. f (a ++ rest)) found, refl)
+  found_maps gone [] (d ∷ ds) es rest found = absurd found
+  found_maps gone (h ∷ hints) [] es rest found = absurd found
+  found_maps gone (h ∷ hints) (d ∷ ds) es rest found =
+      let later = found_maps gone hints ds found.1 rest found.4 in
+      let r = looked gone h found.0 (found.1 ++ rest) (Ok d) found.3 (λ vacant. absurd (cc)) in
+      let is = ap (λ a. f (a ++ rest)) found.2 ∙ ap f (append_assoc found.0 found.1 rest)
+      ∙ r.events ∙ ap (λ a. r.fewer ++ a) later.1 in (
+        r.fewer ++ later.0,
+        is ∙ sym (append_assoc r.fewer later.0 (f rest)),
+        (r.fewer, later.0, refl, r.looks, later.2),
+      )
+
+  by_maps : (answer : Result Clause Fault) (n : List ℤ) (h : ℕ) (hints : List ℕ) (es : History)
+      (fault : Fault) (A B : List ℤ → Type 0) → ((m : List ℤ) → A m → B m)
+      → FailsBy answer n h hints es fault A
+      → (answer ≡ answer_of h events.vacant → es ≡ []) × FailsBy answer n h hints (f es) fault B
+  by_maps (Ok d) n h hints es fault A B next (inl unit) =
+      ((λ vacant. absurd (cc)), inl (unit.0, unit.1, next (n ++ neg_ℤ unit.0 ∷ []) unit.2))
+  by_maps (Ok d) n h hints es fault A B next (inr misled) =
+      ((λ vacant. misled.0), inr (nothing es misled.0, misled.1))
+  by_maps (Err its) n h hints es fault A B next fails =
+      ((λ vacant. fails.0), (nothing es fails.0, fails.1))
+
+  hints_map : (gone : ℕ → Bool) (n : List ℤ) (hints : List ℕ) (es : History) (fault : Fault)
+      → FailsHints c gone n hints es fault → FailsHints (under c cube) gone n hints (f es) fault
+  hints_map gone n [] es fault fails = (nothing es fails.0, fails.1)
+  hints_map gone n (h ∷ hints) es fault fails =
+      let by = by_maps fails.3 n h hints fails.1 fault
+      (λ m. FailsHints c gone m hints fails.1 fault)
+      (λ m. FailsHints (under c cube) gone m hints (f fails.1) fault)
+      (λ m k. hints_map gone m hints fails.1 fault k) fails.5 in
+      let r = looked gone h fails.0 fails.1 fails.3 fails.4 by.0 in
+      (r.fewer, f fails.1, ap f fails.2 ∙ r.events, fails.3, r.looks, by.1)
+
+  addition_maps : (st : Standing) (id : ℕ) (lits : List ℤ) (hints : List ℕ) (es : History)
+      (v : LineVerdict) → JudgesAddition c st id lits hints es v
+      → JudgesAddition (under c cube) st id lits hints (f es) v
+  addition_maps st id lits hints es Good (fetches, good, is) =
+      let last = published_by c id lits ∷ [] in
+      let found = found_maps st.gone hints good.clauses fetches last good.named in (
+        found.0,
+        record {
+          owns = good.owns;
+          above = good.above;
+          literals = good.literals;
+          room = good.room;
+          clauses = good.clauses;
+          named = found.2;
+          shown = good.shown;
+        },
+        ap f is ∙ found.1 ∙ ap (λ a. found.0 ++ a) (published id lits),
+      )
+  addition_maps st id lits hints es (Bad deleted fault) bad = (
+    bad.0,
+    before_maps c st id lits es (f es) fault _ _ (nothing es)
+        (λ a. hints_map st.gone (distinct lits) hints es fault a) bad.1,
+  )
+
+  import_maps : (st : Standing) (id : ℕ) (lits : List ℤ) (es : History) (v : LineVerdict)
+      → JudgesImport c st id lits es v → JudgesImport (under c cube) st id lits (f es) v
+  import_maps st id lits es Good good = record {
+    shared = good.shared;
+    literals = good.literals;
+    clause = good.clause;
+    found = looks_last st.gone id es (Ok good.clause) good.found;
+    same = good.same;
+  }
+  import_maps st id lits es (Bad deleted fault) bad = (
+    bad.0,
+    violates_maps _ _ es (f es) fault _ _ (nothing es)
+        (λ a. violates_maps _ _ es (f es) fault _ _ (nothing es) (λ a. elim a [
+          | inl unfound ↦ inl (looks_last st.gone id es (Err fault) unfound)
+          | inr differs ↦
+              let looks = looks_last st.gone id es (Ok differs.0) differs.1 in
+              inr (differs.0, looks, differs.2, differs.3)
+        ]) a) bad.1,
+  )
+
+  drops_map : (gone : ℕ → Bool) (earlier : List ℕ) (id : ℕ) (es : History) (v : LineVerdict)
+      (A B : History → Type 0) → (A es → B (f es)) → DropsThen gone earlier id es v A
+      → DropsThen gone earlier id (f es) v B
+  drops_map gone earlier id es v A B next (inl bad) =
+      inl (bad.0, (nothing es bad.1.0, bad.1.1))
+  drops_map gone earlier id es v A B next (inr good) = inr (good.0, next good.1)
+
+  retires_map : (earlier : List ℕ) (id : ℕ) (es : History) (v : LineVerdict)
+      (A B : History → Type 0) → ((rest : History) → A rest → B (f rest))
+      → RetiresThen c earlier id es v A → RetiresThen (under c cube) earlier id (f es) v B
+  retires_map earlier id es v A B next a = elim a.decided [
+    | inl good ↦ record {
+      rest = f a.rest;
+      decided = inl (ap f good.0 ∙ retired id retiring.Done a.rest, next a.rest good.1);
+    }
+    | inr bad ↦
+        let is = ap f bad.0 ∙ retired id retiring.NotLive a.rest in
+        record { rest = f a.rest; decided = inr (is, (nothing a.rest bad.1.0, bad.1.1)) }
+  ]
+
+  at_maps : (side : Side) (gone : ℕ → Bool) (earlier : List ℕ) (id : ℕ) (es : History)
+      (v : LineVerdict) (A B : History → Type 0) → ((rest : History) → A rest → B (f rest))
+      → DeletesAt side c gone earlier id es v A
+      → DeletesAt side (under c cube) gone earlier id (f es) v B
+  at_maps sides.Formula gone earlier id es v A B next at =
+      drops_map gone earlier id es v A B (next es) at
+  at_maps sides.Own gone earlier id es v A B next at = retires_map earlier id es v A B next at
+  at_maps sides.Foreign gone earlier id es v A B next at =
+      drops_map gone earlier id es v A B (next es) at
+  at_maps sides.Outside gone earlier id es v A B next at = (nothing es at.0, at.1)
+
+  pub identities_map : (gone : ℕ → Bool) (earlier ids : List ℕ) (es : History) (v : LineVerdict)
+      → JudgesDeletion c gone earlier ids es v
+      → JudgesDeletion (under c cube) gone earlier ids (f es) v
+  identities_map gone earlier [] es v judged = (nothing es judged.0, judged.1)
+  identities_map gone earlier (id ∷ ids) es v judged =
+      at_maps (side_of c id) gone earlier id es v
+      (λ rest. JudgesDeletion c gone (earlier ++ id ∷ []) ids rest v)
+      (λ rest. JudgesDeletion (under c cube) gone (earlier ++ id ∷ []) ids rest v)
+      (λ rest k. identities_map gone (earlier ++ id ∷ []) ids rest v k) judged
+
+  pub line_maps : (st : Standing) (line : StreamLine) (es : History) (v : LineVerdict)
+      → JudgesLine c st line es v → JudgesLine (under c cube) st line (f es) v
+  line_maps st (Addition id lits hints) es v judged = addition_maps st id lits hints es v judged
+  line_maps st (Deletion lead ids) es v judged = identities_map st.gone [] ids es v judged
+  line_maps st (Import id lits) es v judged = import_maps st id lits es v judged
