@@ -254,7 +254,7 @@ class Runs:
             "the history": run.named_by(["history"]), "the calls of the store": of_all(self.store + self.store_laws),
             "the reports": run.named_by(["reports"]),
             "isolated groups": run.named_by(["isolated"]) + of_all(self.group_laws),
-            "serializable lines": run.named_by(["serializable"]), "right proofs": of_all(self.right_laws),
+            "serializable lines": run.named_by(["serializable"]), "valid proofs": of_all(self.right_laws),
             "rounds": [thing for thing in closure(of_all([self.ends])) if is_of_rounds(thing)],
             "the program": [thing for thing in of_all(self.program_laws) if thing.crate == "outcome_laws"],
             "the rest": of_all([run, self.serial, *self.asked])}

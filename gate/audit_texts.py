@@ -243,8 +243,8 @@ and `2 ^ 64` a power. A law is the contract of a function with an empty body, pr
 - **History**: a list of events ([[Event]]), one for each call of fetch, publish or retire at the store.
 - **Pass**: a stream's place at the store. Contracts see a [[View]]: `seen`, a history; `mine`, the calls made through the
   pass; `spelt`, the places of clauses, and their literals.
-- **Terms**: layout, assumed literals and tries (how often another stream's clause is looked up again), the same for all
-  streams of a run ([[TermsValue]]).
+- **Parameters**: layout, assumed literals and tries (how often another stream's clause is looked up again), the same for all
+  streams of a run ([[RunParamsValue]]).
 - A reader may **tell** which bytes it has left. The machine's files don't ([[Source]]). What is said below of readers or
   files that tell is an argument for the machine's ([Which reads?](AUDIT.md#status-0)).
 
@@ -256,14 +256,14 @@ HISTORY_ROWS: Rows = [
     ("All calls at the store stand in one history, each stream's in its own order.", """[[fn run.history]], by
      [[HaveOneHistory: pass.mine ≡ own history s]] of each stream. `mine` are the calls that were made. A pass begins with
      none ([[IsOpened: mine : pass.view.mine ≡ []]]), each call adds itself ([[Calls: moves : PassMoves old new (event ∷
-     [])]], [[PassMoves: mine : new.mine ≡ old.mine ++ history]]), and meeting adds none ([[Meets: first : PassMoves old new
+     [])]], [[PassMoves: mine : new.mine ≡ old.mine ++ history]]), and meeting adds none ([[SyncViews: first : PassMoves old new
      []]])."""),
     ("A clause map of one thread gives the same replies to it.", """[[HaveOneHistory: legal : IsLegal formula layout
      history]]: from the formula's clauses on, each event answers as the map after the events before it ([[LegalFrom: Answers
      slots event]]). Both sentences are Lamport's *sequential consistency*. An [[Event]] has no moment, so real time is left
      open: it isn't linearizability."""),
     ("The replies are those that the calls gave.", """[[fn Store::fetch.calls: events.fetch pass.old.view.caller.stream id
-     reply]] with [[fn Store::fetch.calls: reply = reply_of (pass_place pass.new.view) result]]; [[fn Store::publish.calls:
+     reply]] with [[fn Store::fetch.calls: reply = reply_of (pass_caller_view pass.new.view) result]]; [[fn Store::publish.calls:
      events.publish stream id clause.now result]]; [[fn Store::retire.calls: events.retire stream id result]]."""),
     ("Each call comes after all that its stream had seen.", """[[PassMoves: seen : (more : History) × (new.seen ≡ old.seen ++
      more)]], and the call is the last event of this ([[Calls: last : EndsWith new.seen event]]). In the end each pass has
@@ -272,11 +272,11 @@ HISTORY_ROWS: Rows = [
      s id × IsPublishable formula clause]], with [[IsPublishable: follows : Follows formula candidate]]."""),
     ("No clause changes.", """An entry goes from absent to live to retired ([[law entries_advance]]), with one clause
      ([[Advances: Advances (live c) (retired d) = d ≡ c]]). A fetch that answers 'live' gives a *clip*: id, length and place of
-     the clause. The pass knows that place ([[fn Store::fetch.fetched: IsFetched (pass_place pass.new.view) id result]]), and
+     the clause. The pass knows that place ([[fn Store::fetch.fetched: IsFetched (pass_caller_view pass.new.view) id result]]), and
      the literals read there are the clause's ([[fn Store::literal.value:
-     slice_get (clip_clause (pass_place pass.old.view) clip.now) k ≡ Some result]]; [[fn Store::pair]] gives two). A pass is *fair* after each call, and what it
+     slice_get (clip_clause (pass_caller_view pass.old.view) clip.now) k ≡ Some result]]; [[fn Store::pair]] gives two). A pass is *fair* after each call, and what it
      keeps are then the clauses of what it has seen ([[Calls: fair : IsFair new]], [[IsFair: spelt : IsSpelt
-     view.caller.formula view.seen view.spelt]]). A known clip keeps its clause ([[law known_stays]], [[law pass_tells]])."""),
+     view.caller.formula view.seen view.spelt]]). A known clip keeps its clause ([[law known_stays]], [[law pass_steps]])."""),
     ("Each report is right by the rules, for its stream's calls in this history and its bytes.", """[[fn run.reports]]: it is
      a run ([[IsRun]]) by this history ([[fn run.reports: ran.run.history ≡ seen_by (views outcome.passes.items)]]). Each
      stream is judged by blocks of events, one for each line. Together they are the stream's events ([[AreJudgedIn: own
@@ -285,7 +285,7 @@ HISTORY_ROWS: Rows = [
      ([[StopsDeletion]])."""),
     ("The bytes are those that the reads of the stream gave, up to its end or to a failed read.", """[[IsRunOf: read : AreRead S view.reads
      firsts lasts run.streams]]: [[ReadOut: given : Gave S reads first bytes last]], then [[ReadOut: ends : IsLastRead S reads end last after]]. With
-     threads each stream has an end ([[InThreads: AllByRecursion (λ stream. IsSome stream.end) streams]]). If the reader tells its bytes, the stream's bytes begin these ([[IsTold]])."""),
+     threads each stream has an end ([[InThreads: AllByRecursion (λ stream. IsSome stream.end) streams]]). If the reader tells its bytes, the stream's bytes begin these ([[MatchesInput]])."""),
     ("'Unsatisfiable' means that no assignment satisfies the formula; 'unsatisfiable under assumptions', that none makes the "
      "assumed literals true besides.",
      """[[fn run.sound: IsUnsatisfiable formula.now]]; [[fn run.sound_under: IsUnsatisfiableUnder formula.now cube.now]]. The
@@ -305,14 +305,14 @@ ISOLATION_ROWS: Rows = [
      [[CiteWithin: AllByRecursion (IsOwnedWithin layout set) (cited_by line)]] of each line. Nobody owns the formula's
      identities."""),
     ("The reports of a closed set are such as they may be if all other streams are empty.", """[[IsGroup: judged : AreJudgedIn
-     terms set history 1 streams reports]], by a legal history with events of the set alone, [[IsGroup: members :
+     run_params set history 1 streams reports]], by a legal history with events of the set alone, [[IsGroup: members :
      AllByRecursion (λ event. IsTrue (set (stream_of event))) history]]. [[law others_empty]] puts empty streams in the
      others' places."""),
     ("That holds whatever the others are and however the threads ran, unless memory ran out for one of the set.", """[[IsGroup]]
      speaks of no other stream; [[AreIsolated: NoneOutOfMemory set reports]]."""),
     ("If one stream is a closed set, it has one report with the same formula, options, assumptions and number of streams, "
      "unless memory ran out or a read failed.",
-     """[[AreIsolated: alone : (run : IsRun formula terms told reports)]]: alone ([[IsReportAlone]]), a stream of the same
+     """[[AreIsolated: alone : (run : IsRun formula run_params observed reports)]]: alone ([[IsReportAlone]]), a stream of the same
      bytes and end ([[IsReadingOf]]) has no other report than in the run ([[AreIsolated: other ≡ report]], [[law
      alone_has_one_report]]). A failed read is another end. [[law same_reading_agrees]]
      and [[law same_bytes_agree]] say it of two runs. The assumptions have to be the same list."""),
@@ -325,61 +325,61 @@ SERIALIZABLE_ROWS: Rows = [
      stream of the set found a clause live and doesn't own it, the run's history doesn't leave it retired. [[FindsKept:
      FindsKept layout final (events.fetch s id (events.live clause)) = ¬ Owns layout s id → ¬ IsRetired (final id)]]."""),
     ("Then the set's lines have an order.", """[[IsOrdered]]: blocks, whose events are a legal history, [[IsOrdered: legal :
-     IsLegal formula terms.layout (events_in blocks)]]. A block has all events of one line: [[AreGood: JudgesLine setting
-     (standing_of setting before) line block Good]], or those of the bad line that ends the stream, [[EndsAfter: (one_block :
+     IsLegal formula run_params.layout (events_in blocks)]]. A block has all events of one line: [[AreGood: JudgesLine params
+     (context_of params before) line block Good]], or those of the bad line that ends the stream, [[EndsAfter: (one_block :
      blocks ≡ block ∷ [])]]."""),
-    ("In this order one thread, line after line, gives the same reports.", """[[IsOrdered: judged : AreJudged terms set]], by
+    ("In this order one thread, line after line, gives the same reports.", """[[IsOrdered: judged : AreJudged run_params set]], by
      each stream's blocks in their order, [[IsOrdered: own_blocks ≡ blocks_of t blocks]]. A report 'out of memory'
      is then one that the thread may give."""),
     ("If the premise holds of all streams together, an order comes to the same verdict.", """[[IsSerializable: ComeToVerdict
-     terms.cube (events_in order.blocks) reports]]; [[fn run.verdict: outcome.verdict ≡ verdict_of outcome.reports.items]]."""),
+     run_params.cube (events_in order.blocks) reports]]; [[fn run.verdict: outcome.verdict ≡ verdict_of outcome.reports.items]]."""),
 ]
 
 RIGHT_TOP = """The theorems above speak of the reports that came. These laws say which reports come:"""
 
 RIGHT_ROWS: Rows = [
-    ("A line is right by the formula and the lines before it.", """[[IsRightLine]] holds with the [[Database]] that these
+    ("A line is valid by the formula and the lines before it.", """[[IsValidLine]] holds with the [[Database]] that these
      lines leave. An addition has an own identity above the last one, literals over the variables, and room. Its hints name
      clauses that are there ([[database_context]]), and these show its clause ([[Accepts]]). By the same relation,
      [[IsValidAddition]], streams are judged. A deletion names clauses that are there, each once
-     ([[IsRightDeletion: there : AllByRecursion (λ id. IsSome (base.clauses id)) ids]]). An import has the literals of a
-     clause that is there and isn't the stream's own ([[IsRightImport: there : base.clauses id ≡ Some clause]])."""),
+     ([[IsValidDeletion: there : AllByRecursion (λ id. IsSome (base.clauses id)) ids]]). An import has the literals of a
+     clause that is there and isn't the stream's own ([[IsValidImport: there : base.clauses id ≡ Some clause]])."""),
     ("Whether that is LRAT without RAT, a reader has to judge.", """[EMITTING](EMITTING.md#what-differs-from-lrat) has the
      differences."""),
-    ("A stream of right lines is reported as ended, with its additions and deletions counted, unless memory ran out or a "
+    ("A stream of valid lines is reported as ended, with its additions and deletions counted, unless memory ran out or a "
      "read failed.",
-     """[[law right_reported]]: if [[IsRightStream: text : bytes ≡ flat_map line_text lines]] are the bytes that the reader
-     tells ([[RightReported: telling.entry ≡ Some bytes]]), then [[RightReported: report ≡ right_report terms s lines]], in
-     each run ([[IsRun]]). Each deleted id counts ([[law right_counted]]), and 'empty' is reported just if a line adds the empty
-     clause ([[law right_empty]]). Of a reader that tells nothing, the same follows from what its reads gave: alone,
-     the stream has this report and no other ([[law right_accepted]], [[law right_has_one_report]])."""),
-    ("If more follows the right lines, the report says at least what these do.", """[[law right_begins]], [[RightBegins:
-     TellsAtLeast report (right_report terms s lines)]], unless memory ran out or a read failed in these lines."""),
-    ("If a stream ended and cites and deletes only its own and the formula's clauses, its lines are right.", """[[law
-     ended_is_right]], [[EndedIsRight: (lines : List StreamLine) × IsRightStream f terms.layout s bytes lines]]. The premise
+     """[[law valid_reported]]: if [[IsValidProof: text : bytes ≡ flat_map line_text lines]] are the bytes that the reader
+     tells ([[ValidReported: observation.entry ≡ Some bytes]]), then [[ValidReported: report ≡ valid_report run_params s lines]], in
+     each run ([[IsRun]]). Each deleted id counts ([[law valid_counted]]), and 'empty' is reported just if a line adds the empty
+     clause ([[law valid_empty]]). Of a reader that tells nothing, the same follows from what its reads gave: alone,
+     the stream has this report and no other ([[law valid_accepted]], [[law valid_has_one_report]])."""),
+    ("If more follows the valid lines, the report says at least what these do.", """[[law valid_begins]], [[ValidBegins:
+     TellsAtLeast report (valid_report run_params s lines)]], unless memory ran out or a read failed in these lines."""),
+    ("If a stream ended and cites and deletes only its own and the formula's clauses, its lines are valid.", """[[law
+     ended_is_valid]], [[EndedIsValid: (lines : List StreamLine) × IsValidProof f run_params.layout s bytes lines]]. The premise
      on deletions is needed: a checker takes the deletion of what another stream never had."""),
-    ("If lines of several streams have an order in which each is right, each stream is reported so. Or it stops at another "
+    ("If lines of several streams have an order in which each is valid, each stream is reported so. Or it stops at another "
      "stream's clause that isn't there yet or was retired.",
-     """[[law right_together]]. The premise is [[IsRightOrder: right : AreRightTogether layout (λ t. first_database formula
+     """[[law valid_together]]. The premise is [[IsValidOrder: valid : AreValidTogether layout (λ t. first_database formula
      layout) steps]]: each stream has a database, and an addition reaches each one ([[beside_line]]). The conclusion is
-     [[RightTogether: (report ≡ right_report terms s (lines_by s steps)) ⊎ LacksOfAnother (setting_of terms s) report]], with
-     the same exceptions. If more follows: [[law together_begins]]. [[law no_false_blame]] needs no order: it suffices that
+     [[ValidTogether: (report ≡ valid_report run_params s (lines_by s steps)) ⊎ LacksOfAnother (stream_params run_params s) report]], with
+     the same exceptions. If more follows: [[law together_begins]]. [[law valid_in_any_run]] needs no order: it suffices that
      some legal history judges the streams, which are a closed set, and this one ended there."""),
-    ("With `--serial`, if the order takes a line of each stream in turn, none stops.", """[[law right_by_turns]], of orders
-     that are [[IsByTurns]], as [[fn run_serial.ordered]] has them: if nothing follows the lines ([[RightByTurns:
-     HaveJustTexts steps told]]), memory suffices and no read fails ([[RightByTurns: NoneCutShort reports]]). Unless memory ran
+    ("With `--serial`, if the order takes a line of each stream in turn, none stops.", """[[law valid_by_turns]], of orders
+     that are [[IsByTurns]], as [[fn run_serial.ordered]] has them: if nothing follows the lines ([[ValidByTurns:
+     HaveJustTexts steps observed]]), memory suffices and no read fails ([[ValidByTurns: NoneCutShort reports]]). Unless memory ran
      out or a read failed, the bytes decide order and reports ([[law turns_decide]], [[law bytes_decide]])."""),
-    ("If words without `--rounds`, formula and assumptions are accepted, and a stream begins with right lines that add the "
+    ("If words without `--rounds`, formula and assumptions are accepted, and a stream begins with valid lines that add the "
      "empty clause, the status is 0.",
-     """[[law right_refutation_says]], of files that tell ([[AskWell]], [[AskForRightRefutation: tells : files.tells path ≡
-     Some bytes]]) and of all that `command` may do by [[fn command.ends]]. If lines of several streams have a right order:
-     [[law right_order_says]], [[law right_turns_say]]. [[IsExcused]] has the exceptions."""),
-    ("Exception: by a fault of the machine, or if a stream's end got lost, the status is 5 or 6, and no report is begun.", """[[IsExcused: no_report : (ends :
+     """[[law valid_refutation_says]], of files that tell ([[AskWell]], [[AskForValidRefutation: tells : files.tells path ≡
+     Some bytes]]) and of all that `command` may do by [[fn command.ends]]. If lines of several streams have a valid order:
+     [[law valid_order_says]], [[law valid_turns_say]]. [[InconclusiveBecause]] has the exceptions."""),
+    ("Exception: by a fault of the machine, or if a stream's end got lost, the status is 5 or 6, and no report is begun.", """[[InconclusiveBecause: no_report : (ends :
      EndsWithFault files words after out err status) (machine : IsOfMachine ends.fault)]]."""),
     ("Exception: if memory ran out or a read failed in these lines, the report says so, and the status is 3, 8 or 9.",
-     """[[IsExcused: lost :]], [[RightRefutationSays: IsCutOffIn (length ask.right.lines)]]; or, in an order, another stream's
-     clause lacked ([[IsHeldUp]]). Status 9 comes only with a checkpoint ([[IsOpen]])."""),
-    ("Exception: if the report can't be written, the status is 7.", """[[IsExcused: unwritten :]]: the report says
+     """[[InconclusiveBecause: lost :]], [[ValidRefutationSays: IsCutOffIn (length ask.valid.lines)]]; or, in an order, another stream's
+     clause lacked ([[StoppedAtForeignHint]]). Status 9 comes only with a checkpoint ([[IsOpen]])."""),
+    ("Exception: if the report can't be written, the status is 7.", """[[InconclusiveBecause: unwritten :]]: the report says
      'unsatisfiable', or what the exception before has. So a bad line of the stream is shown only with status 0, or with 7 and
      'unsatisfiable' ([[law no_bad_line_shown]])."""),
 ]
@@ -424,11 +424,11 @@ ROUNDS_ROWS: Rows = [
     ("Nothing more was done to the files then, except that a created file was discarded.", """Each cause has the files after
      it; for the exception [[IsLeftUnused]]."""),
     ("Premise: words, formula and assumptions are accepted, and each round finds its stream 1, and sizes that have a layout. "
-     "All streams of each round before the last are right, alone or by an order. In the last one a stream begins with right "
+     "All streams of each round before the last are valid, alone or by an order. In the last one a stream begins with right "
      "lines that add the empty clause.",
-     """[[AskForRightRounds]]."""),
-    ("Then the status is 0.", """[[law right_rounds_say]], [[law right_orders_say]] and, with `--serial`, [[law
-     right_turn_rounds_say]]. The exceptions are [[IsExcusedInRounds]]: those of a single run, a file of sizes that can't be read
+     """[[AskForValidRounds]]."""),
+    ("Then the status is 0.", """[[law valid_rounds_say]], [[law valid_orders_say]] and, with `--serial`, [[law
+     valid_turn_rounds_say]]. The exceptions are [[InconclusiveInRounds]]: those of a single run, a file of sizes that can't be read
      (5), and [[FallsShort]]. Status 9 comes if a formula wasn't saved, and 8 if a round is 'unsatisfiable under assumptions'. Status
      3 comes if a stream was cut off or, in an order, lacked another one's clause. The report says which, printed or not (7)."""),
 ]
@@ -459,14 +459,14 @@ turn, and the rest ask, and change nothing."""
 
 ASKED = """A gate is called before each fetch and after each publish, and may hold a thread there; it promises nothing."""
 
-STORE_LAWS = [f"lrup_model/src/laws.rt: {name}" for name in "entries_advance known_stays pass_tells".split()]
+STORE_LAWS = [f"lrup_model/src/laws.rt: {name}" for name in "entries_advance known_stays pass_steps".split()]
 GROUP_LAWS = [f"run_laws/src/groups.rt: {name}" for name in """others_empty alone_has_one_report same_reading_agrees
     same_bytes_agree""".split()]
-RIGHT_LAWS = [f"run_laws/src/right.rt: {name}" for name in """right_reported right_accepted right_has_one_report right_counted
-    right_empty right_begins right_cite_within ended_is_right right_together together_begins no_false_blame""".split()] + [
-    f"run_laws/src/turns.rt: {name}" for name in "right_by_turns turns_decide bytes_decide".split()]
-PROGRAM_LAWS = [f"outcome_laws/src/laws.rt: {name}" for name in """right_refutation_says no_bad_line_shown right_order_says
-    right_turns_say right_rounds_say right_orders_say right_turn_rounds_say serial_outcomes_agree""".split()]
+RIGHT_LAWS = [f"run_laws/src/valid.rt: {name}" for name in """valid_reported valid_accepted valid_has_one_report valid_counted
+    valid_empty valid_begins valid_cite_within ended_is_valid valid_together together_begins valid_in_any_run""".split()] + [
+    f"run_laws/src/turns.rt: {name}" for name in "valid_by_turns turns_decide bytes_decide".split()]
+PROGRAM_LAWS = [f"outcome_laws/src/laws.rt: {name}" for name in """valid_refutation_says no_bad_line_shown valid_order_says
+    valid_turns_say valid_rounds_say valid_orders_say valid_turn_rounds_say serial_outcomes_agree""".split()]
 
 LAWS = """## The laws"""
 
@@ -480,5 +480,5 @@ What isn't on [AUDIT](AUDIT.md#what-the-libraries-define)."""
 # The theorems, by their names in TRUST: what stands before the sentences, the sentences, and what stands after these.
 THEOREMS: List[Tuple[str, str, Rows, str]] = [
     ("One history", HISTORY_TOP, HISTORY_ROWS, HISTORY_ACCOUNT), ("Groups are isolated", ISOLATION_TOP, ISOLATION_ROWS, ""),
-    ("Lines are serializable", SERIALIZABLE_TOP, SERIALIZABLE_ROWS, ""), ("Right proofs are accepted", RIGHT_TOP, RIGHT_ROWS, ""),
+    ("Lines are serializable", SERIALIZABLE_TOP, SERIALIZABLE_ROWS, ""), ("Valid proofs are accepted", RIGHT_TOP, RIGHT_ROWS, ""),
     ("Rounds and chains", ROUNDS_TOP, ROUNDS_ROWS, "")]

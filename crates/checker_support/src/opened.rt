@@ -1,7 +1,7 @@
 //! The map of the worked formula, and checkers before their first byte.
 ghost use Rattle.std.specs.Prelude.{◌≡◌, [], IfOk, replicate};
 ghost use Rattle.lrup_model.specs.Layout.{IsStream};
-ghost use Rattle.lrup_model.specs.Plain.{formula_of, plain_place};
+ghost use Rattle.lrup_model.specs.Plain.{formula_of, plain_caller_view};
 ghost use Rattle.test_support.specs.Worked.{four};
 ghost use Rattle.stream_check.specs.Checker.{IsNew, IsReadyAt};
 ghost use Rattle.checker_support.specs.Opened.{IsPlainOpened};
@@ -45,7 +45,7 @@ pub fn checker_at(alloc: Global, map: &PlainMap, stream: u64, tries: u64) -> Res
     requires { IsPlainOpened map.now }
     ensures stream { IfOk result (λ _. IsStream map.now.layout stream) }
     ensures new { IfOk result (λ checker. IsNew map.now.layout [] stream tries checker) }
-    ensures ready { IfOk result (λ checker. IsReadyAt checker (plain_place map.now stream)) }
+    ensures ready { IfOk result (λ checker. IsReadyAt checker (plain_caller_view map.now stream)) }
 {
     checker_under(alloc, map, &Cube::empty(alloc), stream, tries)
 }
@@ -61,7 +61,7 @@ pub fn checker_under(
     requires { IsPlainOpened map.now }
     ensures stream { IfOk result (λ _. IsStream map.now.layout stream) }
     ensures new { IfOk result (λ checker. IsNew map.now.layout cube.now stream tries checker) }
-    ensures ready { IfOk result (λ checker. IsReadyAt checker (plain_place map.now stream)) }
+    ensures ready { IfOk result (λ checker. IsReadyAt checker (plain_caller_view map.now stream)) }
 {
     ready_new();
     let layout = map.layout();

@@ -9,7 +9,7 @@ use Rattle.lrup_model.specs.Entailment.{Follows, IsDerived}
 use Rattle.lrup_model.specs.Formula.{Cnf, IsFormulaClause, max_clause_literals}
 use Rattle.lrup_model.specs.lemmas.ListLemmas.{All-map}
 use Rattle.lrup_model.specs.Literal.{max_variable}
-use Rattle.lrup_model.specs.Place.{Place, ClipValue, clip_clause}
+use Rattle.lrup_model.specs.CallerView.{CallerView, ClipValue, clip_clause}
 use Rattle.lrup_text.specs.lemmas.WritingLemmas.{appends_nothing}
 use Rattle.checkpoint.specs.Checkpoints.{AreWithinLimits, Carries, IsCheckpointOf}
 use Rattle.checkpoint.specs.internal.TooLarge.{IsTooLarge}
@@ -19,7 +19,7 @@ use Rattle.checkpoint.specs.declared.saving.SaveFault.{SaveFault}
 use Rattle.checkpoint.specs.declared.saving.SaveFault.TheVariants as faults
 use Rattle.checkpoint.proofs.ReadBack.{printed_is_read}
 
-module _ (p : Place) (vars : ℕ) where
+module _ (p : CallerView) (vars : ℕ) where
   -- the clause of this clip
   pub clause_at_clip : (clips : List ClipValue) (k : ℕ) (d : ClipValue) → k < length clips
       → AllByRecursion (IsFormulaClause vars) (clauses_of (entries_of p clips)) → IsFormulaClause vars (clip_clause p (get_or clips k d))

@@ -11,7 +11,7 @@ use Rattle.lrup_model.specs.Event.{History, Reply, fetch, vacant, live, retired}
 use Rattle.lrup_model.specs.Formula.{Cnf, clause_at}
 use Rattle.lrup_model.specs.lemmas.ListLemmas.{All-append, All-map}
 use Rattle.lrup_model.specs.lemmas.PassLemmas.{known_stays, known_follows}
-use Rattle.lrup_model.specs.Place.{Place, Caller, ClipValue, Tells, IsKnown, AllFollow, clip_clause}
+use Rattle.lrup_model.specs.CallerView.{CallerView, Caller, ClipValue, CallerStep, IsKnown, AllFollow, clip_clause}
 use Rattle.std.specs.Prelude.{Result, Ok, Err, IsErr, IfOk}
 use Rattle.lrup_model.specs.Replies.{AnswersFormula, reply_of}
 use Rattle.lrup_model.specs.declared.clause_map.Fetched.{Fetched}
@@ -48,19 +48,19 @@ wanted_of-append wants id (x ∷ xs) ys =
     at retired after = after
 
 -- clips that are known stay so, with their clauses
-stay_known : (a b : Place) (es : History) (clips : List ClipValue) → Tells a b es → AllByRecursion (IsKnown a) clips
+stay_known : (a b : CallerView) (es : History) (clips : List ClipValue) → CallerStep a b es → AllByRecursion (IsKnown a) clips
     → AllByRecursion (IsKnown b) clips
-stay_known a b es clips tells known = All-map (IsKnown a) (IsKnown b) (λ clip is. (known_stays a b es clip tells is).0) clips known
+stay_known a b es clips step known = All-map (IsKnown a) (IsKnown b) (λ clip is. (known_stays a b es clip step is).0) clips known
 
-stay_same : (a b : Place) (es : History) (clips : List ClipValue) → Tells a b es → AllByRecursion (IsKnown a) clips
+stay_same : (a b : CallerView) (es : History) (clips : List ClipValue) → CallerStep a b es → AllByRecursion (IsKnown a) clips
     → entries_of b clips ≡ entries_of a clips
-stay_same a b es [] tells known = refl
-stay_same a b es (clip ∷ clips) tells known =
-    ap (λ (c : Clause). record { id = clip.id; clause = c } ∷ entries_of b clips) (known_stays a b es clip tells known.0).1
-    ∙ ap (λ (cs : List Entry). entry_of a clip ∷ cs) (stay_same a b es clips tells known.1)
+stay_same a b es [] step known = refl
+stay_same a b es (clip ∷ clips) step known =
+    ap (λ (c : Clause). record { id = clip.id; clause = c } ∷ entries_of b clips) (known_stays a b es clip step known.0).1
+    ∙ ap (λ (cs : List Entry). entry_of a clip ∷ cs) (stay_same a b es clips step known.1)
 
 -- known clauses follow
-all_follow : (p : Place) (clips : List ClipValue) → AllFollow p → AllByRecursion (IsKnown p) clips
+all_follow : (p : CallerView) (clips : List ClipValue) → AllFollow p → AllByRecursion (IsKnown p) clips
     → AllByRecursion (IsDerived p.caller.formula) (clauses_of (entries_of p clips))
 all_follow p [] follow known = tt
 all_follow p (clip ∷ clips) follow known = (known_follows p clip follow known.0, all_follow p clips follow known.1)
@@ -110,7 +110,7 @@ first_whole wants f count last replies all within first = (
 )
 
 -- what was found of the identities 1 to the last, between the two places
-pub record Found (wants : ℕ → Bool) (a b : Place) (moves : History → Type 0) (last : ℕ) (clips : List ClipValue) : Type 0 where
+pub record Found (wants : ℕ → Bool) (a b : CallerView) (moves : History → Type 0) (last : ℕ) (clips : List ClipValue) : Type 0 where
   pub replies : List Reply
   pub moved : moves (fetches a.caller.stream 1 replies)
   pub count : length replies ≡ last
@@ -121,7 +121,7 @@ pub record Found (wants : ℕ → Bool) (a b : Place) (moves : History → Type 
   pub first : a.caller.layout.clauses ≡ length a.caller.formula.clauses → First a.caller.formula a.caller.layout.clauses last replies
 
 -- nothing was fetched
-pub found_none : (wants : ℕ → Bool) (a : Place) (moves : History → Type 0) → moves [] → Found wants a a moves 0 []
+pub found_none : (wants : ℕ → Bool) (a : CallerView) (moves : History → Type 0) → moves [] → Found wants a a moves 0 []
 found_none wants a moves none = record {
   replies = [];
   moved = none;
@@ -134,30 +134,30 @@ found_none wants a moves none = record {
 }
 
 -- the next identity, under which these clips were kept
-pub found_next : (wants : ℕ → Bool) (a b c : Place) (before after : History → Type 0) (count : ℕ)
+pub found_next : (wants : ℕ → Bool) (a b c : CallerView) (before after : History → Type 0) (count : ℕ)
     (clips fresh all : List ClipValue) (r : Reply)
     → Found wants a b before count clips
     → ((es : History) → before es → after (es ++ fetch b.caller.stream (count + 1) r ∷ []))
-    → Tells b c (fetch b.caller.stream (count + 1) r ∷ [])
+    → CallerStep b c (fetch b.caller.stream (count + 1) r ∷ [])
     → AnswersFormula b (count + 1) r
     → AllFollow c → AllByRecursion (IsKnown c) fresh → entries_of c fresh ≡ wanted_of wants (count + 1) (r ∷ []) → all ≡ clips ++ fresh
     → Found wants a c after (count + 1) all
-found_next wants a b c before after count clips fresh all r found then tells formula follow known entries is =
-    let caller : c.caller ≡ a.caller = tells.caller ∙ found.caller in
+found_next wants a b c before after count clips fresh all r found then step formula follow known entries is =
+    let caller : c.caller ≡ a.caller = step.caller ∙ found.caller in
     let at : 1 + length found.replies ≡ count + 1 = omega (arith, found.count) in
     let events = fetches-push a.caller.stream 1 found.replies r
     ∙ ap (λ n. fetches a.caller.stream 1 found.replies ++ fetch a.caller.stream n r ∷ []) at
     ∙ ap (λ (k : Caller). fetches a.caller.stream 1 found.replies ++ fetch k.stream (count + 1) r ∷ []) (sym found.caller) in
     let all_known : AllByRecursion (IsKnown c) all =
     subst (AllByRecursion (IsKnown c)) (sym is)
-    (All-append (IsKnown c) clips fresh (stay_known b c (fetch b.caller.stream (count + 1) r ∷ []) clips tells found.known) known) in
+    (All-append (IsKnown c) clips fresh (stay_known b c (fetch b.caller.stream (count + 1) r ∷ []) clips step found.known) known) in
     record {
       replies = found.replies ++ r ∷ [];
       moved = subst after (sym events) (then (fetches a.caller.stream 1 found.replies) found.moved);
       count = omega (arith, length-append found.replies (r ∷ []), found.count);
       entries = ap (entries_of c) is ∙ map-append (entry_of c) clips fresh
           ∙ ap (λ (es : List Entry). es ++ entries_of c fresh)
-          (stay_same b c (fetch b.caller.stream (count + 1) r ∷ []) clips tells found.known ∙ found.entries)
+          (stay_same b c (fetch b.caller.stream (count + 1) r ∷ []) clips step found.known ∙ found.entries)
           ∙ ap (λ (es : List Entry). wanted_of wants 1 found.replies ++ es) (entries ∙ ap (λ n. wanted_of wants n (r ∷ [])) (sym at))
           ∙ sym (wanted_of-append wants 1 found.replies (r ∷ []));
       known = all_known;
@@ -171,17 +171,17 @@ found_next wants a b c before after count clips fresh all r found then tells for
     }
 
 -- a live clause that is wanted is kept
-pub kept_wanted : (wants : ℕ → Bool) (p : Place) (id : ℕ) (clip : ClipValue) → wants id ≡ true → clip.id ≡ id
+pub kept_wanted : (wants : ℕ → Bool) (p : CallerView) (id : ℕ) (clip : ClipValue) → wants id ≡ true → clip.id ≡ id
     → entries_of p (clip ∷ []) ≡ wanted_of wants id (live (clip_clause p clip) ∷ [])
 kept_wanted wants p id clip wanted same = rw wanted (ap (λ n. record { id = n; clause = clip_clause p clip } ∷ []) same)
 
 -- one that isn't is left out
-pub kept_unwanted : (wants : ℕ → Bool) (p : Place) (id : ℕ) (clip : ClipValue) → wants id ≡ false
+pub kept_unwanted : (wants : ℕ → Bool) (p : CallerView) (id : ℕ) (clip : ClipValue) → wants id ≡ false
     → wanted_of wants id (live (clip_clause p clip) ∷ []) ≡ []
 kept_unwanted wants p id clip unwanted = rw unwanted refl
 
 -- nothing is kept where nothing is live
-pub kept_none : (wants : ℕ → Bool) (p : Place) (id : ℕ) (r : Fetched) → (r ≡ fetched.Vacant) ⊎ (r ≡ fetched.Retired)
+pub kept_none : (wants : ℕ → Bool) (p : CallerView) (id : ℕ) (r : Fetched) → (r ≡ fetched.Vacant) ⊎ (r ≡ fetched.Retired)
     → wanted_of wants id (reply_of p r ∷ []) ≡ []
 kept_none wants p id r (inl vacant_is) = rw vacant_is refl
 kept_none wants p id r (inr retired_is) = rw retired_is refl

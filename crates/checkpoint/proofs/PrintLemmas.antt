@@ -10,7 +10,7 @@ use Rattle.std.proofs.lemmas.List.{length-take}
 use Rattle.std.proofs.lemmas.Bool.{eq-eqb, ne_eqb}
 use Rattle.lrup_model.specs.Clause.{Clause}
 use Rattle.lrup_model.specs.lemmas.ClauseLemmas.{take-next}
-use Rattle.lrup_model.specs.Place.{ClipValue}
+use Rattle.lrup_model.specs.CallerView.{ClipValue}
 use Rattle.lrup_text.specs.Writing.{Puts, PutsAll}
 use Rattle.checkpoint.specs.Live.{Entry}
 use Rattle.checkpoint.specs.Printing.{clause_line, entries_text, entry_text, formula_text, header_line, note}

@@ -7,7 +7,7 @@ use Rattle.lrup_model.specs.Entailment.{Follows, IsDerived}
 use Rattle.lrup_model.specs.Formula.{Cnf, IsFormulaClause, max_clause_literals, max_clauses}
 use Rattle.lrup_model.specs.lemmas.ListLemmas.{All-map}
 use Rattle.lrup_model.specs.Literal.{max_variable}
-use Rattle.lrup_model.specs.Place.{Place, ClipValue, IsKnown}
+use Rattle.lrup_model.specs.CallerView.{CallerView, ClipValue, IsKnown}
 use Rattle.checkpoint.specs.Checkpoints.{AreWithinLimits, IsCheckpoint}
 use Rattle.checkpoint.specs.Live.{Entry, clauses_of, entries_of, entry_of}
 use Rattle.checkpoint.specs.Printing.{formula_text, printed}
@@ -17,7 +17,7 @@ use Rattle.checkpoint.proofs.ReadBack.{printed_is_read}
 abbrev AreFewClips : List ClipValue → Type 0
 AreFewClips clips = (length clips ≤ max_clauses) × AllByRecursion (λ clip. clip.len ≤ max_clause_literals) clips
 
-few_lengths : (p : Place) (clips : List ClipValue) → AllByRecursion (IsKnown p) clips
+few_lengths : (p : CallerView) (clips : List ClipValue) → AllByRecursion (IsKnown p) clips
     → AllByRecursion (λ clip. clip.len ≤ max_clause_literals) clips
     ↔ AllByRecursion (λ c. length c ≤ max_clause_literals) (clauses_of (entries_of p clips))
 few_lengths p [] known = ((λ all. tt), (λ all. tt))
@@ -27,7 +27,7 @@ few_lengths p (clip ∷ clips) known =
       λ all. (omega (arith, known.0.len, all.0), rest.1 all.1),
     )
 
-pub few_clauses : (p : Place) (clips : List ClipValue) → AllByRecursion (IsKnown p) clips
+pub few_clauses : (p : CallerView) (clips : List ClipValue) → AllByRecursion (IsKnown p) clips
     → AreFewClips clips ↔ AreWithinLimits (clauses_of (entries_of p clips))
 few_clauses p clips known =
     let lengths = few_lengths p clips known in

@@ -2,7 +2,7 @@
 use Rattle.std.specs.Prelude.{◌+◌, ℕ, Bool, List, [], ◌∷◌, map, if◌then◌else◌}
 use Rattle.lrup_model.specs.Clause.{Clause}
 use Rattle.lrup_model.specs.Event.{History, Reply, fetch, vacant, live, retired}
-use Rattle.lrup_model.specs.Place.{Place, ClipValue, clip_clause}
+use Rattle.lrup_model.specs.CallerView.{CallerView, ClipValue, clip_clause}
 
 -- a clause, with its identity in the run
 pub record Entry : Type 0 where
@@ -28,12 +28,12 @@ abbrev pub wanted_clauses : (ℕ → Bool) → List Clause → List Entry
 wanted_clauses wants clauses = wanted_of wants 1 (map live clauses)
 
 -- the clause of a clip, with its identity
-abbrev pub entry_of : Place → ClipValue → Entry
-entry_of place clip = record { id = clip.id; clause = clip_clause place clip }
+abbrev pub entry_of : CallerView → ClipValue → Entry
+entry_of view clip = record { id = clip.id; clause = clip_clause view clip }
 
 -- those of clips, in order
-abbrev pub entries_of : Place → List ClipValue → List Entry
-entries_of place clips = map (entry_of place) clips
+abbrev pub entries_of : CallerView → List ClipValue → List Entry
+entries_of view clips = map (entry_of view) clips
 
 -- the clauses alone
 abbrev pub clauses_of : List Entry → List Clause

@@ -7,7 +7,7 @@ ghost use Rattle.lrup_model.specs.Event.{Reply};
 ghost use Rattle.lrup_model.specs.Formula.{IsFormulaClause, max_clauses};
 ghost use Rattle.lrup_model.specs.Layout.{Fits, last_identity};
 ghost use Rattle.lrup_model.specs.Literal.{max_variable};
-ghost use Rattle.lrup_model.specs.Place.{IsKnown, clip_clause};
+ghost use Rattle.lrup_model.specs.CallerView.{IsKnown, clip_clause};
 ghost use Rattle.checkpoint.specs.Checkpoints.{AreWithinLimits, Carries, IsCheckpointOf};
 ghost use Rattle.checkpoint.specs.internal.TooLarge.{IsTooLarge};
 ghost use Rattle.checkpoint.specs.Live.{clauses_of, entries_of, fetches, wanted_of};
@@ -28,16 +28,16 @@ pub fn carry<M: ClauseMap, K: Wanted, W: Sink>(
     wanted: &K,
     sink: &mut W,
 ) -> Result<Formula, SaveFault>
-    requires layout { layout.now ≡ (M.place map.old).caller.layout }
-    requires fits { Fits layout.now (M.place map.old).caller.formula }
+    requires layout { layout.now ≡ (M.caller_view map.old).caller.layout }
+    requires fits { Fits layout.now (M.caller_view map.old).caller.formula }
     requires running { W.has_failed sink.old ≡ false }
     // What a user relies on: what was written is a text of just the formula that is given, each clause of which follows.
     ensures next { IfOk result (λ next. (bytes : List ℕ)
         × Appends (W.written sink.old) (W.written sink.new) bytes
-        × IsCheckpointOf (M.place map.old).caller.formula bytes next) }
+        × IsCheckpointOf (M.caller_view map.old).caller.formula bytes next) }
     // The map's calls, what went out, and the formula.
     ensures carries { (replies : List Reply)
-        × M.moves map.old map.new (fetches (M.place map.old).caller.stream 1 replies)
+        × M.moves map.old map.new (fetches (M.caller_view map.old).caller.stream 1 replies)
         × (length replies ≤ last_identity layout.now)
         × ((length replies ≡ last_identity layout.now)
         × Carries result layout.now.vars (wanted_of (K.wants wanted.now) 1 replies)
@@ -62,19 +62,19 @@ fn next_formula<M: ClauseMap>(
     clips: &[Clip],
     vars: u32,
 ) -> Result<Formula, SaveFault>
-    requires known { AllByRecursion (IsKnown (M.place map.old)) clips.now }
-    requires follow { AllByRecursion (IsDerived (M.place map.old).caller.formula)
-        (clauses_of (entries_of (M.place map.old) clips.now)) }
-    requires vars { vars ≡ (M.place map.old).caller.formula.vars }
+    requires known { AllByRecursion (IsKnown (M.caller_view map.old)) clips.now }
+    requires follow { AllByRecursion (IsDerived (M.caller_view map.old).caller.formula)
+        (clauses_of (entries_of (M.caller_view map.old) clips.now)) }
+    requires vars { vars ≡ (M.caller_view map.old).caller.formula.vars }
     requires few { vars ≤ max_variable }
     ensures formula { IfOk result (λ next.
-        next ≡ printed vars (entries_of (M.place map.old) clips.now)) }
+        next ≡ printed vars (entries_of (M.caller_view map.old) clips.now)) }
     ensures within { IfOk result (λ _. AreWithinLimits
-        (clauses_of (entries_of (M.place map.old) clips.now))) }
+        (clauses_of (entries_of (M.caller_view map.old) clips.now))) }
     ensures fault { IfErr result
-        (IsTooLarge (clauses_of (entries_of (M.place map.old) clips.now))) }
+        (IsTooLarge (clauses_of (entries_of (M.caller_view map.old) clips.now))) }
     ensures event { M.moves map.old map.new [] }
-    ensures stays { M.place map.new ≡ M.place map.old }
+    ensures stays { M.caller_view map.new ≡ M.caller_view map.old }
 {
     if !are_few(clips) {
         return Err(SaveFault::TooLarge);
@@ -92,15 +92,15 @@ fn formula_of<M: ClauseMap>(
     clips: &[Clip],
     vars: u32,
 ) -> Result<Formula, AllocError>
-    requires known { AllByRecursion (IsKnown (M.place map.old)) clips.now }
+    requires known { AllByRecursion (IsKnown (M.caller_view map.old)) clips.now }
     requires clauses { AllByRecursion (IsFormulaClause vars)
-        (clauses_of (entries_of (M.place map.old) clips.now)) }
+        (clauses_of (entries_of (M.caller_view map.old) clips.now)) }
     requires count { length clips.now ≤ max_clauses }
     requires few { vars ≤ max_variable }
     ensures formula { IfOk result (λ next.
-        next ≡ printed vars (entries_of (M.place map.old) clips.now)) }
+        next ≡ printed vars (entries_of (M.caller_view map.old) clips.now)) }
     ensures event { M.moves map.old map.new [] }
-    ensures stays { M.place map.new ≡ M.place map.old }
+    ensures stays { M.caller_view map.new ≡ M.caller_view map.old }
 {
     let mut formula = Formula::new(alloc, vars);
     let mut clause = Vec::new(alloc);
@@ -113,10 +113,11 @@ fn formula_of<M: ClauseMap>(
 
 /// Fills the list with the clip's literals, in the order in which the map keeps them.
 fn spell<M: ClauseMap>(map: &mut M, clip: &Clip, clause: &mut Vec<Lit>) -> Result<(), AllocError>
-    requires known { IsKnown (M.place map.old) clip.now }
-    ensures items { IfOk result (λ _. clause.new.items ≡ clip_clause (M.place map.old) clip.now) }
+    requires known { IsKnown (M.caller_view map.old) clip.now }
+    ensures items { IfOk result
+        (λ _. clause.new.items ≡ clip_clause (M.caller_view map.old) clip.now) }
     ensures event { M.moves map.old map.new [] }
-    ensures stays { M.place map.new ≡ M.place map.old }
+    ensures stays { M.caller_view map.new ≡ M.caller_view map.old }
 {
     clause.clear();
     for k in 0..clip.len() {

@@ -4,7 +4,7 @@ ghost use Rattle.std.specs.List.{AllByRecursion};
 ghost use Rattle.lrup_model.specs.Layout.{last_identity};
 ghost use Rattle.lrup_model.specs.Entailment.{IsDerived};
 ghost use Rattle.lrup_model.specs.Event.{Reply};
-ghost use Rattle.lrup_model.specs.Place.{IsKnown};
+ghost use Rattle.lrup_model.specs.CallerView.{IsKnown};
 ghost use Rattle.checkpoint.specs.Live.{Entry, clauses_of, entries_of, fetches, wanted_of, wanted_clauses};
 
 use lrup_model::{ClauseMap, Clip, Fetched, Id};
@@ -27,23 +27,24 @@ pub fn live_clauses<M: ClauseMap, K: Wanted>(
     last: Id,
     wanted: &K,
 ) -> Result<Vec<Clip>, AllocError>
-    requires { last ≤ last_identity (M.place map.old).caller.layout }
+    requires { last ≤ last_identity (M.caller_view map.old).caller.layout }
     // The calls are these fetches, with the replies given, and the clauses are the live ones that are wanted.
     ensures fetched { (replies : List Reply)
-        × M.moves map.old map.new (fetches (M.place map.old).caller.stream 1 replies)
+        × M.moves map.old map.new (fetches (M.caller_view map.old).caller.stream 1 replies)
         × (length replies ≤ last)
         × IfOk result (λ clips. (length replies ≡ last)
-        × (entries_of (M.place map.new) clips.items ≡ wanted_of (K.wants wanted.now) 1 replies)) }
+        × (entries_of (M.caller_view map.new) clips.items
+        ≡ wanted_of (K.wants wanted.now) 1 replies)) }
     ensures known { IfOk result (λ clips.
-        AllByRecursion (IsKnown (M.place map.new)) clips.items) }
+        AllByRecursion (IsKnown (M.caller_view map.new)) clips.items) }
     ensures follow { IfOk result (λ clips.
-        AllByRecursion (IsDerived (M.place map.old).caller.formula)
-        (clauses_of (entries_of (M.place map.new) clips.items))) }
+        AllByRecursion (IsDerived (M.caller_view map.old).caller.formula)
+        (clauses_of (entries_of (M.caller_view map.new) clips.items))) }
     // Those of the formula that are wanted come first.
-    ensures formula { let caller = (M.place map.old).caller in
+    ensures formula { let caller = (M.caller_view map.old).caller in
         IfOk result (λ clips. caller.layout.clauses ≡ length caller.formula.clauses
         → caller.layout.clauses ≤ last → (more : List Entry)
-        × (entries_of (M.place map.new) clips.items
+        × (entries_of (M.caller_view map.new) clips.items
         ≡ wanted_clauses (K.wants wanted.now) caller.formula.clauses ++ more)) }
 {
     let mut clips = Vec::new(alloc);

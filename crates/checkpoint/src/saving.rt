@@ -7,7 +7,7 @@ ghost use Rattle.lrup_model.specs.Event.{Reply};
 ghost use Rattle.lrup_model.specs.Formula.{max_clause_literals, max_clauses};
 ghost use Rattle.lrup_model.specs.Layout.{Fits, last_identity};
 ghost use Rattle.lrup_model.specs.Literal.{max_variable};
-ghost use Rattle.lrup_model.specs.Place.{IsKnown};
+ghost use Rattle.lrup_model.specs.CallerView.{IsKnown};
 ghost use Rattle.checkpoint.specs.Checkpoints.{IsCheckpoint, Saves};
 ghost use Rattle.checkpoint.specs.Live.{Entry, clauses_of, entries_of, fetches, wanted_of, wanted_clauses};
 ghost use Rattle.checkpoint.specs.Printing.{formula_text};
@@ -52,20 +52,20 @@ pub fn save<M: ClauseMap, K: Wanted, W: Sink>(
     wanted: &K,
     sink: &mut W,
 ) -> Result<(), SaveFault>
-    requires layout { layout.now ≡ (M.place map.old).caller.layout }
-    requires fits { Fits layout.now (M.place map.old).caller.formula }
+    requires layout { layout.now ≡ (M.caller_view map.old).caller.layout }
+    requires fits { Fits layout.now (M.caller_view map.old).caller.formula }
     requires running { W.has_failed sink.old ≡ false }
     // What a user relies on.
     ensures checkpoint { IfOk result (λ _. (bytes : List ℕ)
         × Appends (W.written sink.old) (W.written sink.new) bytes
-        × IsCheckpoint (M.place map.old).caller.formula bytes) }
+        × IsCheckpoint (M.caller_view map.old).caller.formula bytes) }
     // The clauses of the run's formula that are wanted come first.
-    ensures keeps { let f = (M.place map.old).caller.formula in
+    ensures keeps { let f = (M.caller_view map.old).caller.formula in
         IfOk result (λ _. (more : List Entry) × Appends (W.written sink.old) (W.written sink.new)
         (formula_text f.vars (wanted_clauses (K.wants wanted.now) f.clauses ++ more))) }
     // The map's calls, and what went out.
     ensures saves { (replies : List Reply)
-        × M.moves map.old map.new (fetches (M.place map.old).caller.stream 1 replies)
+        × M.moves map.old map.new (fetches (M.caller_view map.old).caller.stream 1 replies)
         × (length replies ≤ last_identity layout.now)
         × ((length replies ≡ last_identity layout.now)
         × Saves result layout.now.vars (wanted_of (K.wants wanted.now) 1 replies)
@@ -85,20 +85,20 @@ pub fn save_clips<M: ClauseMap, W: Sink>(
     vars: u32,
     sink: &mut W,
 ) -> Result<(), SaveFault>
-    requires known { AllByRecursion (IsKnown (M.place map.old)) clips.now }
-    requires follow { AllByRecursion (IsDerived (M.place map.old).caller.formula)
-        (clauses_of (entries_of (M.place map.old) clips.now)) }
-    requires vars { vars ≡ (M.place map.old).caller.formula.vars }
+    requires known { AllByRecursion (IsKnown (M.caller_view map.old)) clips.now }
+    requires follow { AllByRecursion (IsDerived (M.caller_view map.old).caller.formula)
+        (clauses_of (entries_of (M.caller_view map.old) clips.now)) }
+    requires vars { vars ≡ (M.caller_view map.old).caller.formula.vars }
     requires few { vars ≤ max_variable }
     requires running { W.has_failed sink.old ≡ false }
     ensures checkpoint { IfOk result (λ _. (bytes : List ℕ)
         × Appends (W.written sink.old) (W.written sink.new) bytes
-        × IsCheckpoint (M.place map.old).caller.formula bytes) }
-    ensures saves { Saves result vars (entries_of (M.place map.old) clips.now)
+        × IsCheckpoint (M.caller_view map.old).caller.formula bytes) }
+    ensures saves { Saves result vars (entries_of (M.caller_view map.old) clips.now)
         (W.written sink.old) (W.written sink.new) }
     ensures failed { IsTrue (W.has_failed sink.new) ↔ (result ≡ Err SaveFault.Unwritten) }
     ensures event { M.moves map.old map.new [] }
-    ensures stays { M.place map.new ≡ M.place map.old }
+    ensures stays { M.caller_view map.new ≡ M.caller_view map.old }
 {
     if !are_few(clips) {
         return Err(SaveFault::TooLarge);

@@ -2,7 +2,7 @@
 ghost use Rattle.std.specs.Prelude.{◌≡◌, ◌++◌, [], codes, false, is_err};
 ghost use Rattle.std.specs.Fmt.{signed_decimal};
 ghost use Rattle.std.specs.List.{AllByRecursion};
-ghost use Rattle.lrup_model.specs.Place.{IsKnown, clip_clause};
+ghost use Rattle.lrup_model.specs.CallerView.{IsKnown, clip_clause};
 ghost use Rattle.lrup_text.specs.Writing.{PutsAll, WritesText};
 ghost use Rattle.checkpoint.specs.Live.{entries_of, entry_of};
 ghost use Rattle.checkpoint.specs.Printing.{clause_line, entry_text, formula_text, header_line, note};
@@ -18,13 +18,13 @@ pub fn write_formula<M: ClauseMap, W: Sink>(
     vars: u32,
     sink: &mut W,
 ) -> Result<(), WriteFault>
-    requires known { AllByRecursion (IsKnown (M.place map.old)) clips.now }
+    requires known { AllByRecursion (IsKnown (M.caller_view map.old)) clips.now }
     requires running { W.has_failed sink.old ≡ false }
     ensures text { WritesText result (W.written sink.old) (W.written sink.new)
-        (formula_text vars (entries_of (M.place map.old) clips.now)) }
+        (formula_text vars (entries_of (M.caller_view map.old) clips.now)) }
     ensures failed { W.has_failed sink.new ≡ is_err result }
     ensures event { M.moves map.old map.new [] }
-    ensures stays { M.place map.new ≡ M.place map.old }
+    ensures stays { M.caller_view map.new ≡ M.caller_view map.old }
 {
     let mut buffer = WriteBuffer::new();
     put_header(&mut buffer, vars, clips.len(), sink)?;
@@ -61,13 +61,13 @@ fn put_entry<M: ClauseMap, W: Sink>(
     place: u64,
     sink: &mut W,
 ) -> Result<(), WriteFault>
-    requires known { IsKnown (M.place map.old) clip.now }
+    requires known { IsKnown (M.caller_view map.old) clip.now }
     requires running { W.has_failed sink.old ≡ false }
     ensures puts { PutsAll result (W.written sink.old) (W.written sink.new)
-        buffer.old buffer.new (entry_text place (entry_of (M.place map.old) clip.now)) }
+        buffer.old buffer.new (entry_text place (entry_of (M.caller_view map.old) clip.now)) }
     ensures failed { W.has_failed sink.new ≡ is_err result }
     ensures event { M.moves map.old map.new [] }
-    ensures stays { M.place map.new ≡ M.place map.old }
+    ensures stays { M.caller_view map.new ≡ M.caller_view map.old }
 {
     put_note(buffer, clip.id(), place, sink)?;
     put_clause(buffer, map, clip, sink)
@@ -100,13 +100,13 @@ fn put_clause<M: ClauseMap, W: Sink>(
     clip: &Clip,
     sink: &mut W,
 ) -> Result<(), WriteFault>
-    requires known { IsKnown (M.place map.old) clip.now }
+    requires known { IsKnown (M.caller_view map.old) clip.now }
     requires running { W.has_failed sink.old ≡ false }
     ensures puts { PutsAll result (W.written sink.old) (W.written sink.new)
-        buffer.old buffer.new (clause_line (clip_clause (M.place map.old) clip.now)) }
+        buffer.old buffer.new (clause_line (clip_clause (M.caller_view map.old) clip.now)) }
     ensures failed { W.has_failed sink.new ≡ is_err result }
     ensures event { M.moves map.old map.new [] }
-    ensures stays { M.place map.new ≡ M.place map.old }
+    ensures stays { M.caller_view map.new ≡ M.caller_view map.old }
 {
     for i in 0..clip.pairs() {
         let (first, second) = map.pair(clip, i);

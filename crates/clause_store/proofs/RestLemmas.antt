@@ -1,7 +1,7 @@
 -- Lemmas on a pass's seat between two calls.
 use Rattle.std.proofs.Common.{◌≡◌, ℕ, [], sym, ap, ◌∙◌}
 use Rattle.lrup_model.specs.Layout.{row_words}
-use Rattle.lrup_model.specs.Place.{Caller}
+use Rattle.lrup_model.specs.CallerView.{Caller}
 use Rattle.lrup_model.specs.Pass.{IsFair}
 use Rattle.idwords.specs.Seats.{SeatValue}
 use Rattle.idwords.specs.Spelling.{LieWithin}

@@ -1,13 +1,13 @@
 -- A pass's desk at its store, as a clause map (this project's own).
 use Rattle.std.specs.Prelude.{◌≡◌}
 use Rattle.lrup_model.specs.Event.{History}
-use Rattle.lrup_model.specs.Place.{Place}
-use Rattle.lrup_model.specs.Pass.{PassMoves, pass_place}
+use Rattle.lrup_model.specs.CallerView.{CallerView}
+use Rattle.lrup_model.specs.Pass.{PassMoves, pass_caller_view}
 use Rattle.clause_store.specs.Passes.{store_of}
 use Rattle.clause_store.specs.declared.desk.Desk.{Desk}
 
-abbrev pub desk_place : Desk → Place
-desk_place desk = pass_place desk.pass.view
+abbrev pub desk_caller_view : Desk → CallerView
+desk_caller_view desk = pass_caller_view desk.pass.view
 
 -- the desk stays at the same store, and its pass moved by these events
 pub record DeskMoves (old new : Desk) (history : History) : Type 0 where

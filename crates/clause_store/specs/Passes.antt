@@ -38,5 +38,5 @@ abbrev pub AreOf : StoreValue → List PassValue → Type 0
 AreOf store passes = AllByRecursion (λ pass. store_of pass ≡ store) passes
 
 -- all have seen one history
-abbrev pub HaveMet : List View → Type 0
-HaveMet passes = (history : History) × AllByRecursion (λ view. view.seen ≡ history) passes
+abbrev pub ShareHistory : List View → Type 0
+ShareHistory passes = (history : History) × AllByRecursion (λ view. view.seen ≡ history) passes

@@ -33,10 +33,10 @@ impl<'a> Desk<'a> {
 }
 
 impl ClauseMap for Desk<'_> {
-    ghost use Rattle.clause_store.specs.Desks.{desk_place, DeskMoves};
-    ghost use Rattle.clause_store.specs.lemmas.DeskLemmas.{desk_none, desk_append, desk_tells};
+    ghost use Rattle.clause_store.specs.Desks.{desk_caller_view, DeskMoves};
+    ghost use Rattle.clause_store.specs.lemmas.DeskLemmas.{desk_none, desk_append, desk_step};
 
-    ghost place = { desk_place };
+    ghost caller_view = { desk_caller_view };
 
     ghost moves = { DeskMoves };
 
@@ -89,5 +89,5 @@ impl ClauseMap for Desk<'_> {
 
     ghost moves_append = { desk_append };
 
-    ghost moves_tells = { desk_tells };
+    ghost moves_are_step = { desk_step };
 }

@@ -1,7 +1,7 @@
 //! All passes of a store brought to one history.
 ghost use Rattle.std.specs.Prelude.{◌≡◌};
-ghost use Rattle.lrup_model.specs.Pass.{MeetsInTurn, AreMet, IsFair};
-ghost use Rattle.clause_store.specs.Passes.{store_of, views, AreOf, HaveMet};
+ghost use Rattle.lrup_model.specs.Pass.{SyncInTurn, AreSynced, IsFair};
+ghost use Rattle.clause_store.specs.Passes.{store_of, views, AreOf, ShareHistory};
 
 use crate::pass::Pass;
 use crate::store::Store;
@@ -9,12 +9,12 @@ use crate::store::Store;
 impl Store {
     /// All passes have then seen one history, which begins with what each had seen: the first meets all others in turn, and
     /// then all again. It is no event.
-    #[tactic(auto, using(crate::proofs::MeetingLemmas::rounds_next, crate::proofs::MeetingLemmas::met_in_rounds, crate::proofs::MeetingLemmas::one_in_rounds))]
+    #[tactic(auto, using(crate::proofs::MeetingLemmas::rounds_next, crate::proofs::MeetingLemmas::synced_in_rounds, crate::proofs::MeetingLemmas::one_in_rounds))]
     pub fn meet_all(&self, passes: &mut [Pass])
         requires { AreOf self.now passes.old }
         ensures store { AreOf self.now passes.new }
-        ensures met { AreMet (views passes.old) (views passes.new) }
-        ensures one { HaveMet (views passes.new) }
+        ensures synced { AreSynced (views passes.old) (views passes.new) }
+        ensures one { ShareHistory (views passes.new) }
     {
         let Some((first, others)) = passes.split_first_mut() else {
             return;
@@ -31,7 +31,7 @@ impl Store {
         requires others { AreOf self.now others.old }
         ensures pass { store_of pass.new ≡ self.now }
         ensures others { AreOf self.now others.new }
-        ensures turns { MeetsInTurn pass.old.view (views others.old) pass.new.view
+        ensures turns { SyncInTurn pass.old.view (views others.old) pass.new.view
             (views others.new) }
         ensures fair { IsFair pass.new.view }
     {

@@ -3,8 +3,8 @@ ghost use Rattle.std.specs.Prelude.{◌≡◌, ◌↔◌, ◌+◌, ◌-◌, ◌*
 ghost use Rattle.lrup_model.specs.Event as events;
 ghost use Rattle.lrup_model.specs.History.{IsPublishable};
 ghost use Rattle.lrup_model.specs.Layout.{Fits, IsIdentity, IsStream, Owns};
-ghost use Rattle.lrup_model.specs.Pass.{Meets, pass_place};
-ghost use Rattle.lrup_model.specs.Place.{IsKnown, clip_clause};
+ghost use Rattle.lrup_model.specs.Pass.{SyncViews, pass_caller_view};
+ghost use Rattle.lrup_model.specs.CallerView.{IsKnown, clip_clause};
 ghost use Rattle.lrup_model.specs.Replies.{IsFetched, reply_of};
 ghost use Rattle.lrup_model.specs.State.{state, absent, IsLive};
 ghost use Rattle.clause_store.specs.Passes.{AreOf, IsOpened, PassValue, store_of};
@@ -78,7 +78,7 @@ impl Store {
     /// The room that the pass has left, in literals.
     pub fn room(&self, pass: &Pass) -> u64
         requires { store_of pass.now ≡ self.now }
-        ensures { result ≡ (pass_place pass.now.view).room }
+        ensures { result ≡ (pass_caller_view pass.now.view).room }
     {
         pass.seat.room()
     }
@@ -90,9 +90,9 @@ impl Store {
         requires store { store_of pass.old ≡ self.now }
         requires identity { IsIdentity pass.old.view.caller.layout id }
         ensures store { store_of pass.new ≡ self.now }
-        ensures calls { let reply = reply_of (pass_place pass.new.view) result in
+        ensures calls { let reply = reply_of (pass_caller_view pass.new.view) result in
             Calls pass.old.view pass.new.view (events.fetch pass.old.view.caller.stream id reply) }
-        ensures fetched { IsFetched (pass_place pass.new.view) id result }
+        ensures fetched { IsFetched (pass_caller_view pass.new.view) id result }
     {
         let word = self.row.look(&mut pass.seat, id);
         match state_in(word) {
@@ -107,9 +107,9 @@ impl Store {
     #[inline]
     pub fn literal(&self, pass: &mut Pass, clip: &Clip, k: u32) -> Lit
         requires store { store_of pass.old ≡ self.now }
-        requires known { IsKnown (pass_place pass.old.view) clip.now }
+        requires known { IsKnown (pass_caller_view pass.old.view) clip.now }
         requires within { k < clip.now.len }
-        ensures value { slice_get (clip_clause (pass_place pass.old.view) clip.now) k
+        ensures value { slice_get (clip_clause (pass_caller_view pass.old.view) clip.now) k
             ≡ Some result }
         ensures same { pass.new ≡ pass.old }
     {
@@ -122,11 +122,12 @@ impl Store {
     #[inline]
     pub fn pair(&self, pass: &mut Pass, clip: &Clip, i: u32) -> (Lit, Option<Lit>)
         requires store { store_of pass.old ≡ self.now }
-        requires known { IsKnown (pass_place pass.old.view) clip.now }
+        requires known { IsKnown (pass_caller_view pass.old.view) clip.now }
         requires within { 2 * i < clip.now.len }
-        ensures first { slice_get (clip_clause (pass_place pass.old.view) clip.now) (2 * i)
+        ensures first { slice_get (clip_clause (pass_caller_view pass.old.view) clip.now) (2 * i)
             ≡ Some result.0 }
-        ensures second { slice_get (clip_clause (pass_place pass.old.view) clip.now) (2 * i + 1)
+        ensures second { slice_get
+            (clip_clause (pass_caller_view pass.old.view) clip.now) (2 * i + 1)
             ≡ result.1 }
         ensures same { pass.new ≡ pass.old }
     {
@@ -146,7 +147,7 @@ impl Store {
         requires store { store_of pass.old ≡ self.now }
         requires owns { Owns pass.old.view.caller.layout pass.old.view.caller.stream id }
         requires clause { IsPublishable pass.old.view.caller.formula clause.now }
-        requires room { length clause.now ≤ (pass_place pass.old.view).room }
+        requires room { length clause.now ≤ (pass_caller_view pass.old.view).room }
         ensures store { store_of pass.new ≡ self.now }
         ensures calls { let stream = pass.old.view.caller.stream in
             Calls pass.old.view pass.new.view (events.publish stream id clause.now result) }
@@ -184,7 +185,7 @@ impl Store {
         requires second { store_of second.old ≡ self.now }
         ensures first { store_of first.new ≡ self.now }
         ensures second { store_of second.new ≡ self.now }
-        ensures meets { Meets first.old.view second.old.view first.new.view second.new.view }
+        ensures meets { SyncViews first.old.view second.old.view first.new.view second.new.view }
     {
         self.row.meet(&mut first.seat, &mut second.seat);
     }

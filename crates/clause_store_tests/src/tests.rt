@@ -5,8 +5,8 @@ ghost use Rattle.lrup_model.specs.History.{IsPublishable};
 ghost use Rattle.lrup_model.specs.Layout.{IsStream};
 ghost use Rattle.lrup_model.specs.Literal.{IsLiteral};
 ghost use Rattle.lrup_model.specs.Plain.{formula_of};
-ghost use Rattle.lrup_model.specs.Pass.{pass_place};
-ghost use Rattle.lrup_model.specs.Place.{IsKnown};
+ghost use Rattle.lrup_model.specs.Pass.{pass_caller_view};
+ghost use Rattle.lrup_model.specs.CallerView.{IsKnown};
 ghost use Rattle.test_support.specs.Worked.{four};
 ghost use Rattle.lrup_model.specs.Formula.{Cnf};
 ghost use Rattle.clause_store.specs.Passes.{StoreValue, store_of, AreOf};
@@ -101,7 +101,7 @@ fn look(store: &Store, pass: &mut Pass, id: Id) -> Option<Found>
 fn live(store: &Store, pass: &mut Pass, id: Id) -> Option<Clip>
     requires { IsPassAt four store.now pass.old }
     ensures at { IsPassAt four store.now pass.new }
-    ensures known { IfSome result (λ clip. IsKnown (pass_place pass.new.view) clip) }
+    ensures known { IfSome result (λ clip. IsKnown (pass_caller_view pass.new.view) clip) }
 {
     if !store.covers(id) {
         return None;
@@ -231,7 +231,7 @@ fn retire_in_turn<R: Threads + Abort>(
 ) -> Pass
     requires first { IsPassAt four store.now a.old }
     requires second { IsPassAt four store.now b }
-    requires known { IsKnown (pass_place a.old.view) clip.now }
+    requires known { IsKnown (pass_caller_view a.old.view) clip.now }
     ensures { IsPassAt four store.now result }
 {
     holds(rt, reads_back(store, a, clip, &[lit(-2)]));
@@ -306,7 +306,7 @@ fn a_pass_spends_its_room(rt: HostRuntime) -> Result<(), Fail> {
 /// Are these the literals of a clip's clause, in this order?
 fn reads_back(store: &Store, pass: &mut Pass, clip: &Clip, clause: &[Lit]) -> bool
     requires store { store_of pass.old ≡ store.now }
-    requires known { IsKnown (pass_place pass.old.view) clip.now }
+    requires known { IsKnown (pass_caller_view pass.old.view) clip.now }
     ensures { pass.new ≡ pass.old }
 {
     if clip.len() as usize != clause.len() {
@@ -363,7 +363,7 @@ fn clauses_are_read_back(rt: HostRuntime) -> Result<(), Fail> {
 
 /// Publishes `2`, which the first two clauses show, under an identity of the caller's own.
 fn publish_two<M: ClauseMap>(map: &mut M, id: Id) -> Option<Published>
-    requires { (M.place map.old).caller.formula ≡ four }
+    requires { (M.caller_view map.old).caller.formula ≡ four }
     ensures { (es : History) × M.moves map.old map.new es }
 {
     if !map.owns(id) || map.room() == 0 {
@@ -399,7 +399,7 @@ fn publish_and_read<M: ClauseMap>(
     other: Id,
     turns: u32,
 ) -> (Option<Published>, Option<Lit>)
-    requires { (M.place map.old).caller.formula ≡ four }
+    requires { (M.caller_view map.old).caller.formula ≡ four }
     ensures { (es : History) × M.moves map.old map.new es }
 {
     let answer = publish_two(map, own);
@@ -597,7 +597,7 @@ fn publish_raced(store: &Store, pass: &mut Pass, id: Id) -> Option<Published>
 /// Is this the clause of the race, in whichever order it lies?
 fn is_raced(store: &Store, pass: &mut Pass, clip: &Clip) -> bool
     requires store { store_of pass.old ≡ store.now }
-    requires known { IsKnown (pass_place pass.old.view) clip.now }
+    requires known { IsKnown (pass_caller_view pass.old.view) clip.now }
     ensures { pass.new ≡ pass.old }
 {
     let id = clip.id();

@@ -9,8 +9,8 @@ use Rattle.lrup_model.specs.Entailment.{IsUnsatisfiable}
 use Rattle.lrup_model.specs.Formula.{Cnf}
 use Rattle.lrup_model.specs.Layout.{LayoutValue, IsFault, IsStream}
 use Rattle.lrup_model.specs.declared.layout.LayoutFault.{LayoutFault}
-use Rattle.portfolio.specs.Outcomes.{OptionsValue, layout_of, terms_of}
-use Rattle.runs.specs.Streams.{TermsValue}
+use Rattle.portfolio.specs.Outcomes.{OptionsValue, layout_of, run_params_of}
+use Rattle.runs.specs.Streams.{RunParamsValue}
 use Rattle.portfolio.specs.declared.outcome.RunFault.{RunFault}
 use Rattle.portfolio.specs.declared.outcome.RunFault.TheVariants as runs
 use Rattle.portfolio.specs.declared.outcome.Verdict.{Verdict}
@@ -21,7 +21,7 @@ use Rattle.command_line.specs.declared.words.CommandLine.{CommandLine}
 use Rattle.command.specs.Commands.{AreAssumed, AreChecked, AreOpened, Deeds, FilesView, HasNoFault, IsAssumeCause, IsBegunWith, IsCause}
 use Rattle.command.specs.Commands.{IsFormulaAt, IsLeftUnused, IsOpenCause, IsOutcome, IsReadCause, IsStartCause, LeavesBehind}
 use Rattle.command.specs.Commands.{LeavesCheckpoint, NameUnsatisfiable, NameUnsatisfiableUnder, SavesCheckpoint, Text, WasRead, WasReadIn}
-use Rattle.command.specs.Commands.{assumed_at, checkpoint_at, created_at, layout_at, options_of, terms_given}
+use Rattle.command.specs.Commands.{assumed_at, checkpoint_at, created_at, layout_at, options_of, run_params_given}
 use Rattle.command.specs.internal.Running.{IsLayoutCause, IsRunCause}
 use Rattle.command.specs.internal.Saving.{IsNotCreated}
 use Rattle.command.specs.internal.FaultSources.{of_run}
@@ -119,16 +119,16 @@ pub is_outcome : (files : FilesView) (words : List Text) (given : CommandLine) (
     → options ≡ options_of given → AreOpened files.its.opens later given.streams readers last
     → map files.its.reading.left readers ≡ map files.tells given.streams
     → (reports : List Report) (verdict : Verdict) (unsaved : Option SaveFault) (after : files.its.State)
-    → AreChecked files.its.reading given.serial f (terms_of options cube f (length readers)) readers reports verdict
+    → AreChecked files.its.reading given.serial f (run_params_of options cube f (length readers)) readers reports verdict
     → LeavesBehind files.its
-    (SavesCheckpoint files.its given.serial f (terms_of options cube f (length readers)) readers reports) verdict last
+    (SavesCheckpoint files.its given.serial f (run_params_of options cube f (length readers)) readers reports) verdict last
     (checkpoint_at given) unsaved after
     → (outcome : IsOutcome files words reports verdict) × LeavesCheckpoint files words reports verdict outcome unsaved after
 is_outcome files words given f cube options readers next later last line at assumed options_are opened entries_are reports verdict unsaved
     after checked leaves =
-    let terms : terms_of options cube f (length readers) ≡ terms_given given cube f =
-    ap (λ o. terms_of o cube f (length readers)) options_are
-    ∙ ap (terms_of (options_of given) cube f) (same_count _ _ readers given.streams entries_are) in
+    let run_params : run_params_of options cube f (length readers) ≡ run_params_given given cube f =
+    ap (λ o. run_params_of o cube f (length readers)) options_are
+    ∙ ap (run_params_of (options_of given) cube f) (same_count _ _ readers given.streams entries_are) in
     let outcome : IsOutcome files words reports verdict = record {
       given = given;
       command_line = line;
@@ -142,11 +142,11 @@ is_outcome files words given f cube options readers next later last line at assu
       last = last;
       opened = opened;
       left = entries_are;
-      checked = subst (λ (t : TermsValue). AreChecked files.its.reading given.serial f t readers reports verdict) terms checked;
+      checked = subst (λ (t : RunParamsValue). AreChecked files.its.reading given.serial f t readers reports verdict) run_params checked;
     } in (
       outcome,
-      subst (λ (t : TermsValue). LeavesBehind files.its (SavesCheckpoint files.its given.serial f t readers reports) verdict last
-          (checkpoint_at given) unsaved after) terms leaves,
+      subst (λ (t : RunParamsValue). LeavesBehind files.its (SavesCheckpoint files.its given.serial f t readers reports) verdict last
+          (checkpoint_at given) unsaved after) run_params leaves,
     )
 
 module _ (files : FilesView) (words : List Text) (given : CommandLine) (line : IsCommandLineOf words given) where

@@ -16,7 +16,7 @@ use Rattle.lrup_model.specs.Literal.{max_variable}
 use Rattle.lrup_model.specs.Layout.{IsFault, LayoutValue}
 use Rattle.lrup_model.specs.declared.layout.LayoutFault.{LayoutFault}
 use Rattle.lrup_model.specs.declared.layout.LayoutFault.TheVariants as layouts
-use Rattle.portfolio.specs.Outcomes.{OptionsValue, terms_of}
+use Rattle.portfolio.specs.Outcomes.{OptionsValue, run_params_of}
 use Rattle.portfolio.specs.declared.outcome.Verdict.{Verdict}
 use Rattle.portfolio.specs.declared.outcome.Verdict.TheVariants.{Unsatisfiable, UnsatisfiableUnder, Unknown}
 use Rattle.checkpoint.specs.Entails.{RefutesBack, RefutesBackUnder}
@@ -27,9 +27,10 @@ use Rattle.command.specs.Commands.{AreOpened, Deeds, IsStartCause, Text, WasRead
 use Rattle.command.specs.Commands.{path_of, rounds_at}
 use Rattle.command.specs.Paths.{formula_path, sizes_path, stream_path, stream_paths}
 use Rattle.command.specs.Rounds.{AreRounds, AreSized, CarriesOn, CarriesRound, IsBarred, IsRoundCause, IsRoundStartCause, IsSizesCause}
-use Rattle.command.specs.Rounds.{Plan, Round, RoundsEnd, SavesRound, StreamsOpened, WasChecked, options_by, plan_at, sizes_of, terms_by}
+use Rattle.command.specs.Rounds.{Plan, Round, RoundsEnd, SavesRound, StreamsOpened, WasChecked, options_by, plan_at, sizes_of}
+use Rattle.command.specs.Rounds.{run_params_by}
 use Rattle.command.specs.internal.Saving.{CreatesCheckpoint, KeepsNext}
-use Rattle.command.specs.internal.Standing.{EndsAt, FailsAfter, IsAlone, IsUnchecked, IsUnsized, RoundsStand, round_of}
+use Rattle.command.specs.internal.RoundProgress.{EndsAt, FailsAfter, IsAlone, IsUnchecked, IsUnsized, RoundsStand, round_of}
 use Rattle.command.specs.declared.course.LastRound.{LastRound}
 use Rattle.command.specs.declared.course.RoundFault.{RoundFault}
 use Rattle.command.specs.declared.fault.CommandFault.{CommandFault}
@@ -292,10 +293,10 @@ other_words (w ∷ ws) =
     let count : length (w ∷ ws) - 1 ≡ length ws = omega arith in
     ap texts (take_all (length (w ∷ ws) - 1) ws (omega (arith, count)))
 
--- a formula's terms, by the options and the count that the program has
-pub terms_same : (f : Cnf) (plan : Plan) (options : OptionsValue) (sizes : Sizes) (count : ℕ) → options ≡ options_by plan.tries sizes
-    → count ≡ sizes.streams → terms_of options plan.cube f count ≡ terms_by plan f sizes
-terms_same f plan options sizes count options_are count_is = ap₂ (λ o n. terms_of o plan.cube f n) options_are count_is
+-- a formula's parameters, by the options and the count that the program has
+pub run_params_same : (f : Cnf) (plan : Plan) (options : OptionsValue) (sizes : Sizes) (count : ℕ) → options ≡ options_by plan.tries sizes
+    → count ≡ sizes.streams → run_params_of options plan.cube f count ≡ run_params_by plan f sizes
+run_params_same f plan options sizes count options_are count_is = ap₂ (λ o n. run_params_of o plan.cube f n) options_are count_is
 
 -- why there are no sizes, of a file that was opened
 pub sizes_cause : (its : Deeds) (before : its.State) (path : Text) (reader : its.Reader) (after : its.State)

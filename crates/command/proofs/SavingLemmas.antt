@@ -10,7 +10,7 @@ use Rattle.lrup_text.specs.ReadOut.{SourceView}
 use Rattle.portfolio.specs.Saving.{CarriesState, SavesState, is_wanted}
 use Rattle.portfolio.specs.declared.outcome.Verdict.{Verdict}
 use Rattle.portfolio.specs.declared.outcome.Verdict.TheVariants.{Unsatisfiable, UnsatisfiableUnder, Unknown}
-use Rattle.runs.specs.Streams.{TermsValue}
+use Rattle.runs.specs.Streams.{RunParamsValue}
 use Rattle.stream_check.specs.declared.report.Report.{Report}
 use Rattle.checkpoint.specs.Checkpoints.{IsCheckpoint, IsCheckpointOf}
 use Rattle.checkpoint.specs.declared.saving.SaveFault.{SaveFault}
@@ -71,8 +71,8 @@ left_unused its before next after (Some path) (Some first) created discards =
     record { output = first; next = next; created = created.0; empty = created.1; discarded = discards }
 
 -- What is saved of what was left is saved of the run.
-module _ (its : Deeds) (serial : Bool) (f : Cnf) (terms : TermsValue) (firsts : List its.Reader) (reports : List Report)
-    (left : LeftClauses) (stands : StandsBehind its.reading serial f terms firsts reports left) (before after : its.State)
+module _ (its : Deeds) (serial : Bool) (f : Cnf) (run_params : RunParamsValue) (firsts : List its.Reader) (reports : List Report)
+    (left : LeftClauses) (stands : StandsBehind its.reading serial f run_params firsts reports left) (before after : its.State)
     (first last : its.Output) (unsaved : Option SaveFault) where
   pub saves_and_closes : (result other : Result (Unit {0}) SaveFault) → result ≡ other
       → ((f : Cnf) (h : History) → HasHistory f h left → IfOk result (λ _. (bytes : List ℕ)
@@ -81,7 +81,7 @@ module _ (its : Deeds) (serial : Bool) (f : Cnf) (terms : TermsValue) (firsts : 
       → SavesState its.written result (state f h) (left_layout left) (is_wanted (dropped_in left)) first last)
       → IsTrue (its.has_failed last) ↔ (result ≡ Err faults.Unwritten)
       → ClosesSink its other before last unsaved after
-      → SavesAndCloses its (SavesCheckpoint its serial f terms firsts reports) before first unsaved after
+      → SavesAndCloses its (SavesCheckpoint its serial f run_params firsts reports) before first unsaved after
   saves_and_closes result other same checkpoint saves failed closed = record {
     result = result;
     last = last;
@@ -105,7 +105,7 @@ module _ (its : Deeds) (serial : Bool) (f : Cnf) (terms : TermsValue) (firsts : 
       → ((f : Cnf) (h : History) → HasHistory f h left
       → CarriesState its.written result (state f h) (left_layout left) (is_wanted (dropped_in left)) first last)
       → IsTrue (its.has_failed last) ↔ (result ≡ Err faults.Unwritten)
-      → CarriesCheckpoint its serial f terms firsts reports result first last
+      → CarriesCheckpoint its serial f run_params firsts reports result first last
   carrying result next carries failed = record {
     checkpoint = next f stands.ran.run.history stands.has;
     exactly = record {
@@ -125,7 +125,7 @@ module _ (its : Deeds) (serial : Bool) (f : Cnf) (terms : TermsValue) (firsts : 
       → CarriesState its.written result (state f h) (left_layout left) (is_wanted (dropped_in left)) first last)
       → IsTrue (its.has_failed last) ↔ (result ≡ Err faults.Unwritten)
       → ClosesSink its other before last unsaved after
-      → SavesAndCloses its (CarriesCheckpoint its serial f terms firsts reports) before first unsaved after
+      → SavesAndCloses its (CarriesCheckpoint its serial f run_params firsts reports) before first unsaved after
   carries_and_closes result other same next carries failed closed = record {
     result = result;
     last = last;
@@ -140,17 +140,17 @@ module _ (its : Deeds) (serial : Bool) (f : Cnf) (terms : TermsValue) (firsts : 
       → CarriesState its.written result (state f h) (left_layout left) (is_wanted (dropped_in left)) first last)
       → IsTrue (its.has_failed last) ↔ (result ≡ Err faults.Unwritten)
       → its.keeps before last after
-      → KeepsNext its (CarriesCheckpoint its serial f terms firsts reports) before first after made
+      → KeepsNext its (CarriesCheckpoint its serial f run_params firsts reports) before first after made
   keeps_next result made same next carries failed kept = (
     last,
-    subst (λ (r : Result Cnf SaveFault). CarriesCheckpoint its serial f terms firsts reports r first last) same
+    subst (λ (r : Result Cnf SaveFault). CarriesCheckpoint its serial f run_params firsts reports r first last) same
         (carrying result next carries failed),
     kept,
   )
 
--- by other terms that are the same
-pub stands_moved : {R : Type 0} (view : SourceView R) (serial : Bool) (f : Cnf) (terms other : TermsValue) (firsts : List R)
-    (reports : List Report) (left : LeftClauses) → terms ≡ other → StandsBehind view serial f terms firsts reports left
+-- by other parameters that are the same
+pub stands_moved : {R : Type 0} (view : SourceView R) (serial : Bool) (f : Cnf) (run_params other : RunParamsValue) (firsts : List R)
+    (reports : List Report) (left : LeftClauses) → run_params ≡ other → StandsBehind view serial f run_params firsts reports left
     → StandsBehind view serial f other firsts reports left
-stands_moved view serial f terms other firsts reports left same =
-    subst (λ (t : TermsValue). StandsBehind view serial f t firsts reports left) same
+stands_moved view serial f run_params other firsts reports left same =
+    subst (λ (t : RunParamsValue). StandsBehind view serial f t firsts reports left) same

@@ -5,7 +5,7 @@ use Rattle.std.specs.Prelude.{◌↔◌}
 use Rattle.std.specs.Option.{ForSome}
 use Rattle.lrup_model.specs.Formula.{Cnf}
 use Rattle.lrup_model.specs.declared.layout.LayoutFault.TheVariants as layouts
-use Rattle.runs.specs.Streams.{TermsValue}
+use Rattle.runs.specs.Streams.{RunParamsValue}
 use Rattle.stream_check.specs.declared.report.Report.{Report}
 use Rattle.portfolio.specs.declared.outcome.Verdict.{Verdict}
 use Rattle.portfolio.specs.declared.outcome.Verdict.TheVariants.{Unsatisfiable, UnsatisfiableUnder, Unknown}
@@ -14,7 +14,7 @@ use Rattle.checkpoint.specs.declared.saving.SaveFault.{SaveFault}
 use Rattle.command_line.specs.CommandLine.{AskToSave}
 use Rattle.command.specs.Commands.{Deeds, EndsWithFault, EndsWithReport, FilesView, IsAssumeCause, IsCause, ClosesSink, IsOutcome}
 use Rattle.command.specs.Commands.{LeavesBehind, LeavesFile, NameCheckpoint, SavesCheckpoint, SinkChange, Text, WasLeftEmpty, WasReadIn}
-use Rattle.command.specs.Commands.{WasSavedBy, assumed_at, checkpoint_at, report_status, terms_given}
+use Rattle.command.specs.Commands.{WasSavedBy, assumed_at, checkpoint_at, report_status, run_params_given}
 use Rattle.command.specs.Faults.{status_of}
 use Rattle.command.specs.declared.fault.CommandFault.{CommandFault}
 use Rattle.command.specs.declared.fault.CommandFault.TheVariants as faults
@@ -130,31 +130,31 @@ no_fault faults.SizesUnread is = neither 5 (λ e. cc) (λ e. cc) is
 no_fault faults.Sizes is = neither 2 (λ e. cc) (λ e. cc) is
 
 -- what was closed without a fault was saved
-saved_of : (its : Deeds) (serial : Bool) (f : Cnf) (terms : TermsValue) (readers : List its.Reader) (reports : List Report)
+saved_of : (its : Deeds) (serial : Bool) (f : Cnf) (run_params : RunParamsValue) (readers : List its.Reader) (reports : List Report)
     (before next after : its.State) (path : Text) (result : Result (Unit {0}) SaveFault) (first last : its.Output)
     → its.creates before path first next → ForSome (its.written first) (λ all. all ≡ [])
-    → SavesCheckpoint its serial f terms readers reports result first last → ClosesSink its result next last None after
+    → SavesCheckpoint its serial f run_params readers reports result first last → ClosesSink its result next last None after
     → (bytes : List ℕ) × WasSavedBy its before path bytes after × IsCheckpoint f bytes
-saved_of its serial f terms readers reports before next after path (Ok done) first last created empty saves closed =
+saved_of its serial f run_params readers reports before next after path (Ok done) first last created empty saves closed =
     let wrote = saves.checkpoint in (
       wrote.0,
       record { first = first; next = next; created = created; empty = empty; last = last; wrote = wrote.1; kept = closed },
       wrote.2,
     )
-saved_of its serial f terms readers reports before next after path (Err fault) first last created empty saves closed =
+saved_of its serial f run_params readers reports before next after path (Err fault) first last created empty saves closed =
     absurd (let no : None ≡ Some fault = closed.0 in cc)
 
-module _ (its : Deeds) (serial : Bool) (f : Cnf) (terms : TermsValue) (readers : List its.Reader) (reports : List Report) where
+module _ (its : Deeds) (serial : Bool) (f : Cnf) (run_params : RunParamsValue) (readers : List its.Reader) (reports : List Report) where
   file_saved : (path : Text) (before after : its.State)
-      → LeavesFile its (SavesCheckpoint its serial f terms readers reports) before path None after
+      → LeavesFile its (SavesCheckpoint its serial f run_params readers reports) before path None after
       → (bytes : List ℕ) × WasSavedBy its before path bytes after × IsCheckpoint f bytes
   file_saved path before after leaves =
-      saved_of its serial f terms readers reports before leaves.next after path leaves.result leaves.first leaves.last leaves.created
+      saved_of its serial f run_params readers reports before leaves.next after path leaves.result leaves.first leaves.last leaves.created
       leaves.empty leaves.saving leaves.closed
 
   leaves_saved : (failed : Bool) (unsaved : Option SaveFault) (verdict : Verdict) (path : Text) (before after : its.State)
       → (report_status failed unsaved verdict ≡ 3) ⊎ (report_status failed unsaved verdict ≡ 8)
-      → LeavesBehind its (SavesCheckpoint its serial f terms readers reports) verdict before (Some path) unsaved after
+      → LeavesBehind its (SavesCheckpoint its serial f run_params readers reports) verdict before (Some path) unsaved after
       → (bytes : List ℕ) × WasSavedBy its before path bytes after × IsCheckpoint f bytes
   leaves_saved true unsaved verdict path before after is leaves = absurd (neither 7 (λ e. cc) (λ e. cc) is)
   leaves_saved false (Some fault) verdict path before after is leaves = absurd (neither 9 (λ e. cc) (λ e. cc) is)
@@ -166,7 +166,7 @@ module _ (files : FilesView) where
   abbrev Saves : (words : List Text) (reports : List Report) (verdict : Verdict) → IsOutcome files words reports verdict
       → Result (Unit {0}) SaveFault → files.its.Output → files.its.Output → Type 0
   Saves words reports verdict outcome =
-      SavesCheckpoint files.its outcome.given.serial outcome.formula (terms_given outcome.given outcome.cube outcome.formula)
+      SavesCheckpoint files.its outcome.given.serial outcome.formula (run_params_given outcome.given outcome.cube outcome.formula)
       outcome.readers reports
 
   -- what was left at the path that is asked for
@@ -189,7 +189,7 @@ module _ (files : FilesView) where
       let given = outcome.given in
       let leaves = left_at words after out err status report path ask in
       let statuses = subst (λ (n : ℕ). (n ≡ 3) ⊎ (n ≡ 8)) report.status_is is in
-      let saved = leaves_saved files.its given.serial outcome.formula (terms_given given outcome.cube outcome.formula) outcome.readers
+      let saved = leaves_saved files.its given.serial outcome.formula (run_params_given given outcome.cube outcome.formula) outcome.readers
       report.reports out.failed report.unsaved report.verdict path outcome.last after statuses leaves in
       let read = outcome.is_formula in (
         read.0,

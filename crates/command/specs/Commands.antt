@@ -20,10 +20,10 @@ use Rattle.lrup_text.specs.Cubes.{IsCubeFault, IsCubeText}
 use Rattle.lrup_text.specs.declared.cube.CubeFault.TheVariants as cubes
 use Rattle.stream_check.specs.declared.report.Report.{Report}
 use Rattle.portfolio.specs.Histories.{IsRunOf, SavesRun, way_of}
-use Rattle.portfolio.specs.Outcomes.{OptionsValue, layout_of, terms_of, verdict_of}
+use Rattle.portfolio.specs.Outcomes.{OptionsValue, layout_of, run_params_of, verdict_of}
 use Rattle.portfolio.specs.ReportText.{report_text}
 use Rattle.runs.specs.Readings.{readers_view}
-use Rattle.runs.specs.Streams.{TermsValue}
+use Rattle.runs.specs.Streams.{RunParamsValue}
 use Rattle.stream_check.specs.DroppedValue.{DroppedValue}
 use Rattle.portfolio.specs.declared.outcome.Verdict.{Verdict}
 use Rattle.portfolio.specs.declared.outcome.Verdict.TheVariants.{Unsatisfiable, UnsatisfiableUnder, Unknown}
@@ -161,21 +161,22 @@ abbrev pub layout_at : CommandLine → Cnf → LayoutValue
 layout_at given formula = layout_of (options_of given) formula (length given.streams)
 
 -- what a run of a command line and a formula is checked by, under a cube
-abbrev pub terms_given : CommandLine → CubeValue → Cnf → TermsValue
-terms_given given cube formula = terms_of (options_of given) cube formula (length given.streams)
+abbrev pub run_params_given : CommandLine → CubeValue → Cnf → RunParamsValue
+run_params_given given cube formula =
+    run_params_of (options_of given) cube formula (length given.streams)
 
 -- The reports and the verdict of a formula's streams are those of a run. `firsts` are the readers of the streams as they were opened,
 -- and `lasts` those in the end.
 pub record AreChecked {R : Type 0} (reading : SourceView R) (serial : Bool) (formula : Cnf)
-    (terms : TermsValue) (firsts : List R) (reports : List Report)
+    (run_params : RunParamsValue) (firsts : List R) (reports : List Report)
     (verdict : Verdict) : Type 0 where
-  pub layout : (fault : LayoutFault) → IsFault terms.layout fault → ⊥
+  pub layout : (fault : LayoutFault) → IsFault run_params.layout fault → ⊥
   pub lasts : List R
   pub dropped : List DroppedValue
-  pub ran : IsRunOf (way_of serial) reading formula terms firsts lasts reports dropped
+  pub ran : IsRunOf (way_of serial) reading formula run_params firsts lasts reports dropped
   pub is_verdict : verdict ≡ verdict_of reports
   pub sound : verdict ≡ Unsatisfiable → IsUnsatisfiable formula
-  pub sound_under : verdict ≡ UnsatisfiableUnder → IsUnsatisfiableUnder formula terms.cube
+  pub sound_under : verdict ≡ UnsatisfiableUnder → IsUnsatisfiableUnder formula run_params.cube
 
 -- What files do and tell, whichever they are: of an opening, and of one that was refused; of what is seen where a path has no file, and of
 -- an opening that failed although it may have one; of a creation, and of one that was refused; of a file that was kept, of one that wasn't,
@@ -284,7 +285,8 @@ pub record IsOutcome (files : FilesView) (words : List Text) (reports : List Rep
   pub last : files.its.State
   pub opened : AreOpened files.its.opens later given.streams readers last
   pub left : map files.its.reading.left readers ≡ map files.tells given.streams
-  pub checked : AreChecked files.its.reading given.serial formula (terms_given given cube formula)
+  pub checked : AreChecked files.its.reading given.serial formula
+      (run_params_given given cube formula)
       readers reports verdict
 
 -- What is saved.
@@ -293,12 +295,14 @@ pub record IsOutcome (files : FilesView) (words : List Text) (reports : List Rep
 -- a formula over the same variables, each clause of which follows from this one. It is that of the clauses that a history of the run
 -- leaves live, by which its streams are judged as reported, but for those that all streams dropped. Just where the sink failed, a
 -- write is told to have failed.
-pub record SavesCheckpoint (its : Deeds) (serial : Bool) (formula : Cnf) (terms : TermsValue)
+pub record SavesCheckpoint (its : Deeds) (serial : Bool) (formula : Cnf)
+    (run_params : RunParamsValue)
     (readers : List its.Reader) (reports : List Report) (result : Result (Unit {0}) SaveFault)
     (first last : its.Output) : Type 0 where
   pub checkpoint : IfOk result (λ _. (bytes : List ℕ)
       × Appends (its.written first) (its.written last) bytes × IsCheckpoint formula bytes)
-  pub exactly : SavesRun its.reading its.written serial formula terms readers reports result first
+  pub exactly : SavesRun its.reading its.written serial formula run_params readers reports
+      result first
       last
   pub failed : IsTrue (its.has_failed last) ↔ (result ≡ Err saves.Unwritten)
 
@@ -344,7 +348,7 @@ abbrev pub LeavesCheckpoint : (files : FilesView) (words : List Text) (reports :
 LeavesCheckpoint files words reports verdict outcome unsaved after =
     LeavesBehind files.its
     (SavesCheckpoint files.its outcome.given.serial outcome.formula
-    (terms_given outcome.given outcome.cube outcome.formula) outcome.readers reports)
+    (run_params_given outcome.given outcome.cube outcome.formula) outcome.readers reports)
     verdict outcome.last (checkpoint_at outcome.given) unsaved after
 
 -- Causes, and the files then: what was opened and created of them by then, in order, and nothing more. Nothing shows afterwards that

@@ -7,11 +7,11 @@ use Rattle.std.specs.Option.{ForSome}
 use Rattle.lrup_model.specs.Cube.{CubeValue}
 use Rattle.lrup_model.specs.Formula.{Cnf}
 use Rattle.lrup_text.specs.Reads.{Gave}
-use Rattle.runs.specs.Streams.{TermsValue}
+use Rattle.runs.specs.Streams.{RunParamsValue}
 use Rattle.stream_check.specs.declared.report.Ending.TheVariants as endings
 use Rattle.stream_check.specs.declared.report.Report.{Report}
 use Rattle.portfolio.specs.Histories.{CarriesRun}
-use Rattle.portfolio.specs.Outcomes.{OptionsValue, terms_of}
+use Rattle.portfolio.specs.Outcomes.{OptionsValue, run_params_of}
 use Rattle.portfolio.specs.ReportText.{report_text}
 use Rattle.portfolio.specs.declared.outcome.Verdict.{Verdict}
 use Rattle.portfolio.specs.declared.outcome.Verdict.TheVariants.{Unknown}
@@ -53,9 +53,9 @@ abbrev pub options_by : ℕ → Sizes → OptionsValue
 options_by tries sizes = record { tries = tries; lines = sizes.lines; room = sizes.room }
 
 -- what the streams of a round are checked by
-abbrev pub terms_by : Plan → Cnf → Sizes → TermsValue
-terms_by plan formula sizes =
-    terms_of (options_by plan.tries sizes) plan.cube formula sizes.streams
+abbrev pub run_params_by : Plan → Cnf → Sizes → RunParamsValue
+run_params_by plan formula sizes =
+    run_params_of (options_by plan.tries sizes) plan.cube formula sizes.streams
 
 -- A round: its formula and its sizes; the readers of its streams as they were opened, and the files after that; its reports, its
 -- verdict, and why its checkpoint wasn't saved, if it wasn't; and the files after that.
@@ -73,7 +73,8 @@ pub record Round (F R : Type 0) : Type 0 where
 abbrev pub WasChecked : (its : Deeds) → Plan → Round its.State its.Reader → Type 0
 WasChecked its plan round =
     (length round.readers ≡ round.sizes.streams)
-    × AreChecked its.reading plan.serial round.formula (terms_by plan round.formula round.sizes)
+    × AreChecked its.reading plan.serial round.formula
+    (run_params_by plan round.formula round.sizes)
     round.readers round.reports round.verdict
 
 -- The files at the paths were opened as these readers, in order, and where files tell what a path has, its reader has just that left.
@@ -90,12 +91,14 @@ HaveEnded reports = AllByRecursion (λ report. report.ending ≡ endings.Ended) 
 -- next formula, each clause of which follows from the round's. They are those that a history of the round leaves live, by which its
 -- streams are judged as reported, but for those that all streams dropped, and no others. Just where the sink failed, a write is
 -- told to have failed.
-pub record CarriesCheckpoint (its : Deeds) (serial : Bool) (formula : Cnf) (terms : TermsValue)
+pub record CarriesCheckpoint (its : Deeds) (serial : Bool) (formula : Cnf)
+    (run_params : RunParamsValue)
     (readers : List its.Reader) (reports : List Report) (result : Result Cnf SaveFault)
     (first last : its.Output) : Type 0 where
   pub checkpoint : IfOk result (λ next. (bytes : List ℕ)
       × Appends (its.written first) (its.written last) bytes × IsCheckpointOf formula bytes next)
-  pub exactly : CarriesRun its.reading its.written serial formula terms readers reports result first
+  pub exactly : CarriesRun its.reading its.written serial formula run_params readers reports
+      result first
       last
   pub failed : IsTrue (its.has_failed last) ↔ (result ≡ Err saves.Unwritten)
 
@@ -103,7 +106,7 @@ pub record CarriesCheckpoint (its : Deeds) (serial : Bool) (formula : Cnf) (term
 abbrev pub CarriesRound : (its : Deeds) → Plan → Round its.State its.Reader
     → Result Cnf SaveFault → its.Output → its.Output → Type 0
 CarriesRound its plan round =
-    CarriesCheckpoint its plan.serial round.formula (terms_by plan round.formula round.sizes)
+    CarriesCheckpoint its plan.serial round.formula (run_params_by plan round.formula round.sizes)
     round.readers round.reports
 
 -- The checkpoint of the round with this number was saved: a text of just this next formula, each clause of which follows from the round's.
@@ -116,7 +119,8 @@ pub record SavesRound (its : Deeds) (plan : Plan) (number : ℕ)
       round.after
   pub carried : IsCheckpointOf round.formula bytes next
   pub exactly : CarriesRun its.reading its.written plan.serial round.formula
-      (terms_by plan round.formula round.sizes) round.readers round.reports (Ok next) saved.first
+      (run_params_by plan round.formula round.sizes) round.readers round.reports
+      (Ok next) saved.first
       saved.last
 
 -- The round goes on: its verdict is 'unknown', its streams ended, and its checkpoint was saved.
@@ -248,7 +252,7 @@ IsStreamCause its before folder number streams fault after =
 abbrev pub IsRoundStartCause : (its : Deeds) → Plan → ℕ → Cnf → Sizes → its.State → CommandFault
     → its.State → Type 0
 IsRoundStartCause its plan number formula sizes opened fault after =
-    IsStartCause its plan.serial (terms_by plan formula sizes).layout opened
+    IsStartCause its plan.serial (run_params_by plan formula sizes).layout opened
     (Some (formula_path plan.folder (number + 1))) fault after
 
 -- why the round after the one with this number, of this formula, has no report: of its sizes; or, once they were read, of the opening

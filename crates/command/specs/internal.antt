@@ -2,5 +2,5 @@
 pub mod FaultSources
 pub mod Saving
 pub mod Running
-pub mod Standing
+pub mod RoundProgress
 pub mod Watching

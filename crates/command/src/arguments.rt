@@ -53,7 +53,7 @@ pub fn command_with_arguments<
         exit_status result ≡ 8
         → IsOkAnd arguments (λ given.
         NameUnsatisfiableUnder _ read files.old (words_after_name given)) }
-    // A report of what the words and the files come to, or none and the cause; what goes out; and the status.
+    // Either the report is printed, or one error line; in both cases the exit status matches.
     ensures ends { let view = files_view F.Files F.Machine.own F.Input.Source F.Output.Sink
         files.old in
         let output = change (O.written out.old) (O.written out.new) (O.has_failed out.new) in

@@ -11,13 +11,13 @@ ghost use Rattle.lrup_model.specs.Entailment.{IsUnsatisfiable};
 ghost use Rattle.lrup_model.specs.Formula.{Cnf};
 ghost use Rattle.lrup_text.specs.Reads.{GaveAll};
 ghost use Rattle.command.specs.Commands.{AreAssumed, AreOpened, AskForOne, IsAssumeCause, IsCause, IsFileCause, IsOpenCause, HasNoFault};
-ghost use Rattle.command.specs.internal.Running.{IsFailedRead, terms_on, IsLayoutCause};
+ghost use Rattle.command.specs.internal.Running.{IsFailedRead, run_params_on, IsLayoutCause};
 ghost use Rattle.command.specs.Commands.{IsOutcome, LeavesCheckpoint, Text, WasRead, WasReadIn, assumed_at, deeds, files_view};
 ghost use Rattle.command.specs.Commands.{from_first, path_of, rounds_at};
 ghost use Rattle.runs.specs.Readings.{readers_view};
-ghost use Rattle.command.specs.internal.Standing.{HasBegun};
+ghost use Rattle.command.specs.internal.RoundProgress.{HasBegun};
 ghost use Rattle.command.specs.internal.FaultSources.{of_cube_file};
-ghost use Rattle.stream_check.specs.Setting.{max_tries};
+ghost use Rattle.stream_check.specs.StreamParams.{max_tries};
 
 use crate::closing::{close_checkpoint, create_checkpoint, discard_it};
 use crate::fault::CommandFault;
@@ -338,10 +338,10 @@ pub(crate) fn open_streams<F: Machine>(
 
 /// Refuses streams that have no layout, before a file is created that would be left empty.
 pub(crate) fn find_layout(setup: &Setup<'_>, streams: usize) -> Result<(), CommandFault>
-    ensures found { let terms = terms_on setup.now streams in
-        IfOk result (λ _. HasNoFault terms.layout) }
-    ensures cause { let terms = terms_on setup.now streams in
-        IfErr result (IsLayoutCause terms.layout) }
+    ensures found { let run_params = run_params_on setup.now streams in
+        IfOk result (λ _. HasNoFault run_params.layout) }
+    ensures cause { let run_params = run_params_on setup.now streams in
+        IfErr result (IsLayoutCause run_params.layout) }
 {
     match setup.options.check_layout(setup.formula, streams) {
         Ok(()) => Ok(()),

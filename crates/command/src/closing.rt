@@ -2,7 +2,7 @@
 ghost use Rattle.std.specs.Prelude.{◌≡◌, ◌⊎◌, [], Bool, List, None, Some, false, IfErr, IfOk};
 ghost use Rattle.std.specs.Option.{ForSome};
 ghost use Rattle.lrup_model.specs.Formula.{Cnf};
-ghost use Rattle.runs.specs.Streams.{TermsValue};
+ghost use Rattle.runs.specs.Streams.{RunParamsValue};
 ghost use Rattle.command.specs.Commands.{SavesCheckpoint, deeds, path_of};
 ghost use Rattle.runs.specs.Readings.{readers_view};
 ghost use Rattle.command.specs.Rounds.{CarriesCheckpoint};
@@ -80,10 +80,10 @@ pub(crate) fn close_checkpoint<F: Machine>(
     requires ready { CanBeSaved left }
     requires running { ForSome output (λ sink. F.Output.Sink.has_failed sink ≡ false) }
     ensures { let its = deeds F.Files F.Machine.own F.Input.Source F.Output.Sink in
-        (serial : Bool) (f : Cnf) (terms : TermsValue) (readers : List F.Input)
+        (serial : Bool) (f : Cnf) (run_params : RunParamsValue) (readers : List F.Input)
         (reports : List Report)
-        → StandsBehind (readers_view F.Input.Source) serial f terms readers reports left
-        → ClosesCheckpoint its (SavesCheckpoint its serial f terms readers reports) verdict
+        → StandsBehind (readers_view F.Input.Source) serial f run_params readers reports left
+        → ClosesCheckpoint its (SavesCheckpoint its serial f run_params readers reports) verdict
         files.old output result files.new }
 {
     let Some(output) = output else {
@@ -110,10 +110,11 @@ fn save_and_close<F: Machine>(
     requires ready { CanBeSaved left }
     requires running { F.Output.Sink.has_failed output ≡ false }
     ensures { let its = deeds F.Files F.Machine.own F.Input.Source F.Output.Sink in
-        (serial : Bool) (f : Cnf) (terms : TermsValue) (readers : List F.Input)
+        (serial : Bool) (f : Cnf) (run_params : RunParamsValue) (readers : List F.Input)
         (reports : List Report)
-        → StandsBehind (readers_view F.Input.Source) serial f terms readers reports left
-        → SavesAndCloses its (SavesCheckpoint its serial f terms readers reports) files.old output
+        → StandsBehind (readers_view F.Input.Source) serial f run_params readers reports left
+        → SavesAndCloses its (SavesCheckpoint its serial f run_params readers reports)
+        files.old output
         result files.new }
 {
     match save_left(alloc, left, &mut output) {
@@ -147,17 +148,17 @@ pub(crate) fn close_round<F: Machine>(
     requires ready { CanBeSaved left }
     requires running { F.Output.Sink.has_failed output ≡ false }
     ensures closes { let its = deeds F.Files F.Machine.own F.Input.Source F.Output.Sink in
-        (serial : Bool) (f : Cnf) (terms : TermsValue) (readers : List F.Input)
+        (serial : Bool) (f : Cnf) (run_params : RunParamsValue) (readers : List F.Input)
         (reports : List Report)
-        → StandsBehind (readers_view F.Input.Source) serial f terms readers reports left
-        → ClosesCheckpoint its (CarriesCheckpoint its serial f terms readers reports) verdict
+        → StandsBehind (readers_view F.Input.Source) serial f run_params readers reports left
+        → ClosesCheckpoint its (CarriesCheckpoint its serial f run_params readers reports) verdict
         files.old (Some output) result.unsaved files.new }
     ensures next { let its = deeds F.Files F.Machine.own F.Input.Source F.Output.Sink in
-        (serial : Bool) (f : Cnf) (terms : TermsValue) (readers : List F.Input)
+        (serial : Bool) (f : Cnf) (run_params : RunParamsValue) (readers : List F.Input)
         (reports : List Report)
-        → StandsBehind (readers_view F.Input.Source) serial f terms readers reports left
+        → StandsBehind (readers_view F.Input.Source) serial f run_params readers reports left
         → ForSome result.next (KeepsNext its
-        (CarriesCheckpoint its serial f terms readers reports) files.old output files.new) }
+        (CarriesCheckpoint its serial f run_params readers reports) files.old output files.new) }
     ensures none { result.next ≡ None → (verdict ≡ Verdict.Unsatisfiable)
         ⊎ ((fault : SaveFault) × (result.unsaved ≡ Some fault)) }
 {
@@ -185,17 +186,17 @@ fn carry_and_close<F: Machine>(
     requires ready { CanBeSaved left }
     requires running { F.Output.Sink.has_failed output ≡ false }
     ensures closes { let its = deeds F.Files F.Machine.own F.Input.Source F.Output.Sink in
-        (serial : Bool) (f : Cnf) (terms : TermsValue) (readers : List F.Input)
+        (serial : Bool) (f : Cnf) (run_params : RunParamsValue) (readers : List F.Input)
         (reports : List Report)
-        → StandsBehind (readers_view F.Input.Source) serial f terms readers reports left
-        → SavesAndCloses its (CarriesCheckpoint its serial f terms readers reports) files.old
+        → StandsBehind (readers_view F.Input.Source) serial f run_params readers reports left
+        → SavesAndCloses its (CarriesCheckpoint its serial f run_params readers reports) files.old
         output result.unsaved files.new }
     ensures next { let its = deeds F.Files F.Machine.own F.Input.Source F.Output.Sink in
-        (serial : Bool) (f : Cnf) (terms : TermsValue) (readers : List F.Input)
+        (serial : Bool) (f : Cnf) (run_params : RunParamsValue) (readers : List F.Input)
         (reports : List Report)
-        → StandsBehind (readers_view F.Input.Source) serial f terms readers reports left
+        → StandsBehind (readers_view F.Input.Source) serial f run_params readers reports left
         → ForSome result.next (KeepsNext its
-        (CarriesCheckpoint its serial f terms readers reports) files.old output files.new) }
+        (CarriesCheckpoint its serial f run_params readers reports) files.old output files.new) }
     ensures none { result.next ≡ None
         → (fault : SaveFault) × (result.unsaved ≡ Some fault) }
 {

@@ -1,6 +1,6 @@
 //! What the rounds of a run have in common, and what one hands to the next.
 ghost use Rattle.std.specs.Prelude.{◌≡◌, ◌<◌, ◌≤◌};
-ghost use Rattle.stream_check.specs.Setting.{max_tries};
+ghost use Rattle.stream_check.specs.StreamParams.{max_tries};
 ghost use Rattle.command.specs.Rounds.{options_by};
 
 use crate::checking::RunResult;

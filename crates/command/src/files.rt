@@ -110,7 +110,7 @@ pub trait Machine: Files {
         ensures creates { IfOk result (λ output. creates self.old path.now output self.new) }
         ensures refuses { IfErr result (λ fault. refuses_new self.old path.now fault self.new) };
 
-    /// Closes a file that was created, once what was written lies on the device.
+    /// Flushes a file that was created to disk, then closes it.
     fn keep(&mut self, output: Self::Output) -> Result<(), WriteFault>
         ensures keeps { IfOk result (λ _. keeps self.old output self.new) }
         ensures loses { IfErr result (λ _. loses self.old output self.new) };

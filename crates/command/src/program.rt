@@ -12,7 +12,7 @@ ghost use Rattle.lrup_text.specs.Writing.{WritesText};
 ghost use Rattle.command.specs.Commands.{NameUnsatisfiableUnder, SaysOfRound, SinkTook, Text, WasLeftEmpty, WasRead, WasReadIn, WasSaved};
 ghost use Rattle.command.specs.Commands.{assumed_at, change, files_view, from_first, report_status};
 ghost use Rattle.command.specs.Faults.{error_text, round_error_text, status_of};
-ghost use Rattle.stream_check.specs.Setting.{max_tries};
+ghost use Rattle.stream_check.specs.StreamParams.{max_tries};
 
 use crate::checking::{Asked, RunResult, check_asked, read_asked};
 use crate::fault::CommandFault;
@@ -67,7 +67,7 @@ pub fn command<T: Threads + Wait + Sync, C: Clock + Sync, F: Machine, O: Sink, E
     // With status 8 no assignment makes it and every literal of the assumptions' file true.
     ensures sound_under { let read = WasRead F.opens F.Input.Source.reads (F.tells files.old) in
         result ≡ 8 → NameUnsatisfiableUnder _ read files.old (texts words.now) }
-    // A report of what the words and the files come to, or none and the cause; what goes out; and the status.
+    // Either the report is printed, or one error line; in both cases the exit status matches.
     ensures ends { let view = files_view F.Files F.Machine.own F.Input.Source F.Output.Sink
         files.old in
         let output = change (O.written out.old) (O.written out.new) (O.has_failed out.new) in

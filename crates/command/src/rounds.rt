@@ -13,9 +13,9 @@ ghost use Rattle.command.specs.Paths.{formula_path, stream_path, stream_paths};
 ghost use Rattle.command.specs.Rounds.{CarriesOn, HaveEnded, IsBarred, IsRoundStartCause, IsStreamCause, StreamsOpened, WasChecked};
 ghost use Rattle.command_line.specs.declared.sizes.Sizes.{Sizes};
 ghost use Rattle.clap.specs.Walk.{texts};
-ghost use Rattle.command.specs.internal.Standing.{EndsAt, FailsAt, IsAlone, IsReported, IsRoundsFault, IsUnchecked, RoundsStand};
-ghost use Rattle.command.specs.internal.Standing.{plan_of, round_of};
-ghost use Rattle.stream_check.specs.Setting.{max_tries};
+ghost use Rattle.command.specs.internal.RoundProgress.{EndsAt, FailsAt, IsAlone, IsReported, IsRoundsFault, IsUnchecked, RoundsStand};
+ghost use Rattle.command.specs.internal.RoundProgress.{plan_of, round_of};
+ghost use Rattle.stream_check.specs.StreamParams.{max_tries};
 
 use crate::arguments::words_of;
 use crate::checking::{Asked, Beginning, RunResult, begin, find_layout, open_streams};

@@ -8,7 +8,7 @@ ghost use Rattle.lrup_model.specs.State.{state};
 ghost use Rattle.checkpoint.specs.Checkpoints.{IsCheckpoint, IsCheckpointOf};
 ghost use Rattle.portfolio.specs.Saving.{CarriesState, SavesState, is_wanted};
 ghost use Rattle.command.specs.Commands.{AreChecked};
-ghost use Rattle.command.specs.internal.Running.{terms_on, HasHistory, CanBeSaved, IsRunCause, StandsBehind, dropped_in, left_layout};
+ghost use Rattle.command.specs.internal.Running.{run_params_on, HasHistory, CanBeSaved, IsRunCause, StandsBehind, dropped_in, left_layout};
 ghost use Rattle.runs.specs.Readings.{readers_view};
 
 use crate::fault::CommandFault;
@@ -27,7 +27,7 @@ use std::thread::Threads;
 use std::time::Clock;
 use stream_check::{Dropped, Report};
 
-/// The terms by which streams are checked, and whether by turns on one thread.
+/// The parameters by which streams are checked, and whether by turns on one thread.
 #[derive(Clone, Copy)]
 pub(crate) struct Setup<'a> {
     pub(crate) formula: &'a Formula,
@@ -79,15 +79,15 @@ pub(crate) fn run_streams<T: Threads + Wait + Sync, C: Clock + Sync, F: Machine>
     readers: Vec<F::Input>,
 ) -> Result<EndedRun, CommandFault>
     requires running { AllByRecursion (λ r. F.Input.Source.has_failed r ≡ false) readers.items }
-    ensures checked { let terms = terms_on setup.now (length readers.items) in
+    ensures checked { let run_params = run_params_on setup.now (length readers.items) in
         IfOk result (λ run. AreChecked (readers_view F.Input.Source) setup.now.serial
-        setup.now.formula.now terms readers.items run.reports.items run.verdict) }
-    ensures stands { let terms = terms_on setup.now (length readers.items) in
+        setup.now.formula.now run_params readers.items run.reports.items run.verdict) }
+    ensures stands { let run_params = run_params_on setup.now (length readers.items) in
         IfOk result (λ run. StandsBehind (readers_view F.Input.Source) setup.now.serial
-        setup.now.formula.now terms readers.items run.reports.items run.left) }
+        setup.now.formula.now run_params readers.items run.reports.items run.left) }
     ensures ready { IfOk result (λ run. CanBeSaved run.left) }
-    ensures cause { let terms = terms_on setup.now (length readers.items) in
-        IfErr result (IsRunCause setup.now.serial terms.layout) }
+    ensures cause { let run_params = run_params_on setup.now (length readers.items) in
+        IfErr result (IsRunCause setup.now.serial run_params.layout) }
 {
     if setup.serial {
         run_by_turns(threads, clock, alloc, setup, watched, readers)
@@ -106,15 +106,15 @@ fn run_by_turns<W: Wait, C: Clock + Sync, F: Machine>(
     readers: Vec<F::Input>,
 ) -> Result<EndedRun, CommandFault>
     requires running { AllByRecursion (λ r. F.Input.Source.has_failed r ≡ false) readers.items }
-    ensures checked { let terms = terms_on setup.now (length readers.items) in
+    ensures checked { let run_params = run_params_on setup.now (length readers.items) in
         IfOk result (λ run. AreChecked (readers_view F.Input.Source) true setup.now.formula.now
-        terms readers.items run.reports.items run.verdict) }
-    ensures stands { let terms = terms_on setup.now (length readers.items) in
+        run_params readers.items run.reports.items run.verdict) }
+    ensures stands { let run_params = run_params_on setup.now (length readers.items) in
         IfOk result (λ run. StandsBehind (readers_view F.Input.Source) true setup.now.formula.now
-        terms readers.items run.reports.items run.left) }
+        run_params readers.items run.reports.items run.left) }
     ensures ready { IfOk result (λ run. CanBeSaved run.left) }
-    ensures cause { let terms = terms_on setup.now (length readers.items) in
-        IfErr result (IsRunCause true terms.layout) }
+    ensures cause { let run_params = run_params_on setup.now (length readers.items) in
+        IfErr result (IsRunCause true run_params.layout) }
 {
     let gates = turn_gates(alloc, clock, watched, readers.len())?;
     let outcome = run_serial(
@@ -150,15 +150,15 @@ fn run_in_threads<T: Threads + Wait + Sync, C: Clock + Sync, F: Machine>(
     readers: Vec<F::Input>,
 ) -> Result<EndedRun, CommandFault>
     requires running { AllByRecursion (λ r. F.Input.Source.has_failed r ≡ false) readers.items }
-    ensures checked { let terms = terms_on setup.now (length readers.items) in
+    ensures checked { let run_params = run_params_on setup.now (length readers.items) in
         IfOk result (λ run. AreChecked (readers_view F.Input.Source) false setup.now.formula.now
-        terms readers.items run.reports.items run.verdict) }
-    ensures stands { let terms = terms_on setup.now (length readers.items) in
+        run_params readers.items run.reports.items run.verdict) }
+    ensures stands { let run_params = run_params_on setup.now (length readers.items) in
         IfOk result (λ run. StandsBehind (readers_view F.Input.Source) false setup.now.formula.now
-        terms readers.items run.reports.items run.left) }
+        run_params readers.items run.reports.items run.left) }
     ensures ready { IfOk result (λ run. CanBeSaved run.left) }
-    ensures cause { let terms = terms_on setup.now (length readers.items) in
-        IfErr result (IsRunCause false terms.layout) }
+    ensures cause { let run_params = run_params_on setup.now (length readers.items) in
+        IfErr result (IsRunCause false run_params.layout) }
 {
     let gates = thread_gates(alloc, clock, watched, readers.len())?;
     let outcome = run(

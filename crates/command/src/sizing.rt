@@ -4,7 +4,7 @@ ghost use Rattle.command.specs.Commands.{deeds};
 ghost use Rattle.runs.specs.Readings.{readers_view};
 ghost use Rattle.command.specs.Paths.{sizes_path};
 ghost use Rattle.command.specs.Rounds.{AreSized, IsSizesCause};
-ghost use Rattle.command.specs.internal.Standing.{IsUnsized, ReadsSizes};
+ghost use Rattle.command.specs.internal.RoundProgress.{IsUnsized, ReadsSizes};
 
 use crate::fault::CommandFault;
 use crate::files::{Machine, OpenFault};

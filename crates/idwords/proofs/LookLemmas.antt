@@ -12,13 +12,13 @@ use Rattle.lrup_model.specs.Event as events
 use Rattle.lrup_model.specs.Event.{Event, Reply, History, stream_of, size_of}
 use Rattle.lrup_model.specs.State.{State, Slot, absent, live, retired, after, state, Answers}
 use Rattle.lrup_model.specs.History.{IsAllowed}
-use Rattle.lrup_model.specs.Place.{Kept, literals_in}
-use Rattle.lrup_model.specs.Pass.{Spelling, kept_in, Spells, IsSpelt}
-use Rattle.idwords.specs.Words.{word_state, ShowsKept, reply_in}
+use Rattle.lrup_model.specs.CallerView.{StoredClause, literals_in}
+use Rattle.lrup_model.specs.Pass.{Spelling, stored_in, Spells, IsSpelt}
+use Rattle.idwords.specs.Words.{word_state, ShowsStored, reply_in}
 use Rattle.idwords.specs.internal.RowWords.{identity_word, word_of, LiesAt}
 use Rattle.idwords.specs.Spelling.{top_after, event_spelling, spelling_of}
-use Rattle.idwords.specs.Seats.{Part}
-use Rattle.idwords.specs.internal.Rule.{part_stream, Keeps}
+use Rattle.idwords.specs.Seats.{ThreadState}
+use Rattle.idwords.specs.internal.Rule.{thread_stream, Keeps}
 use Rattle.idwords.specs.RowCalls.{Calls}
 use Rattle.idwords.specs.internal.Steps.{Looks}
 use Rattle.idwords.proofs.SpellingLemmas.{spelling-snoc, spelt, short}
@@ -37,9 +37,9 @@ plain_spelling : (f : Cnf) (p : LayoutValue) (log : History) (e : Event) → IsP
     → spelling_of f p log ++ event_spelling p log e ≡ spelling_of f p log
 plain_spelling f p log e plain = ap (λ (xs : List Spelling). spelling_of f p log ++ xs) plain.spelling ∙ append-nil (spelling_of f p log)
 
-module _ (v : Part) (more : History) (words : List ℕ) (views : List (List Part)) (id : ℕ) (e : Event) (draft : Clause) where
+module _ (v : ThreadState) (more : History) (words : List ℕ) (views : List (List ThreadState)) (id : ℕ) (e : Event) (draft : Clause) where
   pub plain_step : OwnKeeps v more words views → get_elem? views id ≡ some (v ∷ [])
-      → stream_of e ≡ part_stream v → Answers (state v.view.caller.formula (v.view.seen ++ more)) e
+      → stream_of e ≡ thread_stream v → Answers (state v.view.caller.formula (v.view.seen ++ more)) e
       → IsAllowed v.view.caller.formula v.view.caller.layout e
       → IsPlain v.view.caller.formula v.view.caller.layout (v.view.seen ++ more) e → LiesAt words v.top draft
       → length draft ≤ length v.draft
@@ -48,7 +48,7 @@ module _ (v : Part) (more : History) (words : List ℕ) (views : List (List Part
   plain_step kept here mine answers allowed plain lies shorter =
       let f = v.view.caller.formula in
       let p = v.view.caller.layout in
-      let s = part_stream v in
+      let s = thread_stream v in
       let log = v.view.seen ++ more in
       let stands = stands_at v more words views id kept here in
       let same = plain_spelling f p log e plain in
@@ -56,9 +56,9 @@ module _ (v : Part) (more : History) (words : List ℕ) (views : List (List Part
       let serves : Serves f p log words e words = record {
         count = kept.count;
         first = kept.first;
-        slots = λ j identity. kept.slots j identity ∙ ap (λ (xs : List Spelling). word_of (state f log j) (kept_in xs j)) (sym same)
-            ∙ ap (λ (slot : Slot). word_of slot (kept_in (spelling_of f p log ++ event_spelling p log e) j)) (sym (plain.state j));
-        texts = λ j text there. kept.texts j text (ap (λ (xs : List Spelling). kept_in xs j) (sym same) ∙ there);
+        slots = λ j identity. kept.slots j identity ∙ ap (λ (xs : List Spelling). word_of (state f log j) (stored_in xs j)) (sym same)
+            ∙ ap (λ (slot : Slot). word_of slot (stored_in (spelling_of f p log ++ event_spelling p log e) j)) (sym (plain.state j));
+        texts = λ j text there. kept.texts j text (ap (λ (xs : List Spelling). stored_in xs j) (sym same) ∙ there);
         others = λ q other there. there.draft;
       } in
       let done = advance v more words words views id e draft kept here mine answers allowed (omega (arith, plain.size, stands.room)) serves
@@ -78,68 +78,71 @@ slot_answers m s id absent is = is
 slot_answers m s id (live c) is = is
 slot_answers m s id (retired c) is = subst (λ (x : Slot). Rattle.lrup_model.specs.State.IsRetired x) (sym is) tt
 
-reply_one : (o : Option Kept) (word : ℕ) → word_state word ≡ 1 → reply_in o word ≡ events.live (literals_in o)
+reply_one : (o : Option StoredClause) (word : ℕ) → word_state word ≡ 1 → reply_in o word ≡ events.live (literals_in o)
 reply_one o word is =
     cond-false (eqb (word_state word) 0) events.vacant (cond (eqb (word_state word) 1) (events.live (literals_in o)) events.retired)
     (ne_eqb (word_state word) 0 (λ nil. omega arith))
     ∙ cond-true (eqb (word_state word) 1) (events.live (literals_in o)) events.retired (eq-eqb (word_state word) 1 is)
 
-reply_two : (o : Option Kept) (word : ℕ) → word_state word ≡ 2 → reply_in o word ≡ events.retired
+reply_two : (o : Option StoredClause) (word : ℕ) → word_state word ≡ 2 → reply_in o word ≡ events.retired
 reply_two o word is =
     cond-false (eqb (word_state word) 0) events.vacant (cond (eqb (word_state word) 1) (events.live (literals_in o)) events.retired)
     (ne_eqb (word_state word) 0 (λ nil. omega arith))
     ∙ cond-false (eqb (word_state word) 1) (events.live (literals_in o)) events.retired (ne_eqb (word_state word) 1 (λ one. omega arith))
 
-pub reply_slot : (slot : Slot) (o : Option Kept) → Spells slot o → reply_in o (word_of slot o) ≡ slot_reply slot
+pub reply_slot : (slot : Slot) (o : Option StoredClause) → Spells slot o → reply_in o (word_of slot o) ≡ slot_reply slot
 reply_slot absent o spells = refl
 reply_slot (live c) None spells = absurd spells
-reply_slot (live c) (Some kept) spells =
-    reply_one (Some kept) (identity_word 1 (length kept.literals) kept.start) (state-identity_word 1 (length kept.literals) kept.start
+reply_slot (live c) (Some stored) spells =
+    reply_one (Some stored) (identity_word 1 (length stored.literals) stored.start)
+    (state-identity_word 1 (length stored.literals) stored.start
     (omega arith)) ∙ ap events.live spells
 reply_slot (retired c) None spells = absurd spells
-reply_slot (retired c) (Some kept) spells =
-    reply_two (Some kept) (identity_word 2 (length kept.literals) kept.start)
-    (state-identity_word 2 (length kept.literals) kept.start (omega arith))
+reply_slot (retired c) (Some stored) spells =
+    reply_two (Some stored) (identity_word 2 (length stored.literals) stored.start)
+    (state-identity_word 2 (length stored.literals) stored.start (omega arith))
 
-short_option : (o o' : Option Kept) → o ≡ o' → ((kept : Kept) → o ≡ Some kept → length kept.literals < 1048576) → IsShort o'
+short_option : (o o' : Option StoredClause) → o ≡ o' → ((stored : StoredClause) → o ≡ Some stored → length stored.literals < 1048576)
+    → IsShort o'
 short_option o None same all = tt
-short_option o (Some kept) same all = all kept same
+short_option o (Some stored) same all = all stored same
 
--- the word of an identity shows what is kept, and spells its slot
-pub shown : (f : Cnf) (p : LayoutValue) (log : History) (words : List ℕ) (views : List (List Part)) (id : ℕ) → Keeps f p log words views
-    → IsIdentity p id → ShowsKept (kept_in (spelling_of f p log) id) (slice_index words id)
-    × (reply_in (kept_in (spelling_of f p log) id) (slice_index words id) ≡ slot_reply (state f log id))
+-- the word of an identity shows what is stored, and spells its slot
+pub shown : (f : Cnf) (p : LayoutValue) (log : History) (words : List ℕ) (views : List (List ThreadState)) (id : ℕ)
+    → Keeps f p log words views
+    → IsIdentity p id → ShowsStored (stored_in (spelling_of f p log) id) (slice_index words id)
+    × (reply_in (stored_in (spelling_of f p log) id) (slice_index words id) ≡ slot_reply (state f log id))
 shown f p log words views id kept identity =
     let all : IsSpelt f log (spelling_of f p log) = spelt f p log kept.legal.events in
-    let o : Option Kept = kept_in (spelling_of f p log) id in
+    let o : Option StoredClause = stored_in (spelling_of f p log) id in
     let word = kept.slots id identity in
     let small : IsShort o = short_option o o refl (λ k there. short f p log id k kept.plan.formula kept.legal.events there) in (
-      subst (λ (n : ℕ). ShowsKept o n) (sym word) (shows_slot (state f log id) o (all.slots id) small),
+      subst (λ (n : ℕ). ShowsStored o n) (sym word) (shows_slot (state f log id) o (all.slots id) small),
       ap (λ (n : ℕ). reply_in o n) word ∙ reply_slot (state f log id) o (all.slots id),
     )
 
-pub looks : (v : Part) (seat id : ℕ) → IsIdentity v.view.caller.layout id → OwnStep v seat id (λ n. n) (λ n w. Looks id v n w)
+pub looks : (v : ThreadState) (seat id : ℕ) → IsIdentity v.view.caller.layout id → OwnStep v seat id (λ n. n) (λ n w. Looks id v n w)
 looks v seat id identity more words views kept here small =
     let f = v.view.caller.formula in
     let p = v.view.caller.layout in
     let log = v.view.seen ++ more in
     let slot : Slot = state f log id in
-    let e : Event = events.fetch (part_stream v) id (slot_reply slot) in
+    let e : Event = events.fetch (thread_stream v) id (slot_reply slot) in
     let plain : IsPlain f p log e = record { state = λ j. refl; spelling = refl; size = refl } in
     let stands = stands_at v more words views seat kept here in
     let done = plain_step v more words views seat e v.draft kept here refl
-    (slot_answers (state f log) (part_stream v) id slot refl) identity plain stands.draft (omega arith) in
+    (slot_answers (state f log) (thread_stream v) id slot refl) identity plain stands.draft (omega arith) in
     let same : slice_set words id (slice_index words id) ≡ words = set-get_or words id 0 in
     let there : spelling_of f p (log ++ e ∷ []) ≡ spelling_of f p log = spelling-snoc f p log e ∙ append-nil (spelling_of f p log) in
     let told = shown f p log words views id kept identity in
-    let w : Part = advanced v more e v.draft in (
+    let w : ThreadState = advanced v more e v.draft in (
       w,
       log ++ e ∷ [],
       subst (λ (ws : List ℕ). Keeps f p (log ++ e ∷ []) ws (set views seat (w ∷ []))) (sym same) done.0,
       record {
-        shows = subst (λ (xs : List Spelling). ShowsKept (kept_in xs id) (slice_index words id)) (sym there) told.0;
-        calls = subst (λ (r : Reply). Calls v.view w.view (events.fetch (part_stream v) id r))
-            (sym (ap (λ (xs : List Spelling). reply_in (kept_in xs id) (slice_index words id)) there ∙ told.1)) done.1;
+        shows = subst (λ (xs : List Spelling). ShowsStored (stored_in xs id) (slice_index words id)) (sym there) told.0;
+        calls = subst (λ (r : Reply). Calls v.view w.view (events.fetch (thread_stream v) id r))
+            (sym (ap (λ (xs : List Spelling). reply_in (stored_in xs id) (slice_index words id)) there ∙ told.1)) done.1;
         top = done.2;
         draft = refl;
       },

@@ -1,4 +1,4 @@
--- Lemmas on a meeting: parts are dealt out and put together, and of two parts each sees the longer history.
+-- Lemmas on a meeting: thread states are dealt out and put together, and of two thread states each sees the longer history.
 use Rattle.std.proofs.Common.{◌≡◌, ◌⊎◌, ℕ, ◌+◌, ◌≤◌, List, [], ◌∷◌, ◌++◌, length, set, slice_index, refl, sym, ap, subst, ◌∙◌, inl, inr}
 use Rattle.std.proofs.Common.{arith, ap₂, cond, eqb, append-nil, append_assoc, length-append}
 use Rattle.std.specs.List.{AllByRecursion}
@@ -11,73 +11,74 @@ use Rattle.lrup_model.specs.Formula.{Cnf}
 use Rattle.lrup_model.specs.Layout.{LayoutValue, row_words}
 use Rattle.lrup_model.specs.Event.{Event, History, own}
 use Rattle.lrup_model.specs.History.{IsLegal}
-use Rattle.lrup_model.specs.Place.{KeepsSpelt}
-use Rattle.lrup_model.specs.Pass.{Spelling, kept_in, IsFair, PassMoves}
+use Rattle.lrup_model.specs.CallerView.{KeepsSpelt}
+use Rattle.lrup_model.specs.Pass.{Spelling, stored_in, IsFair, PassMoves}
 use Rattle.lrup_model.specs.lemmas.PassLemmas.{learned, moves_learn}
 use Rattle.lrup_model.specs.lemmas.RunningLemmas.{own-append}
 use Rattle.lrup_model.specs.lemmas.HistoryLemmas.{IsLegal-front}
 use Rattle.lrup_model.specs.lemmas.ListLemmas.{All-front}
 use Rattle.idwords.specs.Spelling.{spelling_of, LieWithin}
-use Rattle.idwords.specs.Seats.{Part}
-use Rattle.idwords.specs.internal.Rule.{part_stream, AllParts, count_in, times, Keeps, IsKept, Stands}
-use Rattle.idwords.specs.internal.Steps.{Met, Joined}
-use Rattle.idwords.specs.internal.Seating.{first_part, first_only, others}
+use Rattle.idwords.specs.Seats.{ThreadState}
+use Rattle.idwords.specs.internal.Rule.{thread_stream, AllThreads, count_in, times, Keeps, HoldsRowInvariant, Stands}
+use Rattle.idwords.specs.internal.Steps.{SyncThreads, Joined}
+use Rattle.idwords.specs.internal.Seating.{first_thread, first_only, others}
 use Rattle.idwords.proofs.SpellingLemmas.{lies_within, keeps_spelt, spelt}
 use Rattle.idwords.proofs.ViewLemmas.{all_at, all-set, all-snoc, times-set, times-snoc}
-use Rattle.idwords.proofs.RuleLemmas.{own_rest, between, fair_part}
+use Rattle.idwords.proofs.RuleLemmas.{own_rest, between, fair_thread}
 
 -- Parts change hands
 
-all-back : (P : Part → Type 0) (vs ws : List Part) → AllByRecursion P (vs ++ ws) → AllByRecursion P ws
+all-back : (P : ThreadState → Type 0) (vs ws : List ThreadState) → AllByRecursion P (vs ++ ws) → AllByRecursion P ws
 all-back P [] ws all = all
 all-back P (v ∷ vs) ws all = all-back P vs ws all.1
 
-all-both : (P : Part → Type 0) (vs ws : List Part) → AllByRecursion P vs → AllByRecursion P ws → AllByRecursion P (vs ++ ws)
+all-both : (P : ThreadState → Type 0) (vs ws : List ThreadState) → AllByRecursion P vs → AllByRecursion P ws → AllByRecursion P (vs ++ ws)
 all-both P [] ws front back = back
 all-both P (v ∷ vs) ws front back = (front.0, all-both P vs ws front.1 back)
 
-count-append : (s : ℕ) (vs ws : List Part) → count_in s (vs ++ ws) ≡ count_in s vs + count_in s ws
+count-append : (s : ℕ) (vs ws : List ThreadState) → count_in s (vs ++ ws) ≡ count_in s vs + count_in s ws
 count-append s [] ws = omega arith
 count-append s (v ∷ vs) ws = let rest = count-append s vs ws in omega arith
 
--- the row is kept by other views that have the same parts
-with_views : (f : Cnf) (p : LayoutValue) (log : History) (words : List ℕ) (views views' : List (List Part)) → Keeps f p log words views
-    → AllParts (Stands f p log words) views' → ((s : ℕ) → times s views' ≤ times s views) → Keeps f p log words views'
-with_views f p log words views views' kept parts once = record {
+-- the invariant holds by other views that have the same thread states
+with_views : (f : Cnf) (p : LayoutValue) (log : History) (words : List ℕ) (views views' : List (List ThreadState))
+    → Keeps f p log words views
+    → AllThreads (Stands f p log words) views' → ((s : ℕ) → times s views' ≤ times s views) → Keeps f p log words views'
+with_views f p log words views views' kept threads once = record {
   plan = kept.plan;
   legal = kept.legal;
   count = kept.count;
   first = kept.first;
   slots = kept.slots;
   texts = kept.texts;
-  parts = parts;
+  threads = threads;
   once = λ s. omega (arith, once s, kept.once s);
 }
 
 module _ {S : Type 0} where
-  -- a seat's parts are cut in two, and a new seat has the front
-  pub splits_front : (f : Cnf) (p : LayoutValue) (id : ℕ) (front back : List Part)
-      → Splits {S = S} (IsKept f p) id (front ++ back) back front
+  -- a seat's thread states are cut in two, and a new seat has the front
+  pub splits_front : (f : Cnf) (p : LayoutValue) (id : ℕ) (front back : List ThreadState)
+      → Splits {S = S} (HoldsRowInvariant f p) id (front ++ back) back front
   splits_front f p id front back s kept here =
-      let P : Part → Type 0 = Stands f p kept.0 s.words in
-      let all = all_at P s.views id (front ++ back) here kept.1.parts in (
+      let P : ThreadState → Type 0 = Stands f p kept.0 s.words in
+      let all = all_at P s.views id (front ++ back) here kept.1.threads in (
         kept.0,
         with_views f p kept.0 s.words s.views (set s.views id back ++ front ∷ []) kept.1
-            (all-snoc P (set s.views id back) front (all-set P s.views id back kept.1.parts (all-back P front back all))
+            (all-snoc P (set s.views id back) front (all-set P s.views id back kept.1.threads (all-back P front back all))
             (All-front P front back all))
             (λ t. omega
             (arith, times-snoc t (set s.views id back) front, times-set t s.views id (front ++ back) back here, count-append t front back)),
       )
 
   -- or the back
-  pub splits_back : (f : Cnf) (p : LayoutValue) (id : ℕ) (front back : List Part)
-      → Splits {S = S} (IsKept f p) id (front ++ back) front back
+  pub splits_back : (f : Cnf) (p : LayoutValue) (id : ℕ) (front back : List ThreadState)
+      → Splits {S = S} (HoldsRowInvariant f p) id (front ++ back) front back
   splits_back f p id front back s kept here =
-      let P : Part → Type 0 = Stands f p kept.0 s.words in
-      let all = all_at P s.views id (front ++ back) here kept.1.parts in (
+      let P : ThreadState → Type 0 = Stands f p kept.0 s.words in
+      let all = all_at P s.views id (front ++ back) here kept.1.threads in (
         kept.0,
         with_views f p kept.0 s.words s.views (set s.views id front ++ back ∷ []) kept.1
-            (all-snoc P (set s.views id front) back (all-set P s.views id front kept.1.parts (All-front P front back all))
+            (all-snoc P (set s.views id front) back (all-set P s.views id front kept.1.threads (All-front P front back all))
             (all-back P front back all))
             (λ t. omega (
               arith,
@@ -87,16 +88,16 @@ module _ {S : Type 0} where
             )),
       )
 
-  -- a seat takes in the parts of another
-  pub joins : (f : Cnf) (p : LayoutValue) (id : ℕ) (vs : List Part) (other : ℕ) (ws : List Part)
-      → Joins {S = S} (IsKept f p) id vs other ws (vs ++ ws) []
+  -- a seat takes in the thread states of another
+  pub joins : (f : Cnf) (p : LayoutValue) (id : ℕ) (vs : List ThreadState) (other : ℕ) (ws : List ThreadState)
+      → Joins {S = S} (HoldsRowInvariant f p) id vs other ws (vs ++ ws) []
   joins f p id vs other ws s kept here apart there =
-      let P : Part → Type 0 = Stands f p kept.0 s.words in
+      let P : ThreadState → Type 0 = Stands f p kept.0 s.words in
       let there' : get_elem? s.views other ≡ some ws = sym (set_else s.views id other (vs ++ ws) apart) ∙ there in
-      let all = all-both P vs ws (all_at P s.views id vs here kept.1.parts) (all_at P s.views other ws there' kept.1.parts) in (
+      let all = all-both P vs ws (all_at P s.views id vs here kept.1.threads) (all_at P s.views other ws there' kept.1.threads) in (
         kept.0,
         with_views f p kept.0 s.words s.views (set (set s.views id (vs ++ ws)) other []) kept.1
-            (all-set P (set s.views id (vs ++ ws)) other [] (all-set P s.views id (vs ++ ws) kept.1.parts all) tt)
+            (all-set P (set s.views id (vs ++ ws)) other [] (all-set P s.views id (vs ++ ws) kept.1.threads all) tt)
             (λ t. omega (
               arith,
               times-set t (set s.views id (vs ++ ws)) other ws [] there,
@@ -121,9 +122,9 @@ comparable (e ∷ g) (d ∷ h) k l same =
       | inr longer ↦ inr (longer.0, ap (λ (x : Event). x ∷ g) (sym first) ∙ ap (λ (x : History). d ∷ x) longer.1)
     ]
 
--- The part that has seen this much more of the log
+-- The thread state that has seen this much more of the log
 
-abbrev pub informed : Part → History → Part
+abbrev pub informed : ThreadState → History → ThreadState
 informed v rest = record {
   view = learned v.view rest (spelling_of v.view.caller.formula v.view.caller.layout (v.view.seen ++ rest));
   top = v.top;
@@ -142,7 +143,7 @@ own_all seen rest more mine s here all =
     ∙ append-nil (own seen s) ∙ here
 
 -- it stands, and has moved by no call
-pub record Learns (f : Cnf) (p : LayoutValue) (log : History) (words : List ℕ) (v w : Part) (h : History) : Type 0 where
+pub record Learns (f : Cnf) (p : LayoutValue) (log : History) (words : List ℕ) (v w : ThreadState) (h : History) : Type 0 where
   pub stands : Stands f p log words w
   pub moves : PassMoves v.view w.view []
   pub fair : IsFair w.view
@@ -151,23 +152,23 @@ pub record Learns (f : Cnf) (p : LayoutValue) (log : History) (words : List ℕ)
   pub top : w.top ≡ v.top
   pub draft : w.draft ≡ v.draft
 
-learns_own : (v : Part) (rest more : History) (words : List ℕ) (views : List (List Part))
+learns_own : (v : ThreadState) (rest more : History) (words : List ℕ) (views : List (List ThreadState))
     → Keeps v.view.caller.formula v.view.caller.layout (v.view.seen ++ (rest ++ more)) words views
     → Stands v.view.caller.formula v.view.caller.layout (v.view.seen ++ (rest ++ more)) words v
     → Learns v.view.caller.formula v.view.caller.layout (v.view.seen ++ (rest ++ more)) words v (informed v rest) (v.view.seen ++ rest)
 learns_own v rest more words views kept stands =
     let f = v.view.caller.formula in
     let p = v.view.caller.layout in
-    let s = part_stream v in
+    let s = thread_stream v in
     let all = v.view.seen ++ (rest ++ more) in
     let cut : v.view.seen ++ rest ++ more ≡ all = append_assoc v.view.seen rest more in
     let legal : IsLegal f p (v.view.seen ++ rest) =
     IsLegal-front f p (v.view.seen ++ rest) more (subst (λ (h : History). IsLegal f p h) (sym cut) kept.legal) in
     let mine : own (v.view.seen ++ rest) s ≡ v.view.mine = own_all v.view.seen rest more v.view.mine s stands.seen stands.mine in
-    let keeps_on : KeepsSpelt (kept_in v.view.spelt) (kept_in (spelling_of f p (v.view.seen ++ rest))) = λ j text there.
-    keeps_spelt f p v.view.seen rest j text (ap (λ (xs : List Spelling). kept_in xs j) (sym stands.spelt) ∙ there) in
+    let keeps_on : KeepsSpelt (stored_in v.view.spelt) (stored_in (spelling_of f p (v.view.seen ++ rest))) = λ j text there.
+    keeps_spelt f p v.view.seen rest j text (ap (λ (xs : List Spelling). stored_in xs j) (sym stands.spelt) ∙ there) in
     let step =
-    moves_learn v.view rest (spelling_of f p (v.view.seen ++ rest)) (fair_part v (rest ++ more) words kept.plan kept.legal stands)
+    moves_learn v.view rest (spelling_of f p (v.view.seen ++ rest)) (fair_thread v (rest ++ more) words kept.plan kept.legal stands)
     (between v.view.seen rest v.view.mine s stands.seen mine) legal (spelt f p (v.view.seen ++ rest) legal.events) keeps_on in
     record {
       stands = record {
@@ -190,10 +191,11 @@ learns_own v rest more words views kept stands =
       draft = refl;
     }
 
-learns_cut : (f : Cnf) (p : LayoutValue) (log : History) (words : List ℕ) (views : List (List Part)) (v : Part) (h more rest : History)
+learns_cut : (f : Cnf) (p : LayoutValue) (log : History) (words : List ℕ) (views : List (List ThreadState)) (v : ThreadState)
+    (h more rest : History)
     → Keeps f p log words views → Stands f p log words v
     → v.view.seen ++ (rest ++ more) ≡ log → v.view.seen ++ rest ≡ h
-    → (w : Part) × (part_stream w ≡ part_stream v) × Learns f p log words v w h
+    → (w : ThreadState) × (thread_stream w ≡ thread_stream v) × Learns f p log words v w h
 learns_cut f p log words views v h more rest kept stands cut same =
     let g = v.view.caller.formula in
     let q = v.view.caller.layout in
@@ -205,23 +207,23 @@ learns_cut f p log words views v h more rest kept stands cut same =
     let st_layout : Stands g q log words v = subst (λ (x : LayoutValue). Stands g x log words v) (sym stands.layout) st_formula in
     let st_log : Stands g q (v.view.seen ++ (rest ++ more)) words v = subst (λ (x : History). Stands g q x words v) (sym cut) st_layout in
     let own = learns_own v rest more words views kept_log st_log in
-    let w : Part = informed v rest in
+    let w : ThreadState = informed v rest in
     let at_log : Learns g q log words v w (v.view.seen ++ rest) =
     subst (λ (x : History). Learns g q x words v w (v.view.seen ++ rest)) cut own in
     let at_h : Learns g q log words v w h = subst (λ (x : History). Learns g q log words v w x) same at_log in
     let at_layout : Learns g p log words v w h = subst (λ (x : LayoutValue). Learns g x log words v w h) stands.layout at_h in
     (w, refl, subst (λ (x : Cnf). Learns x p log words v w h) stands.formula at_layout)
 
--- from a history that begins with what the part has seen, and begins the log
-learns : (f : Cnf) (p : LayoutValue) (log : History) (words : List ℕ) (views : List (List Part)) (v : Part) (h more : History)
+-- from a history that begins with what the thread state has seen, and begins the log
+learns : (f : Cnf) (p : LayoutValue) (log : History) (words : List ℕ) (views : List (List ThreadState)) (v : ThreadState) (h more : History)
     → Keeps f p log words views → Stands f p log words v
-    → log ≡ h ++ more → Begins v.view.seen h → (w : Part) × (part_stream w ≡ part_stream v) × Learns f p log words v w h
+    → log ≡ h ++ more → Begins v.view.seen h → (w : ThreadState) × (thread_stream w ≡ thread_stream v) × Learns f p log words v w h
 learns f p log words views v h more kept stands whole begins =
     let rest : History = begins.0 in
     let cut : log ≡ v.view.seen ++ (rest ++ more) = whole ∙ ap (λ (g : History). g ++ more) begins.1 ∙ append_assoc v.view.seen rest more in
     learns_cut f p log words views v h more rest kept stands (sym cut) (sym begins.1)
 
--- Two parts of one seat
+-- Two thread states of one seat
 
 no_rest : (g h k : History) → g ≡ g ++ h ++ k → h ≡ []
 no_rest g [] k same = refl
@@ -235,12 +237,12 @@ begins_both g h longer shorter =
     let none : longer.0 ≡ [] = no_rest g longer.0 shorter.0 (shorter.1 ∙ ap (λ (x : History). x ++ shorter.0) longer.1) in
     sym (longer.1 ∙ ap (λ (x : History). g ++ x) none ∙ append-nil g)
 
-module _ (f : Cnf) (p : LayoutValue) (log : History) (words : List ℕ) (views : List (List Part)) (v v' : Part)
+module _ (f : Cnf) (p : LayoutValue) (log : History) (words : List ℕ) (views : List (List ThreadState)) (v v' : ThreadState)
     (kept : Keeps f p log words views) (stands : Stands f p log words v)
     (stands' : Stands f p log words v') where
   abbrev Pair : Type 0
-  Pair = (w w' : Part) × (part_stream w ≡ part_stream v) × (part_stream w' ≡ part_stream v') × Stands f p log words w
-      × Stands f p log words w' × Met v v' w w'
+  Pair = (w w' : ThreadState) × (thread_stream w ≡ thread_stream v) × (thread_stream w' ≡ thread_stream v') × Stands f p log words w
+      × Stands f p log words w' × SyncThreads v v' w w'
 
   met_at : (h more : History) → log ≡ h ++ more → Begins v.view.seen h → Begins v'.view.seen h
       → ((rest : History) → v.view.seen ≡ v'.view.seen ++ rest → h ≡ v.view.seen)
@@ -282,19 +284,19 @@ module _ (f : Cnf) (p : LayoutValue) (log : History) (words : List ℕ) (views :
             (λ rest is. refl) (λ rest is. begins_both v.view.seen v'.view.seen (rest, is) shorter)
       ]
 
-pair_of : (v v' u u' : Part) → v ∷ v' ∷ [] ≡ u ∷ u' ∷ [] → (v ≡ u) × (v' ≡ u')
+pair_of : (v v' u u' : ThreadState) → v ∷ v' ∷ [] ≡ u ∷ u' ∷ [] → (v ≡ u) × (v' ≡ u')
 pair_of v v' u u' same = (cc, cc)
 
 module _ {S : Type 0} where
-  pub meets : (f : Cnf) (p : LayoutValue) (slots id : ℕ) (v v' : Part) (i : ℕ) (then : ℕ → Me S (List Part) → Type 0)
-      → ((n : ℕ) (w w' : Part) → Met v v' w w' → then n (w ∷ w' ∷ [], []))
-      → Allows {S = S} (IsKept f p) slots id (v ∷ v' ∷ [], []) i (λ n. n) then
+  pub meets : (f : Cnf) (p : LayoutValue) (slots id : ℕ) (v v' : ThreadState) (i : ℕ) (then : ℕ → Me S (List ThreadState) → Type 0)
+      → ((n : ℕ) (w w' : ThreadState) → SyncThreads v v' w w' → then n (w ∷ w' ∷ [], []))
+      → Allows {S = S} (HoldsRowInvariant f p) slots id (v ∷ v' ∷ [], []) i (λ n. n) then
   meets f p slots id v v' i then tell s kept homes here small =
-      let P : Part → Type 0 = Stands f p kept.0 s.words in
-      let all = all_at P s.views id (v ∷ v' ∷ []) here kept.1.parts in
+      let P : ThreadState → Type 0 = Stands f p kept.0 s.words in
+      let all = all_at P s.views id (v ∷ v' ∷ []) here kept.1.threads in
       let pair = met f p kept.0 s.words s.views v v' kept.1 all.0 all.1.0 in
-      let w : Part = pair.0 in
-      let w' : Part = pair.1 in
+      let w : ThreadState = pair.0 in
+      let w' : ThreadState = pair.1 in
       let same : (t : ℕ) → count_in t (w ∷ w' ∷ []) ≡ count_in t (v ∷ v' ∷ []) = λ t.
       ap₂ (λ (a b : ℕ). cond (eqb a t) 1 0 + (cond (eqb b t) 1 0 + 0)) pair.2 pair.3 in (
         w ∷ w' ∷ [],
@@ -304,47 +306,59 @@ module _ {S : Type 0} where
           kept.0,
           subst (λ (ws : List ℕ). Keeps f p kept.0 ws (set s.views id (w ∷ w' ∷ []))) (sym (set-get_or s.words i 0))
               (with_views f p kept.0 s.words s.views (set s.views id (w ∷ w' ∷ [])) kept.1
-              (all-set P s.views id (w ∷ w' ∷ []) kept.1.parts (pair.4, (pair.5, tt)))
+              (all-set P s.views id (w ∷ w' ∷ []) kept.1.threads (pair.4, (pair.5, tt)))
               (λ t. omega (arith, times-set t s.views id (v ∷ v' ∷ []) (w ∷ w' ∷ []) here, same t))),
         ),
         tell (slice_index s.words i) w w' pair.6,
       )
 
 module _ {S : Type 0} where
-  -- the first part goes to a new seat
-  pub splits_deal : (f : Cnf) (p : LayoutValue) (id : ℕ) (vs : List Part) → Splits {S = S} (IsKept f p) id vs (others vs) (first_only vs)
+  -- the first thread state goes to a new seat
+  pub splits_deal : (f : Cnf) (p : LayoutValue) (id : ℕ) (vs : List ThreadState)
+      → Splits {S = S} (HoldsRowInvariant f p) id vs (others vs) (first_only vs)
   splits_deal f p id [] = splits_front f p id [] []
   splits_deal f p id (v ∷ vs) = splits_front f p id (v ∷ []) vs
 
-  -- all parts do
-  pub splits_hand : (f : Cnf) (p : LayoutValue) (id : ℕ) (vs : List Part) → Splits {S = S} (IsKept f p) id vs [] vs
+  -- all thread states do
+  pub splits_hand : (f : Cnf) (p : LayoutValue) (id : ℕ) (vs : List ThreadState) → Splits {S = S} (HoldsRowInvariant f p) id vs [] vs
   splits_hand f p id vs = splits_back f p id [] vs
 
-  -- all parts but the first do
-  pub splits_part : (f : Cnf) (p : LayoutValue) (id : ℕ) (vs : List Part) → Splits {S = S} (IsKept f p) id vs (first_only vs) (others vs)
-  splits_part f p id [] = splits_back f p id [] []
-  splits_part f p id (v ∷ vs) = splits_back f p id (v ∷ []) vs
+  -- all thread states but the first do
+  pub splits_thread : (f : Cnf) (p : LayoutValue) (id : ℕ) (vs : List ThreadState)
+      → Splits {S = S} (HoldsRowInvariant f p) id vs (first_only vs) (others vs)
+  splits_thread f p id [] = splits_back f p id [] []
+  splits_thread f p id (v ∷ vs) = splits_back f p id (v ∷ []) vs
 
-  -- what is told of two parts is told of a seat that has both
-  pub joined : (step : Step S) (v v' : Part) (n : ℕ) (w w' : Part) → Met v v' w w' → Joined step (v ∷ v' ∷ [], []) n (w ∷ w' ∷ [], [])
+  -- what is told of two thread states is told of a seat that has both
+  pub joined : (step : Step S) (v v' : ThreadState) (n : ℕ) (w w' : ThreadState) → SyncThreads v v' w w'
+      → Joined step (v ∷ v' ∷ [], []) n (w ∷ w' ∷ [], [])
   joined step v v' n w w' met u u' same =
-      let both = pair_of v v' u u' same in
-      (w, w', refl, refl, subst (λ (x : Part). Met x u' w w') both.0 (subst (λ (x : Part). Met v x w w') both.1 met))
+      let both = pair_of v v' u u' same in (
+        w,
+        w',
+        refl,
+        refl,
+        subst (λ (x : ThreadState). SyncThreads x u' w w') both.0
+            (subst (λ (x : ThreadState). SyncThreads v x w w') both.1 met),
+      )
 
-  -- what a load told of the two parts, once each has its seat again
-  pub parted : (step : Step S) (me met left right : Me S (List Part)) (v v' : Part) (n : ℕ) → me ≡ (v ∷ v' ∷ [], []) → Joined step me n met
+  -- what a load told of the two thread states, once each has its seat again
+  pub parted : (step : Step S) (me met left right : Me S (List ThreadState)) (v v' : ThreadState) (n : ℕ) → me ≡ (v ∷ v' ∷ [], [])
+      → Joined step me n met
       → left ≡ (first_only met.0, met.1) → right ≡ (others met.0, [])
-      → Met v v' (first_part left.0) (first_part right.0) × (left ≡ (first_part left.0 ∷ [], [])) × (right ≡ (first_part right.0 ∷ [], []))
+      → SyncThreads v v' (first_thread left.0) (first_thread right.0) × (left ≡ (first_thread left.0 ∷ [], []))
+      × (right ≡ (first_thread right.0 ∷ [], []))
   parted step me met left right v v' n both told gives keeps_on =
-      let all = told v v' (ap (λ (m : Me S (List Part)). m.0) both) in
-      let w : Part = all.0 in
-      let w' : Part = all.1 in
-      let none : met.1 ≡ [] = all.3 ∙ ap (λ (m : Me S (List Part)). m.1) both in
-      let first : left ≡ (w ∷ [], []) = gives ∙ ap₂ (λ (vs : List Part) (slots : List (ℕ × S)). (first_only vs, slots)) all.2 none in
-      let second : right ≡ (w' ∷ [], []) = keeps_on ∙ ap (λ (vs : List Part). (others vs, [])) all.2 in
-      let at : w ≡ first_part left.0 = sym (ap (λ (m : Me S (List Part)). first_part m.0) first) in
-      let at' : w' ≡ first_part right.0 = sym (ap (λ (m : Me S (List Part)). first_part m.0) second) in (
-        subst (λ (u : Part). Met v v' u (first_part right.0)) at (subst (λ (u : Part). Met v v' w u) at' all.4),
-        first ∙ ap (λ (u : Part). (u ∷ [], [])) at,
-        second ∙ ap (λ (u : Part). (u ∷ [], [])) at',
+      let all = told v v' (ap (λ (m : Me S (List ThreadState)). m.0) both) in
+      let w : ThreadState = all.0 in
+      let w' : ThreadState = all.1 in
+      let none : met.1 ≡ [] = all.3 ∙ ap (λ (m : Me S (List ThreadState)). m.1) both in
+      let first : left ≡ (w ∷ [], []) = gives ∙ ap₂ (λ (vs : List ThreadState) (slots : List (ℕ × S)). (first_only vs, slots)) all.2 none in
+      let second : right ≡ (w' ∷ [], []) = keeps_on ∙ ap (λ (vs : List ThreadState). (others vs, [])) all.2 in
+      let at : w ≡ first_thread left.0 = sym (ap (λ (m : Me S (List ThreadState)). first_thread m.0) first) in
+      let at' : w' ≡ first_thread right.0 = sym (ap (λ (m : Me S (List ThreadState)). first_thread m.0) second) in (
+        subst (λ (u : ThreadState). SyncThreads v v' u (first_thread right.0)) at
+            (subst (λ (u : ThreadState). SyncThreads v v' w u) at' all.4),
+        first ∙ ap (λ (u : ThreadState). (u ∷ [], [])) at,
+        second ∙ ap (λ (u : ThreadState). (u ∷ [], [])) at',
       )

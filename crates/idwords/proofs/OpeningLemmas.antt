@@ -15,14 +15,14 @@ use Rattle.idwords.specs.internal.Seating.{IsSeated}
 use Rattle.lrup_model.specs.Formula.{Cnf, IsCnf, clause_at}
 use Rattle.lrup_model.specs.Layout.{LayoutValue, IsLayout, Fits, IsIdentity, IsStream, last_identity, row_words}
 use Rattle.lrup_model.specs.State.{Slot, absent, live, opening}
-use Rattle.lrup_model.specs.Place.{Kept}
-use Rattle.lrup_model.specs.Pass.{kept_in, IsFair}
+use Rattle.lrup_model.specs.CallerView.{StoredClause}
+use Rattle.lrup_model.specs.Pass.{stored_in, IsFair}
 use Rattle.lrup_model.specs.lemmas.HistoryLemmas.{opening-formula, opening-above}
-use Rattle.idwords.specs.internal.RowWords.{identity_word, kept_word, word_of, packed, StandAt, LiesAt}
+use Rattle.idwords.specs.internal.RowWords.{identity_word, stored_word, word_of, packed, StandAt, LiesAt}
 use Rattle.idwords.specs.Words.{words_for}
 use Rattle.idwords.specs.Spelling.{clauses_spelling, first_place}
-use Rattle.idwords.specs.Seats.{Part, opening_part}
-use Rattle.idwords.specs.internal.Rule.{Stands, IsPlan, IsKept, opening_parts, count_in}
+use Rattle.idwords.specs.Seats.{ThreadState, opening_thread}
+use Rattle.idwords.specs.internal.Rule.{Stands, IsPlan, HoldsRowInvariant, opening_threads, count_in}
 use Rattle.idwords.proofs.SpellingLemmas.{either_kept, spelt}
 use Rattle.idwords.proofs.WordLemmas.{length-packed}
 use Rattle.idwords.specs.internal.Opening.{clause_words, literal_words, opening_words}
@@ -90,7 +90,7 @@ words_more cs i c within here =
     let last = words_in-cons c [] in
     omega (arith, ap words_in cut)
 
--- How long the parts are
+-- How long the pieces are
 
 pub length-clause_words : (start : ℕ) (cs : List Clause) → length (clause_words start cs) ≡ length cs
 length-clause_words start [] = refl
@@ -152,19 +152,19 @@ length-opening_words f p fits =
       fits.literals,
     )
 
--- a clause's word is that of what is kept for it
+-- a clause's word is that of what is stored for it
 clause_word_at : (id start : ℕ) (cs : List Clause) (back : List ℕ) (k : ℕ) → k < length cs
-    → get_or (clause_words start cs ++ back) k 0 ≡ kept_word 1 (kept_in (clauses_spelling id start cs) (id + k))
+    → get_or (clause_words start cs ++ back) k 0 ≡ stored_word 1 (stored_in (clauses_spelling id start cs) (id + k))
 clause_word_at id start [] back k within = absurd (omega arith)
 clause_word_at id start (c ∷ cs) back zero within =
-    ap (kept_word 1) (sym (cond-true (eqb id (id + 0)) (Some (record { start = start; literals = c }))
-    (kept_in (clauses_spelling (id + 1) (start + words_for (length c)) cs) (id + 0)) (eq-eqb id (id + 0) (omega arith))))
+    ap (stored_word 1) (sym (cond-true (eqb id (id + 0)) (Some (record { start = start; literals = c }))
+    (stored_in (clauses_spelling (id + 1) (start + words_for (length c)) cs) (id + 0)) (eq-eqb id (id + 0) (omega arith))))
 clause_word_at id start (c ∷ cs) back (suc k) within =
     let next : id + suc k ≡ id + 1 + k = omega arith in
     clause_word_at (id + 1) (start + words_for (length c)) cs back k (omega arith)
-    ∙ ap (kept_word 1) (sym (cond-false (eqb id (id + 1 + k)) (Some (record { start = start; literals = c }))
-    (kept_in (clauses_spelling (id + 1) (start + words_for (length c)) cs) (id + 1 + k)) (ne_eqb id (id + 1 + k) (λ same. omega arith))))
-    ∙ ap (λ (j : ℕ). kept_word 1 (kept_in (clauses_spelling id start (c ∷ cs)) j)) (sym next)
+    ∙ ap (stored_word 1) (sym (cond-false (eqb id (id + 1 + k)) (Some (record { start = start; literals = c }))
+    (stored_in (clauses_spelling (id + 1) (start + words_for (length c)) cs) (id + 1 + k)) (ne_eqb id (id + 1 + k) (λ same. omega arith))))
+    ∙ ap (λ (j : ℕ). stored_word 1 (stored_in (clauses_spelling id start (c ∷ cs)) j)) (sym next)
 
 vacant_at : (n k : ℕ) (back : List ℕ) → k < n → get_or (replicate n 0 ++ back) k 0 ≡ 0
 vacant_at n k back within = get_or_append_left (replicate n 0) back 0 k (omega (arith, length-replicate {A = ℕ} n 0))
@@ -179,21 +179,21 @@ stand_front pre back (w ∷ ws) place len = (
       (stand_front (pre ++ w ∷ []) back ws (place + 1) (omega (arith, length-append pre (w ∷ [])))),
 )
 
-lies_clauses : (pre back : List ℕ) (id start : ℕ) (cs : List Clause) (j : ℕ) (kept : Kept) → length pre ≡ start
-    → kept_in (clauses_spelling id start cs) j ≡ Some kept → LiesAt (pre ++ (literal_words cs ++ back)) kept.start kept.literals
-lies_clauses pre back id start [] j kept len here = absurd (cc)
-lies_clauses pre back id start (c ∷ cs) j kept len here =
+lies_clauses : (pre back : List ℕ) (id start : ℕ) (cs : List Clause) (j : ℕ) (stored : StoredClause) → length pre ≡ start
+    → stored_in (clauses_spelling id start cs) j ≡ Some stored → LiesAt (pre ++ (literal_words cs ++ back)) stored.start stored.literals
+lies_clauses pre back id start [] j stored len here = absurd (cc)
+lies_clauses pre back id start (c ∷ cs) j stored len here =
     let tail : List ℕ = literal_words cs ++ back in
     let cut : packed c ++ literal_words cs ++ back ≡ packed c ++ tail = append_assoc (packed c) (literal_words cs) back in
     let whole : pre ++ (packed c ++ tail) ≡ pre ++ (packed c ++ literal_words cs ++ back) = ap (λ (ws : List ℕ). pre ++ ws) (sym cut) in
     elim (either_kept (eqb id j) (record {
       start = start;
       literals = c;
-    }) (kept_in (clauses_spelling (id + 1) (start + words_for (length c)) cs) j) kept here) [
-      | inl same ↦ subst (λ (k : Kept). LiesAt (pre ++ (packed c ++ literal_words cs ++ back)) k.start k.literals) same
+    }) (stored_in (clauses_spelling (id + 1) (start + words_for (length c)) cs) j) stored here) [
+      | inl same ↦ subst (λ (k : StoredClause). LiesAt (pre ++ (packed c ++ literal_words cs ++ back)) k.start k.literals) same
           (subst (λ (ws : List ℕ). LiesAt ws start c) whole (stand_front pre tail (packed c) start len))
-      | inr later ↦ subst (λ (ws : List ℕ). LiesAt ws kept.start kept.literals) (append_assoc pre (packed c) tail ∙ whole)
-          (lies_clauses (pre ++ packed c) back (id + 1) (start + words_for (length c)) cs j kept
+      | inr later ↦ subst (λ (ws : List ℕ). LiesAt ws stored.start stored.literals) (append_assoc pre (packed c) tail ∙ whole)
+          (lies_clauses (pre ++ packed c) back (id + 1) (start + words_for (length c)) cs j stored
           (omega (arith, length-append pre (packed c), length-packed c)) later)
     ]
 
@@ -201,7 +201,7 @@ below_one : (id : ℕ) → 0 < id → id ≡ suc (id - 1)
 below_one id positive = omega arith
 
 opening_slot : (f : Cnf) (p : LayoutValue) (id : ℕ) → Fits p f → IsIdentity p id
-    → slice_index (opening_words f p) id ≡ word_of (opening f id) (kept_in (clauses_spelling 1 (1 + last_identity p) f.clauses) id)
+    → slice_index (opening_words f p) id ≡ word_of (opening f id) (stored_in (clauses_spelling 1 (1 + last_identity p) f.clauses) id)
 opening_slot f p id fits identity =
     let cs : List Clause = f.clauses in
     let words : List ℕ = clause_words (1 + last_identity p) cs in
@@ -218,23 +218,25 @@ opening_slot f p id fits identity =
       | inl formula ↦
           let at = clause_word_at 1 (1 + last_identity p) cs (vacant ++ (texts ++ rooms)) k formula in
           let slot : opening f id ≡ live (clause_at f id) = opening-formula f id identity.0 (omega arith) in
-          drop_one ∙ at ∙ ap (λ (n : ℕ). kept_word 1 (kept_in xs n)) (omega arith) ∙ ap (λ (y : Slot). word_of y (kept_in xs id)) (sym slot)
+          drop_one ∙ at ∙ ap (λ (n : ℕ). stored_word 1 (stored_in xs n)) (omega arith)
+          ∙ ap (λ (y : Slot). word_of y (stored_in xs id)) (sym slot)
       | inr above ↦
           let slot : opening f id ≡ absent = opening-above f id (omega arith) in
           let len : length words ≡ length cs = length-clause_words (1 + last_identity p) cs in
           drop_one ∙ get_or-append_right words (vacant ++ (texts ++ rooms)) (length cs) k 0 len above
           ∙ vacant_at (p.streams * p.lines) (k - length cs) (texts ++ rooms) (omega (arith, identity.1, fits.clauses))
-          ∙ ap (λ (y : Slot). word_of y (kept_in xs id)) (sym slot)
+          ∙ ap (λ (y : Slot). word_of y (stored_in xs id)) (sym slot)
     ]
 
-opening_text : (f : Cnf) (p : LayoutValue) (j : ℕ) (kept : Kept) → Fits p f
-    → kept_in (clauses_spelling 1 (1 + last_identity p) f.clauses) j ≡ Some kept → LiesAt (opening_words f p) kept.start kept.literals
-opening_text f p j kept fits here =
+opening_text : (f : Cnf) (p : LayoutValue) (j : ℕ) (stored : StoredClause) → Fits p f
+    → stored_in (clauses_spelling 1 (1 + last_identity p) f.clauses) j ≡ Some stored
+    → LiesAt (opening_words f p) stored.start stored.literals
+opening_text f p j stored fits here =
     let front : List ℕ = 0 ∷ clause_words (1 + last_identity p) f.clauses in
     let vacant : List ℕ = replicate (p.streams * p.lines) 0 in
     let rooms : List ℕ = replicate (p.literals + p.streams * p.room - length (literal_words f.clauses)) 0 in
-    subst (λ (ws : List ℕ). LiesAt ws kept.start kept.literals) (sym (append_assoc (front ++ vacant) (literal_words f.clauses) rooms))
-    (lies_clauses (front ++ vacant) rooms 1 (1 + last_identity p) f.clauses j kept
+    subst (λ (ws : List ℕ). LiesAt ws stored.start stored.literals) (sym (append_assoc (front ++ vacant) (literal_words f.clauses) rooms))
+    (lies_clauses (front ++ vacant) rooms 1 (1 + last_identity p) f.clauses j stored
     (omega (
       arith,
       length-append front vacant,
@@ -243,9 +245,9 @@ opening_text f p j kept fits here =
       fits.clauses,
     )) here)
 
--- The parts
+-- The thread states
 
-opening_stands : (f : Cnf) (p : LayoutValue) (words : List ℕ) (s : ℕ) → IsStream p s → Stands f p [] words (opening_part f p s)
+opening_stands : (f : Cnf) (p : LayoutValue) (words : List ℕ) (s : ℕ) → IsStream p s → Stands f p [] words (opening_thread f p s)
 opening_stands f p words s stream = record {
   formula = refl;
   layout = refl;
@@ -260,19 +262,19 @@ opening_stands f p words s stream = record {
 }
 
 all_stand : (f : Cnf) (p : LayoutValue) (words : List ℕ) (s count : ℕ) → 0 < s → s + count ≤ p.streams + 1
-    → AllByRecursion (Stands f p [] words) (opening_parts f p s count)
+    → AllByRecursion (Stands f p [] words) (opening_threads f p s count)
 all_stand f p words s zero positive within = tt
 all_stand f p words s (suc count) positive within =
     (opening_stands f p words s (positive, omega arith), all_stand f p words (s + 1) count (omega arith) (omega arith))
 
-counted_below : (f : Cnf) (p : LayoutValue) (s count t : ℕ) → t < s → count_in t (opening_parts f p s count) ≡ 0
+counted_below : (f : Cnf) (p : LayoutValue) (s count t : ℕ) → t < s → count_in t (opening_threads f p s count) ≡ 0
 counted_below f p s zero t below = refl
 counted_below f p s (suc count) t below =
     let none : ◌≡◌ {A = ℕ} (cond (eqb s t) 1 0) 0 = cond-false (eqb s t) 1 0 (ne_eqb s t (λ same. omega arith)) in
     let rest = counted_below f p (s + 1) count t (omega arith) in
     omega arith
 
-counted_once : (f : Cnf) (p : LayoutValue) (s count t : ℕ) → count_in t (opening_parts f p s count) ≤ 1
+counted_once : (f : Cnf) (p : LayoutValue) (s count t : ℕ) → count_in t (opening_threads f p s count) ≤ 1
 counted_once f p s zero t = omega arith
 counted_once f p s (suc count) t =
     elim (cases_eq s t) [
@@ -288,7 +290,7 @@ counted_once f p s (suc count) t =
 
 -- the rule at the opening
 pub opens : {S : Type 0} (f : Cnf) (p : LayoutValue) (homes : List (Maybe.Option S)) → IsCnf f → IsLayout p → Fits p f
-    → IsKept {S = S} f p (record { words = opening_words f p; homes = homes; views = opening_parts f p 1 p.streams ∷ [] })
+    → HoldsRowInvariant {S = S} f p (record { words = opening_words f p; homes = homes; views = opening_threads f p 1 p.streams ∷ [] })
 opens f p homes cnf layout fits =
     let xs = clauses_spelling 1 (1 + last_identity p) f.clauses in
     let same : xs ++ [] ≡ xs = append-nil xs in (
@@ -298,16 +300,16 @@ opens f p homes cnf layout fits =
         legal = record { events = tt; room = λ s. omega arith };
         count = length-opening_words f p fits;
         first = refl;
-        slots = λ id identity. opening_slot f p id fits identity ∙ ap (λ ys. word_of (opening f id) (kept_in ys id)) (sym same);
-        texts = λ id kept there. opening_text f p id kept fits (ap (λ ys. kept_in ys id) (sym same) ∙ there);
-        parts = (all_stand f p (opening_words f p) 1 p.streams (omega arith) (omega arith), tt);
+        slots = λ id identity. opening_slot f p id fits identity ∙ ap (λ ys. word_of (opening f id) (stored_in ys id)) (sym same);
+        texts = λ id stored there. opening_text f p id stored fits (ap (λ ys. stored_in ys id) (sym same) ∙ there);
+        threads = (all_stand f p (opening_words f p) 1 p.streams (omega arith) (omega arith), tt);
         once = λ s. omega (arith, counted_once f p 1 p.streams s);
       },
     )
 
 -- The seats
 
-pub opening_fair : (f : Cnf) (p : LayoutValue) (s : ℕ) → IsPlan f p → IsStream p s → IsFair (opening_part f p s).view
+pub opening_fair : (f : Cnf) (p : LayoutValue) (s : ℕ) → IsPlan f p → IsStream p s → IsFair (opening_thread f p s).view
 opening_fair f p s plan stream = record {
   caller = record { formula = plan.formula; layout = plan.layout; fits = plan.fits; stream = stream };
   legal = record { events = tt; room = λ t. omega arith };
@@ -318,9 +320,9 @@ opening_fair f p s plan stream = record {
 left_next : (n i : ℕ) → i < n → n - i ≡ suc (n - (i + 1))
 left_next n i within = omega arith
 
-pub parts_next : (f : Cnf) (p : LayoutValue) (s n i : ℕ) → i < n
-    → opening_parts f p s (n - i) ≡ opening_part f p s ∷ opening_parts f p (s + 1) (n - (i + 1))
-parts_next f p s n i within = ap (opening_parts f p s) (left_next n i within)
+pub threads_next : (f : Cnf) (p : LayoutValue) (s n i : ℕ) → i < n
+    → opening_threads f p s (n - i) ≡ opening_thread f p s ∷ opening_threads f p (s + 1) (n - (i + 1))
+threads_next f p s n i within = ap (opening_threads f p s) (left_next n i within)
 
 pub first_next : (p : LayoutValue) (i : ℕ) → first_place p (i + 1) + p.room ≡ first_place p (i + 1 + 1)
 first_next p i =
@@ -329,11 +331,11 @@ first_next p i =
     omega arith
 
 -- the seat that is dealt out
-pub dealt : {S : Type 0} (f : Cnf) (p : LayoutValue) (s : ℕ) (table : TableId) (me : Me S (List Part)) (top room : ℕ) → IsPlan f p
+pub dealt : {S : Type 0} (f : Cnf) (p : LayoutValue) (s : ℕ) (table : TableId) (me : Me S (List ThreadState)) (top room : ℕ) → IsPlan f p
     → IsStream p s → table.words ≡ row_words p
-    → me ≡ (opening_part f p s ∷ [], []) → top ≡ first_place p s → room ≡ p.room → IsSeated {S = S} table me top 0 room
+    → me ≡ (opening_thread f p s ∷ [], []) → top ≡ first_place p s → room ≡ p.room → IsSeated {S = S} table me top 0 room
 dealt {S} f p s table me top room plan stream words whole at all =
-    subst (λ (m : Me S (List Part)). IsSeated {S = S} table m top 0 room) (sym whole) (record {
+    subst (λ (m : Me S (List ThreadState)). IsSeated {S = S} table m top 0 room) (sym whole) (record {
       one = refl;
       fair = opening_fair f p s plan stream;
       words = words;

@@ -12,19 +12,19 @@ use Rattle.lrup_model.specs.Formula.{Cnf}
 use Rattle.lrup_model.specs.Layout.{LayoutValue, IsStream, last_identity, row_words}
 use Rattle.lrup_model.specs.Event.{History, spent}
 use Rattle.lrup_model.specs.History.{IsLegal}
-use Rattle.lrup_model.specs.Place.{Kept}
-use Rattle.lrup_model.specs.Pass.{Spelling, kept_in}
+use Rattle.lrup_model.specs.CallerView.{StoredClause}
+use Rattle.lrup_model.specs.Pass.{Spelling, stored_in}
 use Rattle.lrup_model.specs.lemmas.PassLemmas.{fair_follows}
 use Rattle.idwords.specs.Words.{words_for, pair_of, half_of}
 use Rattle.idwords.specs.internal.RowWords.{literal_word}
 use Rattle.idwords.specs.Spelling.{first_place, words_spent, top_after}
-use Rattle.idwords.specs.Seats.{Part}
-use Rattle.idwords.specs.internal.Rule.{part_stream, Keeps, Stands}
+use Rattle.idwords.specs.Seats.{ThreadState}
+use Rattle.idwords.specs.internal.Rule.{thread_stream, Keeps, Stands}
 use Rattle.idwords.specs.internal.Steps.{Reads, Writes}
 use Rattle.idwords.proofs.SpellingLemmas.{words_spent-own, words_within, IsLodged, lodged, keeps_spelt}
 use Rattle.idwords.proofs.WordLemmas.{HasCode, some_literals, lies_get, lies-pair, lies-set, word_injective}
 use Rattle.idwords.proofs.ViewLemmas.{moved, times-same}
-use Rattle.idwords.proofs.RuleLemmas.{stands_at, stands_words, fair_part}
+use Rattle.idwords.proofs.RuleLemmas.{stands_at, stands_words, fair_thread}
 use Rattle.idwords.proofs.StepLemmas.{OwnStep}
 
 -- Rooms apart
@@ -35,7 +35,7 @@ rooms_apart p s t positive less =
     let more : (s - 1 + 1) * p.room ≤ (t - 1) * p.room = mul-le-mul_right p.room (omega arith) in
     omega arith
 
--- a place in a stream's room, at or above its top, lies outside what another part of the row takes
+-- a place in a stream's room, at or above its top, lies outside what another piece of the row takes
 outside_room : (p : LayoutValue) (s t place from to : ℕ) → IsStream p s → IsStream p t → t ≢ s → first_place p s ≤ place
     → place < first_place p s + p.room → first_place p t ≤ from → to ≤ first_place p t + p.room → (place < from) ⊎ (to ≤ place)
 outside_room p s t place from to mine theirs other above below first last =
@@ -46,15 +46,15 @@ outside_room p s t place from to mine theirs other above below first last =
 
 module _ (f : Cnf) (p : LayoutValue) (log : History) (legal : IsLegal f p log) where
   -- no clause's literals lie at a place of a stream's room at or above its top
-  pub outside_text : (s place : ℕ) (kept : Kept) → IsStream p s → top_after p s log ≤ place → place < first_place p s + p.room
-      → IsLodged p log kept → (place < kept.start) ⊎ (kept.start + words_for (length kept.literals) ≤ place)
-  outside_text s place kept mine above below (inl formula) = inr (omega (arith, formula.last))
-  outside_text s place kept mine above below (inr (t, lodging)) =
+  pub outside_text : (s place : ℕ) (stored : StoredClause) → IsStream p s → top_after p s log ≤ place → place < first_place p s + p.room
+      → IsLodged p log stored → (place < stored.start) ⊎ (stored.start + words_for (length stored.literals) ≤ place)
+  outside_text s place stored mine above below (inl formula) = inr (omega (arith, formula.last))
+  outside_text s place stored mine above below (inr (t, lodging)) =
       elim (cases_eq t s) [
         | inl same ↦
             let top : top_after p t log ≡ top_after p s log = ap (λ (u : ℕ). top_after p u log) same in
             inr (omega (arith, lodging.last))
-        | inr other ↦ outside_room p s t place kept.start (kept.start + words_for (length kept.literals)) mine lodging.stream other
+        | inr other ↦ outside_room p s t place stored.start (stored.start + words_for (length stored.literals)) mine lodging.stream other
             (omega arith) below lodging.first
             (omega (arith, lodging.last, legal.room t, words_within t log))
       ]
@@ -74,7 +74,7 @@ top_within p s top n room mine stream at left short =
 
 -- A load of literals
 
-pub reads : (v : Part) (seat place : ℕ) → OwnStep v seat place (λ n. n) (λ n w. Reads place v n w)
+pub reads : (v : ThreadState) (seat place : ℕ) → OwnStep v seat place (λ n. n) (λ n w. Reads place v n w)
 reads v seat place more words views kept here small =
     let f = v.view.caller.formula in
     let p = v.view.caller.layout in
@@ -85,28 +85,28 @@ reads v seat place more words views kept here small =
       v,
       log,
       subst (λ (ws : List ℕ). Keeps f p log ws (set views seat (v ∷ []))) (sym same_words)
-          (subst (λ (us : List (List Part)). Keeps f p log words us) (sym same_views) kept),
+          (subst (λ (us : List (List ThreadState)). Keeps f p log words us) (sym same_views) kept),
       record {
         same = refl;
         text = λ id k text l there at here_is.
-            let derived = (fair_follows v.view (fair_part v more words kept.plan kept.legal stands)).each id text there in
+            let derived = (fair_follows v.view (fair_thread v more words kept.plan kept.legal stands)).each id text there in
             ap (λ (n : ℕ). half_of (k % 2) (slice_index words n)) here_is
             ∙ lies_get f.vars words text.start text.literals k l kept.plan.formula.vars derived.0.literals
             (kept.texts id text
-            (keeps_spelt f p v.view.seen more id text (ap (λ (xs : List Spelling). kept_in xs id) (sym stands.spelt) ∙ there))) at;
+            (keeps_spelt f p v.view.seen more id text (ap (λ (xs : List Spelling). stored_in xs id) (sym stands.spelt) ∙ there))) at;
       },
     )
 
 -- A store of literals
 
-written : (v : Part) (seat : ℕ) (l : ℤ) (m : Option ℤ) → length v.draft % 2 ≡ 0
-    → spent (part_stream v) v.view.mine + length (v.draft ++ pair_of l m) ≤ v.view.caller.layout.room
+written : (v : ThreadState) (seat : ℕ) (l : ℤ) (m : Option ℤ) → length v.draft % 2 ≡ 0
+    → spent (thread_stream v) v.view.mine + length (v.draft ++ pair_of l m) ≤ v.view.caller.layout.room
     → HasCode l → IfSome m HasCode
     → OwnStep v seat (v.top + length v.draft / 2) (λ _. literal_word l m) (λ n w. Writes (literal_word l m) v w)
 written v seat l m even room first second more words views kept here small =
     let f = v.view.caller.formula in
     let p = v.view.caller.layout in
-    let s = part_stream v in
+    let s = thread_stream v in
     let log = v.view.seen ++ more in
     let word : ℕ = literal_word l m in
     let place : ℕ = v.top + length v.draft / 2 in
@@ -120,13 +120,14 @@ written v seat l m even room first second more words views kept here small =
     let above : last_identity p < place = omega arith in
     let below : place < first_place p s + p.room = omega arith in
     let within : place < length words = within_row p s place (length words) stands.stream kept.count below in
-    let w : Part = record v { draft = v.draft ++ pair_of l m } in
-    let elsewhere : (q : Part) → part_stream q ≢ s → Stands f p log words q → Stands f p log new q = λ q other there.
+    let w : ThreadState = record v { draft = v.draft ++ pair_of l m } in
+    let elsewhere : (q : ThreadState) → thread_stream q ≢ s → Stands f p log words q → Stands f p log new q = λ q other there.
     stands_words f p log words new q there
     (lies-set words q.top q.draft place word there.draft
-    (outside_room p s (part_stream q) place q.top (q.top + words_for (length q.draft)) stands.stream there.stream other (omega arith) below
+    (outside_room p s (thread_stream q) place q.top (q.top + words_for (length q.draft)) stands.stream there.stream other
+    (omega arith) below
     (omega (arith, there.top))
-    (omega (arith, there.top, there.room, words_within (part_stream q) q.view.mine)))) in
+    (omega (arith, there.top, there.room, words_within (thread_stream q) q.view.mine)))) in
     let mine : Stands f p log new w = record {
       formula = stands.formula;
       layout = stands.layout;
@@ -151,15 +152,15 @@ written v seat l m even room first second more words views kept here small =
         texts = λ id text there. lies-set words text.start text.literals place word (kept.texts id text there)
             (outside_text f p log kept.legal s place text stands.stream (omega arith) below
             (lodged f p log id text (omega (arith, kept.plan.layout.some_stream)) kept.plan.fits kept.legal.events there));
-        parts = moved (Stands f p log words) (Stands f p log new) views seat v w here (kept.once s) kept.parts elsewhere mine;
+        threads = moved (Stands f p log words) (Stands f p log new) views seat v w here (kept.once s) kept.threads elsewhere mine;
         once = times-same views seat v w here refl kept.once;
       },
       λ k n code code' same. ap (λ (d : Clause). record v { draft = v.draft ++ d }) (word_injective l k m n first code second code' same),
     )
 
 -- the same, by the place and the word
-pub written_at : (v : Part) (seat : ℕ) (l : ℤ) (m : Option ℤ) (place word : ℕ) → length v.draft % 2 ≡ 0
-    → spent (part_stream v) v.view.mine + length (v.draft ++ pair_of l m) ≤ v.view.caller.layout.room → HasCode l → IfSome m HasCode
+pub written_at : (v : ThreadState) (seat : ℕ) (l : ℤ) (m : Option ℤ) (place word : ℕ) → length v.draft % 2 ≡ 0
+    → spent (thread_stream v) v.view.mine + length (v.draft ++ pair_of l m) ≤ v.view.caller.layout.room → HasCode l → IfSome m HasCode
     → v.top + length v.draft / 2 ≡ place → literal_word l m ≡ word → OwnStep v seat place (λ _. word) (λ n w. Writes word v w)
 written_at v seat l m place word even room first second at is =
     let here : OwnStep v seat place (λ _. literal_word l m) (λ n w. Writes (literal_word l m) v w) =

@@ -9,15 +9,15 @@ use Rattle.lrup_model.specs.Layout.{Owns}
 use Rattle.lrup_model.specs.Event as events
 use Rattle.lrup_model.specs.Event.{Event, History}
 use Rattle.lrup_model.specs.State.{Slot, retire_slot, after, state, IsLive}
-use Rattle.lrup_model.specs.Place.{Kept}
-use Rattle.lrup_model.specs.Pass.{Spelling, kept_in, IsSpelt}
+use Rattle.lrup_model.specs.CallerView.{StoredClause}
+use Rattle.lrup_model.specs.Pass.{Spelling, stored_in, IsSpelt}
 use Rattle.lrup_model.specs.lemmas.HistoryLemmas.{put-same, put-other}
 use Rattle.lrup_model.specs.declared.clause_map.Retired.TheVariants as retiring
 use Rattle.idwords.specs.Words.{word_state}
 use Rattle.idwords.specs.internal.RowWords.{word_of, LiesAt}
 use Rattle.idwords.specs.Spelling.{top_after, spelling_of}
-use Rattle.idwords.specs.Seats.{Part}
-use Rattle.idwords.specs.internal.Rule.{part_stream, Keeps}
+use Rattle.idwords.specs.Seats.{ThreadState}
+use Rattle.idwords.specs.internal.Rule.{thread_stream, Keeps}
 use Rattle.idwords.specs.internal.Steps.{Finds, Retires}
 use Rattle.idwords.proofs.SpellingLemmas.{spelt}
 use Rattle.idwords.proofs.RuleLemmas.{advanced, event_top, stands_at, Serves, advance}
@@ -27,7 +27,8 @@ use Rattle.idwords.proofs.OwnLemmas.{live_word, other_word, retired_word, own_sl
 use Rattle.idwords.proofs.OwnLemmas.{here-write, slots-write, texts-write, drafts-write}
 
 -- the look of a retire
-pub finds : (v : Part) (seat id : ℕ) → Owns v.view.caller.layout (part_stream v) id → OwnStep v seat id (λ n. n) (λ n w. Finds id v n w)
+pub finds : (v : ThreadState) (seat id : ℕ) → Owns v.view.caller.layout (thread_stream v) id
+    → OwnStep v seat id (λ n. n) (λ n w. Finds id v n w)
 finds v seat id owns more words views kept here small =
     let f = v.view.caller.formula in
     let p = v.view.caller.layout in
@@ -44,17 +45,17 @@ finds v seat id owns more words views kept here small =
             v,
             log,
             subst (λ (ws : List ℕ). Keeps f p log ws (set views seat (v ∷ []))) (sym same_words)
-                (subst (λ (us : List (List Part)). Keeps f p log words us) (sym same_views) kept),
+                (subst (λ (us : List (List ThreadState)). Keeps f p log words us) (sym same_views) kept),
             record { own = word; live = λ is. refl; none = λ other. absurd (other one) },
           )
       | inr other ↦
-          let e : Event = events.retire (part_stream v) id retiring.NotLive in
+          let e : Event = events.retire (thread_stream v) id retiring.NotLive in
           let none : ¬ IsLive (state f log id) =
-          other_word (state f log id) (kept_in (spelling_of f p log) id) (all.slots id)
+          other_word (state f log id) (stored_in (spelling_of f p log) id) (all.slots id)
           (subst (λ (n : ℕ). word_state n ≢ 1) log_word other) in
           let plain : IsPlain f p log e = record { state = λ j. refl; spelling = refl; size = refl } in
           let done = plain_step v more words views seat e v.draft kept here refl none owns plain stands.draft (omega arith) in
-          let w : Part = advanced v more e v.draft in (
+          let w : ThreadState = advanced v more e v.draft in (
             w,
             log ++ e ∷ [],
             subst (λ (ws : List ℕ). Keeps f p (log ++ e ∷ []) ws (set views seat (w ∷ []))) (sym same_words) done.0,
@@ -72,13 +73,13 @@ finds v seat id owns more words views kept here small =
     ]
 
 -- the exchange of a retire
-pub retires : (v : Part) (seat id old : ℕ) → Owns v.view.caller.layout (part_stream v) id
-    → old ≡ word_of (state v.view.caller.formula v.view.mine id) (kept_in v.view.spelt id) → word_state old ≡ 1
+pub retires : (v : ThreadState) (seat id old : ℕ) → Owns v.view.caller.layout (thread_stream v) id
+    → old ≡ word_of (state v.view.caller.formula v.view.mine id) (stored_in v.view.spelt id) → word_state old ≡ 1
     → OwnStep v seat id (λ n. either (eqb n old) (old + 1) n) (λ n w. Retires id v w)
 retires v seat id old owns is one more words views kept here small =
     let f = v.view.caller.formula in
     let p = v.view.caller.layout in
-    let s = part_stream v in
+    let s = thread_stream v in
     let log = v.view.seen ++ more in
     let e : Event = events.retire s id retiring.Done in
     let identity = own_identity v more words views seat kept here id owns in
@@ -86,7 +87,7 @@ retires v seat id old owns is one more words views kept here small =
     let slot = own_slot v more words views seat kept here id owns in
     let stands = stands_at v more words views seat kept here in
     let all : IsSpelt f log (spelling_of f p log) = spelt f p log kept.legal.events in
-    let o : Option Kept = kept_in (spelling_of f p log) id in
+    let o : Option StoredClause = stored_in (spelling_of f p log) id in
     let log_word : old ≡ word_of (state f log id) o = sym found ∙ kept.slots id identity in
     let alive : IsLive (state f log id) = live_word (state f log id) o (all.slots id) (ap word_state (sym log_word) ∙ one) in
     let new : List ℕ = slice_set words id (old + 1) in
@@ -99,22 +100,22 @@ retires v seat id old owns is one more words views kept here small =
             ap (λ (k : ℕ). slice_index new k) at ∙ here-write f p log words views id (old + 1) kept identity
             ∙ ap (λ (n : ℕ). n + 1) log_word ∙ sym (retired_word (state f log id) o (all.slots id) alive)
             ∙ ap (λ (x : Slot). word_of x o) (sym (put-same (state f log) id (retire_slot (state f log id)) j at))
-            ∙ ap (λ (k : ℕ). word_of (after (state f log) e j) (kept_in (spelling_of f p log) k)) (sym at)
-            ∙ ap (λ (xs : List Spelling). word_of (after (state f log) e j) (kept_in xs j)) (sym same)
+            ∙ ap (λ (k : ℕ). word_of (after (state f log) e j) (stored_in (spelling_of f p log) k)) (sym at)
+            ∙ ap (λ (xs : List Spelling). word_of (after (state f log) e j) (stored_in xs j)) (sym same)
         | inr other ↦
             slots-write f p log words views id (old + 1) kept identity j other there
-            ∙ ap (λ (x : Slot). word_of x (kept_in (spelling_of f p log) j))
+            ∙ ap (λ (x : Slot). word_of x (stored_in (spelling_of f p log) j))
             (sym (put-other (state f log) id (retire_slot (state f log id)) j other))
-            ∙ ap (λ (xs : List Spelling). word_of (after (state f log) e j) (kept_in xs j)) (sym same)
+            ∙ ap (λ (xs : List Spelling). word_of (after (state f log) e j) (stored_in xs j)) (sym same)
       ];
       texts = λ j text there. texts-write f p log words views id (old + 1) kept identity j text
-          (ap (λ (xs : List Spelling). kept_in xs j) (sym same) ∙ there);
+          (ap (λ (xs : List Spelling). stored_in xs j) (sym same) ∙ there);
       others = λ q other there. drafts-write f p log words views id (old + 1) kept identity q there;
     } in
     let top : top_after p s (v.view.mine ++ e ∷ []) ≡ v.top = omega (arith, event_top p s v.view.mine e refl, stands.top) in
     let done = advance v more words new views seat e v.draft kept here refl alive owns (omega (arith, stands.room)) serves
     (subst (λ (place : ℕ). LiesAt new place v.draft) (sym top) (drafts-write f p log words views id (old + 1) kept identity v stands)) in
-    let w : Part = advanced v more e v.draft in
+    let w : ThreadState = advanced v more e v.draft in
     let hit : either (eqb (slice_index words id) old) (old + 1) (slice_index words id) ≡ old + 1 =
     ap (λ b. either b (old + 1) (slice_index words id)) (eq-eqb (slice_index words id) old found) in (
       w,

@@ -1,4 +1,4 @@
--- Lemmas on the rule: how a part and the others stand after one event more.
+-- Lemmas on the rule: how a thread state and the others stand after one event more.
 use Rattle.std.proofs.Common.{◌≡◌, ◌≢◌, ℕ, ◌+◌, ◌≤◌, List, [], ◌∷◌, ◌++◌, length, set, slice_index, Some, refl, sym, ap, ap₂, subst, ◌∙◌}
 use Rattle.std.proofs.Common.{inl, inr, arith, append-nil, append_assoc, length-append}
 use Rattle.std.specs.List.{AllByRecursion, sum_by}
@@ -11,15 +11,15 @@ use Rattle.lrup_model.specs.Layout.{LayoutValue, IsIdentity, row_words}
 use Rattle.lrup_model.specs.Event.{Event, History, stream_of, own, published, spent, size_of}
 use Rattle.lrup_model.specs.State.{State, Slot, opening, after, state, Answers}
 use Rattle.lrup_model.specs.History.{IsAllowed, IsLegal}
-use Rattle.lrup_model.specs.Place.{Kept, KeepsSpelt}
-use Rattle.lrup_model.specs.Pass.{Spelling, kept_in, IsSpelt, IsFair}
+use Rattle.lrup_model.specs.CallerView.{StoredClause, KeepsSpelt}
+use Rattle.lrup_model.specs.Pass.{Spelling, stored_in, IsSpelt, IsFair}
 use Rattle.lrup_model.specs.lemmas.PassLemmas.{stepped, moves_step}
 use Rattle.lrup_model.specs.lemmas.RunningLemmas.{run-append, legal-append, own-append, spent-append}
 use Rattle.lrup_model.specs.lemmas.HistoryLemmas.{IsLegal-front, own-mine, own-other, spent-own, spent_one}
 use Rattle.idwords.specs.internal.RowWords.{word_of, LiesAt}
 use Rattle.idwords.specs.Spelling.{words_taken, words_spent, top_after, event_spelling, spelling_of}
-use Rattle.idwords.specs.Seats.{Part}
-use Rattle.idwords.specs.internal.Rule.{part_stream, Stands, Keeps, IsPlan}
+use Rattle.idwords.specs.Seats.{ThreadState}
+use Rattle.idwords.specs.internal.Rule.{thread_stream, Stands, Keeps, IsPlan}
 use Rattle.idwords.specs.RowCalls.{Calls}
 use Rattle.idwords.proofs.SpellingLemmas.{words_spent-append, words_spent_one, lies_within, spelling-snoc, keeps_spelt, spelt}
 use Rattle.idwords.proofs.ViewLemmas.{all_at, moved, times-same}
@@ -39,44 +39,44 @@ others_from_own (e ∷ h) s none =
       | inr other ↦ (other, others_from_own h s (sym (own-other e h s other) ∙ none))
     ]
 
--- between what a part has seen and the log, its stream made no call
+-- between what a thread state has seen and the log, its stream made no call
 pub between : (seen more mine : History) (s : ℕ) → own seen s ≡ mine → own (seen ++ more) s ≡ mine
     → AllByRecursion (λ d. stream_of d ≢ s) more
 between seen more mine s here all =
     others_from_own more s (own_rest (own seen s) (own more s) mine (sym here) (sym (own-append seen more s) ∙ all))
 
--- what a part's calls spent is what its stream spent in the log
+-- what a thread state's calls spent is what its stream spent in the log
 pub spent_log : (log mine : History) (s : ℕ) → own log s ≡ mine → spent s mine ≡ spent s log
 spent_log log mine s all = ap (λ (h : History). spent s h) (sym all) ∙ spent-own s log
 
--- A part by its own plan
+-- A thread state by its own plan
 
-module _ (v : Part) (more : History) where
+module _ (v : ThreadState) (more : History) where
   abbrev pub own_log : History
   own_log = v.view.seen ++ more
 
-  -- the row is kept by this log, which the part's own plan has
-  abbrev pub OwnKeeps : List ℕ → List (List Part) → Type 0
+  -- the invariant holds by this log, which the thread state's own plan has
+  abbrev pub OwnKeeps : List ℕ → List (List ThreadState) → Type 0
   OwnKeeps words views = Keeps v.view.caller.formula v.view.caller.layout (v.view.seen ++ more) words views
 
--- the part after it saw the log and made a call, with this draft
-abbrev pub advanced : Part → History → Event → Clause → Part
+-- the thread state after it saw the log and made a call, with this draft
+abbrev pub advanced : ThreadState → History → Event → Clause → ThreadState
 advanced v more e draft = record {
   view = stepped v.view more e (spelling_of v.view.caller.formula v.view.caller.layout (v.view.seen ++ more ++ e ∷ []));
-  top = top_after v.view.caller.layout (part_stream v) (v.view.mine ++ e ∷ []);
+  top = top_after v.view.caller.layout (thread_stream v) (v.view.mine ++ e ∷ []);
   draft = draft;
 }
 
-pub stands_at : (v : Part) (more : History) (words : List ℕ) (views : List (List Part)) (id : ℕ) → OwnKeeps v more words views
+pub stands_at : (v : ThreadState) (more : History) (words : List ℕ) (views : List (List ThreadState)) (id : ℕ) → OwnKeeps v more words views
     → get_elem? views id ≡ some (v ∷ []) → Stands v.view.caller.formula v.view.caller.layout (v.view.seen ++ more) words v
 stands_at v more words views id keeps here =
-    (all_at (Stands v.view.caller.formula v.view.caller.layout (v.view.seen ++ more) words) views id (v ∷ []) here keeps.parts).0
+    (all_at (Stands v.view.caller.formula v.view.caller.layout (v.view.seen ++ more) words) views id (v ∷ []) here keeps.threads).0
 
--- a part that stands is fair
-pub fair_part : (v : Part) (more : History) (words : List ℕ) (plan : IsPlan v.view.caller.formula v.view.caller.layout)
+-- a thread state that stands is fair
+pub fair_thread : (v : ThreadState) (more : History) (words : List ℕ) (plan : IsPlan v.view.caller.formula v.view.caller.layout)
     → IsLegal v.view.caller.formula v.view.caller.layout (v.view.seen ++ more)
     → Stands v.view.caller.formula v.view.caller.layout (v.view.seen ++ more) words v → IsFair v.view
-fair_part v more words plan legal stands =
+fair_thread v more words plan legal stands =
     let f = v.view.caller.formula in
     let p = v.view.caller.layout in
     let front : IsLegal f p v.view.seen = IsLegal-front f p v.view.seen more legal in
@@ -112,8 +112,8 @@ legal_next f p log e legal answers allowed room = record {
   ];
 }
 
--- other words serve a part as well, where its draft lies in them
-pub stands_words : (f : Cnf) (p : LayoutValue) (log : History) (words words' : List ℕ) (q : Part) → Stands f p log words q
+-- other words serve a thread state as well, where its draft lies in them
+pub stands_words : (f : Cnf) (p : LayoutValue) (log : History) (words words' : List ℕ) (q : ThreadState) → Stands f p log words q
     → LiesAt words' q.top q.draft → Stands f p log words' q
 stands_words f p log words words' q stands lies = record {
   formula = stands.formula;
@@ -128,8 +128,9 @@ stands_words f p log words words' q stands lies = record {
   draft = lies;
 }
 
--- another stream's part stands as before
-stands_on : (f : Cnf) (p : LayoutValue) (log : History) (words words' : List ℕ) (e : Event) (q : Part) → (stream_of e ≡ part_stream q → ⊥)
+-- another stream's thread state stands as before
+stands_on : (f : Cnf) (p : LayoutValue) (log : History) (words words' : List ℕ) (e : Event) (q : ThreadState)
+    → (stream_of e ≡ thread_stream q → ⊥)
     → Stands f p log words q → LiesAt words' q.top q.draft → Stands f p (log ++ e ∷ []) words' q
 stands_on f p log words words' e q other stands lies = record {
   formula = stands.formula;
@@ -138,7 +139,7 @@ stands_on f p log words words' e q other stands lies = record {
   begins =
       (stands.begins.0 ++ e ∷ [], ap (λ (h : History). h ++ e ∷ []) stands.begins.1 ∙ append_assoc q.view.seen stands.begins.0 (e ∷ []));
   seen = stands.seen;
-  mine = own_past log e (part_stream q) other ∙ stands.mine;
+  mine = own_past log e (thread_stream q) other ∙ stands.mine;
   spelt = stands.spelt;
   top = stands.top;
   room = stands.room;
@@ -161,25 +162,26 @@ pub record Serves (f : Cnf) (p : LayoutValue) (log : History) (words : List ℕ)
   pub count : length words' ≡ row_words p
   pub first : slice_index words' 0 ≡ 0
   pub slots : (id : ℕ) → IsIdentity p id
-      → slice_index words' id ≡ word_of (after (state f log) e id) (kept_in (spelling_of f p log ++ event_spelling p log e) id)
-  pub texts : (id : ℕ) (kept : Kept) → kept_in (spelling_of f p log ++ event_spelling p log e) id ≡ Some kept
-      → LiesAt words' kept.start kept.literals
-  pub others : (q : Part) → part_stream q ≢ stream_of e → Stands f p log words q → LiesAt words' q.top q.draft
+      → slice_index words' id ≡ word_of (after (state f log) e id) (stored_in (spelling_of f p log ++ event_spelling p log e) id)
+  pub texts : (id : ℕ) (stored : StoredClause) → stored_in (spelling_of f p log ++ event_spelling p log e) id ≡ Some stored
+      → LiesAt words' stored.start stored.literals
+  pub others : (q : ThreadState) → thread_stream q ≢ stream_of e → Stands f p log words q → LiesAt words' q.top q.draft
 
-module _ (v : Part) (more : History) (words words' : List ℕ) (views : List (List Part)) (id : ℕ) (e : Event) (draft : Clause) where
+module _ (v : ThreadState) (more : History) (words words' : List ℕ) (views : List (List ThreadState)) (id : ℕ) (e : Event)
+    (draft : Clause) where
   pub advance : OwnKeeps v more words views → get_elem? views id ≡ some (v ∷ [])
-      → stream_of e ≡ part_stream v → Answers (state v.view.caller.formula (v.view.seen ++ more)) e
+      → stream_of e ≡ thread_stream v → Answers (state v.view.caller.formula (v.view.seen ++ more)) e
       → IsAllowed v.view.caller.formula v.view.caller.layout e
-      → spent (part_stream v) v.view.mine + size_of e + length draft ≤ v.view.caller.layout.room
+      → spent (thread_stream v) v.view.mine + size_of e + length draft ≤ v.view.caller.layout.room
       → Serves v.view.caller.formula v.view.caller.layout (v.view.seen ++ more) words e words'
-      → LiesAt words' (top_after v.view.caller.layout (part_stream v) (v.view.mine ++ e ∷ [])) draft
+      → LiesAt words' (top_after v.view.caller.layout (thread_stream v) (v.view.mine ++ e ∷ [])) draft
       → Keeps v.view.caller.formula v.view.caller.layout (v.view.seen ++ more ++ e ∷ []) words' (set views id
       (advanced v more e draft ∷ []))
       × Calls v.view (advanced v more e draft).view e
   advance keeps here mine answers allowed room serves lies =
       let f = v.view.caller.formula in
       let p = v.view.caller.layout in
-      let s = part_stream v in
+      let s = thread_stream v in
       let log = v.view.seen ++ more in
       let stands = stands_at v more words views id keeps here in
       let spent_here : spent s v.view.mine ≡ spent s log = spent_log log v.view.mine s stands.mine in
@@ -190,12 +192,12 @@ module _ (v : Part) (more : History) (words words' : List ℕ) (views : List (Li
       let spelling_there : spelling_of f p (log ++ e ∷ []) ≡ spelling_of f p log ++ event_spelling p log e = spelling-snoc f p log e in
       let spent_next : spent s (v.view.mine ++ e ∷ []) ≡ spent s v.view.mine + spent s (e ∷ []) = spent-append s v.view.mine (e ∷ []) in
       let spent_event : spent s (e ∷ []) ≡ size_of e = spent_one s e mine in
-      let keeps_on : KeepsSpelt (kept_in v.view.spelt) (kept_in (spelling_of f p (log ++ e ∷ []))) = λ j kept there.
-      ap (λ (h : History). kept_in (spelling_of f p h) j) (append_assoc v.view.seen more (e ∷ []))
-      ∙ keeps_spelt f p v.view.seen (more ++ e ∷ []) j kept (ap (λ (xs : List Spelling). kept_in xs j) (sym stands.spelt) ∙ there) in
-      let step = moves_step v.view more e (spelling_of f p (log ++ e ∷ [])) (fair_part v more words keeps.plan keeps.legal stands)
+      let keeps_on : KeepsSpelt (stored_in v.view.spelt) (stored_in (spelling_of f p (log ++ e ∷ []))) = λ j stored there.
+      ap (λ (h : History). stored_in (spelling_of f p h) j) (append_assoc v.view.seen more (e ∷ []))
+      ∙ keeps_spelt f p v.view.seen (more ++ e ∷ []) j stored (ap (λ (xs : List Spelling). stored_in xs j) (sym stands.spelt) ∙ there) in
+      let step = moves_step v.view more e (spelling_of f p (log ++ e ∷ [])) (fair_thread v more words keeps.plan keeps.legal stands)
       (between v.view.seen more v.view.mine s stands.seen stands.mine) mine legal (spelt f p (log ++ e ∷ []) legal.events) keeps_on in
-      let w : Part = advanced v more e draft in
+      let w : ThreadState = advanced v more e draft in
       let new : Stands f p (log ++ e ∷ []) words' w = record {
         formula = refl;
         layout = refl;
@@ -214,9 +216,9 @@ module _ (v : Part) (more : History) (words words' : List ℕ) (views : List (Li
           count = serves.count;
           first = serves.first;
           slots = λ j identity. serves.slots j identity
-              ∙ ap₂ (λ (slot : Slot) (xs : List Spelling). word_of slot (kept_in xs j)) (sym (state_next f log e j)) (sym spelling_there);
-          texts = λ j kept there. serves.texts j kept (ap (λ (xs : List Spelling). kept_in xs j) (sym spelling_there) ∙ there);
-          parts = moved (Stands f p log words) (Stands f p (log ++ e ∷ []) words') views id v w here (keeps.once s) keeps.parts
+              ∙ ap₂ (λ (slot : Slot) (xs : List Spelling). word_of slot (stored_in xs j)) (sym (state_next f log e j)) (sym spelling_there);
+          texts = λ j stored there. serves.texts j stored (ap (λ (xs : List Spelling). stored_in xs j) (sym spelling_there) ∙ there);
+          threads = moved (Stands f p log words) (Stands f p (log ++ e ∷ []) words') views id v w here (keeps.once s) keeps.threads
               (λ q other there. stands_on f p log words words' e q (λ same. other (sym same ∙ mine)) there
               (serves.others q (λ same. other (same ∙ mine)) there)) new;
           once = times-same views id v w here refl keeps.once;

@@ -8,7 +8,7 @@ use Rattle.lrup_model.specs.Formula.{Cnf}
 use Rattle.lrup_model.specs.Layout.{LayoutValue, row_words}
 use Rattle.lrup_model.specs.Event as events
 use Rattle.lrup_model.specs.Event.{Event, History, stream_of, spent, size_of}
-use Rattle.lrup_model.specs.Place.{Caller}
+use Rattle.lrup_model.specs.CallerView.{Caller}
 use Rattle.lrup_model.specs.Pass.{IsFair, PassMoves}
 use Rattle.lrup_model.specs.lemmas.RunningLemmas.{spent-append}
 use Rattle.lrup_model.specs.lemmas.HistoryLemmas.{spent_one}
@@ -17,80 +17,80 @@ use Rattle.lrup_model.specs.declared.clause_map.Published.TheVariants as publish
 use Rattle.idwords.specs.Words.{words_for}
 use Rattle.idwords.specs.Spelling.{first_place, words_taken, words_spent}
 use Rattle.lrup_model.specs.Clause.{Clause}
-use Rattle.idwords.specs.Seats.{Part, SeatValue, seat_value}
-use Rattle.idwords.specs.internal.Rule.{part_stream, IsKept}
+use Rattle.idwords.specs.Seats.{ThreadState, SeatValue, seat_value}
+use Rattle.idwords.specs.internal.Rule.{thread_stream, HoldsRowInvariant}
 use Rattle.idwords.specs.RowCalls.{Calls}
 use Rattle.idwords.specs.internal.Steps.{Changes, Claims, published_at}
-use Rattle.idwords.specs.internal.Seating.{first_part, part_of, IsSeated}
+use Rattle.idwords.specs.internal.Seating.{first_thread, thread_of, IsSeated}
 use Rattle.idwords.proofs.SpellingLemmas.{words_spent-append, words_spent_one, words_within}
 use Rattle.idwords.proofs.StepLemmas.{OwnStep, allows}
 
 -- the row that a seat is of has as many words as the seat's layout says
-pub words_of : {S : Type 0} (table row : TableId) (me : Me S (List Part)) (top drafted room : ℕ)
-    → IsSeated table me top drafted room → table ≡ row → row.words ≡ row_words (first_part me.0).view.caller.layout
+pub words_of : {S : Type 0} (table row : TableId) (me : Me S (List ThreadState)) (top drafted room : ℕ)
+    → IsSeated table me top drafted room → table ≡ row → row.words ≡ row_words (first_thread me.0).view.caller.layout
 words_of table row me top drafted room seated same = ap (λ (t : TableId). t.words) (sym same) ∙ seated.words
 
 module _ {S : Type 0} where
-  -- by the token's own part
-  pub asks_part : (f : Cnf) (p : LayoutValue) (slots id i : ℕ) (g : ℕ → ℕ) (told : Part → ℕ → Part → Type 0)
-      (then : Me S (List Part) → ℕ → Me S (List Part) → Type 0)
-      (table row : TableId) (me : Me S (List Part)) (v : Part)
+  -- by the token's own thread state
+  pub asks_thread : (f : Cnf) (p : LayoutValue) (slots id i : ℕ) (g : ℕ → ℕ) (told : ThreadState → ℕ → ThreadState → Type 0)
+      (then : Me S (List ThreadState) → ℕ → Me S (List ThreadState) → Type 0)
+      (table row : TableId) (me : Me S (List ThreadState)) (v : ThreadState)
       → me ≡ (v ∷ [], []) → table ≡ row → i < row.words → OwnStep v id i g (told v)
-      → ((u : Part) (n : ℕ) (w : Part) → told u n w → then (u ∷ [], []) n (w ∷ [], []))
-      → (table ≡ row) × (i < row.words) × Allows {S = S} (IsKept f p) slots id me i g (then me)
-  asks_part f p slots id i g told then table row me v one same within own tell = (
+      → ((u : ThreadState) (n : ℕ) (w : ThreadState) → told u n w → then (u ∷ [], []) n (w ∷ [], []))
+      → (table ≡ row) × (i < row.words) × Allows {S = S} (HoldsRowInvariant f p) slots id me i g (then me)
+  asks_thread f p slots id i g told then table row me v one same within own tell = (
     same,
     within,
-    subst (λ (m : Me S (List Part)). Allows {S = S} (IsKept f p) slots id m i g (then m)) (sym one)
+    subst (λ (m : Me S (List ThreadState)). Allows {S = S} (HoldsRowInvariant f p) slots id m i g (then m)) (sym one)
         (allows f p slots id v i g (told v) (then (v ∷ [], [])) own (tell v)),
   )
 
-  pub asks : (f : Cnf) (p : LayoutValue) (slots id i : ℕ) (g : ℕ → ℕ) (told : Part → ℕ → Part → Type 0)
-      (then : Me S (List Part) → ℕ → Me S (List Part) → Type 0)
-      (table row : TableId) (me : Me S (List Part)) (seat : SeatValue) (top drafted room : ℕ)
-      → IsSeated table me top drafted room → seat_value table (first_part me.0) ≡ seat → seat.table ≡ row
-      → i < row_words seat.view.caller.layout → OwnStep (part_of seat) id i g (told (part_of seat))
-      → ((v : Part) (n : ℕ) (w : Part) → told v n w → then (v ∷ [], []) n (w ∷ [], []))
-      → (table ≡ row) × (i < row.words) × Allows {S = S} (IsKept f p) slots id me i g (then me)
+  pub asks : (f : Cnf) (p : LayoutValue) (slots id i : ℕ) (g : ℕ → ℕ) (told : ThreadState → ℕ → ThreadState → Type 0)
+      (then : Me S (List ThreadState) → ℕ → Me S (List ThreadState) → Type 0)
+      (table row : TableId) (me : Me S (List ThreadState)) (seat : SeatValue) (top drafted room : ℕ)
+      → IsSeated table me top drafted room → seat_value table (first_thread me.0) ≡ seat → seat.table ≡ row
+      → i < row_words seat.view.caller.layout → OwnStep (thread_of seat) id i g (told (thread_of seat))
+      → ((v : ThreadState) (n : ℕ) (w : ThreadState) → told v n w → then (v ∷ [], []) n (w ∷ [], []))
+      → (table ≡ row) × (i < row.words) × Allows {S = S} (HoldsRowInvariant f p) slots id me i g (then me)
   asks f p slots id i g told then table row me seat top drafted room seated view same within own tell =
-      let here : first_part me.0 ≡ part_of seat = ap part_of view in
+      let here : first_thread me.0 ≡ thread_of seat = ap thread_of view in
       let tables : table ≡ row = ap (λ (s : SeatValue). s.table) view ∙ same in
       let words : row.words ≡ row_words seat.view.caller.layout = words_of table row me top drafted room seated tables
-      ∙ ap (λ (u : Part). row_words u.view.caller.layout) here in
-      asks_part f p slots id i g told then table row me (part_of seat) (seated.one ∙ ap (λ (u : Part). (u ∷ [], [])) here) tables
+      ∙ ap (λ (u : ThreadState). row_words u.view.caller.layout) here in
+      asks_thread f p slots id i g told then table row me (thread_of seat) (seated.one ∙ ap (λ (u : ThreadState). (u ∷ [], [])) here) tables
       (omega arith) own tell
 
 -- A seat after a step
 
 module _ {S : Type 0} where
-  -- a token of one part, with the numbers that fit it
-  pub seat_of : (table : TableId) (me : Me S (List Part)) (w : Part) (top drafted room : ℕ) → me.0 ≡ w ∷ [] → me.1 ≡ []
+  -- a token of one thread state, with the numbers that fit it
+  pub seat_of : (table : TableId) (me : Me S (List ThreadState)) (w : ThreadState) (top drafted room : ℕ) → me.0 ≡ w ∷ [] → me.1 ≡ []
       → IsSeated {S = S} table (w ∷ [], []) top drafted room → IsSeated table me top drafted room
   seat_of table me w top drafted room one none seated =
-      let whole : (w ∷ [], []) ≡ me = sym (ap₂ (λ (vs : List Part) (slots : List (ℕ × S)). (vs, slots)) one none) in
-      subst (λ (m : Me S (List Part)). IsSeated table m top drafted room) whole seated
+      let whole : (w ∷ [], []) ≡ me = sym (ap₂ (λ (vs : List ThreadState) (slots : List (ℕ × S)). (vs, slots)) one none) in
+      subst (λ (m : Me S (List ThreadState)). IsSeated table m top drafted room) whole seated
 
   -- after a step in which the stream spent nothing and its draft stayed
-  pub seated_on : (table table' : TableId) (me me' : Me S (List Part)) (top drafted room : ℕ) (w : Part) (es : History)
+  pub seated_on : (table table' : TableId) (me me' : Me S (List ThreadState)) (top drafted room : ℕ) (w : ThreadState) (es : History)
       → IsSeated table me top drafted room → table' ≡ table
-      → me'.0 ≡ w ∷ [] → me'.1 ≡ [] → PassMoves (first_part me.0).view w.view es → IsFair w.view
-      → spent (part_stream (first_part me.0)) es ≡ 0
-      → w.top ≡ (first_part me.0).top → w.draft ≡ (first_part me.0).draft → IsSeated table' me' top drafted room
+      → me'.0 ≡ w ∷ [] → me'.1 ≡ [] → PassMoves (first_thread me.0).view w.view es → IsFair w.view
+      → spent (thread_stream (first_thread me.0)) es ≡ 0
+      → w.top ≡ (first_thread me.0).top → w.draft ≡ (first_thread me.0).draft → IsSeated table' me' top drafted room
   seated_on table table' me me' top drafted room w es seated same one none moves fair nothing top_stays draft_stays =
-      let v : Part = first_part me.0 in
-      let s = part_stream v in
+      let v : ThreadState = first_thread me.0 in
+      let s = thread_stream v in
       let p = v.view.caller.layout in
-      let stream : part_stream w ≡ s = ap (λ (r : Caller). r.stream) moves.caller in
+      let stream : thread_stream w ≡ s = ap (λ (r : Caller). r.stream) moves.caller in
       let layout : w.view.caller.layout ≡ p = ap (λ (r : Caller). r.layout) moves.caller in
       let room_is : p.room ≡ w.view.caller.layout.room = ap (λ (q : LayoutValue). q.room) (sym layout) in
       let words : table'.words ≡ row_words w.view.caller.layout = ap (λ (t : TableId). t.words) same ∙ seated.words
       ∙ ap row_words (sym layout) in
-      let spends : spent (part_stream w) w.view.mine ≡ spent s v.view.mine + spent s es =
+      let spends : spent (thread_stream w) w.view.mine ≡ spent s v.view.mine + spent s es =
       ap₂ (λ (t : ℕ) (h : History). spent t h) stream moves.mine ∙ spent-append s v.view.mine es in
-      let takes : words_spent (part_stream w) w.view.mine ≡ words_spent s v.view.mine + words_spent s es =
+      let takes : words_spent (thread_stream w) w.view.mine ≡ words_spent s v.view.mine + words_spent s es =
       ap₂ (λ (t : ℕ) (h : History). words_spent t h) stream moves.mine ∙ words_spent-append s v.view.mine es in
       let none_taken : words_spent s es ≤ spent s es = words_within s es in
-      let first : first_place w.view.caller.layout (part_stream w) ≡ first_place p s =
+      let first : first_place w.view.caller.layout (thread_stream w) ≡ first_place p s =
       ap₂ (λ (q : LayoutValue) (t : ℕ). first_place q t) layout stream in
       let len : length w.draft ≡ length v.draft = ap length draft_stays in
       seat_of table' me' w top drafted room one none (record {
@@ -105,25 +105,26 @@ module _ {S : Type 0} where
       })
 
   -- after a call that takes nothing of the stream's room
-  pub seated_call : (table table' : TableId) (me me' : Me S (List Part)) (top drafted room : ℕ) (w : Part) (e : Event)
+  pub seated_call : (table table' : TableId) (me me' : Me S (List ThreadState)) (top drafted room : ℕ) (w : ThreadState) (e : Event)
       → IsSeated table me top drafted room → table' ≡ table
-      → me'.0 ≡ w ∷ [] → me'.1 ≡ me.1 → Calls (first_part me.0).view w.view e → stream_of e ≡ part_stream (first_part me.0) → size_of e ≡ 0
-      → w.top ≡ (first_part me.0).top → w.draft ≡ (first_part me.0).draft → IsSeated table' me' top drafted room
+      → me'.0 ≡ w ∷ [] → me'.1 ≡ me.1 → Calls (first_thread me.0).view w.view e → stream_of e ≡ thread_stream (first_thread me.0)
+      → size_of e ≡ 0
+      → w.top ≡ (first_thread me.0).top → w.draft ≡ (first_thread me.0).draft → IsSeated table' me' top drafted room
   seated_call table table' me me' top drafted room w e seated same one slots calls own nothing top_stays draft_stays =
       seated_on table table' me me' top drafted room w (e ∷ []) seated same one
-      (slots ∙ ap (λ (m : Me S (List Part)). m.1) seated.one) calls.moves calls.fair
-      (spent_one (part_stream (first_part me.0)) e own ∙ nothing) top_stays draft_stays
+      (slots ∙ ap (λ (m : Me S (List ThreadState)). m.1) seated.one) calls.moves calls.fair
+      (spent_one (thread_stream (first_thread me.0)) e own ∙ nothing) top_stays draft_stays
 
   -- after a store that added literals to the draft
-  pub seated_write : (table table' : TableId) (me me' : Me S (List Part)) (top drafted room more : ℕ) (c : Clause) (w : Part)
+  pub seated_write : (table table' : TableId) (me me' : Me S (List ThreadState)) (top drafted room more : ℕ) (c : Clause) (w : ThreadState)
       → IsSeated table me top drafted room → table' ≡ table
-      → me'.0 ≡ w ∷ [] → me'.1 ≡ me.1 → w ≡ record (first_part me.0) { draft = (first_part me.0).draft ++ c } → more ≡ length c
+      → me'.0 ≡ w ∷ [] → me'.1 ≡ me.1 → w ≡ record (first_thread me.0) { draft = (first_thread me.0).draft ++ c } → more ≡ length c
       → drafted + more ≤ room → IsSeated table' me' top (drafted + more) room
   seated_write table table' me me' top drafted room more c w seated same one slots grown count fits =
-      let v : Part = first_part me.0 in
-      let u : Part = record v { draft = v.draft ++ c } in
-      seat_of table' me' u top (drafted + more) room (one ∙ ap (λ (x : Part). x ∷ []) grown)
-      (slots ∙ ap (λ (m : Me S (List Part)). m.1) seated.one) (record {
+      let v : ThreadState = first_thread me.0 in
+      let u : ThreadState = record v { draft = v.draft ++ c } in
+      seat_of table' me' u top (drafted + more) room (one ∙ ap (λ (x : ThreadState). x ∷ []) grown)
+      (slots ∙ ap (λ (m : Me S (List ThreadState)). m.1) seated.one) (record {
         one = refl;
         fair = seated.fair;
         words = ap (λ (t : TableId). t.words) same ∙ seated.words;
@@ -135,32 +136,32 @@ module _ {S : Type 0} where
       })
 
   -- after a publish that found a word
-  pub seated_claim : (table table' : TableId) (me me' : Me S (List Part)) (top drafted room found id : ℕ) (one : Step S)
+  pub seated_claim : (table table' : TableId) (me me' : Me S (List ThreadState)) (top drafted room found id : ℕ) (one : Step S)
       → IsSeated table me top drafted room → table' ≡ table → Changes Claims one me found me'
       → (found ≡ 0 → IsSeated table' me' (top + words_for drafted) 0 (room - drafted)) × (found ≢ 0 → IsSeated table' me' top 0 room)
   seated_claim table table' me me' top drafted room found id one seated same told =
-      let v : Part = first_part me.0 in
-      let s = part_stream v in
+      let v : ThreadState = first_thread me.0 in
+      let s = thread_stream v in
       let p = v.view.caller.layout in
-      let all = told v (ap (λ (m : Me S (List Part)). m.0) seated.one) in
-      let w : Part = all.0 in
+      let all = told v (ap (λ (m : Me S (List ThreadState)). m.0) seated.one) in
+      let w : ThreadState = all.0 in
       let claim : Claims one.word v found w = all.3 in
-      let none : me'.1 ≡ [] = all.2 ∙ ap (λ (m : Me S (List Part)). m.1) seated.one in
-      let stream : part_stream w ≡ s = ap (λ (r : Caller). r.stream) claim.calls.moves.caller in
+      let none : me'.1 ≡ [] = all.2 ∙ ap (λ (m : Me S (List ThreadState)). m.1) seated.one in
+      let stream : thread_stream w ≡ s = ap (λ (r : Caller). r.stream) claim.calls.moves.caller in
       let layout : w.view.caller.layout ≡ p = ap (λ (r : Caller). r.layout) claim.calls.moves.caller in
       let room_is : p.room ≡ w.view.caller.layout.room = ap (λ (q : LayoutValue). q.room) (sym layout) in
       let words : table'.words ≡ row_words w.view.caller.layout = ap (λ (t : TableId). t.words) same ∙ seated.words
       ∙ ap row_words (sym layout) in
       let nil : length w.draft ≡ 0 = ap length claim.draft in
       let e : Published → Event = λ r. events.publish s one.word v.draft r in
-      let spends : spent (part_stream w) w.view.mine ≡ spent s v.view.mine + size_of (e (published_at found)) =
+      let spends : spent (thread_stream w) w.view.mine ≡ spent s v.view.mine + size_of (e (published_at found)) =
       ap₂ (λ (t : ℕ) (h : History). spent t h) stream claim.calls.moves.mine ∙ spent-append s v.view.mine (e (published_at found) ∷ [])
       ∙ ap (λ (n : ℕ). spent s v.view.mine + n) (spent_one s (e (published_at found)) refl) in
-      let takes : words_spent (part_stream w) w.view.mine ≡ words_spent s v.view.mine + words_taken (e (published_at found)) =
+      let takes : words_spent (thread_stream w) w.view.mine ≡ words_spent s v.view.mine + words_taken (e (published_at found)) =
       ap₂ (λ (t : ℕ) (h : History). words_spent t h) stream claim.calls.moves.mine
       ∙ words_spent-append s v.view.mine (e (published_at found) ∷ [])
       ∙ ap (λ (n : ℕ). words_spent s v.view.mine + n) (words_spent_one s (e (published_at found)) refl) in
-      let first : first_place w.view.caller.layout (part_stream w) ≡ first_place p s =
+      let first : first_place w.view.caller.layout (thread_stream w) ≡ first_place p s =
       ap₂ (λ (q : LayoutValue) (t : ℕ). first_place q t) layout stream in (
         λ is.
             let done : published_at found ≡ publishing.Done =

@@ -1,4 +1,4 @@
--- Lemmas on steps: from what a step does to a part of its own plan to what the row asks of it.
+-- Lemmas on steps: from what a step does to a thread state of its own plan to what the row asks of it.
 use Rattle.std.proofs.Common.{◌≡◌, ℕ, ◌<◌, List, [], ◌∷◌, set, slice_index, slice_set, refl, sym, subst}
 use mathlib.Core.Option.{some}
 use lib.ListN.{get_elem?}
@@ -6,22 +6,23 @@ use Rattle.atomic_table.specs.Table.{Step, Me, keeps, Allows}
 use Rattle.lrup_model.specs.Formula.{Cnf}
 use Rattle.lrup_model.specs.Layout.{LayoutValue}
 use Rattle.lrup_model.specs.Event.{History}
-use Rattle.idwords.specs.Seats.{Part}
-use Rattle.idwords.specs.internal.Rule.{Stands, Keeps, IsKept}
+use Rattle.idwords.specs.Seats.{ThreadState}
+use Rattle.idwords.specs.internal.Rule.{Stands, Keeps, HoldsRowInvariant}
 use Rattle.idwords.specs.internal.Steps.{Changes, Writes, Stores}
 use Rattle.idwords.proofs.RuleLemmas.{OwnKeeps}
 use Rattle.idwords.proofs.ViewLemmas.{all_at}
 
--- Whatever the row is, the part has another that stands to it in this way, and the row is kept with it: by the part's own plan, and
--- from the log that begins with what the part has seen.
-abbrev pub OwnStep : Part → ℕ → ℕ → (ℕ → ℕ) → (ℕ → Part → Type 0) → Type 0
+-- Whatever the row is, the thread state has another that stands to it in this way, and the invariant holds with it: by the thread state's
+-- own plan, and from the log that begins with what the thread state has seen.
+abbrev pub OwnStep : ThreadState → ℕ → ℕ → (ℕ → ℕ) → (ℕ → ThreadState → Type 0) → Type 0
 OwnStep v id i f then =
-    (more : History) (words : List ℕ) (views : List (List Part)) → OwnKeeps v more words views → get_elem? views id ≡ some (v ∷ [])
-    → slice_index words i < 18446744073709551616 → (w : Part) × (log : History)
+    (more : History) (words : List ℕ) (views : List (List ThreadState)) → OwnKeeps v more words views → get_elem? views id ≡ some (v ∷ [])
+    → slice_index words i < 18446744073709551616 → (w : ThreadState) × (log : History)
     × Keeps v.view.caller.formula v.view.caller.layout log (slice_set words i (f (slice_index words i))) (set views id (w ∷ []))
     × then (slice_index words i) w
 
-to_own : (f : Cnf) (p : LayoutValue) (log : History) (words : List ℕ) (views : List (List Part)) (v : Part) → Keeps f p log words views
+to_own : (f : Cnf) (p : LayoutValue) (log : History) (words : List ℕ) (views : List (List ThreadState)) (v : ThreadState)
+    → Keeps f p log words views
     → (stands : Stands f p log words v) → OwnKeeps v stands.begins.0 words views
 to_own f p log words views v kept stands =
     let by_formula : Keeps v.view.caller.formula p log words views =
@@ -30,21 +31,22 @@ to_own f p log words views v kept stands =
     subst (λ (q : LayoutValue). Keeps v.view.caller.formula q log words views) (sym stands.layout) by_formula in
     subst (λ (h : History). Keeps v.view.caller.formula v.view.caller.layout h words views) stands.begins.1 by_layout
 
-from_own : (f : Cnf) (p : LayoutValue) (g : Cnf) (q : LayoutValue) (log : History) (words : List ℕ) (views : List (List Part)) → g ≡ f
+from_own : (f : Cnf) (p : LayoutValue) (g : Cnf) (q : LayoutValue) (log : History) (words : List ℕ)
+    (views : List (List ThreadState)) → g ≡ f
     → q ≡ p → Keeps g q log words views → Keeps f p log words views
 from_own f p g q log words views same_formula same_layout kept =
     subst (λ (k : LayoutValue). Keeps f k log words views) same_layout (subst (λ (h : Cnf). Keeps h q log words views) same_formula kept)
 
-head_of : (v u : Part) → v ∷ [] ≡ u ∷ [] → v ≡ u
+head_of : (v u : ThreadState) → v ∷ [] ≡ u ∷ [] → v ≡ u
 head_of v u same = cc
 
 module _ {S : Type 0} where
-  pub allows : (f : Cnf) (p : LayoutValue) (slots id : ℕ) (v : Part) (i : ℕ) (g : ℕ → ℕ) (told : ℕ → Part → Type 0)
-      (then : ℕ → Me S (List Part) → Type 0)
-      → OwnStep v id i g told → ((n : ℕ) (w : Part) → told n w → then n (w ∷ [], []))
-      → Allows {S = S} (IsKept f p) slots id (v ∷ [], []) i g then
+  pub allows : (f : Cnf) (p : LayoutValue) (slots id : ℕ) (v : ThreadState) (i : ℕ) (g : ℕ → ℕ) (told : ℕ → ThreadState → Type 0)
+      (then : ℕ → Me S (List ThreadState) → Type 0)
+      → OwnStep v id i g told → ((n : ℕ) (w : ThreadState) → told n w → then n (w ∷ [], []))
+      → Allows {S = S} (HoldsRowInvariant f p) slots id (v ∷ [], []) i g then
   allows f p slots id v i g told then own tell s kept homes here small =
-      let stands : Stands f p kept.0 s.words v = (all_at (Stands f p kept.0 s.words) s.views id (v ∷ []) here kept.1.parts).0 in
+      let stands : Stands f p kept.0 s.words v = (all_at (Stands f p kept.0 s.words) s.views id (v ∷ []) here kept.1.threads).0 in
       let done = own stands.begins.0 s.words s.views (to_own f p kept.0 s.words s.views v kept.1 stands) here small in (
         done.0 ∷ [],
         keeps,
@@ -57,11 +59,13 @@ module _ {S : Type 0} where
         tell (slice_index s.words i) done.0 done.3,
       )
 
-  -- what is told of one part is told of a seat that has it
-  pub changes : (R : ℕ → Part → ℕ → Part → Type 0) (step : Step S) (v : Part) (n : ℕ) (w : Part) → R step.word v n w
+  -- what is told of one thread state is told of a seat that has it
+  pub changes : (R : ℕ → ThreadState → ℕ → ThreadState → Type 0) (step : Step S) (v : ThreadState) (n : ℕ) (w : ThreadState)
+      → R step.word v n w
       → Changes R step (v ∷ [], []) n (w ∷ [], [])
-  changes R step v n w told u same = let one : v ≡ u = head_of v u same in (w, refl, refl, subst (λ (x : Part). R step.word x n w) one told)
+  changes R step v n w told u same =
+      let one : v ≡ u = head_of v u same in (w, refl, refl, subst (λ (x : ThreadState). R step.word x n w) one told)
 
-  pub stores : (step : Step S) (v : Part) (n : ℕ) (w : Part) → Writes step.first v w → Stores step (v ∷ [], []) n (w ∷ [], [])
+  pub stores : (step : Step S) (v : ThreadState) (n : ℕ) (w : ThreadState) → Writes step.first v w → Stores step (v ∷ [], []) n (w ∷ [], [])
   stores step v n w told u same =
-      let one : v ≡ u = head_of v u same in (w, refl, refl, subst (λ (x : Part). Writes step.first x w) one told)
+      let one : v ≡ u = head_of v u same in (w, refl, refl, subst (λ (x : ThreadState). Writes step.first x w) one told)

@@ -1,4 +1,4 @@
--- Lemmas on words: the parts of an identity's word, and literals that lie in the row.
+-- Lemmas on words: the fields of an identity's word, and literals that lie in the row.
 use Rattle.std.proofs.Common.{◌≡◌, ◌≢◌, ℕ, ◌+◌, ◌*◌, ◌/◌, ◌%◌, ◌^◌, bit_and, ◌<◌, ◌≤◌, ◌⊎◌, true, false, ℤ, zero, suc, eqb, List, [], ◌∷◌}
 use Rattle.std.proofs.Common.{◌++◌, length, slice_index, slice_set, slice_get, Option, None, Some, refl, ap, ap₂, ◌∙◌, inl, inr, arith}
 use Rattle.std.proofs.Common.{get_or-set_other, eq-eqb, ne_eqb}
@@ -9,14 +9,14 @@ use Rattle.std.proofs.lemmas.Bool.{cond-true, cond-false}
 use Rattle.std.proofs.lemmas.Nat.{and_mask}
 use Rattle.lrup_model.specs.Clause.{Clause}
 use Rattle.lrup_model.specs.State.{Slot, absent, live, retired}
-use Rattle.lrup_model.specs.Place.{Kept}
+use Rattle.lrup_model.specs.CallerView.{StoredClause}
 use Rattle.lrup_model.specs.Pass.{Spells}
 use Rattle.lrup_model.specs.Literal.{IsLiteral, IsCode, code_of, max_variable}
 use Rattle.lrup_model.specs.lemmas.CodeLemmas.{IsCode-code_of, code_of-injective}
 use Rattle.idwords.specs.internal.RowWords.{identity_word, word_of, literal_word, packed, StandAt, LiesAt}
-use Rattle.idwords.specs.Words.{word_state, length_of, start_of, words_for, pair_of, half_of, ShowsKept}
+use Rattle.idwords.specs.Words.{word_state, length_of, start_of, words_for, pair_of, half_of, ShowsStored}
 
--- The parts of a word
+-- The fields of a word
 
 pub state-identity_word : (state len start : ℕ) → state < 4 → word_state (identity_word state len start) ≡ state
 state-identity_word state len start small = omega arith
@@ -27,28 +27,28 @@ length-identity_word state len start small short = omega arith
 pub start-identity_word : (state len start : ℕ) → state < 4 → len < 1048576 → start_of (identity_word state len start) ≡ start
 start-identity_word state len start small short = omega arith
 
-shows_word : (state : ℕ) (kept : Kept) → 0 < state → state < 3 → length kept.literals < 1048576
-    → ShowsKept (Some kept) (identity_word state (length kept.literals) kept.start)
-shows_word state kept some small short =
-    let s = state-identity_word state (length kept.literals) kept.start (omega arith) in (
+shows_word : (state : ℕ) (stored : StoredClause) → 0 < state → state < 3 → length stored.literals < 1048576
+    → ShowsStored (Some stored) (identity_word state (length stored.literals) stored.start)
+shows_word state stored some small short =
+    let s = state-identity_word state (length stored.literals) stored.start (omega arith) in (
       omega arith,
       omega arith,
-      length-identity_word state (length kept.literals) kept.start (omega arith) short,
-      start-identity_word state (length kept.literals) kept.start (omega arith) short,
+      length-identity_word state (length stored.literals) stored.start (omega arith) short,
+      start-identity_word state (length stored.literals) stored.start (omega arith) short,
     )
 
--- what is kept for a slot has at most this many literals
-abbrev pub IsShort : Option Kept → Type 0
+-- what is stored for a slot has at most this many literals
+abbrev pub IsShort : Option StoredClause → Type 0
 IsShort None = Unit {0}
-IsShort (Some kept) = length kept.literals < 1048576
+IsShort (Some stored) = length stored.literals < 1048576
 
-pub shows_slot : (slot : Slot) (o : Option Kept) → Spells slot o → IsShort o → ShowsKept o (word_of slot o)
+pub shows_slot : (slot : Slot) (o : Option StoredClause) → Spells slot o → IsShort o → ShowsStored o (word_of slot o)
 shows_slot absent None spells short = refl
-shows_slot absent (Some kept) spells short = absurd spells
+shows_slot absent (Some stored) spells short = absurd spells
 shows_slot (live c) None spells short = absurd spells
-shows_slot (live c) (Some kept) spells short = shows_word 1 kept (omega arith) (omega arith) short
+shows_slot (live c) (Some stored) spells short = shows_word 1 stored (omega arith) (omega arith) short
 shows_slot (retired c) None spells short = absurd spells
-shows_slot (retired c) (Some kept) spells short = shows_word 2 kept (omega arith) (omega arith) short
+shows_slot (retired c) (Some stored) spells short = shows_word 2 stored (omega arith) (omega arith) short
 
 -- Words in the row
 

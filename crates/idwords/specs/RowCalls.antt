@@ -3,8 +3,8 @@ use Rattle.std.specs.Prelude.{◌≡◌, ◌+◌, ◌/◌, ◌%◌, ◌++◌, �
 use Rattle.lrup_model.specs.Clause.{Clause}
 use Rattle.lrup_model.specs.Event.{Event, History}
 use Rattle.lrup_model.specs.Layout.{row_words}
-use Rattle.lrup_model.specs.Place.{Kept}
-use Rattle.lrup_model.specs.Pass.{View, Spelling, IsFair, PassMoves, kept_in}
+use Rattle.lrup_model.specs.CallerView.{StoredClause}
+use Rattle.lrup_model.specs.Pass.{View, Spelling, IsFair, PassMoves, stored_in}
 use Rattle.lrup_model.specs.declared.clause_map.Published.{Published}
 use Rattle.lrup_model.specs.declared.clause_map.Published.TheVariants as publishing
 use Rattle.lrup_model.specs.Literal.{code_of}
@@ -22,12 +22,12 @@ pub record Calls (old new : View) (event : Event) : Type 0 where
   pub fair : IsFair new
   pub within : LieWithin (row_words new.caller.layout) new.spelt
 
--- where the place is that of a literal of a clause that is kept, the word has the literal's code in its half: 0 for an even place among the clause's
+-- where the place is that of a literal of a stored clause, the word has the literal's code in its half: 0 for an even place among the clause's
 -- literals, 1 for an odd one
 abbrev pub IsText : List Spelling → ℕ → ℕ → Type 0
 IsText spellings place word =
-    (id k : ℕ) (kept : Kept) (l : ℤ) → kept_in spellings id ≡ Some kept
-    → slice_get kept.literals k ≡ Some l → place ≡ kept.start + k / 2
+    (id k : ℕ) (stored : StoredClause) (l : ℤ) → stored_in spellings id ≡ Some stored
+    → slice_get stored.literals k ≡ Some l → place ≡ stored.start + k / 2
     → half_of (k % 2) word ≡ code_of l
 
 -- the top after a publish of a draft

@@ -14,20 +14,20 @@ pub record SeatValue : Type 0 where
   pub top : ℕ
   pub draft : Clause
 
--- What one stream knows: its view, its top, and its draft, the literals stored from the top on. A seat has one part; while two seats meet, one has
--- both, and at the opening the first seat has all.
-pub record Part : Type 0 where
+-- What one stream knows: its view, its top, and its draft, the literals stored from the top on. A seat has one thread state; while two seats meet,
+-- one has both, and at the opening the first seat has all.
+pub record ThreadState : Type 0 where
   pub view : View
   pub top : ℕ
   pub draft : Clause
 
-abbrev pub seat_value : TableId → Part → SeatValue
-seat_value table part =
-    record { table = table; view = part.view; top = part.top; draft = part.draft }
+abbrev pub seat_value : TableId → ThreadState → SeatValue
+seat_value table thread =
+    record { table = table; view = thread.view; top = thread.top; draft = thread.draft }
 
--- a stream's part at the opening
-abbrev pub opening_part : Cnf → LayoutValue → ℕ → Part
-opening_part formula layout s = record {
+-- a stream's thread state at the opening
+abbrev pub opening_thread : Cnf → LayoutValue → ℕ → ThreadState
+opening_thread formula layout s = record {
   view = record {
     caller = record { formula = formula; layout = layout; stream = s };
     seen = [];
@@ -40,4 +40,4 @@ opening_part formula layout s = record {
 
 -- a stream's seat at the opening
 abbrev pub opening_seat : TableId → Cnf → LayoutValue → ℕ → SeatValue
-opening_seat table formula layout s = seat_value table (opening_part formula layout s)
+opening_seat table formula layout s = seat_value table (opening_thread formula layout s)

@@ -7,14 +7,14 @@ use Rattle.lrup_model.specs.Formula.{Cnf}
 use Rattle.lrup_model.specs.Layout.{LayoutValue, last_identity}
 use Rattle.lrup_model.specs.Event as events
 use Rattle.lrup_model.specs.Event.{Event, History, own, size_of}
-use Rattle.lrup_model.specs.Place.{Kept}
-use Rattle.lrup_model.specs.Pass.{Spelling, kept_in}
+use Rattle.lrup_model.specs.CallerView.{StoredClause}
+use Rattle.lrup_model.specs.Pass.{Spelling, stored_in}
 use Rattle.lrup_model.specs.declared.clause_map.Published.TheVariants as publishing
 use Rattle.idwords.specs.Words.{words_for}
 
 -- the clause of this identity lies at this place
 abbrev pub spelling : ℕ → ℕ → Clause → Spelling
-spelling id start clause = record { id = id; kept = record { start = start; literals = clause } }
+spelling id start clause = record { id = id; stored = record { start = start; literals = clause } }
 
 -- clauses under the identities from this one on, and from this place on
 abbrev pub clauses_spelling : ℕ → ℕ → List Clause → List Spelling
@@ -58,7 +58,7 @@ spelling_of formula layout history =
     clauses_spelling 1 (1 + last_identity layout) formula.clauses
     ++ added_spelling layout [] history
 
--- every clause that is kept lies inside a row of so many words
+-- every stored clause lies inside a row of so many words
 abbrev pub LieWithin : ℕ → List Spelling → Type 0
-LieWithin words spellings = (id : ℕ) (kept : Kept) → kept_in spellings id ≡ Some kept
-    → kept.start + words_for (length kept.literals) ≤ words
+LieWithin words spellings = (id : ℕ) (stored : StoredClause) → stored_in spellings id ≡ Some stored
+    → stored.start + words_for (length stored.literals) ≤ words

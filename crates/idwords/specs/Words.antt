@@ -2,7 +2,7 @@
 use Rattle.std.specs.Prelude.{◌≡◌, ◌+◌, ◌/◌, ◌%◌, ◌<◌, ◌==◌, ℕ, ℤ, [], ◌∷◌, Option, None, Some, length, if◌then◌else◌}
 use Rattle.lrup_model.specs.Clause.{Clause}
 use Rattle.lrup_model.specs.Event.{Reply, vacant, live, retired}
-use Rattle.lrup_model.specs.Place.{Kept, literals_in}
+use Rattle.lrup_model.specs.CallerView.{StoredClause, literals_in}
 
 abbrev pub word_state : ℕ → ℕ
 word_state word = word % 4
@@ -26,15 +26,15 @@ half_of half word = (if half == 0 then word % 4294967296 else word / 4294967296)
 abbrev pub words_for : ℕ → ℕ
 words_for literals = (literals + 1) / 2
 
--- the word shows the clause that is kept for the identity: its length and its start
-abbrev pub ShowsKept : Option Kept → ℕ → Type 0
-ShowsKept None word = word_state word ≡ 0
-ShowsKept (Some kept) word = (0 < word_state word) × (word_state word < 3)
-    × (length_of word ≡ length kept.literals) × (start_of word ≡ kept.start)
+-- the word shows the stored clause for the identity: its length and its start
+abbrev pub ShowsStored : Option StoredClause → ℕ → Type 0
+ShowsStored None word = word_state word ≡ 0
+ShowsStored (Some stored) word = (0 < word_state word) × (word_state word < 3)
+    × (length_of word ≡ length stored.literals) × (start_of word ≡ stored.start)
 
 -- the reply that an identity's word spells, where its clause is kept so
-abbrev pub reply_in : Option Kept → ℕ → Reply
-reply_in kept word =
+abbrev pub reply_in : Option StoredClause → ℕ → Reply
+reply_in stored word =
     if word_state word == 0 then vacant
-    else if word_state word == 1 then live (literals_in kept)
+    else if word_state word == 1 then live (literals_in stored)
     else retired

@@ -3,17 +3,17 @@ ghost use Rattle.std.specs.Prelude.{◌≡◌, ◌↔◌, ◌+◌, ◌-◌, ◌%
 ghost use Rattle.lrup_model.specs.Event as events;
 ghost use Rattle.lrup_model.specs.History.{IsPublishable};
 ghost use Rattle.lrup_model.specs.Layout.{Fits, IsIdentity, IsStream, Owns, row_words};
-ghost use Rattle.lrup_model.specs.Pass.{kept_in, pass_place, IsFair, Meets};
+ghost use Rattle.lrup_model.specs.Pass.{stored_in, pass_caller_view, IsFair, SyncViews};
 ghost use Rattle.lrup_model.specs.State.{state, absent, IsLive};
-ghost use Rattle.idwords.specs.Words.{ShowsKept, reply_in, pair_of};
-ghost use Rattle.idwords.specs.internal.Rule.{IsPlan, opening_parts};
+ghost use Rattle.idwords.specs.Words.{ShowsStored, reply_in, pair_of};
+ghost use Rattle.idwords.specs.internal.Rule.{IsPlan, opening_threads};
 ghost use Rattle.idwords.specs.Seats.{opening_seat};
 ghost use Rattle.idwords.specs.Spelling.{LieWithin, spelling_of};
 ghost use Rattle.idwords.specs.RowCalls.{Calls, IsText, top_after_reply};
 
 use crate::opening::all_words;
 use crate::rule::{
-    Claim, Deal, Find, Hand, Look, Meet, Part, Plan, Read, Retire, Token, Unite, Words, Write,
+    Claim, Deal, Find, Hand, Look, Meet, Plan, Read, Retire, SplitRest, Token, Unite, Words, Write,
 };
 use crate::seat::Seat;
 use crate::word::{LIVE, VACANT, live_word, pair_word, state};
@@ -22,7 +22,7 @@ use std::alloc::{AllocError, Global};
 use std::marker::Model;
 use std::snapshot::Snapshot;
 
-/// A seat for each stream, from the one that has all parts.
+/// A seat for each stream, from the one that has all thread states.
 fn deal(
     alloc: Global,
     table: &Words,
@@ -33,8 +33,8 @@ fn deal(
     requires layout { table.now.shared.key.layout ≡ layout.now }
     requires words { table.now.shared.table_id.words ≡ row_words layout.now }
     requires table { token.table_id ≡ table.now.shared.table_id }
-    requires parts { let formula = table.now.shared.key.formula.value in
-        token.me ≡ (opening_parts formula layout.now 1 layout.now.streams, []) }
+    requires threads { let formula = table.now.shared.key.formula.value in
+        token.me ≡ (opening_threads formula layout.now 1 layout.now.streams, []) }
     ensures count { IfOk result (λ seats. vec_len seats ≡ layout.now.streams) }
     ensures seats { let formula = table.now.shared.key.formula.value in
         IfOk result (λ seats. (k : ℕ) → k < layout.now.streams
@@ -44,9 +44,9 @@ fn deal(
     let mut seats = Vec::with_capacity(alloc, layout.streams() as usize)?;
     let mut top = layout.row_words() - layout.all_room();
     for _s in 0..layout.streams() {
-        let part = table.shared.split_seat::<Deal>(&mut token);
+        let thread = table.shared.split_seat::<Deal>(&mut token);
         seats.push_reserved(Seat {
-            token: part,
+            token: thread,
             top,
             drafted: 0,
             room: layout.room(),
@@ -109,8 +109,8 @@ impl Row {
         requires row { seat.old.table ≡ self.now }
         requires identity { IsIdentity seat.old.view.caller.layout id }
         ensures row { seat.new.table ≡ seat.old.table }
-        ensures shows { ShowsKept (kept_in seat.new.view.spelt id) result }
-        ensures calls { let reply = reply_in (kept_in seat.new.view.spelt id) result in
+        ensures shows { ShowsStored (stored_in seat.new.view.spelt id) result }
+        ensures calls { let reply = reply_in (stored_in seat.new.view.spelt id) result in
             Calls seat.old.view seat.new.view (events.fetch seat.old.view.caller.stream id reply) }
         ensures top { seat.new.top ≡ seat.old.top }
         ensures draft { seat.new.draft ≡ seat.old.draft }
@@ -138,7 +138,7 @@ impl Row {
         requires row { seat.old.table ≡ self.now }
         requires even { length seat.old.draft % 2 ≡ 0 }
         requires room { length seat.old.draft + length (pair_of first second)
-            ≤ (pass_place seat.old.view).room }
+            ≤ (pass_caller_view seat.old.view).room }
         ensures { seat.new ≡ record seat.old { draft = seat.old.draft ++ pair_of first second } }
     {
         let place = (seat.top + seat.drafted / 2) as usize;
@@ -205,7 +205,7 @@ impl Row {
         requires second { second.old.table ≡ self.now }
         ensures first { first.new.table ≡ first.old.table }
         ensures second { second.new.table ≡ second.old.table }
-        ensures meets { Meets first.old.view second.old.view first.new.view second.new.view }
+        ensures meets { SyncViews first.old.view second.old.view first.new.view second.new.view }
         ensures within { let words = row_words first.new.view.caller.layout in
             LieWithin words first.new.view.spelt }
         ensures within_too { let words = row_words second.new.view.caller.layout in
@@ -214,12 +214,12 @@ impl Row {
         ensures drafts { (first.new.draft ≡ first.old.draft)
             × (second.new.draft ≡ second.old.draft) }
     {
-        // One token has both streams' parts while word 0 is loaded: that load is the step at which each learns what the
-        // other has seen. Then the second part goes back to its own token.
+        // One token has both streams' thread states while word 0 is loaded: that load is the step at which each learns what the
+        // other has seen. Then the second thread state goes back to its own token.
         let shared = &self.table.shared;
         let token = shared.split_seat::<Hand>(&mut second.token);
         shared.join_seat::<Unite>(&mut first.token, token);
         shared.load::<Meet>(&mut first.token, 0);
-        second.token = shared.split_seat::<Part>(&mut first.token);
+        second.token = shared.split_seat::<SplitRest>(&mut first.token);
     }
 }

@@ -5,16 +5,16 @@ use std::alloc::Global;
 use std::marker::{Model, PhantomData};
 use std::snapshot::Snapshot;
 
-/// What a seat at the table knows: a list of parts. No value of it is made.
+/// What a seat at the table knows: a list of thread states. No value of it is made.
 pub struct Knowledge {
     none: PhantomData<u8>,
 }
 
 impl Model for Knowledge {
     ghost use Rattle.std.specs.Prelude.{List, []};
-    ghost use Rattle.idwords.specs.Seats.{Part};
+    ghost use Rattle.idwords.specs.Seats.{ThreadState};
 
-    ghost Value = { List Part };
+    ghost Value = { List ThreadState };
 
     ghost view = { λ _. [] };
 }
@@ -26,19 +26,19 @@ pub struct Plan {
     pub layout: Layout,
 }
 
-/// The rule: there is one legal history that the words spell, and each seat's parts stand in it.
-pub struct Kept;
+/// The rule: there is one legal history that the words spell, and each seat's thread states stand in it.
+pub struct RowInvariant;
 
-impl TableRule<u8, Knowledge, Plan> for Kept {
-    ghost use Rattle.idwords.specs.internal.Rule.{IsKept, opening_parts};
+impl TableRule<u8, Knowledge, Plan> for RowInvariant {
+    ghost use Rattle.idwords.specs.internal.Rule.{HoldsRowInvariant, opening_threads};
 
-    ghost holds = { λ plan. IsKept plan.formula.value plan.layout };
+    ghost holds = { λ plan. HoldsRowInvariant plan.formula.value plan.layout };
 
-    ghost first = { λ plan. opening_parts plan.formula.value plan.layout 1 plan.layout.streams };
+    ghost first = { λ plan. opening_threads plan.formula.value plan.layout 1 plan.layout.streams };
 }
 
 /// The table. It has no slots.
-pub type Words = Table<u8, Knowledge, Plan, Kept, Global>;
+pub type Words = Table<u8, Knowledge, Plan, RowInvariant, Global>;
 
 /// A seat at the table.
 pub type Token = atomic_table::Seat<u8, Knowledge>;
@@ -97,7 +97,7 @@ impl Play<u8, Knowledge> for Retire {
     ghost then = { Changes (λ id v _ w. Retires id v w) };
 }
 
-/// A load by a seat that has the parts of two.
+/// A load by a seat that has the thread states of two.
 pub struct Meet;
 
 impl Play<u8, Knowledge> for Meet {
@@ -106,7 +106,7 @@ impl Play<u8, Knowledge> for Meet {
     ghost then = { Joined };
 }
 
-/// The first part goes to a new seat.
+/// The first thread state goes to a new seat.
 pub struct Deal;
 
 impl Split<Knowledge> for Deal {
@@ -117,7 +117,7 @@ impl Split<Knowledge> for Deal {
     ghost right = { first_only };
 }
 
-/// All parts go to a new seat.
+/// All thread states go to a new seat.
 pub struct Hand;
 
 impl Split<Knowledge> for Hand {
@@ -128,10 +128,10 @@ impl Split<Knowledge> for Hand {
     ghost right = { λ vs. vs };
 }
 
-/// All parts but the first go to a new seat.
-pub struct Part;
+/// All thread states but the first go to a new seat.
+pub struct SplitRest;
 
-impl Split<Knowledge> for Part {
+impl Split<Knowledge> for SplitRest {
     ghost use Rattle.idwords.specs.internal.Seating.{first_only, others};
 
     ghost left = { first_only };
@@ -139,7 +139,7 @@ impl Split<Knowledge> for Part {
     ghost right = { others };
 }
 
-/// A seat takes in the parts of another.
+/// A seat takes in the thread states of another.
 pub struct Unite;
 
 impl Join<Knowledge> for Unite {

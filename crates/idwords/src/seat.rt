@@ -1,6 +1,6 @@
 //! A stream's place at the row.
 ghost use Rattle.std.specs.Prelude.{◌≡◌};
-ghost use Rattle.lrup_model.specs.Pass.{pass_place};
+ghost use Rattle.lrup_model.specs.Pass.{pass_caller_view};
 
 use crate::rule::Token;
 use std::marker::Model;
@@ -16,11 +16,11 @@ pub struct Seat {
 
 impl Model for Seat {
     ghost use Rattle.idwords.specs.Seats.{SeatValue, seat_value};
-    ghost use Rattle.idwords.specs.internal.Seating.{first_part, IsSeated};
+    ghost use Rattle.idwords.specs.internal.Seating.{first_thread, IsSeated};
 
     ghost Value = { SeatValue };
 
-    ghost view = { λ s. seat_value s.token.table_id (first_part s.token.me.0) };
+    ghost view = { λ s. seat_value s.token.table_id (first_thread s.token.me.0) };
 
     ghost invariant = { λ s. IsSeated s.token.table_id s.token.me s.top s.drafted s.room };
 }
@@ -29,7 +29,7 @@ impl Seat {
     /// The room that the stream has left, in literals.
     #[inline]
     pub fn room(&self) -> u64
-        ensures { result ≡ (pass_place self.now.view).room }
+        ensures { result ≡ (pass_caller_view self.now.view).room }
     {
         self.room
     }

@@ -2,7 +2,7 @@
 ghost use Rattle.std.specs.Prelude.{◌≡◌, ◌≤◌, [], length, IfOk, IsTrue};
 ghost use Rattle.lrup_model.specs.History.{IsPublishable};
 ghost use Rattle.lrup_model.specs.Layout.{Fits};
-ghost use Rattle.lrup_model.specs.Pass.{pass_place};
+ghost use Rattle.lrup_model.specs.Pass.{pass_caller_view};
 ghost use Rattle.test_support.specs.Worked.{four};
 ghost use Rattle.idwords_tests.specs.Worked.{IsSeatAt};
 
@@ -117,7 +117,7 @@ fn draft(row: &Row, seat: &mut Seat, clause: &[Lit])
     requires row { seat.old.table ≡ row.now }
     requires draft { seat.old.draft ≡ [] }
     requires length { length clause.now ≤ 2 }
-    requires room { length clause.now ≤ (pass_place seat.old.view).room }
+    requires room { length clause.now ≤ (pass_caller_view seat.old.view).room }
     ensures { seat.new ≡ record seat.old { draft = clause.now } }
 {
     match clause {

@@ -15,10 +15,10 @@ use Rattle.lrup_model.specs.Entailment.{Assignment, Satisfies, SatisfiesAll, Fol
 use Rattle.lrup_model.specs.Layout.{LayoutValue, IsLayout, Fits, last_identity}
 use Rattle.lrup_model.specs.State as slots
 use Rattle.lrup_model.specs.State.{State, opening}
-use Rattle.lrup_model.specs.Place.{Kept}
+use Rattle.lrup_model.specs.CallerView.{StoredClause}
 use Rattle.lrup_model.specs.Plain as plain
-use Rattle.lrup_model.specs.Plain.{Stored, Plain, formula_of, plain_state, stored_at, slot_of, clause_of}
-use Rattle.lrup_model.specs.internal.PlainInside.{StoresClause, stored_in, plain_of, LiesWithin, IsPlainSound, flat, entries_from}
+use Rattle.lrup_model.specs.Plain.{PlainSlot, Plain, formula_of, plain_state, plain_slot_at, slot_of, clause_of}
+use Rattle.lrup_model.specs.internal.PlainInside.{StoresClause, plain_slot_in, plain_of, LiesWithin, IsPlainSound, flat, entries_from}
 use Rattle.lrup_model.specs.declared.plain_map.Entry.{Entry}
 use Rattle.lrup_model.specs.declared.plain_map.Entry.TheVariants.{Vacant, Live}
 use Rattle.lrup_model.proofs.PieceLemmas.{slice_range-append, slice_range-end}
@@ -43,11 +43,11 @@ entries_from-push from (d ∷ cs) c =
     (entries_from-push (from + length d) cs c ∙ ap (λ n. entries_from (from + length d) cs ++ Live n (length c) ∷ []) place)
 
 -- one more clause
-pub kept_more : (cs : List Clause) (i : ℕ) (c : Clause) (start : ℕ) (ls more : List ℤ) (es grown first : List Entry) → i < length cs
+pub stored_more : (cs : List Clause) (i : ℕ) (c : Clause) (start : ℕ) (ls more : List ℤ) (es grown first : List Entry) → i < length cs
     → c ≡ get_or cs i [] → ls ≡ flat (take i cs)
     → start ≡ length ls → more ≡ ls ++ c → es ≡ first ++ entries_from 0 (take i cs) → grown ≡ es ++ Live start (length c) ∷ []
     → (grown ≡ first ++ entries_from 0 (take (i + 1) cs)) × (more ≡ flat (take (i + 1) cs))
-kept_more cs i c start ls more es grown first within here lits from grows ents new =
+stored_more cs i c start ls more es grown first within here lits from grows ents new =
     let cut : take (i + 1) cs ≡ take i cs ++ c ∷ [] = take_more cs i [] within ∙ ap (λ (d : Clause). take i cs ++ d ∷ []) (sym here) in
     let place : start ≡ 0 + length (flat (take i cs)) = omega (arith, from, ap length lits) in (
       new ∙ ap (λ (xs : List Entry). xs ++ Live start (length c) ∷ []) ents
@@ -58,51 +58,51 @@ kept_more cs i c start ls more es grown first within here lits from grows ents n
     )
 
 -- the literals kept so far, with those of the next clause, are no more than all
-pub kept_fits : (cs : List Clause) (i : ℕ) → i < length cs → length (flat (take i cs)) + length (get_or cs i []) ≤ sum_by length cs
-kept_fits cs i within = omega (arith, length-flat (take i cs), sum_by_more_le length cs i [] within)
+pub stored_fits : (cs : List Clause) (i : ℕ) → i < length cs → length (flat (take i cs)) + length (get_or cs i []) ≤ sum_by length cs
+stored_fits cs i within = omega (arith, length-flat (take i cs), sum_by_more_le length cs i [] within)
 
 -- The map that the entries and the literals make
 
 -- the clause that ends a front of the literals is what stands behind the ones before
 entry_is : (front c back : List ℤ)
-    → stored_in (front ++ c ++ back) (Live (length front) (length c)) ≡ plain.live (record { start = length front; literals = c })
+    → plain_slot_in (front ++ c ++ back) (Live (length front) (length c)) ≡ plain.live (record { start = length front; literals = c })
 entry_is front c back =
     let inside : length front + length c ≤ length (front ++ c) = omega (arith, length-append front c) in
     ap (λ (ls : List ℤ). plain.live (record { start = length front; literals = ls }))
     (slice_range-append (front ++ c) back (length front) (length front + length c) (omega arith) inside ∙ slice_range-end front c)
 
 -- what is stored under the formula's identities
-stored_from : ℕ → List Clause → List Stored
-stored_from from [] = []
-stored_from from (c ∷ cs) = plain.live (record { start = from; literals = c }) ∷ stored_from (from + length c) cs
+plain_slot_from : ℕ → List Clause → List PlainSlot
+plain_slot_from from [] = []
+plain_slot_from from (c ∷ cs) = plain.live (record { start = from; literals = c }) ∷ plain_slot_from (from + length c) cs
 
 entries_stored : (front : List ℤ) (cs : List Clause)
-    → map (stored_in (front ++ flat cs)) (entries_from (length front) cs) ≡ stored_from (length front) cs
-unfolding stored_from
+    → map (plain_slot_in (front ++ flat cs)) (entries_from (length front) cs) ≡ plain_slot_from (length front) cs
+unfolding plain_slot_from
 entries_stored front [] = refl
 entries_stored front (c ∷ cs) =
     let regrouped : front ++ (c ++ flat cs) ≡ front ++ c ++ flat cs = sym (append_assoc front c (flat cs)) in
-    let here : stored_in (front ++ (c ++ flat cs)) (Live (length front) (length c)) ≡ plain.live (record {
+    let here : plain_slot_in (front ++ (c ++ flat cs)) (Live (length front) (length c)) ≡ plain.live (record {
       start = length front;
       literals = c;
     }) =
-    ap (λ (ls : List ℤ). stored_in ls (Live (length front) (length c))) regrouped ∙ entry_is front c (flat cs) in
-    let there : map (stored_in (front ++ (c ++ flat cs))) (entries_from (length front + length c) cs)
-    ≡ stored_from (length front + length c) cs =
-    ap (λ (ls : List ℤ). map (stored_in ls) (entries_from (length front + length c) cs)) regrouped
-    ∙ subst (λ n. map (stored_in (front ++ c ++ flat cs)) (entries_from n cs) ≡ stored_from n cs) (length-append front c)
+    ap (λ (ls : List ℤ). plain_slot_in ls (Live (length front) (length c))) regrouped ∙ entry_is front c (flat cs) in
+    let there : map (plain_slot_in (front ++ (c ++ flat cs))) (entries_from (length front + length c) cs)
+    ≡ plain_slot_from (length front + length c) cs =
+    ap (λ (ls : List ℤ). map (plain_slot_in ls) (entries_from (length front + length c) cs)) regrouped
+    ∙ subst (λ n. map (plain_slot_in (front ++ c ++ flat cs)) (entries_from n cs) ≡ plain_slot_from n cs) (length-append front c)
     (entries_stored (front ++ c) cs) in
     cc
 
-clauses_stored : (from : ℕ) (cs : List Clause) → map clause_of (stored_from from cs) ≡ cs
-unfolding stored_from
+clauses_stored : (from : ℕ) (cs : List Clause) → map clause_of (plain_slot_from from cs) ≡ cs
+unfolding plain_slot_from
 clauses_stored from [] = refl
 clauses_stored from (c ∷ cs) = ap (λ (ds : List Clause). c ∷ ds) (clauses_stored (from + length c) cs)
 
-length-stored_from : (from : ℕ) (cs : List Clause) → length (stored_from from cs) ≡ length cs
-unfolding stored_from
-length-stored_from from [] = refl
-length-stored_from from (c ∷ cs) = ap suc (length-stored_from (from + length c) cs)
+length-plain_slot_from : (from : ℕ) (cs : List Clause) → length (plain_slot_from from cs) ≡ length cs
+unfolding plain_slot_from
+length-plain_slot_from from [] = refl
+length-plain_slot_from from (c ∷ cs) = ap suc (length-plain_slot_from (from + length c) cs)
 
 none_there : (n i : ℕ) → get_or (replicate n plain.vacant) i plain.vacant ≡ plain.vacant
 none_there zero i = refl
@@ -111,15 +111,15 @@ none_there (suc n) (suc i) = none_there n i
 
 -- the slot at a place behind identity 0
 slot_here : (from : ℕ) (cs : List Clause) (n i : ℕ) → i < length cs
-    → slot_of (get_or (stored_from from cs ++ replicate n plain.vacant) i plain.vacant) ≡ slots.live (get_or cs i [])
-unfolding stored_from
+    → slot_of (get_or (plain_slot_from from cs ++ replicate n plain.vacant) i plain.vacant) ≡ slots.live (get_or cs i [])
+unfolding plain_slot_from
 slot_here from [] n i lt = absurd (omega (arith, lt))
 slot_here from (c ∷ cs) n zero lt = refl
 slot_here from (c ∷ cs) n (suc i) lt = slot_here (from + length c) cs n i (omega (arith, lt))
 
 slot_past : (from : ℕ) (cs : List Clause) (n i : ℕ) → length cs ≤ i
-    → slot_of (get_or (stored_from from cs ++ replicate n plain.vacant) i plain.vacant) ≡ slots.absent
-unfolding stored_from
+    → slot_of (get_or (plain_slot_from from cs ++ replicate n plain.vacant) i plain.vacant) ≡ slots.absent
+unfolding plain_slot_from
 slot_past from [] n i le = ap slot_of (none_there n i)
 slot_past from (c ∷ cs) n zero le = absurd (omega (arith, le))
 slot_past from (c ∷ cs) n (suc i) le = slot_past (from + length c) cs n i (omega (arith, le))
@@ -131,7 +131,7 @@ clause_behind f i =
 
 -- what the map has at each identity
 opened_slot : (f : Cnf) (n id : ℕ)
-    → slot_of (get_or (plain.vacant ∷ (stored_from 0 f.clauses ++ replicate n plain.vacant)) id plain.vacant) ≡ opening f id
+    → slot_of (get_or (plain.vacant ∷ (plain_slot_from 0 f.clauses ++ replicate n plain.vacant)) id plain.vacant) ≡ opening f id
 opened_slot f n zero = refl
 opened_slot f n (suc i) =
     elim (cases_lt i (length f.clauses)) [
@@ -142,36 +142,38 @@ opened_slot f n (suc i) =
 
 -- The whole map
 
-vacant_stored : (ls : List ℤ) (n : ℕ) → map (stored_in ls) (replicate n Vacant) ≡ replicate n plain.vacant
+vacant_stored : (ls : List ℤ) (n : ℕ) → map (plain_slot_in ls) (replicate n Vacant) ≡ replicate n plain.vacant
 vacant_stored ls zero = refl
-vacant_stored ls (suc n) = ap (λ (xs : List Stored). plain.vacant ∷ xs) (vacant_stored ls n)
+vacant_stored ls (suc n) = ap (λ (xs : List PlainSlot). plain.vacant ∷ xs) (vacant_stored ls n)
 
 -- what the entries of an opened map stand for
-opened_entries : (f : Cnf) (n : ℕ) → map (stored_in (flat f.clauses)) (Vacant ∷ (entries_from 0 f.clauses ++ replicate n Vacant))
-    ≡ plain.vacant ∷ (stored_from 0 f.clauses ++ replicate n plain.vacant)
+opened_entries : (f : Cnf) (n : ℕ) → map (plain_slot_in (flat f.clauses)) (Vacant ∷ (entries_from 0 f.clauses ++ replicate n Vacant))
+    ≡ plain.vacant ∷ (plain_slot_from 0 f.clauses ++ replicate n plain.vacant)
 opened_entries f n =
-    let clauses : map (stored_in (flat f.clauses)) (entries_from 0 f.clauses) ≡ stored_from 0 f.clauses = entries_stored [] f.clauses in
-    ap (λ (xs : List Stored). plain.vacant ∷ xs)
-    (map-append (stored_in (flat f.clauses)) (entries_from 0 f.clauses) (replicate n Vacant)
-    ∙ ap (λ (xs : List Stored). xs ++ map (stored_in (flat f.clauses)) (replicate n Vacant)) clauses
-    ∙ ap (λ (xs : List Stored). stored_from 0 f.clauses ++ xs) (vacant_stored (flat f.clauses) n))
+    let clauses : map (plain_slot_in (flat f.clauses)) (entries_from 0 f.clauses)
+    ≡ plain_slot_from 0 f.clauses = entries_stored [] f.clauses in
+    ap (λ (xs : List PlainSlot). plain.vacant ∷ xs)
+    (map-append (plain_slot_in (flat f.clauses)) (entries_from 0 f.clauses) (replicate n Vacant)
+    ∙ ap (λ (xs : List PlainSlot). xs ++ map (plain_slot_in (flat f.clauses)) (replicate n Vacant)) clauses
+    ∙ ap (λ (xs : List PlainSlot). plain_slot_from 0 f.clauses ++ xs) (vacant_stored (flat f.clauses) n))
 
 pub opened_formula : (f : Cnf) (p : LayoutValue) (n : ℕ) (free : List ℕ) → Fits p f
     → formula_of (plain_of p (Vacant ∷ (entries_from 0 f.clauses ++ replicate n Vacant)) (flat f.clauses) free) ≡ f
 opened_formula f p n free fits =
-    let count : p.clauses ≡ length (stored_from 0 f.clauses) = fits.clauses ∙ sym (length-stored_from 0 f.clauses) in
+    let count : p.clauses ≡ length (plain_slot_from 0 f.clauses) = fits.clauses ∙ sym (length-plain_slot_from 0 f.clauses) in
     let clauses : map clause_of
-    (take p.clauses (drop 1 (map (stored_in (flat f.clauses)) (Vacant ∷ (entries_from 0 f.clauses ++ replicate n Vacant))))) ≡ f.clauses =
-    ap (λ (xs : List Stored). map clause_of (take p.clauses (drop 1 xs))) (opened_entries f n)
-    ∙ ap (λ k. map clause_of (take k (stored_from 0 f.clauses ++ replicate n plain.vacant))) count
-    ∙ ap (map clause_of) (take-append_seam (stored_from 0 f.clauses) (replicate n plain.vacant))
+    (take p.clauses (drop 1 (map (plain_slot_in (flat f.clauses)) (Vacant ∷ (entries_from 0 f.clauses ++ replicate n Vacant)))))
+    ≡ f.clauses =
+    ap (λ (xs : List PlainSlot). map clause_of (take p.clauses (drop 1 xs))) (opened_entries f n)
+    ∙ ap (λ k. map clause_of (take k (plain_slot_from 0 f.clauses ++ replicate n plain.vacant))) count
+    ∙ ap (map clause_of) (take-append_seam (plain_slot_from 0 f.clauses) (replicate n plain.vacant))
     ∙ clauses_stored 0 f.clauses in
     ap (λ (cs : List Clause). record { vars = p.vars; clauses = cs }) clauses ∙ ap (λ v. record { vars = v; clauses = f.clauses }) fits.vars
 
 pub opened_state : (f : Cnf) (p : LayoutValue) (n : ℕ) (free : List ℕ)
     → plain_state (plain_of p (Vacant ∷ (entries_from 0 f.clauses ++ replicate n Vacant)) (flat f.clauses) free) ≡ opening f
 opened_state f p n free =
-    fun_ext (λ id. ap (λ (xs : List Stored). slot_of (get_or xs id plain.vacant)) (opened_entries f n) ∙ opened_slot f n id)
+    fun_ext (λ id. ap (λ (xs : List PlainSlot). slot_of (get_or xs id plain.vacant)) (opened_entries f n) ∙ opened_slot f n id)
 
 vacant_within : (all n : ℕ) → AllByRecursion (LiesWithin all) (replicate n Vacant)
 vacant_within all zero = tt
@@ -199,15 +201,15 @@ vacant_stores f zero = tt
 vacant_stores f (suc n) = (tt, vacant_stores f n)
 
 clauses_store : (f : Cnf) (from : ℕ) (cs : List Clause) (n : ℕ) → AllByRecursion (λ c. IsClause f.vars c × Follows f c) cs
-    → AllByRecursion (StoresClause f) (stored_from from cs ++ replicate n plain.vacant)
-unfolding stored_from
+    → AllByRecursion (StoresClause f) (plain_slot_from from cs ++ replicate n plain.vacant)
+unfolding plain_slot_from
 clauses_store f from [] n h = vacant_stores f n
 clauses_store f from (c ∷ cs) n h = (h.0, clauses_store f (from + length c) cs n h.1)
 
-live_from : (x : Stored) (c : Clause) → slot_of x ≡ slots.live c → (kept : Kept) × (x ≡ plain.live kept)
+live_from : (x : PlainSlot) (c : Clause) → slot_of x ≡ slots.live c → (stored : StoredClause) × (x ≡ plain.live stored)
 live_from plain.vacant c is = absurd (cc)
-live_from (plain.live kept) c is = (kept, refl)
-live_from (plain.retired kept) c is = absurd (cc)
+live_from (plain.live stored) c is = (stored, refl)
+live_from (plain.retired stored) c is = absurd (cc)
 
 pub opened_sound : (f : Cnf) (p : LayoutValue) (n capacity : ℕ) → IsCnf f → IsLayout p → Fits p f → n ≡ last_identity p - length f.clauses
     → formula_literals f + p.streams * p.room ≤ capacity
@@ -228,12 +230,13 @@ opened_sound f p n capacity cnf is fits rest enough =
       small = omega (arith, is.row, fits.literals);
       formula = λ id positive within.
           live_from
-          (stored_at (plain_of p (Vacant ∷ (entries_from 0 f.clauses ++ replicate n Vacant)) (flat f.clauses) (replicate p.streams p.room))
+          (plain_slot_at
+          (plain_of p (Vacant ∷ (entries_from 0 f.clauses ++ replicate n Vacant)) (flat f.clauses) (replicate p.streams p.room))
           id) (clause_at f id)
           (ap (λ (m : State). m id) (opened_state f p n (replicate p.streams p.room))
           ∙ opening-formula f id positive (omega (arith, within, fits.clauses)));
       clauses = subst (λ (g : Cnf). AllByRecursion (StoresClause g)
-          (map (stored_in (flat f.clauses)) (Vacant ∷ (entries_from 0 f.clauses ++ replicate n Vacant))))
+          (map (plain_slot_in (flat f.clauses)) (Vacant ∷ (entries_from 0 f.clauses ++ replicate n Vacant))))
           (sym (opened_formula f p n (replicate p.streams p.room) fits))
           (subst (AllByRecursion (StoresClause f)) (sym (opened_entries f n)) (
             tt,

@@ -12,20 +12,20 @@ use Rattle.lrup_model.specs.Clause.{Clause, IsClause}
 use Rattle.lrup_model.specs.Formula.{Cnf}
 use Rattle.lrup_model.specs.Entailment.{Follows, IsDerived}
 use Rattle.lrup_model.specs.Layout.{LayoutValue, Owns, last_identity}
-use Rattle.lrup_model.specs.Place.{Kept, ClipValue, IsKnown, AllFollow, clip_clause}
+use Rattle.lrup_model.specs.CallerView.{StoredClause, ClipValue, IsKnown, AllFollow, clip_clause}
 use Rattle.lrup_model.specs.Plain as plain
-use Rattle.lrup_model.specs.Plain.{Stored, Plain, formula_of, kept_of, slot_of, stored_at, plain_place}
+use Rattle.lrup_model.specs.Plain.{PlainSlot, Plain, formula_of, stored_of, slot_of, plain_slot_at, plain_caller_view}
 use Rattle.lrup_model.specs.internal.PlainInside.{IsFormulaLive, StoresClause, AfterPublish, AfterRetire}
 use Rattle.lrup_model.specs.History.{IsPublishable}
 use Rattle.lrup_model.specs.declared.clause_map.Published.TheVariants as publishing
 use Rattle.lrup_model.specs.declared.clause_map.Retired.TheVariants as retiring
-use Rattle.lrup_model.specs.internal.PlainInside.{stored_in, plain_of, LiesWithin, IsPlainSound}
+use Rattle.lrup_model.specs.internal.PlainInside.{plain_slot_in, plain_of, LiesWithin, IsPlainSound}
 use Rattle.lrup_model.specs.declared.plain_map.Entry.{Entry}
 use Rattle.lrup_model.specs.declared.plain_map.Entry.TheVariants.{Vacant, Live, Retired}
 use Rattle.lrup_model.proofs.PieceLemmas.{slice_range-append, slice_range-end}
 use Rattle.lrup_model.specs.lemmas.OwnerLemmas.{owned}
 use Rattle.lrup_model.specs.lemmas.ListLemmas.{All-map}
-use Rattle.lrup_model.proofs.PlainLemmas.{formula_of-set, formula_live-set, nothing_kept}
+use Rattle.lrup_model.proofs.PlainLemmas.{formula_of-set, formula_live-set, nothing_stored}
 
 -- Lists
 
@@ -41,35 +41,41 @@ LiesWithin-weaker n m le Vacant h = tt
 LiesWithin-weaker n m le (Live start len) h = omega (arith, le, h)
 LiesWithin-weaker n m le (Retired start len) h = omega (arith, le, h)
 
-stored_in-append : (ls c : List ℤ) (e : Entry) → LiesWithin (length ls) e → stored_in (ls ++ c) e ≡ stored_in ls e
-stored_in-append ls c Vacant h = refl
-stored_in-append ls c (Live start len) h =
+plain_slot_in-append : (ls c : List ℤ) (e : Entry) → LiesWithin (length ls) e → plain_slot_in (ls ++ c) e ≡ plain_slot_in ls e
+plain_slot_in-append ls c Vacant h = refl
+plain_slot_in-append ls c (Live start len) h =
     ap (λ (t : List ℤ). plain.live (record { start = start; literals = t })) (slice_range-append ls c start (start + len) (omega arith) h)
-stored_in-append ls c (Retired start len) h = ap (λ (t : List ℤ). plain.retired (record { start = start; literals = t }))
+plain_slot_in-append ls c (Retired start len) h = ap (λ (t : List ℤ). plain.retired (record { start = start; literals = t }))
     (slice_range-append ls c start (start + len) (omega arith) h)
 
-map-stored_in-append : (ls c : List ℤ) (es : List Entry) → AllByRecursion (LiesWithin (length ls)) es
-    → map (stored_in (ls ++ c)) es ≡ map (stored_in ls) es
-map-stored_in-append ls c [] h = refl
-map-stored_in-append ls c (e ∷ es) h =
-    let here : stored_in (ls ++ c) e ≡ stored_in ls e = stored_in-append ls c e h.0 in
-    let there : map (stored_in (ls ++ c)) es ≡ map (stored_in ls) es = map-stored_in-append ls c es h.1 in
+map-plain_slot_in-append : (ls c : List ℤ) (es : List Entry) → AllByRecursion (LiesWithin (length ls)) es
+    → map (plain_slot_in (ls ++ c)) es ≡ map (plain_slot_in ls) es
+map-plain_slot_in-append ls c [] h = refl
+map-plain_slot_in-append ls c (e ∷ es) h =
+    let here : plain_slot_in (ls ++ c) e ≡ plain_slot_in ls e = plain_slot_in-append ls c e h.0 in
+    let there : map (plain_slot_in (ls ++ c)) es ≡ map (plain_slot_in ls) es = map-plain_slot_in-append ls c es h.1 in
     cc
 
 -- Publish
 
 pub stored_more : (ls c : List ℤ) (es : List Entry) (id : ℕ) → AllByRecursion (LiesWithin (length ls)) es
-    → map (stored_in (ls ++ c)) (set es id (Live (length ls) (length c)))
-    ≡ set (map (stored_in ls) es) id (plain.live (record { start = length ls; literals = c }))
+    → map (plain_slot_in (ls ++ c)) (set es id (Live (length ls) (length c)))
+    ≡ set (map (plain_slot_in ls) es) id (plain.live (record { start = length ls; literals = c }))
 stored_more ls c es id h =
-    map-set (stored_in (ls ++ c)) es id (Live (length ls) (length c))
-    ∙ ap (λ (xs : List Stored). set xs id (stored_in (ls ++ c) (Live (length ls) (length c)))) (map-stored_in-append ls c es h)
-    ∙ ap (λ (t : List ℤ). set (map (stored_in ls) es) id (plain.live (record { start = length ls; literals = t }))) (slice_range-end ls c)
+    map-set (plain_slot_in (ls ++ c)) es id (Live (length ls) (length c))
+    ∙ ap (λ (xs : List PlainSlot). set xs id (plain_slot_in (ls ++ c) (Live (length ls) (length c)))) (map-plain_slot_in-append ls c es h)
+    ∙ ap (λ (t : List ℤ). set (map (plain_slot_in ls) es) id (plain.live (record { start = length ls; literals = t })))
+    (slice_range-end ls c)
 
 pub view_more : (p : LayoutValue) (es : List Entry) (ls c : List ℤ) (free : List ℕ) (id : ℕ) → AllByRecursion (LiesWithin (length ls)) es
     → plain_of p (set es id (Live (length ls) (length c))) (ls ++ c) free
-    ≡ record { layout = p; stored = set (map (stored_in ls) es) id (plain.live (record { start = length ls; literals = c })); free = free }
-view_more p es ls c free id h = ap (λ (xs : List Stored). record { layout = p; stored = xs; free = free }) (stored_more ls c es id h)
+    ≡ record {
+      layout = p;
+      plain_slots = set (map (plain_slot_in ls) es) id (plain.live (record { start = length ls; literals = c }));
+      free = free;
+    }
+view_more p es ls c free id h =
+    ap (λ (xs : List PlainSlot). record { layout = p; plain_slots = xs; free = free }) (stored_more ls c es id h)
 
 -- the room that a stream has left, with what the others have
 sum-less : (free : List ℕ) (i n : ℕ) → i < length free → n ≤ get_or free i 0 → sum (set free i (get_or free i 0 - n)) + n ≡ sum free
@@ -87,7 +93,7 @@ sound_more p es ls c free capacity more i id sound derived within fits grows cla
     let all : length (ls ++ c) ≡ length ls + length c = length-append ls c in
     let free' = set free i (get_or free i 0 - length c) in
     let v = plain.live (record { start = length ls; literals = c }) in
-    let stored : map (stored_in (ls ++ c)) (set es id (Live (length ls) (length c))) ≡ set (map (stored_in ls) es) id v =
+    let plain_slots : map (plain_slot_in (ls ++ c)) (set es id (Live (length ls) (length c))) ≡ set (map (plain_slot_in ls) es) id v =
     stored_more ls c es id sound.within in
     let same : formula_of (plain_of p (set es id (Live (length ls) (length c))) (ls ++ c) free') ≡ formula_of (plain_of p es ls free) =
     ap formula_of (view_more p es ls c free' id sound.within) ∙ formula_of-set (plain_of p es ls free) id v free' derived in
@@ -103,10 +109,11 @@ sound_more p es ls c free capacity more i id sound derived within fits grows cla
       small = omega (arith, all, left, sound.small);
       formula = subst IsFormulaLive (sym (view_more p es ls c free' id sound.within))
           (formula_live-set (plain_of p es ls free) id v free' derived sound.formula);
-      clauses = subst (λ (f : Cnf). AllByRecursion (StoresClause f) (map (stored_in (ls ++ c)) (set es id (Live (length ls) (length c)))))
+      clauses = subst
+          (λ (f : Cnf). AllByRecursion (StoresClause f) (map (plain_slot_in (ls ++ c)) (set es id (Live (length ls) (length c)))))
           (sym same)
-          (subst (AllByRecursion (StoresClause (formula_of (plain_of p es ls free)))) (sym stored)
-          (AllByRecursion-set (StoresClause (formula_of (plain_of p es ls free))) (map (stored_in ls) es) id v sound.clauses (
+          (subst (AllByRecursion (StoresClause (formula_of (plain_of p es ls free)))) (sym plain_slots)
+          (AllByRecursion-set (StoresClause (formula_of (plain_of p es ls free))) (map (plain_slot_in ls) es) id v sound.clauses (
             clause,
             follows,
           )));
@@ -114,26 +121,28 @@ sound_more p es ls c free capacity more i id sound derived within fits grows cla
 
 -- Retire
 
-stores_at : (f : Cnf) (ls : List ℤ) (es : List Entry) (id : ℕ) → AllByRecursion (StoresClause f) (map (stored_in ls) es) → id < length es
-    → StoresClause f (stored_in ls (get_or es id Vacant))
+stores_at : (f : Cnf) (ls : List ℤ) (es : List Entry) (id : ℕ) → AllByRecursion (StoresClause f) (map (plain_slot_in ls) es)
+    → id < length es
+    → StoresClause f (plain_slot_in ls (get_or es id Vacant))
 stores_at f ls [] id h lt = absurd (omega (arith, lt))
 stores_at f ls (e ∷ es) zero h lt = h.0
 stores_at f ls (e ∷ es) (suc id) h lt = stores_at f ls es id h.1 (omega (arith, lt))
 
 pub stored_retired : (ls : List ℤ) (es : List Entry) (id start len : ℕ)
-    → map (stored_in ls) (set es id (Retired start len))
-    ≡ set (map (stored_in ls) es) id (plain.retired (record { start = start; literals = slice_range ls start (start + len) }))
-stored_retired ls es id start len = map-set (stored_in ls) es id (Retired start len)
+    → map (plain_slot_in ls) (set es id (Retired start len))
+    ≡ set (map (plain_slot_in ls) es) id (plain.retired (record { start = start; literals = slice_range ls start (start + len) }))
+stored_retired ls es id start len = map-set (plain_slot_in ls) es id (Retired start len)
 
 pub view_retired : (p : LayoutValue) (es : List Entry) (ls : List ℤ) (free : List ℕ) (id start len : ℕ)
     → plain_of p (set es id (Retired start len)) ls free
     ≡ record {
       layout = p;
-      stored = set (map (stored_in ls) es) id (plain.retired (record { start = start; literals = slice_range ls start (start + len) }));
+      plain_slots =
+          set (map (plain_slot_in ls) es) id (plain.retired (record { start = start; literals = slice_range ls start (start + len) }));
       free = free;
     }
 view_retired p es ls free id start len =
-    ap (λ (xs : List Stored). record { layout = p; stored = xs; free = free }) (stored_retired ls es id start len)
+    ap (λ (xs : List PlainSlot). record { layout = p; plain_slots = xs; free = free }) (stored_retired ls es id start len)
 
 pub sound_retired : (p : LayoutValue) (es : List Entry) (ls : List ℤ) (free : List ℕ) (capacity id start len : ℕ)
     → IsPlainSound p es ls free capacity → p.clauses < id → id < length es → get_or es id Vacant ≡ Live start len
@@ -146,8 +155,8 @@ sound_retired p es ls free capacity id start len sound derived within here =
     let same : formula_of (plain_of p (set es id (Retired start len)) ls free) ≡ formula_of (plain_of p es ls free) =
     ap formula_of (view_retired p es ls free id start len) ∙ formula_of-set (plain_of p es ls free) id v free derived in
     let f = formula_of (plain_of p es ls free) in
-    let kept : StoresClause f (stored_in ls (Live start len)) =
-    subst (λ (e : Entry). StoresClause f (stored_in ls e)) here (stores_at f ls es id sound.clauses within) in
+    let kept : StoresClause f (plain_slot_in ls (Live start len)) =
+    subst (λ (e : Entry). StoresClause f (plain_slot_in ls e)) here (stores_at f ls es id sound.clauses within) in
     record {
       limits = sound.limits;
       count = length-set es id (Retired start len) ∙ sound.count;
@@ -157,30 +166,30 @@ sound_retired p es ls free capacity id start len sound derived within here =
       small = sound.small;
       formula = subst IsFormulaLive (sym (view_retired p es ls free id start len))
           (formula_live-set (plain_of p es ls free) id v free derived sound.formula);
-      clauses = subst (λ (g : Cnf). AllByRecursion (StoresClause g) (map (stored_in ls) (set es id (Retired start len)))) (sym same)
+      clauses = subst (λ (g : Cnf). AllByRecursion (StoresClause g) (map (plain_slot_in ls) (set es id (Retired start len)))) (sym same)
           (subst (AllByRecursion (StoresClause f)) (sym (stored_retired ls es id start len))
-          (AllByRecursion-set (StoresClause f) (map (stored_in ls) es) id v sound.clauses kept));
+          (AllByRecursion-set (StoresClause f) (map (plain_slot_in ls) es) id v sound.clauses kept));
     }
 
 -- What lies under an identity
 
--- the text of what is kept lies in the list of literals from its start on
-abbrev LiesAt : List ℤ → Kept → Type 0
-LiesAt ls kept = (len : ℕ) × (kept.start + len ≤ length ls) × (kept.literals ≡ slice_range ls kept.start (kept.start + len))
+-- the text of what is stored lies in the list of literals from its start on
+abbrev LiesAt : List ℤ → StoredClause → Type 0
+LiesAt ls stored = (len : ℕ) × (stored.start + len ≤ length ls) × (stored.literals ≡ slice_range ls stored.start (stored.start + len))
 
-entry_text : (ls : List ℤ) (es : List Entry) (id : ℕ) (kept : Kept) → AllByRecursion (LiesWithin (length ls)) es
-    → kept_of (get_or (map (stored_in ls) es) id plain.vacant) ≡ Some kept → LiesAt ls kept
-entry_text ls [] id kept h e = absurd (nothing_kept e)
-entry_text ls (Vacant ∷ es) zero kept h e = absurd (nothing_kept e)
-entry_text ls (Live start len ∷ es) zero kept h e =
-    subst (LiesAt ls) (same_Some (record { start = start; literals = slice_range ls start (start + len) }) kept e) (len, h.0, refl)
-entry_text ls (Retired start len ∷ es) zero kept h e =
-    subst (LiesAt ls) (same_Some (record { start = start; literals = slice_range ls start (start + len) }) kept e) (len, h.0, refl)
-entry_text ls (x ∷ es) (suc id) kept h e = entry_text ls es id kept h.1 e
+entry_text : (ls : List ℤ) (es : List Entry) (id : ℕ) (stored : StoredClause) → AllByRecursion (LiesWithin (length ls)) es
+    → stored_of (get_or (map (plain_slot_in ls) es) id plain.vacant) ≡ Some stored → LiesAt ls stored
+entry_text ls [] id stored h e = absurd (nothing_stored e)
+entry_text ls (Vacant ∷ es) zero stored h e = absurd (nothing_stored e)
+entry_text ls (Live start len ∷ es) zero stored h e =
+    subst (LiesAt ls) (same_Some (record { start = start; literals = slice_range ls start (start + len) }) stored e) (len, h.0, refl)
+entry_text ls (Retired start len ∷ es) zero stored h e =
+    subst (LiesAt ls) (same_Some (record { start = start; literals = slice_range ls start (start + len) }) stored e) (len, h.0, refl)
+entry_text ls (x ∷ es) (suc id) stored h e = entry_text ls es id stored h.1 e
 
 -- one literal of it
 pub literal_lies : (ls : List ℤ) (es : List Entry) (id k start : ℕ) (text : Clause) → AllByRecursion (LiesWithin (length ls)) es
-    → kept_of (get_or (map (stored_in ls) es) id plain.vacant) ≡ Some (record { start = start; literals = text }) → k < length text
+    → stored_of (get_or (map (plain_slot_in ls) es) id plain.vacant) ≡ Some (record { start = start; literals = text }) → k < length text
     → (start + k < length ls) × (slice_get text k ≡ Some (get_or ls (start + k) (pos 0)))
 literal_lies ls es id k start text h e lt =
     let lies = entry_text ls es id (record { start = start; literals = text }) h e in
@@ -199,14 +208,14 @@ literal_lies ls es id k start text h e lt =
 within_count : (p : LayoutValue) (es : List Entry) (id : ℕ) → length es ≡ last_identity p + 1 → id ≤ last_identity p → id < length es
 within_count p es id count le = omega arith
 
-within_stored : (ls : List ℤ) (es : List Entry) (id : ℕ) → id < length es → id < length (map (stored_in ls) es)
-within_stored ls es id h = omega (arith, h, length-map es (stored_in ls))
+within_stored : (ls : List ℤ) (es : List Entry) (id : ℕ) → id < length es → id < length (map (plain_slot_in ls) es)
+within_stored ls es id h = omega (arith, h, length-map es (plain_slot_in ls))
 
 -- what is stored where this entry was read
 stored_is : (ls : List ℤ) (es : List Entry) (id : ℕ) (e : Entry) → id < length es → e ≡ get_or es id e
-    → get_or (map (stored_in ls) es) id plain.vacant ≡ stored_in ls e
-stored_is ls es id e within read = get_or-map (stored_in ls) es id Vacant plain.vacant within
-    ∙ ap (stored_in ls) (sym (get_or_read es id e within read Vacant))
+    → get_or (map (plain_slot_in ls) es) id plain.vacant ≡ plain_slot_in ls e
+stored_is ls es id e within read = get_or-map (plain_slot_in ls) es id Vacant plain.vacant within
+    ∙ ap (plain_slot_in ls) (sym (get_or_read es id e within read Vacant))
 
 pub retire_done : (v : Plain) (p : LayoutValue) (es : List Entry) (ls : List ℤ) (free : List ℕ) (capacity s id start len : ℕ) (e : Entry)
     → plain_of p es ls free ≡ v → IsPlainSound p es ls free capacity → Owns v.layout s id
@@ -225,7 +234,7 @@ retire_done v p es ls free capacity s id start len e view sound =
       (
         within_stored ls es id within,
         record { start = start; literals = slice_range ls start (start + len) },
-        stored_is ls es id e within read ∙ ap (stored_in ls) is,
+        stored_is ls es id e within read ∙ ap (plain_slot_in ls) is,
         view_retired p es ls free id start len,
       ),
     ))
@@ -253,7 +262,7 @@ publish_done v p es ls c more free capacity grown i id n left e view sound =
       (
         inside,
         within_stored ls es id within,
-        stored_is ls es id e within read ∙ ap (stored_in ls) is,
+        stored_is ls es id e within read ∙ ap (plain_slot_in ls) is,
         length ls,
         view_more p es ls c (set free i (get_or free i 0 - length c)) id sound.within,
       ),
@@ -261,33 +270,36 @@ publish_done v p es ls c more free capacity grown i id n left e view sound =
 
 -- a literal of a known clause lies in the list
 pub known_literal : (v : Plain) (p : LayoutValue) (es : List Entry) (ls : List ℤ) (free : List ℕ) (clip : ClipValue) (k : ℕ)
-    → plain_of p es ls free ≡ v → AllByRecursion (LiesWithin (length ls)) es → IsKnown (plain_place v 1) clip → k < clip.len
-    → (clip.start + k < length ls) × (slice_get (clip_clause (plain_place v 1) clip) k ≡ Some (get_or ls (clip.start + k) (pos 0)))
+    → plain_of p es ls free ≡ v → AllByRecursion (LiesWithin (length ls)) es → IsKnown (plain_caller_view v 1) clip → k < clip.len
+    → (clip.start + k < length ls) × (slice_get (clip_clause (plain_caller_view v 1) clip) k ≡ Some (get_or ls (clip.start + k) (pos 0)))
 known_literal v p es ls free clip k view within known lt =
-    subst (λ (w : Plain). IsKnown (plain_place w 1) clip
-    → (clip.start + k < length ls) × (slice_get (clip_clause (plain_place w 1) clip) k ≡ Some (get_or ls (clip.start + k) (pos 0)))) view
-    (λ here. literal_lies ls es clip.id k clip.start (clip_clause (plain_place (plain_of p es ls free) 1) clip) within here.kept
+    subst (λ (w : Plain). IsKnown (plain_caller_view w 1) clip
+    → (clip.start + k < length ls)
+    × (slice_get (clip_clause (plain_caller_view w 1) clip) k ≡ Some (get_or ls (clip.start + k) (pos 0)))) view
+    (λ here. literal_lies ls es clip.id k clip.start (clip_clause (plain_caller_view (plain_of p es ls free) 1) clip) within here.stored
     (omega (arith, lt, here.len))) known
 
-kept_follows : (f : Cnf) (x : Stored) (kept : Kept) → StoresClause f x → kept_of x ≡ Some kept → IsDerived f kept.literals
-kept_follows f plain.vacant kept stores there = absurd (nothing_kept there)
-kept_follows f (plain.live k) kept stores there = subst (λ (j : Kept). IsDerived f j.literals) (same_Some k kept there) stores
-kept_follows f (plain.retired k) kept stores there = subst (λ (j : Kept). IsDerived f j.literals) (same_Some k kept there) stores
+stored_follows : (f : Cnf) (x : PlainSlot) (stored : StoredClause) → StoresClause f x → stored_of x ≡ Some stored
+    → IsDerived f stored.literals
+stored_follows f plain.vacant stored stores there = absurd (nothing_stored there)
+stored_follows f (plain.live k) stored stores there = subst (λ (j : StoredClause). IsDerived f j.literals) (same_Some k stored there) stores
+stored_follows f (plain.retired k) stored stores there =
+    subst (λ (j : StoredClause). IsDerived f j.literals) (same_Some k stored there) stores
 
-stores_all : (f : Cnf) (xs : List Stored) (id : ℕ) → AllByRecursion (StoresClause f) xs → StoresClause f (get_or xs id plain.vacant)
+stores_all : (f : Cnf) (xs : List PlainSlot) (id : ℕ) → AllByRecursion (StoresClause f) xs → StoresClause f (get_or xs id plain.vacant)
 stores_all f [] id all = tt
 stores_all f (x ∷ xs) zero all = all.0
 stores_all f (x ∷ xs) (suc id) all = stores_all f xs id all.1
 
--- every clause that is kept follows, and the formula's are live
+-- every stored clause follows, and the formula's are live
 pub sound_follows : (v : Plain) (p : LayoutValue) (es : List Entry) (ls : List ℤ) (free : List ℕ) (capacity : ℕ) → plain_of p es ls free ≡ v
-    → IsPlainSound p es ls free capacity → AllFollow (plain_place v 1) × IsFormulaLive v
+    → IsPlainSound p es ls free capacity → AllFollow (plain_caller_view v 1) × IsFormulaLive v
 sound_follows v p es ls free capacity view sound =
-    subst (λ (w : Plain). AllFollow (plain_place w 1) × IsFormulaLive w) view (
+    subst (λ (w : Plain). AllFollow (plain_caller_view w 1) × IsFormulaLive w) view (
       record {
-        each = λ id kept there.
-            kept_follows (formula_of (plain_of p es ls free)) (get_or (map (stored_in ls) es) id plain.vacant) kept
-            (stores_all (formula_of (plain_of p es ls free)) (map (stored_in ls) es) id sound.clauses) there;
+        each = λ id stored there.
+            stored_follows (formula_of (plain_of p es ls free)) (get_or (map (plain_slot_in ls) es) id plain.vacant) stored
+            (stores_all (formula_of (plain_of p es ls free)) (map (plain_slot_in ls) es) id sound.clauses) there;
       },
       sound.formula,
     )

@@ -2,8 +2,8 @@
 use Rattle.std.specs.Prelude.{◌≡◌, ◌+◌, ℕ}
 use Rattle.std.specs.Borrow.{MutBor}
 use Rattle.lrup_model.specs.Event.{History}
-use Rattle.lrup_model.specs.Place.{Place}
-use Rattle.lrup_model.specs.Plain.{Plain, plain_place, PlainMoves}
+use Rattle.lrup_model.specs.CallerView.{CallerView}
+use Rattle.lrup_model.specs.Plain.{Plain, plain_caller_view, PlainMoves}
 use Rattle.lrup_model.specs.declared.plain_map.PlainDesk.{PlainDesk}
 
 -- the desk's stream, from 1 on
@@ -20,8 +20,8 @@ pub record IsDesk (map : MutBor Plain) (s : ℕ) (desk : PlainDesk) : Type 0 whe
   pub same : desk.map.ghost_name ≡ map.ghost_name
   pub stream : stream_at desk ≡ s
 
-abbrev pub plain_desk_place : PlainDesk → Place
-plain_desk_place desk = plain_place (map_of desk) (stream_at desk)
+abbrev pub plain_desk_caller_view : PlainDesk → CallerView
+plain_desk_caller_view desk = plain_caller_view (map_of desk) (stream_at desk)
 
 -- the desk stays at the same map, which moved by these events of its stream
 pub record PlainDeskMoves (old new : PlainDesk) (history : History) : Type 0 where

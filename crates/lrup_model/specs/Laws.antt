@@ -6,8 +6,8 @@ use Rattle.lrup_model.specs.Event as events
 use Rattle.lrup_model.specs.Event.{Event, Reply, History}
 use Rattle.lrup_model.specs.State.{State, Slot, absent, live, retired, run}
 use Rattle.lrup_model.specs.History.{LegalFrom}
-use Rattle.lrup_model.specs.Place.{Place, ClipValue, clip_clause, IsKnown, Tells}
-use Rattle.lrup_model.specs.Pass.{View, PassMoves, pass_place}
+use Rattle.lrup_model.specs.CallerView.{CallerView, ClipValue, clip_clause, IsKnown, CallerStep}
+use Rattle.lrup_model.specs.Pass.{View, PassMoves, pass_caller_view}
 
 -- What a history leaves at an identity
 
@@ -28,14 +28,16 @@ EntriesAdvance = (f : Cnf) (p : LayoutValue) (m : State) (h : History) (id : ℕ
 
 -- Places and passes
 
--- a clip that is known at a place stays known, with the same literals, whatever calls follow
+-- a clip that is known in a view stays known, with the same literals, whatever calls follow
 abbrev pub KnownStays : Type 0
-KnownStays = (a b : Place) (es : History) (clip : ClipValue) → Tells a b es → IsKnown a clip
+KnownStays = (a b : CallerView) (es : History) (clip : ClipValue) → CallerStep a b es
+    → IsKnown a clip
     → IsKnown b clip × (clip_clause b clip ≡ clip_clause a clip)
 
--- what a pass's calls say of the caller's place
-abbrev pub PassTells : Type 0
-PassTells = (a b : View) (es : History) → PassMoves a b es → Tells (pass_place a) (pass_place b) es
+-- what a pass's calls say of the caller's view
+abbrev pub PassSteps : Type 0
+PassSteps = (a b : View) (es : History) → PassMoves a b es
+    → CallerStep (pass_caller_view a) (pass_caller_view b) es
 
 -- The events of some streams
 

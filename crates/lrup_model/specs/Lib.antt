@@ -9,7 +9,7 @@ pub mod Event
 pub mod State
 pub mod History
 pub mod Propagation
-pub mod Place
+pub mod CallerView
 pub mod Replies
 pub mod Pass
 pub mod Plain

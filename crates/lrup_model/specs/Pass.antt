@@ -5,37 +5,38 @@ use Rattle.lrup_model.specs.Formula.{Cnf}
 use Rattle.lrup_model.specs.Event.{History, own, spent, stream_of}
 use Rattle.lrup_model.specs.State.{Slot, absent, live, retired, state}
 use Rattle.lrup_model.specs.History.{IsLegal}
-use Rattle.lrup_model.specs.Place.{Caller, IsCaller, Kept, Place, AllFollow, KeepsSpelt}
+use Rattle.lrup_model.specs.CallerView.{Caller, IsCaller, StoredClause, CallerView, AllFollow, KeepsSpelt}
 
--- what is kept for the clause of an identity
+-- an identity and its stored clause
 pub record Spelling : Type 0 where
   pub id : ℕ
-  pub kept : Kept
+  pub stored : StoredClause
 
--- what the list keeps for an identity
-abbrev pub kept_in : List Spelling → ℕ → Option Kept
-kept_in [] id = None
-kept_in (entry ∷ spellings) id = if entry.id == id then Some entry.kept else kept_in spellings id
+-- what the list has for an identity
+abbrev pub stored_in : List Spelling → ℕ → Option StoredClause
+stored_in [] id = None
+stored_in (entry ∷ spellings) id =
+    if entry.id == id then Some entry.stored else stored_in spellings id
 
 -- no identity stands twice
 abbrev pub IsOncePerIdentity : List Spelling → Type 0
 IsOncePerIdentity [] = Unit {0}
 IsOncePerIdentity (entry ∷ spellings) =
-    (kept_in spellings entry.id ≡ None) × IsOncePerIdentity spellings
+    (stored_in spellings entry.id ≡ None) × IsOncePerIdentity spellings
 
--- what is kept is the slot's clause, and nothing for an absent one
-abbrev pub Spells : Slot → Option Kept → Type 0
+-- what is stored is the slot's clause, and nothing for an absent one
+abbrev pub Spells : Slot → Option StoredClause → Type 0
 Spells absent None = Unit {0}
-Spells absent (Some kept) = ⊥
+Spells absent (Some stored) = ⊥
 Spells (live clause) None = ⊥
-Spells (live clause) (Some kept) = kept.literals ≡ clause
+Spells (live clause) (Some stored) = stored.literals ≡ clause
 Spells (retired clause) None = ⊥
-Spells (retired clause) (Some kept) = kept.literals ≡ clause
+Spells (retired clause) (Some stored) = stored.literals ≡ clause
 
--- exactly the identities live or retired after the history are kept, each once, with its clause
+-- exactly the identities live or retired after the history are stored, each once, with its clause
 pub record IsSpelt (formula : Cnf) (history : History) (spellings : List Spelling) : Type 0 where
   pub once : IsOncePerIdentity spellings
-  pub slots : (id : ℕ) → Spells (state formula history id) (kept_in spellings id)
+  pub slots : (id : ℕ) → Spells (state formula history id) (stored_in spellings id)
 
 -- Seen is a history, mine are the calls made through the pass, in order. Where a clause lies is the store's choice: spelt is what it chose.
 pub record View : Type 0 where
@@ -51,13 +52,13 @@ pub record IsFair (view : View) : Type 0 where
   pub mine : own view.seen view.caller.stream ≡ view.mine
   pub spelt : IsSpelt view.caller.formula view.seen view.spelt
 
--- what a caller knows at a pass
-abbrev pub pass_place : View → Place
-pass_place view = record {
+-- what a caller knows by a pass
+abbrev pub pass_caller_view : View → CallerView
+pass_caller_view view = record {
   caller = view.caller;
   own = state view.caller.formula view.mine;
   room = view.caller.layout.room - spent view.caller.stream view.mine;
-  spelt = kept_in view.spelt;
+  spelt = stored_in view.spelt;
 }
 
 -- The pass went on by these calls of its own, and by whatever it saw of others. A call leaves it fair, and with none it is as fair as before.
@@ -66,15 +67,16 @@ pub record PassMoves (old new : View) (history : History) : Type 0 where
   pub callers : AllByRecursion (λ event. stream_of event ≡ old.caller.stream) history
   pub mine : new.mine ≡ old.mine ++ history
   pub seen : (more : History) × (new.seen ≡ old.seen ++ more)
-  pub room : (pass_place new).room + spent old.caller.stream history ≡ (pass_place old).room
-  pub spelt : KeepsSpelt (kept_in old.spelt) (kept_in new.spelt)
+  pub room : (pass_caller_view new).room + spent old.caller.stream history
+      ≡ (pass_caller_view old).room
+  pub spelt : KeepsSpelt (stored_in old.spelt) (stored_in new.spelt)
   pub fair : IsFair old → IsFair new
   pub fair_after : history ≢ [] → IsFair new
-  pub follow : AllFollow (pass_place old) → AllFollow (pass_place new)
+  pub follow : AllFollow (pass_caller_view old) → AllFollow (pass_caller_view new)
 
 -- Two passes of one store have met: both have seen one history, which begins with what each had seen, and no more where one had seen all that
 -- the other had. Neither made a call.
-pub record Meets (old old' new new' : View) : Type 0 where
+pub record SyncViews (old old' new new' : View) : Type 0 where
   pub one : new'.seen ≡ new.seen
   pub first : PassMoves old new []
   pub second : PassMoves old' new' []
@@ -84,19 +86,19 @@ pub record Meets (old old' new new' : View) : Type 0 where
   pub longer' : (more : History) → old'.seen ≡ old.seen ++ more → new.seen ≡ old'.seen
 
 -- the pass meets each of the others in turn
-abbrev pub MeetsInTurn : View → List View → View → List View → Type 0
-MeetsInTurn old [] new [] = new ≡ old
-MeetsInTurn old (other ∷ others) new (other' ∷ others') =
-    (next : View) × Meets old other next other' × MeetsInTurn next others new others'
-MeetsInTurn old [] new (other' ∷ others') = ⊥
-MeetsInTurn old (other ∷ others) new [] = ⊥
+abbrev pub SyncInTurn : View → List View → View → List View → Type 0
+SyncInTurn old [] new [] = new ≡ old
+SyncInTurn old (other ∷ others) new (other' ∷ others') =
+    (next : View) × SyncViews old other next other' × SyncInTurn next others new others'
+SyncInTurn old [] new (other' ∷ others') = ⊥
+SyncInTurn old (other ∷ others) new [] = ⊥
 
 -- each pass of the one list went on by no call to the one at its place in the other, which is fair
-abbrev pub AreMet : List View → List View → Type 0
-AreMet [] [] = Unit {0}
-AreMet (old ∷ before) (new ∷ after) = PassMoves old new [] × IsFair new × AreMet before after
-AreMet [] (new ∷ after) = ⊥
-AreMet (old ∷ before) [] = ⊥
+abbrev pub AreSynced : List View → List View → Type 0
+AreSynced [] [] = Unit {0}
+AreSynced (old ∷ before) (new ∷ after) = PassMoves old new [] × IsFair new × AreSynced before after
+AreSynced [] (new ∷ after) = ⊥
+AreSynced (old ∷ before) [] = ⊥
 
 -- all have seen this history
 abbrev pub AllSaw : History → List View → Type 0

@@ -8,59 +8,59 @@ use Rattle.lrup_model.specs.Event.{History, stream_of, spent}
 use Rattle.lrup_model.specs.State.{Slot, absent, State, run}
 use Rattle.lrup_model.specs.State as slots
 use Rattle.lrup_model.specs.History.{LegalFrom}
-use Rattle.lrup_model.specs.Place.{Kept, Place, KeepsSpelt, AllFollow}
+use Rattle.lrup_model.specs.CallerView.{StoredClause, CallerView, KeepsSpelt, AllFollow}
 
 -- what is stored under an identity
-pub data Stored : Type 0 where
-  vacant : Stored
-  live : Kept → Stored
-  retired : Kept → Stored
+pub data PlainSlot : Type 0 where
+  vacant : PlainSlot
+  live : StoredClause → PlainSlot
+  retired : StoredClause → PlainSlot
 
 -- stored begins with identity 0, under which there is nothing; free is what is left of each stream's room
 pub record Plain : Type 0 where
   pub layout : LayoutValue
-  pub stored : List Stored
+  pub plain_slots : List PlainSlot
   pub free : List ℕ
 
-abbrev pub slot_of : Stored → Slot
+abbrev pub slot_of : PlainSlot → Slot
 slot_of vacant = absent
-slot_of (live kept) = slots.live kept.literals
-slot_of (retired kept) = slots.retired kept.literals
+slot_of (live stored) = slots.live stored.literals
+slot_of (retired stored) = slots.retired stored.literals
 
-abbrev pub kept_of : Stored → Option Kept
-kept_of vacant = None
-kept_of (live kept) = Some kept
-kept_of (retired kept) = Some kept
+abbrev pub stored_of : PlainSlot → Option StoredClause
+stored_of vacant = None
+stored_of (live stored) = Some stored
+stored_of (retired stored) = Some stored
 
-abbrev pub clause_of : Stored → Clause
+abbrev pub clause_of : PlainSlot → Clause
 clause_of vacant = []
-clause_of (live kept) = kept.literals
-clause_of (retired kept) = kept.literals
+clause_of (live stored) = stored.literals
+clause_of (retired stored) = stored.literals
 
-abbrev pub stored_at : Plain → ℕ → Stored
-stored_at plain id = slice_index_or plain.stored id vacant
+abbrev pub plain_slot_at : Plain → ℕ → PlainSlot
+plain_slot_at plain id = slice_index_or plain.plain_slots id vacant
 
 -- the formula stands under the first identities
 abbrev pub formula_of : Plain → Cnf
 formula_of plain = record {
   vars = plain.layout.vars;
-  clauses = map clause_of (take plain.layout.clauses (drop 1 plain.stored));
+  clauses = map clause_of (take plain.layout.clauses (drop 1 plain.plain_slots));
 }
 
 abbrev pub plain_state : Plain → State
-plain_state plain = λ id. slot_of (stored_at plain id)
+plain_state plain = λ id. slot_of (plain_slot_at plain id)
 
 -- what is left of a stream's room, for streams from 1 on
 abbrev pub free_at : Plain → ℕ → ℕ
 free_at plain s = slice_index plain.free (s - 1)
 
 -- what a stream's caller knows at the map
-abbrev pub plain_place : Plain → ℕ → Place
-plain_place plain s = record {
+abbrev pub plain_caller_view : Plain → ℕ → CallerView
+plain_caller_view plain s = record {
   caller = record { formula = formula_of plain; layout = plain.layout; stream = s };
   own = plain_state plain;
   room = free_at plain s;
-  spelt = λ id. kept_of (stored_at plain id);
+  spelt = λ id. stored_of (plain_slot_at plain id);
 }
 
 -- Between the two moments the map went through these events of the stream: each answered as the map after the events before it.
@@ -72,5 +72,6 @@ pub record PlainMoves (old new : Plain) (s : ℕ) (history : History) : Type 0 w
   pub state : plain_state new ≡ run (plain_state old) history
   pub room : free_at new s + spent s history ≡ free_at old s
   pub others : (t : ℕ) → 0 < t → t ≢ s → free_at new t ≡ free_at old t
-  pub spelt : KeepsSpelt (λ id. kept_of (stored_at old id)) (λ id. kept_of (stored_at new id))
-  pub follow : AllFollow (plain_place old s) → AllFollow (plain_place new s)
+  pub spelt : KeepsSpelt (λ id. stored_of (plain_slot_at old id))
+      (λ id. stored_of (plain_slot_at new id))
+  pub follow : AllFollow (plain_caller_view old s) → AllFollow (plain_caller_view new s)

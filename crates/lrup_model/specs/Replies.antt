@@ -4,29 +4,29 @@ use Rattle.lrup_model.specs.Formula.{clause_at}
 use Rattle.lrup_model.specs.Layout.{Owns}
 use Rattle.lrup_model.specs.Event.{Reply, vacant, live, retired, fetch}
 use Rattle.lrup_model.specs.State.{Answers}
-use Rattle.lrup_model.specs.Place.{Place, Kept, clip_clause, IsKnown}
+use Rattle.lrup_model.specs.CallerView.{CallerView, StoredClause, clip_clause, IsKnown}
 use Rattle.lrup_model.specs.declared.clause_map.Fetched.{Fetched}
 use Rattle.lrup_model.specs.declared.clause_map.Fetched.TheVariants as fetched
 
--- the reply that the answer stands for at the place
-abbrev pub reply_of : Place → Fetched → Reply
-reply_of place fetched.Vacant = vacant
-reply_of place (fetched.Live clip) = live (clip_clause place clip)
-reply_of place fetched.Retired = retired
+-- the reply that the answer stands for in the view
+abbrev pub reply_of : CallerView → Fetched → Reply
+reply_of view fetched.Vacant = vacant
+reply_of view (fetched.Live clip) = live (clip_clause view clip)
+reply_of view fetched.Retired = retired
 
--- a live clause comes under its clip, which is known; a retired one is kept, and of a vacant identity nothing is
-abbrev pub IsFetched : Place → ℕ → Fetched → Type 0
-IsFetched place id fetched.Vacant = place.spelt id ≡ None
-IsFetched place id (fetched.Live clip) = (clip.id ≡ id) × IsKnown place clip
-IsFetched place id fetched.Retired = (kept : Kept) × (place.spelt id ≡ Some kept)
+-- a live clause comes under its clip, which is known; a retired one is stored, and of a vacant identity nothing is
+abbrev pub IsFetched : CallerView → ℕ → Fetched → Type 0
+IsFetched view id fetched.Vacant = view.spelt id ≡ None
+IsFetched view id (fetched.Live clip) = (clip.id ≡ id) × IsKnown view clip
+IsFetched view id fetched.Retired = (stored : StoredClause) × (view.spelt id ≡ Some stored)
 
 -- an identity of the caller's own has what the caller's calls left there
-abbrev pub AnswersOwn : Place → ℕ → Reply → Type 0
-AnswersOwn place id reply =
-    Owns place.caller.layout place.caller.stream id
-    → Answers place.own (fetch place.caller.stream id reply)
+abbrev pub AnswersOwn : CallerView → ℕ → Reply → Type 0
+AnswersOwn view id reply =
+    Owns view.caller.layout view.caller.stream id
+    → Answers view.own (fetch view.caller.stream id reply)
 
 -- an identity of the formula has its clause, live
-abbrev pub AnswersFormula : Place → ℕ → Reply → Type 0
-AnswersFormula place id reply =
-    0 < id → id ≤ place.caller.layout.clauses → reply ≡ live (clause_at place.caller.formula id)
+abbrev pub AnswersFormula : CallerView → ℕ → Reply → Type 0
+AnswersFormula view id reply =
+    0 < id → id ≤ view.caller.layout.clauses → reply ≡ live (clause_at view.caller.formula id)

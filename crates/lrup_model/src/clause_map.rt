@@ -4,7 +4,7 @@ ghost use Rattle.lrup_model.specs.Layout.{IsIdentity, Owns};
 ghost use Rattle.lrup_model.specs.State.{IsLive, absent};
 ghost use Rattle.lrup_model.specs.Event.{History, fetch, publish, retire};
 ghost use Rattle.lrup_model.specs.History.{IsPublishable};
-ghost use Rattle.lrup_model.specs.Place.{Place, Tells, IsKnown, AllFollow, clip_clause};
+ghost use Rattle.lrup_model.specs.CallerView.{CallerView, CallerStep, IsKnown, AllFollow, clip_clause};
 ghost use Rattle.lrup_model.specs.Replies.{IsFetched, AnswersOwn, AnswersFormula, reply_of};
 
 use crate::Id;
@@ -20,7 +20,7 @@ pub struct Clip {
 }
 
 impl Model for Clip {
-    ghost use Rattle.lrup_model.specs.Place.{ClipValue};
+    ghost use Rattle.lrup_model.specs.CallerView.{ClipValue};
 
     ghost Value = { ClipValue };
 
@@ -103,63 +103,68 @@ pub enum Retired {
     NotLive,
 }
 
-/// A caller's place at a clause map. Each call of fetch, publish and retire is one event; no call takes memory.
+/// A clause map, as one caller sees it. Each call of fetch, publish and retire is one event; no call takes memory.
 pub trait ClauseMap {
     /// What the caller knows here.
-    ghost place: { Self → Place };
+    ghost caller_view: { Self → CallerView };
 
     /// The caller's events between two moments.
     ghost moves: { Self → Self → History → Type 0 };
 
     /// The caller's stream, from 1 on.
     fn stream(&self) -> u64
-        ensures { result ≡ (place self.now).caller.stream };
+        ensures { result ≡ (caller_view self.now).caller.stream };
 
     /// Whether this is an identity: 1 to the last.
     fn covers(&self, id: Id) -> bool
-        ensures { IsTrue result ↔ IsIdentity (place self.now).caller.layout id };
+        ensures { IsTrue result ↔ IsIdentity (caller_view self.now).caller.layout id };
 
     /// Whether this identity is the caller's own.
     fn owns(&self, id: Id) -> bool
         ensures { IsTrue result
-            ↔ Owns (place self.now).caller.layout (place self.now).caller.stream id };
+            ↔ Owns (caller_view self.now).caller.layout (caller_view self.now).caller.stream id };
 
     /// The room that the caller has left, in literals: a publish with Done takes the clause's length, and nothing gives any back.
     fn room(&self) -> u64
-        ensures { result ≡ (place self.now).room };
+        ensures { result ≡ (caller_view self.now).room };
 
     /// What the map has under an identity. A formula's clause is always live, and the caller's own identities have what its
     /// calls left there. The layout has the formula's variables, and every clause that the caller has seen follows from it.
     fn fetch(&mut self, id: Id) -> Fetched
-        requires { IsIdentity (place self.old).caller.layout id }
+        requires { IsIdentity (caller_view self.old).caller.layout id }
         ensures event { moves self.old self.new
-            (fetch (place self.old).caller.stream id (reply_of (place self.new) result) ∷ []) }
-        ensures fetched { IsFetched (place self.new) id result }
-        ensures own { AnswersOwn (place self.old) id (reply_of (place self.new) result) }
-        ensures formula { AnswersFormula (place self.old) id (reply_of (place self.new) result) }
-        ensures variables { (place self.new).caller.formula.vars
-            ≡ (place self.new).caller.layout.vars }
-        ensures follow { AllFollow (place self.new) };
+            (fetch (caller_view self.old).caller.stream id
+            (reply_of (caller_view self.new) result) ∷ []) }
+        ensures fetched { IsFetched (caller_view self.new) id result }
+        ensures own { AnswersOwn (caller_view self.old) id
+            (reply_of (caller_view self.new) result) }
+        ensures formula { AnswersFormula (caller_view self.old) id
+            (reply_of (caller_view self.new) result) }
+        ensures variables { (caller_view self.new).caller.formula.vars
+            ≡ (caller_view self.new).caller.layout.vars }
+        ensures follow { AllFollow (caller_view self.new) };
 
     /// Literal `k`, from 0 on, of a clause whose clip is known here, in the order in which the map keeps the clause, which
     /// never changes.
     fn literal(&mut self, clip: &Clip, k: u32) -> Lit
-        requires known { IsKnown (place self.old) clip.now }
+        requires known { IsKnown (caller_view self.old) clip.now }
         requires within { k < clip.now.len }
-        ensures value { slice_get (clip_clause (place self.old) clip.now) k ≡ Some result }
+        ensures value { slice_get (clip_clause (caller_view self.old) clip.now) k ≡ Some result }
         ensures event { moves self.old self.new [] }
-        ensures stays { place self.new ≡ place self.old };
+        ensures stays { caller_view self.new ≡ caller_view self.old };
 
     /// Pair `i`, from 0 on, of a clause whose clip is known here: its literals `2 * i` and, if it has that one, `2 * i + 1`, as
     /// two calls of `literal` give them.
     #[inline]
     fn pair(&mut self, clip: &Clip, i: u32) -> (Lit, Option<Lit>)
-        requires known { IsKnown (place self.old) clip.now }
+        requires known { IsKnown (caller_view self.old) clip.now }
         requires within { 2 * i < clip.now.len }
-        ensures first { slice_get (clip_clause (place self.old) clip.now) (2 * i) ≡ Some result.0 }
-        ensures second { slice_get (clip_clause (place self.old) clip.now) (2 * i + 1) ≡ result.1 }
+        ensures first { slice_get (clip_clause (caller_view self.old) clip.now) (2 * i)
+            ≡ Some result.0 }
+        ensures second { slice_get (clip_clause (caller_view self.old) clip.now) (2 * i + 1)
+            ≡ result.1 }
         ensures event { moves self.old self.new [] }
-        ensures stays { place self.new ≡ place self.old }
+        ensures stays { caller_view self.new ≡ caller_view self.old }
     {
         let len = clip.len();
         let k = 2 * i;
@@ -173,19 +178,21 @@ pub trait ClauseMap {
 
     /// Publishes a clause that follows from the formula, of at most 65,535 literals, under an identity of the caller's own.
     fn publish(&mut self, id: Id, clause: &[Lit]) -> Published
-        requires owns { Owns (place self.old).caller.layout (place self.old).caller.stream id }
-        requires clause { IsPublishable (place self.old).caller.formula clause.now }
-        requires room { length clause.now ≤ (place self.old).room }
+        requires owns { Owns (caller_view self.old).caller.layout
+            (caller_view self.old).caller.stream id }
+        requires clause { IsPublishable (caller_view self.old).caller.formula clause.now }
+        requires room { length clause.now ≤ (caller_view self.old).room }
         ensures event { moves self.old self.new
-            (publish (place self.old).caller.stream id clause.now result ∷ []) }
-        ensures done { (result ≡ Published.Done) ↔ ((place self.old).own id ≡ absent) };
+            (publish (caller_view self.old).caller.stream id clause.now result ∷ []) }
+        ensures done { (result ≡ Published.Done) ↔ ((caller_view self.old).own id ≡ absent) };
 
     /// Retires the clause under an identity of the caller's own.
     fn retire(&mut self, id: Id) -> Retired
-        requires { Owns (place self.old).caller.layout (place self.old).caller.stream id }
+        requires { Owns (caller_view self.old).caller.layout
+            (caller_view self.old).caller.stream id }
         ensures event { moves self.old self.new
-            (retire (place self.old).caller.stream id result ∷ []) }
-        ensures done { (result ≡ Retired.Done) ↔ IsLive ((place self.old).own id) };
+            (retire (caller_view self.old).caller.stream id result ∷ []) }
+        ensures done { (result ≡ Retired.Done) ↔ IsLive ((caller_view self.old).own id) };
 
     /// No events lie between a moment and itself.
     ghost moves_none: { (a : Self) → moves a a [] };
@@ -193,6 +200,6 @@ pub trait ClauseMap {
     /// One call after another.
     ghost moves_append: { (a b c : Self) (es fs : History) → moves a b es → moves b c fs → moves a c (es ++ fs) };
 
-    /// What the events say of the place.
-    ghost moves_tells: { (a b : Self) (es : History) → moves a b es → Tells (place a) (place b) es };
+    /// What the events change of the caller's view.
+    ghost moves_are_step: { (a b : Self) (es : History) → moves a b es → CallerStep (caller_view a) (caller_view b) es };
 }

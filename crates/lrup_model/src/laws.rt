@@ -1,18 +1,18 @@
 //! Laws of the definitions. Each function does nothing; its contract is the law, which holds of every formula, layout,
 //! history and pass.
-ghost use Rattle.lrup_model.specs.Laws.{PassTells, KnownStays, EntriesAdvance};
+ghost use Rattle.lrup_model.specs.Laws.{PassSteps, KnownStays, EntriesAdvance};
 
 /// An entry goes from absent to live to retired, with one clause.
 pub fn entries_advance()
     ensures { EntriesAdvance }
 {}
 
-/// A clip that is known at a place stays known, with the same literals, whatever calls follow.
+/// A clip that is known in a view stays known, with the same literals, whatever calls follow.
 pub fn known_stays()
     ensures { KnownStays }
 {}
 
-/// What a pass's calls say of the caller's place.
-pub fn pass_tells()
-    ensures { PassTells }
+/// What a pass's calls say of the caller's view.
+pub fn pass_steps()
+    ensures { PassSteps }
 {}

@@ -5,9 +5,9 @@ ghost use Rattle.lrup_model.specs.Formula.{formula_literals};
 ghost use Rattle.lrup_model.specs.State.{opening};
 ghost use Rattle.lrup_model.specs.internal.PlainInside.{flat, entries_from, fetched_of, IsFormulaLive, AfterPublish, AfterRetire};
 ghost use Rattle.lrup_model.specs.Desk.{IsDesk};
-ghost use Rattle.lrup_model.specs.Plain.{stored_at, formula_of, plain_state, plain_place};
+ghost use Rattle.lrup_model.specs.Plain.{plain_slot_at, formula_of, plain_state, plain_caller_view};
 ghost use Rattle.lrup_model.specs.History.{IsPublishable};
-ghost use Rattle.lrup_model.specs.Place.{IsKnown, AllFollow, clip_clause};
+ghost use Rattle.lrup_model.specs.CallerView.{IsKnown, AllFollow, clip_clause};
 
 use crate::Id;
 use crate::clause_map::{ClauseMap, Clip, Fetched, Published, Retired};
@@ -54,8 +54,8 @@ impl PlainMap {
     /// the first.
     fn look(&self, id: Id) -> Fetched
         requires { id ≤ last_identity self.now.layout }
-        ensures answer { result ≡ fetched_of id (stored_at self.now id) }
-        ensures follow { AllFollow (plain_place self.now 1) }
+        ensures answer { result ≡ fetched_of id (plain_slot_at self.now id) }
+        ensures follow { AllFollow (plain_caller_view self.now 1) }
         ensures formula { IsFormulaLive self.now }
     {
         match self.entries[id as usize] {
@@ -68,9 +68,9 @@ impl PlainMap {
     /// Literal `k` of the clause that is stored under the clip's identity. What is known of a clip is the same for each
     /// stream, so the contract takes the first.
     fn literal_of(&self, clip: &Clip, k: u32) -> Lit
-        requires known { IsKnown (plain_place self.now 1) clip.now }
+        requires known { IsKnown (plain_caller_view self.now 1) clip.now }
         requires within { k < clip.now.len }
-        ensures { slice_get (clip_clause (plain_place self.now 1) clip.now) k ≡ Some result }
+        ensures { slice_get (clip_clause (plain_caller_view self.now 1) clip.now) k ≡ Some result }
     {
         self.literals[clip.start() as usize + k as usize]
     }
@@ -226,10 +226,10 @@ impl Drop for PlainDesk<'_> {
 }
 
 impl ClauseMap for PlainDesk<'_> {
-    ghost use Rattle.lrup_model.specs.Desk.{plain_desk_place, PlainDeskMoves};
-    ghost use Rattle.lrup_model.specs.lemmas.DeskLemmas.{plain_desk_none, plain_desk_append, plain_desk_tells};
+    ghost use Rattle.lrup_model.specs.Desk.{plain_desk_caller_view, PlainDeskMoves};
+    ghost use Rattle.lrup_model.specs.lemmas.DeskLemmas.{plain_desk_none, plain_desk_append, plain_desk_step};
 
-    ghost place = { plain_desk_place };
+    ghost caller_view = { plain_desk_caller_view };
 
     ghost moves = { PlainDeskMoves };
 
@@ -269,5 +269,5 @@ impl ClauseMap for PlainDesk<'_> {
 
     ghost moves_append = { plain_desk_append };
 
-    ghost moves_tells = { plain_desk_tells };
+    ghost moves_are_step = { plain_desk_step };
 }

@@ -323,7 +323,7 @@ fn clips_tell_their_parts(rt: HostRuntime) {
 
 /// Publishes `2`, which the first two clauses show, under an identity of the caller's own.
 fn publish_two<M: ClauseMap>(desk: &mut M, id: Id) -> Option<Published>
-    requires { (M.place desk.old).caller.formula ≡ four }
+    requires { (M.caller_view desk.old).caller.formula ≡ four }
     ensures { (es : History) × M.moves desk.old desk.new es }
 {
     if !desk.owns(id) || desk.room() == 0 {

@@ -6,7 +6,7 @@ use Rattle.std.specs.Fmt.{decimal, signed_decimal}
 use Rattle.std.specs.List.{AllByRecursion, flat_map}
 use Rattle.std.proofs.lemmas.List.{append_assoc, append-nil, length-append, length-take-le, take-take}
 use Rattle.lrup_model.specs.lemmas.ListLemmas.{All-append}
-use Rattle.lrup_text.specs.declared.machine.Place.TheVariants as places
+use Rattle.lrup_text.specs.declared.machine.ParserState.TheVariants as states
 use Rattle.lrup_text.specs.declared.machine.PartialLine.{PartialLine}
 use Rattle.lrup_text.specs.Writing.{space}
 use Rattle.lrup_text.specs.internal.ByteNames.{minus}
@@ -98,13 +98,13 @@ count_is : {X : Type 0} (old new more : List X) (first count : ℕ) → first �
 count_is old new more first count first_in count_in is =
     omega (arith, length-take-le count new count_in, length-take-le first old first_in, ap length is, length-append (take first old) more)
 
-pub items_ahead : (m : PartialLine) (v : Vec ℕ Global) (count used last : ℕ) (ids piece : List ℕ) → IsPartialLine m → m.place ≡ places.Item
+pub items_ahead : (m : PartialLine) (v : Vec ℕ Global) (count used last : ℕ) (ids piece : List ℕ) → IsPartialLine m → m.state ≡ states.Item
     → v.items ≡ ids → length ids ≡ 65536 → last ≤ length piece
     → ReadsItems (take last piece) 0 m.identities.items m.identity_count ids count used
     → ReadsAhead m piece used (record m { identities = v; identity_count = count })
 unfolding pending_at spot_at IsRoomy items_text
 items_ahead m v count used last ids piece h at items size inside found =
-    let next : PartialLine = record m { identities = v; identity_count = count; place = places.Item } in
+    let next : PartialLine = record m { identities = v; identity_count = count; state = states.Item } in
     let front = list_front m.deletes m.lead (literals_read m) in
     let few : m.identity_count ≤ length m.identities.items = omega (arith, h.room.identities, h.kept.few_identities) in
     let lists : identities_read next ≡ identities_read m ++ found.more = ap (take count) items ∙ found.ids in
@@ -142,15 +142,15 @@ items_ahead m v count used last ids piece h at items size inside found =
       };
       is = grown ∙ ap (λ p. pending_at p m ++ numbers_text found.more) (sym at) ∙ ap (λ t. pending m ++ t) (sym bytes);
     } in
-    subst (λ p. ReadsAhead m piece used (record next { place = p })) (sym at) result
+    subst (λ p. ReadsAhead m piece used (record next { state = p })) (sym at) result
 
 pub literals_ahead : (m : PartialLine) (v : Vec ℤ Global) (count used last : ℕ) (lits : List ℤ) (piece : List ℕ) → IsPartialLine m
-    → m.place ≡ places.Body → v.items ≡ lits → length lits ≡ 65535 → last ≤ length piece
+    → m.state ≡ states.Body → v.items ≡ lits → length lits ≡ 65535 → last ≤ length piece
     → ReadsLiterals (take last piece) 0 m.literals.items m.literal_count lits count used
     → ReadsAhead m piece used (record m { literals = v; literal_count = count })
 unfolding pending_at spot_at IsRoomy literals_text
 literals_ahead m v count used last lits piece h at items size inside found =
-    let next : PartialLine = record m { literals = v; literal_count = count; place = places.Body } in
+    let next : PartialLine = record m { literals = v; literal_count = count; state = states.Body } in
     let few : m.literal_count ≤ length m.literals.items = omega (arith, h.room.literals, h.kept.few_literals) in
     let lists : literals_read next ≡ literals_read m ++ found.more = ap (take count) items ∙ found.lits in
     let counted : count ≡ m.literal_count + length found.more =
@@ -182,7 +182,7 @@ literals_ahead m v count used last lits piece h at items size inside found =
       };
       is = grown ∙ ap (λ p. pending_at p m ++ literals_text found.more) (sym at) ∙ ap (λ t. pending m ++ t) (sym bytes);
     } in
-    subst (λ p. ReadsAhead m piece used (record next { place = p })) (sym at) result
+    subst (λ p. ReadsAhead m piece used (record next { state = p })) (sym at) result
 
 -- nothing was read
 pub nothing_ahead : (m : PartialLine) (piece : List ℕ) → IsPartialLine m → ReadsAhead m piece 0 m

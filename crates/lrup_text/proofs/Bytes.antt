@@ -1,4 +1,4 @@
--- What a byte does to a line that was read in part, at each place.
+-- What a byte does to a line that was read in part, in each state.
 use Rattle.std.proofs.Common.{unsigned_abs, ◌≡◌, ◌≢◌, ℕ, ℤ, ◌+◌, ◌-◌, ◌*◌, ◌^◌, ◌<◌, ◌≤◌, inl, inr, Bool, true, false, List, [], ◌∷◌, ◌++◌}
 use Rattle.std.proofs.Common.{length, take, map, refl, sym, ◌∙◌, ap, subst, arith}
 use Rattle.std.specs.Fmt.{decimal, signed_decimal}
@@ -9,8 +9,8 @@ use Rattle.std.proofs.lemmas.List.{append_assoc, append-nil, flat_map_more, take
 use Rattle.std.proofs.lemmas.Bool.{cases_eq}
 use Rattle.lrup_model.specs.lemmas.ListLemmas.{All-push}
 use Rattle.lrup_text.specs.declared.LineFault.TheVariants.{Spelling, TooLong, RatHint}
-use Rattle.lrup_text.specs.declared.machine.Place.{Place}
-use Rattle.lrup_text.specs.declared.machine.Place.TheVariants as places
+use Rattle.lrup_text.specs.declared.machine.ParserState.{ParserState}
+use Rattle.lrup_text.specs.declared.machine.ParserState.TheVariants as states
 use Rattle.lrup_text.specs.declared.machine.PartialLine.{PartialLine}
 use Rattle.lrup_text.specs.Writing.{space}
 use Rattle.lrup_text.specs.internal.ByteNames.{minus, zero_digit, letter_d, letter_i, line_feed}
@@ -70,46 +70,46 @@ use Rattle.lrup_text.proofs.Steps.{
   end_blocks,
 }
 
--- what a place holds, at the place
-tracks_at : (m : PartialLine) (place : Place) → m.place ≡ place → IsPartialLine m → Tracks (pending_at place m) (spot_at place m)
-tracks_at m place e h = subst (λ p. Tracks (pending_at p m) (spot_at p m)) e h.tracks
+-- what a state holds, in the state
+tracks_at : (m : PartialLine) (state : ParserState) → m.state ≡ state → IsPartialLine m → Tracks (pending_at state m) (spot_at state m)
+tracks_at m state e h = subst (λ p. Tracks (pending_at p m) (spot_at p m)) e h.tracks
 
-bounded_at : (m : PartialLine) (place : Place) → IsPartialLine m → IsRoomy place m → IsBounded (spot_at place m)
+bounded_at : (m : PartialLine) (state : ParserState) → IsPartialLine m → IsRoomy state m → IsBounded (spot_at state m)
 unfolding spot_at IsRoomy
-bounded_at m places.Start h roomy = tt
-bounded_at m places.Lead h roomy = h.number.few
-bounded_at m places.Import h roomy = tt
-bounded_at m places.Body h roomy = h.kept.few_literals
-bounded_at m places.Minus h roomy = roomy.1
-bounded_at m places.Literal h roomy = (h.number.few, roomy.1)
-bounded_at m places.List h roomy = tt
-bounded_at m places.Item h roomy = h.kept.few_identities
-bounded_at m places.Number h roomy = (h.number.few, roomy.0)
-bounded_at m places.LineEnd h roomy = tt
+bounded_at m states.Start h roomy = tt
+bounded_at m states.Lead h roomy = h.number.few
+bounded_at m states.Import h roomy = tt
+bounded_at m states.Body h roomy = h.kept.few_literals
+bounded_at m states.Minus h roomy = roomy.1
+bounded_at m states.Literal h roomy = (h.number.few, roomy.1)
+bounded_at m states.List h roomy = tt
+bounded_at m states.Item h roomy = h.kept.few_identities
+bounded_at m states.Number h roomy = (h.number.few, roomy.0)
+bounded_at m states.LineEnd h roomy = tt
 
 -- the counts are within the limits
-pub bounded : (m : PartialLine) → IsPartialLine m → IsBounded (spot_at m.place m)
-bounded m h = bounded_at m m.place h h.roomy
+pub bounded : (m : PartialLine) → IsPartialLine m → IsBounded (spot_at m.state m)
+bounded m h = bounded_at m m.state h h.roomy
 
-module _ (m : PartialLine) (place : Place) (at : m.place ≡ place) (reads : IsPartialLine m) (b : ℕ) where
-  pub spelling_at : ((signed : Bool) → Blocks signed (spot_at place m) b) → IsRefused (pending m ++ b ∷ []) Spelling
+module _ (m : PartialLine) (state : ParserState) (at : m.state ≡ state) (reads : IsPartialLine m) (b : ℕ) where
+  pub spelling_at : ((signed : Bool) → Blocks signed (spot_at state m) b) → IsRefused (pending m ++ b ∷ []) Spelling
   spelling_at blocks =
-      decides_spelling (pending m) (spot_at m.place m) b reads.tracks (bounded m reads)
+      decides_spelling (pending m) (spot_at m.state m) b reads.tracks (bounded m reads)
       (subst (λ p. (signed : Bool) → Blocks signed (spot_at p m) b) (sym at) blocks)
 
-  pub long_at : Exceeds (spot_at place m) b → IsRefused (pending m ++ b ∷ []) TooLong
+  pub long_at : Exceeds (spot_at state m) b → IsRefused (pending m ++ b ∷ []) TooLong
   long_at exceeds =
-      decides_long (pending m) (spot_at m.place m) b reads.tracks (bounded m reads) (subst (λ p. Exceeds (spot_at p m) b) (sym at) exceeds)
+      decides_long (pending m) (spot_at m.state m) b reads.tracks (bounded m reads) (subst (λ p. Exceeds (spot_at p m) b) (sym at) exceeds)
 
 -- the same line elsewhere, after one more byte
-module _ (m next : PartialLine) (place : Place) (at : m.place ≡ place) (reads : IsPartialLine m) (b : ℕ) where
-  pub tracks_next : pending next ≡ pending_at place m ++ b ∷ [] → Moves (spot_at place m) b (spot_at next.place next)
-      → Tracks (pending next) (spot_at next.place next)
+module _ (m next : PartialLine) (state : ParserState) (at : m.state ≡ state) (reads : IsPartialLine m) (b : ℕ) where
+  pub tracks_next : pending next ≡ pending_at state m ++ b ∷ [] → Moves (spot_at state m) b (spot_at next.state next)
+      → Tracks (pending next) (spot_at next.state next)
   tracks_next is moves =
-      subst (λ t. Tracks t (spot_at next.place next)) (sym is)
-      (tracks_more (pending_at place m) (spot_at place m) (spot_at next.place next) b (tracks_at m place at reads) moves)
+      subst (λ t. Tracks t (spot_at next.state next)) (sym is)
+      (tracks_more (pending_at state m) (spot_at state m) (spot_at next.state next) b (tracks_at m state at reads) moves)
 
-  pub pending_next : pending next ≡ pending_at place m ++ b ∷ [] → pending next ≡ pending m ++ b ∷ []
+  pub pending_next : pending next ≡ pending_at state m ++ b ∷ [] → pending next ≡ pending m ++ b ∷ []
   pending_next is = is ∙ ap (λ p. pending_at p m ++ b ∷ []) (sym at)
 
 -- a number after its first digit, and after one more
@@ -208,32 +208,32 @@ GoesOn m b next = IsPartialLine next × (pending next ≡ pending m ++ b ∷ [])
 module _ (m : PartialLine) (b : ℕ) (h : IsPartialLine m) where
   -- Start
 
-  pub start_goes_on : m.place ≡ places.Start → 49 ≤ b → b ≤ 57 → GoesOn m b (record m { number = b - 48; digits = 1; place = places.Lead })
+  pub start_goes_on : m.state ≡ states.Start → 49 ≤ b → b ≤ 57 → GoesOn m b (record m { number = b - 48; digits = 1; state = states.Lead })
   unfolding pending_at spot_at IsRoomy
   start_goes_on at low high =
-      let next : PartialLine = record m { number = b - 48; digits = 1; place = places.Lead } in
+      let next : PartialLine = record m { number = b - 48; digits = 1; state = states.Lead } in
       let is : pending next ≡ [] ++ b ∷ [] = decimal_one b (omega arith, high) in (
         record {
           room = h.room;
           kept = h.kept;
           number = first_digit b low high;
           roomy = tt;
-          tracks = tracks_next m next places.Start at h b is (start_digit b low high);
+          tracks = tracks_next m next states.Start at h b is (start_digit b low high);
         },
-        pending_next m next places.Start at h b is,
+        pending_next m next states.Start at h b is,
       )
 
-  pub start_spelling : m.place ≡ places.Start → NoFirst b → IsRefused (pending m ++ b ∷ []) Spelling
+  pub start_spelling : m.state ≡ states.Start → NoFirst b → IsRefused (pending m ++ b ∷ []) Spelling
   unfolding spot_at
-  start_spelling at never = spelling_at m places.Start at h b (λ signed. start_blocks signed b never)
+  start_spelling at never = spelling_at m states.Start at h b (λ signed. start_blocks signed b never)
 
   -- Lead
 
-  pub lead_digit_goes_on : m.place ≡ places.Lead → IsDigit b → m.digits < 18
+  pub lead_digit_goes_on : m.state ≡ states.Lead → IsDigit b → m.digits < 18
       → GoesOn m b (record m { number = m.number * 10 + (b - 48); digits = m.digits + 1 })
   unfolding pending_at spot_at IsRoomy
   lead_digit_goes_on at digit few =
-      let next : PartialLine = record m { number = m.number * 10 + (b - 48); digits = m.digits + 1; place = places.Lead } in
+      let next : PartialLine = record m { number = m.number * 10 + (b - 48); digits = m.digits + 1; state = states.Lead } in
       let is : pending next ≡ decimal m.number ++ b ∷ [] = decimal_next m.number m.digits b h.number few digit in
       let goes : GoesOn m b next = (
         record {
@@ -241,17 +241,17 @@ module _ (m : PartialLine) (b : ℕ) (h : IsPartialLine m) where
           kept = h.kept;
           number = more_digits m.number m.digits b h.number few digit;
           roomy = tt;
-          tracks = tracks_next m next places.Lead at h b is (lead_digit m.digits b digit);
+          tracks = tracks_next m next states.Lead at h b is (lead_digit m.digits b digit);
         },
-        pending_next m next places.Lead at h b is,
+        pending_next m next states.Lead at h b is,
       ) in
-      subst (λ p. GoesOn m b (record next { place = p })) (sym at) goes
+      subst (λ p. GoesOn m b (record next { state = p })) (sym at) goes
 
-  pub lead_space_goes_on : m.place ≡ places.Lead → b ≡ space
-      → GoesOn m b (record m { lead = m.number; imports = false; literal_count = 0; identity_count = 0; place = places.Body })
+  pub lead_space_goes_on : m.state ≡ states.Lead → b ≡ space
+      → GoesOn m b (record m { lead = m.number; imports = false; literal_count = 0; identity_count = 0; state = states.Body })
   unfolding pending_at spot_at IsRoomy literals_text
   lead_space_goes_on at e =
-      let next : PartialLine = record m { lead = m.number; imports = false; literal_count = 0; identity_count = 0; place = places.Body } in
+      let next : PartialLine = record m { lead = m.number; imports = false; literal_count = 0; identity_count = 0; state = states.Body } in
       let is : pending next ≡ decimal m.number ++ b ∷ [] = ap (λ x. decimal m.number ++ x ∷ []) (sym e) in (
         record {
           room = h.room;
@@ -264,28 +264,28 @@ module _ (m : PartialLine) (b : ℕ) (h : IsPartialLine m) where
           };
           number = h.number;
           roomy = refl;
-          tracks = tracks_next m next places.Lead at h b is
+          tracks = tracks_next m next states.Lead at h b is
               (subst (λ x. Moves (InLead m.digits) x (BeforeLiteral false 0)) (sym e) (lead_space m.digits h.number.few));
         },
-        pending_next m next places.Lead at h b is,
+        pending_next m next states.Lead at h b is,
       )
 
-  pub lead_too_long : m.place ≡ places.Lead → IsDigit b → 18 ≤ m.digits → IsRefused (pending m ++ b ∷ []) TooLong
+  pub lead_too_long : m.state ≡ states.Lead → IsDigit b → 18 ≤ m.digits → IsRefused (pending m ++ b ∷ []) TooLong
   unfolding spot_at
   lead_too_long at digit many =
       let e : m.digits ≡ 18 = omega (arith, h.number.few) in
-      long_at m places.Lead at h b (subst (λ k. Exceeds (InLead k) b) (sym e) (lead_exceeds b digit))
+      long_at m states.Lead at h b (subst (λ k. Exceeds (InLead k) b) (sym e) (lead_exceeds b digit))
 
-  pub lead_spelling : m.place ≡ places.Lead → NoDigit b → b ≢ space → IsRefused (pending m ++ b ∷ []) Spelling
+  pub lead_spelling : m.state ≡ states.Lead → NoDigit b → b ≢ space → IsRefused (pending m ++ b ∷ []) Spelling
   unfolding spot_at
-  lead_spelling at never ne = spelling_at m places.Lead at h b (λ signed. lead_blocks signed m.digits b never ne)
+  lead_spelling at never ne = spelling_at m states.Lead at h b (λ signed. lead_blocks signed m.digits b never ne)
 
   -- Import
 
-  pub import_space_goes_on : m.place ≡ places.Import → b ≡ space → GoesOn m b (record m { place = places.Body })
+  pub import_space_goes_on : m.state ≡ states.Import → b ≡ space → GoesOn m b (record m { state = states.Body })
   unfolding pending_at spot_at IsRoomy literals_text
   import_space_goes_on at e =
-      let next : PartialLine = record m { place = places.Body } in
+      let next : PartialLine = record m { state = states.Body } in
       let roomy : (m.identity_count ≡ 0) × (m.literal_count ≡ 0) × (m.imports ≡ true) = subst (λ p. IsRoomy p m) at h.roomy in
       let empty : literals_read m ≡ [] = ap (λ n. take n m.literals.items) roomy.1 in
       let front : pending next ≡ decimal m.lead ++ space ∷ letter_i ∷ space ∷ [] = ap (λ i. clause_front i m.lead (literals_read m)) roomy.2
@@ -298,25 +298,25 @@ module _ (m : PartialLine) (b : ℕ) (h : IsPartialLine m) where
           kept = h.kept;
           number = h.number;
           roomy = roomy.0;
-          tracks = tracks_next m next places.Import at h b is
+          tracks = tracks_next m next states.Import at h b is
               (subst (λ i. Moves AfterImport b (BeforeLiteral i m.literal_count)) (sym roomy.2)
               (subst (λ n. Moves AfterImport b (BeforeLiteral true n)) (sym roomy.1)
               (subst (λ x. Moves AfterImport x (BeforeLiteral true 0)) (sym e) import_space)));
         },
-        pending_next m next places.Import at h b is,
+        pending_next m next states.Import at h b is,
       )
 
-  pub import_spelling : m.place ≡ places.Import → b ≢ space → IsRefused (pending m ++ b ∷ []) Spelling
+  pub import_spelling : m.state ≡ states.Import → b ≢ space → IsRefused (pending m ++ b ∷ []) Spelling
   unfolding spot_at
-  import_spelling at ne = spelling_at m places.Import at h b (λ signed. import_blocks signed b ne)
+  import_spelling at ne = spelling_at m states.Import at h b (λ signed. import_blocks signed b ne)
 
   -- Body
 
-  pub body_hints_goes_on : m.place ≡ places.Body → b ≡ zero_digit → m.imports ≡ false
-      → GoesOn m b (record m { deletes = false; place = places.List })
+  pub body_hints_goes_on : m.state ≡ states.Body → b ≡ zero_digit → m.imports ≡ false
+      → GoesOn m b (record m { deletes = false; state = states.List })
   unfolding pending_at spot_at IsRoomy
   body_hints_goes_on at e adds =
-      let next : PartialLine = record m { deletes = false; place = places.List } in
+      let next : PartialLine = record m { deletes = false; state = states.List } in
       let is : pending next ≡ clause_front m.imports m.lead (literals_read m) ++ b ∷ [] =
       ap (λ i. clause_front i m.lead (literals_read m) ++ zero_digit ∷ []) (sym adds)
       ∙ ap (λ x. clause_front m.imports m.lead (literals_read m) ++ x ∷ []) (sym e) in (
@@ -325,18 +325,18 @@ module _ (m : PartialLine) (b : ℕ) (h : IsPartialLine m) where
           kept = h.kept;
           number = h.number;
           roomy = (subst (λ p. IsRoomy p m) at h.roomy, adds);
-          tracks = tracks_next m next places.Body at h b is
+          tracks = tracks_next m next states.Body at h b is
               (subst (λ i. Moves (BeforeLiteral i m.literal_count) b (BeforeList false)) (sym adds)
               (subst (λ x. Moves (BeforeLiteral false m.literal_count) x (BeforeList false)) (sym e)
               (body_hints m.literal_count h.kept.few_literals)));
         },
-        pending_next m next places.Body at h b is,
+        pending_next m next states.Body at h b is,
       )
 
-  pub body_end_goes_on : m.place ≡ places.Body → b ≡ zero_digit → m.imports ≡ true → GoesOn m b (record m { place = places.LineEnd })
+  pub body_end_goes_on : m.state ≡ states.Body → b ≡ zero_digit → m.imports ≡ true → GoesOn m b (record m { state = states.LineEnd })
   unfolding pending_at spot_at IsRoomy
   body_end_goes_on at e imports =
-      let next : PartialLine = record m { place = places.LineEnd } in
+      let next : PartialLine = record m { state = states.LineEnd } in
       let is : pending next ≡ clause_front m.imports m.lead (literals_read m) ++ b ∷ [] =
       ap (λ i. end_front i m.deletes m.lead (literals_read m) (identities_read m)) imports
       ∙ ap (λ i. clause_front i m.lead (literals_read m) ++ zero_digit ∷ []) (sym imports)
@@ -346,11 +346,11 @@ module _ (m : PartialLine) (b : ℕ) (h : IsPartialLine m) where
           kept = h.kept;
           number = h.number;
           roomy = tt;
-          tracks = tracks_next m next places.Body at h b is
+          tracks = tracks_next m next states.Body at h b is
               (subst (λ i. Moves (BeforeLiteral i m.literal_count) b AtEnd) (sym imports)
               (subst (λ x. Moves (BeforeLiteral true m.literal_count) x AtEnd) (sym e) (body_end m.literal_count h.kept.few_literals)));
         },
-        pending_next m next places.Body at h b is,
+        pending_next m next states.Body at h b is,
       )
 
   -- what was read of a line that has no literals and is no import yet
@@ -365,11 +365,11 @@ module _ (m : PartialLine) (b : ℕ) (h : IsPartialLine m) where
       subst (λ i. Moves (BeforeLiteral i m.literal_count) b next) (sym adds)
       (subst (λ n. Moves (BeforeLiteral false n) b next) (sym few) (subst (λ x. Moves (BeforeLiteral false 0) x next) (sym e) moves))
 
-  pub body_deletion_goes_on : m.place ≡ places.Body → b ≡ letter_d → m.imports ≡ false → m.literal_count ≡ 0
-      → GoesOn m b (record m { deletes = true; place = places.List })
+  pub body_deletion_goes_on : m.state ≡ states.Body → b ≡ letter_d → m.imports ≡ false → m.literal_count ≡ 0
+      → GoesOn m b (record m { deletes = true; state = states.List })
   unfolding pending_at spot_at IsRoomy
   body_deletion_goes_on at e adds few =
-      let next : PartialLine = record m { deletes = true; place = places.List } in
+      let next : PartialLine = record m { deletes = true; state = states.List } in
       let is : pending next ≡ clause_front m.imports m.lead (literals_read m) ++ b ∷ [] =
       sym (ap (λ t. t ++ b ∷ []) (lead_front adds few) ∙ append_assoc (decimal m.lead) (space ∷ []) (b ∷ [])
       ∙ ap (λ x. decimal m.lead ++ space ∷ x ∷ []) e) in (
@@ -378,16 +378,16 @@ module _ (m : PartialLine) (b : ℕ) (h : IsPartialLine m) where
           kept = h.kept;
           number = h.number;
           roomy = (subst (λ p. IsRoomy p m) at h.roomy, adds);
-          tracks = tracks_next m next places.Body at h b is (letter_moves (BeforeList true) letter_d e adds few body_deletion);
+          tracks = tracks_next m next states.Body at h b is (letter_moves (BeforeList true) letter_d e adds few body_deletion);
         },
-        pending_next m next places.Body at h b is,
+        pending_next m next states.Body at h b is,
       )
 
-  pub body_import_goes_on : m.place ≡ places.Body → b ≡ letter_i → m.imports ≡ false → m.literal_count ≡ 0
-      → GoesOn m b (record m { imports = true; place = places.Import })
+  pub body_import_goes_on : m.state ≡ states.Body → b ≡ letter_i → m.imports ≡ false → m.literal_count ≡ 0
+      → GoesOn m b (record m { imports = true; state = states.Import })
   unfolding pending_at spot_at IsRoomy
   body_import_goes_on at e adds few =
-      let next : PartialLine = record m { imports = true; place = places.Import } in
+      let next : PartialLine = record m { imports = true; state = states.Import } in
       let is : pending next ≡ clause_front m.imports m.lead (literals_read m) ++ b ∷ [] =
       sym (ap (λ t. t ++ b ∷ []) (lead_front adds few) ∙ append_assoc (decimal m.lead) (space ∷ []) (b ∷ [])
       ∙ ap (λ x. decimal m.lead ++ space ∷ x ∷ []) e) in (
@@ -396,15 +396,15 @@ module _ (m : PartialLine) (b : ℕ) (h : IsPartialLine m) where
           kept = h.kept;
           number = h.number;
           roomy = (subst (λ p. IsRoomy p m) at h.roomy, few, refl);
-          tracks = tracks_next m next places.Body at h b is (letter_moves AfterImport letter_i e adds few body_import);
+          tracks = tracks_next m next states.Body at h b is (letter_moves AfterImport letter_i e adds few body_import);
         },
-        pending_next m next places.Body at h b is,
+        pending_next m next states.Body at h b is,
       )
 
-  pub body_minus_goes_on : m.place ≡ places.Body → b ≡ minus → m.literal_count < 65535 → GoesOn m b (record m { place = places.Minus })
+  pub body_minus_goes_on : m.state ≡ states.Body → b ≡ minus → m.literal_count < 65535 → GoesOn m b (record m { state = states.Minus })
   unfolding pending_at spot_at IsRoomy
   body_minus_goes_on at e few =
-      let next : PartialLine = record m { place = places.Minus } in
+      let next : PartialLine = record m { state = states.Minus } in
       let is : pending next ≡ clause_front m.imports m.lead (literals_read m) ++ b ∷ [] =
       ap (λ x. clause_front m.imports m.lead (literals_read m) ++ x ∷ []) (sym e) in (
         record {
@@ -412,18 +412,18 @@ module _ (m : PartialLine) (b : ℕ) (h : IsPartialLine m) where
           kept = h.kept;
           number = h.number;
           roomy = (subst (λ p. IsRoomy p m) at h.roomy, few);
-          tracks = tracks_next m next places.Body at h b is
+          tracks = tracks_next m next states.Body at h b is
               (subst (λ x. Moves (BeforeLiteral m.imports m.literal_count) x (AfterMinus m.imports m.literal_count)) (sym e)
               (body_minus m.imports m.literal_count));
         },
-        pending_next m next places.Body at h b is,
+        pending_next m next states.Body at h b is,
       )
 
-  pub body_digit_goes_on : m.place ≡ places.Body → 49 ≤ b → b ≤ 57 → m.literal_count < 65535
-      → GoesOn m b (record m { negative = false; number = b - 48; digits = 1; place = places.Literal })
+  pub body_digit_goes_on : m.state ≡ states.Body → 49 ≤ b → b ≤ 57 → m.literal_count < 65535
+      → GoesOn m b (record m { negative = false; number = b - 48; digits = 1; state = states.Literal })
   unfolding pending_at spot_at IsRoomy
   body_digit_goes_on at low high few =
-      let next : PartialLine = record m { negative = false; number = b - 48; digits = 1; place = places.Literal } in
+      let next : PartialLine = record m { negative = false; number = b - 48; digits = 1; state = states.Literal } in
       let is : pending next ≡ clause_front m.imports m.lead (literals_read m) ++ b ∷ [] =
       ap (λ t. clause_front m.imports m.lead (literals_read m) ++ t) (decimal_one b (omega arith, high)) in (
         record {
@@ -431,15 +431,15 @@ module _ (m : PartialLine) (b : ℕ) (h : IsPartialLine m) where
           kept = h.kept;
           number = first_digit b low high;
           roomy = (subst (λ p. IsRoomy p m) at h.roomy, few);
-          tracks = tracks_next m next places.Body at h b is (body_digit m.imports m.literal_count b low high);
+          tracks = tracks_next m next states.Body at h b is (body_digit m.imports m.literal_count b low high);
         },
-        pending_next m next places.Body at h b is,
+        pending_next m next states.Body at h b is,
       )
 
-  pub body_too_long : m.place ≡ places.Body → m.literal_count ≡ 65535 → (b ≢ minus → (49 ≤ b) × (b ≤ 57))
+  pub body_too_long : m.state ≡ states.Body → m.literal_count ≡ 65535 → (b ≢ minus → (49 ≤ b) × (b ≤ 57))
       → IsRefused (pending m ++ b ∷ []) TooLong
   unfolding spot_at
-  body_too_long at many kind = long_at m places.Body at h b (subst (λ n. Exceeds (BeforeLiteral m.imports n) b) (sym many) (exceeds b kind))
+  body_too_long at many kind = long_at m states.Body at h b (subst (λ n. Exceeds (BeforeLiteral m.imports n) b) (sym many) (exceeds b kind))
     where
       exceeds : (x : ℕ) → (x ≢ minus → (49 ≤ x) × (x ≤ 57)) → Exceeds (BeforeLiteral m.imports 65535) x
       exceeds x kind = elim (cases_eq x minus) [
@@ -447,19 +447,19 @@ module _ (m : PartialLine) (b : ℕ) (h : IsPartialLine m) where
         | inr ne ↦ body_exceeds_digit m.imports x (kind ne).0 (kind ne).1
       ]
 
-  pub body_spelling : m.place ≡ places.Body → b ≢ zero_digit → b ≢ minus → NoFirst b
+  pub body_spelling : m.state ≡ states.Body → b ≢ zero_digit → b ≢ minus → NoFirst b
       → (m.literal_count ≡ 0 → m.imports ≡ false → (b ≢ letter_d) × (b ≢ letter_i)) → IsRefused (pending m ++ b ∷ []) Spelling
   unfolding spot_at
   body_spelling at not_zero not_minus never no_letter =
-      spelling_at m places.Body at h b (λ signed. body_blocks signed m.imports m.literal_count b not_zero not_minus never no_letter)
+      spelling_at m states.Body at h b (λ signed. body_blocks signed m.imports m.literal_count b not_zero not_minus never no_letter)
 
   -- Minus
 
-  pub minus_goes_on : m.place ≡ places.Minus → 49 ≤ b → b ≤ 57
-      → GoesOn m b (record m { negative = true; number = b - 48; digits = 1; place = places.Literal })
+  pub minus_goes_on : m.state ≡ states.Minus → 49 ≤ b → b ≤ 57
+      → GoesOn m b (record m { negative = true; number = b - 48; digits = 1; state = states.Literal })
   unfolding pending_at spot_at IsRoomy
   minus_goes_on at low high =
-      let next : PartialLine = record m { negative = true; number = b - 48; digits = 1; place = places.Literal } in
+      let next : PartialLine = record m { negative = true; number = b - 48; digits = 1; state = states.Literal } in
       let front = clause_front m.imports m.lead (literals_read m) in
       let is : pending next ≡ (front ++ minus ∷ []) ++ b ∷ [] =
       ap (λ t. front ++ minus ∷ t) (decimal_one b (omega arith, high)) ∙ sym (append_assoc front (minus ∷ []) (b ∷ [])) in (
@@ -468,14 +468,14 @@ module _ (m : PartialLine) (b : ℕ) (h : IsPartialLine m) where
           kept = h.kept;
           number = first_digit b low high;
           roomy = subst (λ p. IsRoomy p m) at h.roomy;
-          tracks = tracks_next m next places.Minus at h b is (minus_digit m.imports m.literal_count b low high);
+          tracks = tracks_next m next states.Minus at h b is (minus_digit m.imports m.literal_count b low high);
         },
-        pending_next m next places.Minus at h b is,
+        pending_next m next states.Minus at h b is,
       )
 
-  pub minus_spelling : m.place ≡ places.Minus → NoFirst b → IsRefused (pending m ++ b ∷ []) Spelling
+  pub minus_spelling : m.state ≡ states.Minus → NoFirst b → IsRefused (pending m ++ b ∷ []) Spelling
   unfolding spot_at
-  minus_spelling at never = spelling_at m places.Minus at h b (λ signed. minus_blocks signed m.imports m.literal_count b never)
+  minus_spelling at never = spelling_at m states.Minus at h b (λ signed. minus_blocks signed m.imports m.literal_count b never)
 
   -- Literal
 
@@ -485,11 +485,11 @@ module _ (m : PartialLine) (b : ℕ) (h : IsPartialLine m) where
   literal_more true n k number few digit = ap (λ t. minus ∷ t) (decimal_next n k b number few digit)
   literal_more false n k number few digit = decimal_next n k b number few digit
 
-  pub literal_digit_goes_on : m.place ≡ places.Literal → IsDigit b → m.digits < 18
+  pub literal_digit_goes_on : m.state ≡ states.Literal → IsDigit b → m.digits < 18
       → GoesOn m b (record m { number = m.number * 10 + (b - 48); digits = m.digits + 1 })
   unfolding pending_at spot_at IsRoomy
   literal_digit_goes_on at digit few =
-      let next : PartialLine = record m { number = m.number * 10 + (b - 48); digits = m.digits + 1; place = places.Literal } in
+      let next : PartialLine = record m { number = m.number * 10 + (b - 48); digits = m.digits + 1; state = states.Literal } in
       let front = clause_front m.imports m.lead (literals_read m) in
       let is : pending next ≡ (front ++ literal_front m.negative m.number) ++ b ∷ [] =
       ap (λ t. front ++ t) (literal_more m.negative m.number m.digits h.number few digit)
@@ -500,14 +500,14 @@ module _ (m : PartialLine) (b : ℕ) (h : IsPartialLine m) where
           kept = h.kept;
           number = more_digits m.number m.digits b h.number few digit;
           roomy = subst (λ p. IsRoomy p m) at h.roomy;
-          tracks = tracks_next m next places.Literal at h b is (literal_digit m.imports m.digits m.literal_count b digit);
+          tracks = tracks_next m next states.Literal at h b is (literal_digit m.imports m.digits m.literal_count b digit);
         },
-        pending_next m next places.Literal at h b is,
+        pending_next m next states.Literal at h b is,
       ) in
-      subst (λ p. GoesOn m b (record next { place = p })) (sym at) goes
+      subst (λ p. GoesOn m b (record next { state = p })) (sym at) goes
 
   -- there is room for the literal
-  pub literal_room : m.place ≡ places.Literal → m.literal_count < vec_len m.literals
+  pub literal_room : m.state ≡ states.Literal → m.literal_count < vec_len m.literals
   unfolding IsRoomy
   literal_room at =
       let roomy : (m.identity_count ≡ 0) × (m.literal_count < 65535) = subst (λ p. IsRoomy p m) at h.roomy in
@@ -515,11 +515,11 @@ module _ (m : PartialLine) (b : ℕ) (h : IsPartialLine m) where
 
   pub literal_space_goes_on : (v : Vec ℤ Global) (z : ℤ) → v.items ≡ slice_set m.literals.items m.literal_count z
       → signed_decimal z ≡ literal_front m.negative m.number → unsigned_abs z ≡ m.number
-      → m.place ≡ places.Literal → b ≡ space
-      → GoesOn m b (record m { literals = v; literal_count = m.literal_count + 1; place = places.Body })
+      → m.state ≡ states.Literal → b ≡ space
+      → GoesOn m b (record m { literals = v; literal_count = m.literal_count + 1; state = states.Body })
   unfolding pending_at spot_at IsRoomy literals_text
   literal_space_goes_on v z items value magnitude at e =
-      let next : PartialLine = record m { literals = v; literal_count = m.literal_count + 1; place = places.Body } in
+      let next : PartialLine = record m { literals = v; literal_count = m.literal_count + 1; state = states.Body } in
       let roomy : (m.identity_count ≡ 0) × (m.literal_count < 65535) = subst (λ p. IsRoomy p m) at h.roomy in
       let count : length m.literals.items ≡ 65535 = h.room.literals in
       let more : literals_read next ≡ literals_read m ++ z ∷ [] =
@@ -549,32 +549,32 @@ module _ (m : PartialLine) (b : ℕ) (h : IsPartialLine m) where
           };
           number = h.number;
           roomy = roomy.0;
-          tracks = tracks_next m next places.Literal at h b is
+          tracks = tracks_next m next states.Literal at h b is
               (subst (λ x. Moves (InLiteral m.imports m.digits m.literal_count) x (BeforeLiteral m.imports (m.literal_count + 1))) (sym e)
               (literal_space m.imports m.digits m.literal_count h.number.few));
         },
-        pending_next m next places.Literal at h b is,
+        pending_next m next states.Literal at h b is,
       )
 
-  pub literal_too_long : m.place ≡ places.Literal → IsDigit b → 18 ≤ m.digits → IsRefused (pending m ++ b ∷ []) TooLong
+  pub literal_too_long : m.state ≡ states.Literal → IsDigit b → 18 ≤ m.digits → IsRefused (pending m ++ b ∷ []) TooLong
   unfolding spot_at IsRoomy
   literal_too_long at digit many =
       let e : m.digits ≡ 18 = omega (arith, h.number.few) in
       let roomy : (m.identity_count ≡ 0) × (m.literal_count < 65535) = subst (λ p. IsRoomy p m) at h.roomy in
-      long_at m places.Literal at h b
+      long_at m states.Literal at h b
       (subst (λ k. Exceeds (InLiteral m.imports k m.literal_count) b) (sym e) (literal_exceeds m.imports m.literal_count b roomy.1 digit))
 
-  pub literal_spelling : m.place ≡ places.Literal → NoDigit b → b ≢ space → IsRefused (pending m ++ b ∷ []) Spelling
+  pub literal_spelling : m.state ≡ states.Literal → NoDigit b → b ≢ space → IsRefused (pending m ++ b ∷ []) Spelling
   unfolding spot_at
   literal_spelling at never ne =
-      spelling_at m places.Literal at h b (λ signed. literal_blocks signed m.imports m.digits m.literal_count b never ne)
+      spelling_at m states.Literal at h b (λ signed. literal_blocks signed m.imports m.digits m.literal_count b never ne)
 
   -- List
 
-  pub list_goes_on : m.place ≡ places.List → b ≡ space → GoesOn m b (record m { place = places.Item })
+  pub list_goes_on : m.state ≡ states.List → b ≡ space → GoesOn m b (record m { state = states.Item })
   unfolding pending_at spot_at IsRoomy items_text
   list_goes_on at e =
-      let next : PartialLine = record m { place = places.Item } in
+      let next : PartialLine = record m { state = states.Item } in
       let front = list_front m.deletes m.lead (literals_read m) in
       let roomy : (m.identity_count ≡ 0) × (m.imports ≡ false) = subst (λ p. IsRoomy p m) at h.roomy in
       let none : m.identity_count ≡ 0 = roomy.0 in
@@ -585,16 +585,16 @@ module _ (m : PartialLine) (b : ℕ) (h : IsPartialLine m) where
           kept = h.kept;
           number = h.number;
           roomy = roomy.1;
-          tracks = tracks_next m next places.List at h b is
+          tracks = tracks_next m next states.List at h b is
               (subst (λ n. Moves (BeforeList m.deletes) b (BeforeItem m.deletes n)) (sym none)
               (subst (λ x. Moves (BeforeList m.deletes) x (BeforeItem m.deletes 0)) (sym e) (list_space m.deletes)));
         },
-        pending_next m next places.List at h b is,
+        pending_next m next states.List at h b is,
       )
 
-  pub list_spelling : m.place ≡ places.List → b ≢ space → IsRefused (pending m ++ b ∷ []) Spelling
+  pub list_spelling : m.state ≡ states.List → b ≢ space → IsRefused (pending m ++ b ∷ []) Spelling
   unfolding spot_at
-  list_spelling at ne = spelling_at m places.List at h b (λ signed. list_blocks signed m.deletes b ne)
+  list_spelling at ne = spelling_at m states.List at h b (λ signed. list_blocks signed m.deletes b ne)
 
   -- Item
 
@@ -602,10 +602,10 @@ module _ (m : PartialLine) (b : ℕ) (h : IsPartialLine m) where
   after_space : (x : ℕ) → x ≡ b → item_front m ++ space ∷ x ∷ [] ≡ (item_front m ++ space ∷ []) ++ b ∷ []
   after_space x e = ap (λ y. item_front m ++ space ∷ y ∷ []) e ∙ sym (append_assoc (item_front m) (space ∷ []) (b ∷ []))
 
-  pub item_zero_goes_on : m.place ≡ places.Item → b ≡ zero_digit → GoesOn m b (record m { place = places.LineEnd })
+  pub item_zero_goes_on : m.state ≡ states.Item → b ≡ zero_digit → GoesOn m b (record m { state = states.LineEnd })
   unfolding pending_at spot_at IsRoomy
   item_zero_goes_on at e =
-      let next : PartialLine = record m { place = places.LineEnd } in
+      let next : PartialLine = record m { state = states.LineEnd } in
       let lists : m.imports ≡ false = subst (λ p. IsRoomy p m) at h.roomy in
       let is : pending next ≡ (item_front m ++ space ∷ []) ++ b ∷ [] =
       ap (λ i. end_front i m.deletes m.lead (literals_read m) (identities_read m)) lists ∙ after_space zero_digit (sym e) in (
@@ -614,17 +614,17 @@ module _ (m : PartialLine) (b : ℕ) (h : IsPartialLine m) where
           kept = h.kept;
           number = h.number;
           roomy = tt;
-          tracks = tracks_next m next places.Item at h b is (subst (λ x. Moves (BeforeItem m.deletes m.identity_count) x AtEnd) (sym e)
+          tracks = tracks_next m next states.Item at h b is (subst (λ x. Moves (BeforeItem m.deletes m.identity_count) x AtEnd) (sym e)
               (item_zero m.deletes m.identity_count h.kept.few_identities));
         },
-        pending_next m next places.Item at h b is,
+        pending_next m next states.Item at h b is,
       )
 
-  pub item_digit_goes_on : m.place ≡ places.Item → 49 ≤ b → b ≤ 57 → m.identity_count < 65536
-      → GoesOn m b (record m { number = b - 48; digits = 1; place = places.Number })
+  pub item_digit_goes_on : m.state ≡ states.Item → 49 ≤ b → b ≤ 57 → m.identity_count < 65536
+      → GoesOn m b (record m { number = b - 48; digits = 1; state = states.Number })
   unfolding pending_at spot_at IsRoomy
   item_digit_goes_on at low high few =
-      let next : PartialLine = record m { number = b - 48; digits = 1; place = places.Number } in
+      let next : PartialLine = record m { number = b - 48; digits = 1; state = states.Number } in
       let is : pending next ≡ (item_front m ++ space ∷ []) ++ b ∷ [] =
       ap (λ t. item_front m ++ space ∷ t) (decimal_one b (omega arith, high)) ∙ after_space b refl in (
         record {
@@ -632,20 +632,20 @@ module _ (m : PartialLine) (b : ℕ) (h : IsPartialLine m) where
           kept = h.kept;
           number = first_digit b low high;
           roomy = (few, subst (λ p. IsRoomy p m) at h.roomy);
-          tracks = tracks_next m next places.Item at h b is (item_digit m.deletes m.identity_count b low high);
+          tracks = tracks_next m next states.Item at h b is (item_digit m.deletes m.identity_count b low high);
         },
-        pending_next m next places.Item at h b is,
+        pending_next m next states.Item at h b is,
       )
 
-  pub item_too_long : m.place ≡ places.Item → 49 ≤ b → b ≤ 57 → m.identity_count ≡ 65536 → IsRefused (pending m ++ b ∷ []) TooLong
+  pub item_too_long : m.state ≡ states.Item → 49 ≤ b → b ≤ 57 → m.identity_count ≡ 65536 → IsRefused (pending m ++ b ∷ []) TooLong
   unfolding spot_at
   item_too_long at low high many =
-      long_at m places.Item at h b (subst (λ n. Exceeds (BeforeItem m.deletes n) b) (sym many) (item_exceeds m.deletes b low high))
+      long_at m states.Item at h b (subst (λ n. Exceeds (BeforeItem m.deletes n) b) (sym many) (item_exceeds m.deletes b low high))
 
-  pub item_rat : m.place ≡ places.Item → b ≡ minus → m.deletes ≡ false → IsRefused (pending m ++ b ∷ []) RatHint
+  pub item_rat : m.state ≡ states.Item → b ≡ minus → m.deletes ≡ false → IsRefused (pending m ++ b ∷ []) RatHint
   unfolding spot_at
   item_rat at e keeps =
-      decides_rat (pending m) (spot_at m.place m) b h.tracks (bounded m h)
+      decides_rat (pending m) (spot_at m.state m) b h.tracks (bounded m h)
       (subst (λ p. Blocks false (spot_at p m) b) (sym at)
       (item_blocks false m.deletes m.identity_count b (λ z. let e' : minus ≡ zero_digit = sym e ∙ z in absurd (omega arith))
       (λ low high. let e' : b ≡ minus = e in omega arith) (λ _ _ s. cc)))
@@ -653,20 +653,20 @@ module _ (m : PartialLine) (b : ℕ) (h : IsPartialLine m) where
       (subst (λ x. Allows true (BeforeItem m.deletes m.identity_count) x) (sym e)
       (subst (λ d. Allows true (BeforeItem d m.identity_count) minus) (sym keeps) (hint_allows m.identity_count h.kept.few_identities))))
 
-  pub item_spelling : m.place ≡ places.Item → b ≢ zero_digit → NoFirst b → (b ≡ minus → m.deletes ≡ true)
+  pub item_spelling : m.state ≡ states.Item → b ≢ zero_digit → NoFirst b → (b ≡ minus → m.deletes ≡ true)
       → IsRefused (pending m ++ b ∷ []) Spelling
   unfolding spot_at
   item_spelling at not_zero never deletes =
-      spelling_at m places.Item at h b (λ signed. item_blocks signed m.deletes m.identity_count b not_zero never
+      spelling_at m states.Item at h b (λ signed. item_blocks signed m.deletes m.identity_count b not_zero never
       (λ e keeps s. let both : true ≡ false = sym (deletes e) ∙ keeps in cc))
 
   -- Number
 
-  pub number_digit_goes_on : m.place ≡ places.Number → IsDigit b → m.digits < 18
+  pub number_digit_goes_on : m.state ≡ states.Number → IsDigit b → m.digits < 18
       → GoesOn m b (record m { number = m.number * 10 + (b - 48); digits = m.digits + 1 })
   unfolding pending_at spot_at IsRoomy
   number_digit_goes_on at digit few =
-      let next : PartialLine = record m { number = m.number * 10 + (b - 48); digits = m.digits + 1; place = places.Number } in
+      let next : PartialLine = record m { number = m.number * 10 + (b - 48); digits = m.digits + 1; state = states.Number } in
       let is : pending next ≡ (item_front m ++ space ∷ decimal m.number) ++ b ∷ [] =
       ap (λ t. item_front m ++ space ∷ t) (decimal_next m.number m.digits b h.number few digit)
       ∙ sym (append_assoc (item_front m) (space ∷ decimal m.number) (b ∷ [])) in
@@ -676,24 +676,24 @@ module _ (m : PartialLine) (b : ℕ) (h : IsPartialLine m) where
           kept = h.kept;
           number = more_digits m.number m.digits b h.number few digit;
           roomy = subst (λ p. IsRoomy p m) at h.roomy;
-          tracks = tracks_next m next places.Number at h b is (number_digit m.deletes m.digits m.identity_count b digit);
+          tracks = tracks_next m next states.Number at h b is (number_digit m.deletes m.digits m.identity_count b digit);
         },
-        pending_next m next places.Number at h b is,
+        pending_next m next states.Number at h b is,
       ) in
-      subst (λ p. GoesOn m b (record next { place = p })) (sym at) goes
+      subst (λ p. GoesOn m b (record next { state = p })) (sym at) goes
 
-  pub number_room : m.place ≡ places.Number → m.identity_count < vec_len m.identities
+  pub number_room : m.state ≡ states.Number → m.identity_count < vec_len m.identities
   unfolding IsRoomy
   number_room at =
       let roomy : (m.identity_count < 65536) × (m.imports ≡ false) = subst (λ p. IsRoomy p m) at h.roomy in
       omega (arith, h.room.identities, m.identities.ok.0)
 
   pub number_space_goes_on : (v : Vec ℕ Global) → v.items ≡ slice_set m.identities.items m.identity_count m.number
-      → m.place ≡ places.Number → b ≡ space
-      → GoesOn m b (record m { identities = v; identity_count = m.identity_count + 1; place = places.Item })
+      → m.state ≡ states.Number → b ≡ space
+      → GoesOn m b (record m { identities = v; identity_count = m.identity_count + 1; state = states.Item })
   unfolding pending_at spot_at IsRoomy items_text
   number_space_goes_on v items at e =
-      let next : PartialLine = record m { identities = v; identity_count = m.identity_count + 1; place = places.Item } in
+      let next : PartialLine = record m { identities = v; identity_count = m.identity_count + 1; state = states.Item } in
       let roomy : (m.identity_count < 65536) × (m.imports ≡ false) = subst (λ p. IsRoomy p m) at h.roomy in
       let count : length m.identities.items ≡ 65536 = h.room.identities in
       let more : identities_read next ≡ identities_read m ++ m.number ∷ [] =
@@ -721,35 +721,35 @@ module _ (m : PartialLine) (b : ℕ) (h : IsPartialLine m) where
           };
           number = h.number;
           roomy = roomy.1;
-          tracks = tracks_next m next places.Number at h b is
+          tracks = tracks_next m next states.Number at h b is
               (subst (λ x. Moves (InItem m.deletes m.digits m.identity_count) x (BeforeItem m.deletes (m.identity_count + 1))) (sym e)
               (number_space m.deletes m.digits m.identity_count h.number.few));
         },
-        pending_next m next places.Number at h b is,
+        pending_next m next states.Number at h b is,
       )
 
-  pub number_too_long : m.place ≡ places.Number → IsDigit b → 18 ≤ m.digits → IsRefused (pending m ++ b ∷ []) TooLong
+  pub number_too_long : m.state ≡ states.Number → IsDigit b → 18 ≤ m.digits → IsRefused (pending m ++ b ∷ []) TooLong
   unfolding spot_at IsRoomy
   number_too_long at digit many =
       let e : m.digits ≡ 18 = omega (arith, h.number.few) in
       let roomy : (m.identity_count < 65536) × (m.imports ≡ false) = subst (λ p. IsRoomy p m) at h.roomy in
-      long_at m places.Number at h b
+      long_at m states.Number at h b
       (subst (λ k. Exceeds (InItem m.deletes k m.identity_count) b) (sym e) (number_exceeds m.deletes m.identity_count b roomy.0 digit))
 
-  pub number_spelling : m.place ≡ places.Number → NoDigit b → b ≢ space → IsRefused (pending m ++ b ∷ []) Spelling
+  pub number_spelling : m.state ≡ states.Number → NoDigit b → b ≢ space → IsRefused (pending m ++ b ∷ []) Spelling
   unfolding spot_at
   number_spelling at never ne =
-      spelling_at m places.Number at h b (λ signed. number_blocks signed m.deletes m.digits m.identity_count b never ne)
+      spelling_at m states.Number at h b (λ signed. number_blocks signed m.deletes m.digits m.identity_count b never ne)
 
   -- LineEnd
 
-  pub end_spelling : m.place ≡ places.LineEnd → b ≢ line_feed → IsRefused (pending m ++ b ∷ []) Spelling
+  pub end_spelling : m.state ≡ states.LineEnd → b ≢ line_feed → IsRefused (pending m ++ b ∷ []) Spelling
   unfolding spot_at
-  end_spelling at ne = spelling_at m places.LineEnd at h b (λ signed. end_blocks signed b ne)
+  end_spelling at ne = spelling_at m states.LineEnd at h b (λ signed. end_blocks signed b ne)
 
   -- the line is whole, and the next may begin
-  pub end_ends : m.place ≡ places.LineEnd → b ≡ line_feed
-      → let next : PartialLine = record m { place = places.Start } in
+  pub end_ends : m.state ≡ states.LineEnd → b ≡ line_feed
+      → let next : PartialLine = record m { state = states.Start } in
       IsPartialLine next × (pending next ≡ []) × LineText (line_so_far next) (pending m ++ b ∷ [])
   unfolding pending_at spot_at IsRoomy
   end_ends at e = (

@@ -8,29 +8,29 @@ use Rattle.lrup_text.specs.declared.reader.ReaderTurn.{ReaderTurn}
 use Rattle.lrup_text.specs.declared.reader.ReaderTurn.TheVariants as turns
 use Rattle.lrup_text.specs.Lines.{IsPending, LineText, line_of}
 use Rattle.lrup_text.specs.internal.Reading.{StepsThrough, pending, line_so_far, reader_state}
-use Rattle.lrup_text.specs.Feeding.{ReaderState, Feeds, ReaderLeaves}
+use Rattle.lrup_text.specs.Feeding.{ReaderState, Feeds, ReaderReaches}
 use Rattle.lrup_text.proofs.TextLaws.{empty_pending}
 use Rattle.lrup_text.proofs.Readers.{reads_pending}
 
 -- what a piece gives, and what it leaves
 pub record Fed (old : ReaderState) (piece : List ℕ) (used : ℕ) (turn : ReaderTurn) (new : ReaderState) : Type 0 where
-  pub leaves : ReaderLeaves old piece turn new
+  pub reaches : ReaderReaches old piece turn new
   pub gives : Feeds old piece used turn
 
 module _ (m next : PartialLine) (piece : List ℕ) (used : ℕ) where
   pub fed_more : StepsThrough m piece used More next → Fed (Ok (pending m)) piece used turns.NeedMore (Ok (pending next))
-  fed_more h = record { leaves = (ap Ok h.2, subst IsPending h.2 (reads_pending next h.1)); gives = h.0 }
+  fed_more h = record { reaches = (ap Ok h.2, subst IsPending h.2 (reads_pending next h.1)); gives = h.0 }
 
   pub fed_line : (line : Line) → line_of line ≡ line_so_far next → StepsThrough m piece used Done next
       → Fed (Ok (pending m)) piece used (turns.Line line) (Ok (pending next))
   fed_line line is h = record {
-    leaves = (ap Ok h.3, empty_pending);
+    reaches = (ap Ok h.3, empty_pending);
     gives = (h.0, h.1, subst (λ l. LineText l (pending m ++ take used piece)) (sym is) h.4);
   }
 
   pub fed_fault : (fault : LineFault) → StepsThrough m piece used (Refused fault) next
       → Fed (Ok (pending m)) piece used (turns.Fault fault) (Err fault)
-  fed_fault fault h = record { leaves = refl; gives = h }
+  fed_fault fault h = record { reaches = refl; gives = h }
 
 -- the same at equal values
 pub fed_at : {old old' new new' : ReaderState} {turn turn' : ReaderTurn} (piece : List ℕ) (used : ℕ) → Fed old' piece used turn' new'

@@ -4,8 +4,8 @@ use Rattle.std.proofs.Common.{◌∙◌, ap, subst, arith}
 use Rattle.std.specs.Fmt.{decimal}
 use Rattle.std.proofs.lemmas.List.{append_assoc, append-nil, length-drop, take_more, take_all}
 use Rattle.std.proofs.Math.Seq.{take-add}
-use Rattle.lrup_text.specs.declared.machine.Place.{Place}
-use Rattle.lrup_text.specs.declared.machine.Place.TheVariants as places
+use Rattle.lrup_text.specs.declared.machine.ParserState.{ParserState}
+use Rattle.lrup_text.specs.declared.machine.ParserState.TheVariants as states
 use Rattle.lrup_text.specs.declared.machine.ByteStep.{ByteStep}
 use Rattle.lrup_text.specs.declared.machine.ByteStep.TheVariants.{More, Done, Refused}
 use Rattle.lrup_text.specs.Faults.{IsRefused}
@@ -25,10 +25,10 @@ use Rattle.lrup_text.proofs.Steps.{at_start}
 
 -- what is read in part begins a line, and has no whole one
 pub reads_pending : (m : PartialLine) → IsPartialLine m → IsPending (pending m)
-reads_pending m h = tracks_pending (pending m) (spot_at m.place m) h.tracks (bounded m h)
+reads_pending m h = tracks_pending (pending m) (spot_at m.state m) h.tracks (bounded m h)
 
 -- before the first byte
-pub start_reads : (m : PartialLine) → m.place ≡ places.Start → HasRoom m.literals.items m.identities.items
+pub start_reads : (m : PartialLine) → m.state ≡ states.Start → HasRoom m.literals.items m.identities.items
     → CanStandInLine m.lead m.literals.items m.literal_count m.identities.items m.identity_count
     → FitsDigits m.number m.digits → IsPartialLine m × (pending m ≡ [])
 unfolding pending_at spot_at IsRoomy
@@ -67,24 +67,24 @@ word_some : (w : List ℕ) → SpellsNumber 18 w → w ≡ [] → ⊥
 word_some [] h e = h
 word_some (c ∷ cs) h e = cc
 
-started : (m : PartialLine) (place : Place) → place ≢ places.Start → FitsDigits m.number m.digits → pending_at place m ≡ [] → ⊥
+started : (m : PartialLine) (state : ParserState) → state ≢ states.Start → FitsDigits m.number m.digits → pending_at state m ≡ [] → ⊥
 unfolding pending_at
-started m places.Start ne h e = ne refl
-started m places.Lead ne h e = word_some (decimal m.number) (number_word m.number h.low (below_limit m.number m.digits h)) e
-started m places.Import ne h e = some_byte (decimal m.lead) space _ e
-started m places.Body ne h e =
+started m states.Start ne h e = ne refl
+started m states.Lead ne h e = word_some (decimal m.number) (number_word m.number h.low (below_limit m.number m.digits h)) e
+started m states.Import ne h e = some_byte (decimal m.lead) space _ e
+started m states.Body ne h e =
     clause_started m.imports m.lead (literals_read m) [] (append-nil (clause_front m.imports m.lead (literals_read m)) ∙ e)
-started m places.Minus ne h e = clause_started m.imports m.lead (literals_read m) (minus ∷ []) e
-started m places.Literal ne h e = clause_started m.imports m.lead (literals_read m) (literal_front m.negative m.number) e
-started m places.List ne h e = list_started m.deletes m.lead (literals_read m) e
-started m places.Item ne h e = some_byte (item_front m) space _ e
-started m places.Number ne h e = some_byte (item_front m) space _ e
-started m places.LineEnd ne h e = end_started m.imports m.deletes m.lead (literals_read m) (identities_read m) e
+started m states.Minus ne h e = clause_started m.imports m.lead (literals_read m) (minus ∷ []) e
+started m states.Literal ne h e = clause_started m.imports m.lead (literals_read m) (literal_front m.negative m.number) e
+started m states.List ne h e = list_started m.deletes m.lead (literals_read m) e
+started m states.Item ne h e = some_byte (item_front m) space _ e
+started m states.Number ne h e = some_byte (item_front m) space _ e
+started m states.LineEnd ne h e = end_started m.imports m.deletes m.lead (literals_read m) (identities_read m) e
 
-pub is_started : (m : PartialLine) → IsPartialLine m → m.place ≢ places.Start → pending m ≡ [] → ⊥
-is_started m h ne e = started m m.place ne h.number e
+pub is_started : (m : PartialLine) → IsPartialLine m → m.state ≢ states.Start → pending m ≡ [] → ⊥
+is_started m h ne e = started m m.state ne h.number e
 
-pub is_empty : (m : PartialLine) → m.place ≡ places.Start → pending m ≡ []
+pub is_empty : (m : PartialLine) → m.state ≡ states.Start → pending m ≡ []
 unfolding pending_at
 is_empty m at = ap (λ p. pending_at p m) at
 
@@ -100,7 +100,7 @@ pub kept_none : (first : ℕ) (lits : List ℤ) (ids : List ℕ) → IsStreamNum
 kept_none first lits ids h = record { lead = h; few_literals = omega arith; few_identities = omega arith; literals = tt; identities = tt }
 
 -- with other lists
-pub restarts : (next : PartialLine) (lits : List ℤ) (ids : List ℕ) → next.place ≡ places.Start → next.literals.items ≡ lits
+pub restarts : (next : PartialLine) (lits : List ℤ) (ids : List ℕ) → next.state ≡ states.Start → next.literals.items ≡ lits
     → next.identities.items ≡ ids → length lits ≡ 65535 → length ids ≡ 65536
     → CanStandInLine next.lead lits next.literal_count ids next.identity_count → FitsDigits next.number next.digits
     → IsPartialLine next × (pending next ≡ [])

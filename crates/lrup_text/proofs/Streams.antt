@@ -17,7 +17,7 @@ use Rattle.lrup_text.specs.Grammar.{IsLine, text, Begins}
 use Rattle.lrup_text.specs.Lines.{StreamLine, Addition, Deletion, Import, IsStreamNumber, IsStreamLiteral, IsWithinLimits, LineText}
 use Rattle.lrup_text.specs.Lines.{words_of, line_text, HasNoLine, Cut, line_of}
 use Rattle.lrup_text.specs.Faults.{IsLineFaultOf, IsRefused}
-use Rattle.lrup_text.specs.Feeding.{ReaderState, Feeds, ReaderLeaves}
+use Rattle.lrup_text.specs.Feeding.{ReaderState, Feeds, ReaderReaches}
 use Rattle.lrup_text.specs.Cutting.{used_bytes, line_given, lines_given, IsCut}
 use Rattle.lrup_text.specs.Laws.{OneText, OneLine, NoTextBegins, TextsAreLines, OneCut, OneFault, EmptyCut, CallCuts, CallsCut}
 use Rattle.lrup_text.specs.Laws.{RefusedStays, OneFirstLine}
@@ -300,23 +300,23 @@ cut_line stream lines read more line cut text none = record {
 }
 
 cut_call : (stream : List ℕ) (lines : List StreamLine) (old new : ReaderState) (piece : List ℕ) (used : ℕ) (turn : ReaderTurn)
-    → IsCut stream lines old → Feeds old piece used turn → ReaderLeaves old piece turn new
+    → IsCut stream lines old → Feeds old piece used turn → ReaderReaches old piece turn new
     → IsCut (stream ++ take used piece) (lines ++ line_given turn) new
-cut_call stream lines (Err fault) new piece used turn cut gives leaves =
-    let given : new ≡ Err fault = subst (λ t. ReaderLeaves (Err fault) piece t new) gives.1 leaves in
+cut_call stream lines (Err fault) new piece used turn cut gives reaches =
+    let given : new ≡ Err fault = subst (λ t. ReaderReaches (Err fault) piece t new) gives.1 reaches in
     let nothing : stream ++ take used piece ≡ stream = ap (λ k. stream ++ take k piece) gives.0 ∙ append-nil stream in
     let no_lines : lines ++ line_given turn ≡ lines = ap (λ t. lines ++ line_given t) gives.1 ∙ append-nil lines in
     subst (λ x. IsCut (stream ++ take used piece) (lines ++ line_given turn) x) (sym given)
     (subst (λ x. IsCut x (lines ++ line_given turn) (Err fault)) (sym nothing) (subst (λ x. IsCut stream x (Err fault)) (sym no_lines) cut))
-cut_call stream lines (Ok read) new piece used (Line line) cut gives leaves =
-    subst (λ x. IsCut (stream ++ take used piece) (lines ++ line_of line ∷ []) x) (sym leaves.0)
-    (cut_line stream lines read (take used piece) (line_of line) cut gives.2 leaves.1.whole)
-cut_call stream lines (Ok read) new piece used NeedMore cut gives leaves =
+cut_call stream lines (Ok read) new piece used (Line line) cut gives reaches =
+    subst (λ x. IsCut (stream ++ take used piece) (lines ++ line_of line ∷ []) x) (sym reaches.0)
+    (cut_line stream lines read (take used piece) (line_of line) cut gives.2 reaches.1.whole)
+cut_call stream lines (Ok read) new piece used NeedMore cut gives reaches =
     let all : take used piece ≡ piece = ap (λ k. take k piece) gives ∙ take_all (length piece) piece (omega arith) in
-    subst (λ x. IsCut (stream ++ take used piece) (lines ++ []) x) (sym leaves.0)
-    (subst (λ x. Cut (stream ++ x) (lines ++ []) (read ++ piece)) (sym all) (cut_longer stream lines read piece cut leaves.1.whole))
-cut_call stream lines (Ok read) new piece used (Fault fault) cut gives leaves =
-    subst (λ x. IsCut (stream ++ take used piece) (lines ++ []) x) (sym leaves)
+    subst (λ x. IsCut (stream ++ take used piece) (lines ++ []) x) (sym reaches.0)
+    (subst (λ x. Cut (stream ++ x) (lines ++ []) (read ++ piece)) (sym all) (cut_longer stream lines read piece cut reaches.1.whole))
+cut_call stream lines (Ok read) new piece used (Fault fault) cut gives reaches =
+    subst (λ x. IsCut (stream ++ take used piece) (lines ++ []) x) (sym reaches)
     (read ++ take used piece, cut_longer stream lines read (take used piece) cut (refused_no_line _ fault gives.2), gives.2)
 
 pub call_cuts : CallCuts

@@ -4,7 +4,7 @@ use Rattle.lrup_text.specs.declared.reader.ReaderTurn.{ReaderTurn}
 use Rattle.lrup_text.specs.declared.reader.ReaderTurn.TheVariants.{Line, NeedMore, Fault}
 use Rattle.lrup_text.specs.Faults.{IsRefused}
 use Rattle.lrup_text.specs.Lines.{StreamLine, line_of, Cut}
-use Rattle.lrup_text.specs.Feeding.{ReaderState, Feeds, ReaderLeaves}
+use Rattle.lrup_text.specs.Feeding.{ReaderState, Feeds, ReaderReaches}
 
 -- a call of `feed`: the piece, how many of its bytes were used, and what they gave
 pub record Call : Type 0 where
@@ -17,7 +17,7 @@ abbrev pub AreCalls : ReaderState → List Call → ReaderState → Type 0
 AreCalls old [] new = new ≡ old
 AreCalls old (call ∷ calls) new =
     (state : ReaderState) × Feeds old call.piece call.used call.turn
-    × ReaderLeaves old call.piece call.turn state × AreCalls state calls new
+    × ReaderReaches old call.piece call.turn state × AreCalls state calls new
 
 -- the bytes that the calls used
 abbrev pub used_bytes : List Call → List ℕ

@@ -23,11 +23,11 @@ Feeds (Ok read) piece used (Fault fault) =
     (0 < used) × (used ≤ length piece) × IsRefused (read ++ take used piece) fault
 
 -- what the reader is afterwards
-abbrev pub ReaderLeaves : ReaderState → List ℕ → ReaderTurn → ReaderState → Type 0
-ReaderLeaves old piece (Line line) new = (new ≡ Ok []) × IsPending []
-ReaderLeaves old piece NeedMore new =
+abbrev pub ReaderReaches : ReaderState → List ℕ → ReaderTurn → ReaderState → Type 0
+ReaderReaches old piece (Line line) new = (new ≡ Ok []) × IsPending []
+ReaderReaches old piece NeedMore new =
     IfOk old (λ read. (new ≡ Ok (read ++ piece)) × IsPending (read ++ piece))
-ReaderLeaves old piece (Fault fault) new = new ≡ Err fault
+ReaderReaches old piece (Fault fault) new = new ≡ Err fault
 
 -- what the end of the stream is, and the reader after it
 abbrev pub ReaderEnds : ReaderState → End → ReaderState → Type 0

@@ -5,7 +5,7 @@ use Rattle.lrup_text.specs.Faults.{IsRefused, HasTextFault}
 use Rattle.lrup_text.specs.Grammar.{IsLine, standard, Begins}
 use Rattle.lrup_text.specs.Lines.{StreamLine, IsWithinLimits, line_text, LineText, HasNoLine, IsPending, Cut}
 use Rattle.lrup_text.specs.declared.reader.ReaderTurn.{ReaderTurn}
-use Rattle.lrup_text.specs.Feeding.{ReaderState, Feeds, ReaderLeaves}
+use Rattle.lrup_text.specs.Feeding.{ReaderState, Feeds, ReaderReaches}
 use Rattle.lrup_text.specs.Cutting.{Call, AreCalls, used_bytes, line_given, lines_given, IsCut}
 
 -- a line has one text
@@ -82,7 +82,7 @@ EmptyCut = IsCut [] [] (Ok [])
 abbrev pub CallCuts : Type 0
 CallCuts = (stream : List ℕ) (lines : List StreamLine) (old new : ReaderState) (piece : List ℕ)
     (used : ℕ) (turn : ReaderTurn)
-    → IsCut stream lines old → Feeds old piece used turn → ReaderLeaves old piece turn new
+    → IsCut stream lines old → Feeds old piece used turn → ReaderReaches old piece turn new
     → IsCut (stream ++ take used piece) (lines ++ line_given turn) new
 
 -- However a stream comes in pieces, the lines given are those that the bytes used are cut into.

@@ -5,8 +5,8 @@ use mathlib.Core.Option as maybe
 use Rattle.lrup_text.specs.declared.reader.LineReader.{LineReader}
 use Rattle.lrup_text.specs.declared.reader.ReaderTurn.{ReaderTurn}
 use Rattle.lrup_text.specs.contracts.reader.LineReader.{the_row}
-use Rattle.lrup_text.specs.Feeding.{ReaderLeaves}
+use Rattle.lrup_text.specs.Feeding.{ReaderReaches}
 
 abbrev pub FeedEnds : MutBor LineReader → List ℕ → ReaderTurn → Fml
 FeedEnds reader piece turn = follows_so the_row the_row reader.ghost_name maybe.none (λ _ _. ⊤)
-    (λ new. ReaderLeaves reader.now piece turn new)
+    (λ new. ReaderReaches reader.now piece turn new)

@@ -22,7 +22,7 @@ pub const MAX_IDENTITIES: usize = 65_536;
 
 /// What may come next in a line.
 #[derive(Clone, Copy)]
-pub enum Place {
+pub enum ParserState {
     /// The line itself.
     Start,
     /// More of its first number.
@@ -60,7 +60,7 @@ pub enum ByteStep {
 #[derive(Drop)]
 pub struct PartialLine {
     /// What may come next.
-    pub place: Place,
+    pub state: ParserState,
     /// Whether the line is an import.
     pub imports: bool,
     /// Whether the line is a deletion.
@@ -100,7 +100,7 @@ impl PartialLine {
         let literals = zero_literals(alloc, MAX_LITERALS)?;
         let identities = zero_identities(alloc, MAX_IDENTITIES)?;
         Ok(PartialLine {
-            place: Place::Start,
+            state: ParserState::Start,
             imports: false,
             deletes: false,
             negative: false,
@@ -120,7 +120,7 @@ impl PartialLine {
         requires { IsPartialLine self.now }
         ensures { IsTrue result ↔ (pending self.now ≡ []) }
     {
-        matches!(self.place, Place::Start)
+        matches!(self.state, ParserState::Start)
     }
 
     /// The line that was read.
@@ -173,7 +173,7 @@ impl PartialLine {
         ensures reads { IfNone result (IsPartialLine self.new) }
         ensures same { IfNone result (pending self.new ≡ pending self.old) }
     {
-        let Place::Start = self.place else {
+        let ParserState::Start = self.state else {
             return None;
         };
         let used = memchr(b'\n', piece)? + 1;
@@ -187,7 +187,7 @@ impl PartialLine {
     /// Reads a line that is whole in a slice, and returns whether it did. Where it didn't, nothing was read.
     fn read_whole(&mut self, line: &[u8]) -> bool
         requires reads { IsPartialLine self.old }
-        requires start { self.old.place ≡ Place.Start }
+        requires start { self.old.state ≡ ParserState.Start }
         requires ends { EndsLine line.now }
         ensures reads { IsPartialLine self.new }
         ensures empty { pending self.new ≡ [] }
@@ -236,16 +236,16 @@ impl PartialLine {
         requires { IsPartialLine self.old }
         ensures { ReadsAhead self.old piece.now result self.new }
     {
-        match self.place {
-            Place::Body => self.read_literals_ahead(piece),
-            Place::Item => self.read_items_ahead(piece),
+        match self.state {
+            ParserState::Body => self.read_literals_ahead(piece),
+            ParserState::Item => self.read_items_ahead(piece),
             _ => 0,
         }
     }
 
     fn read_literals_ahead(&mut self, piece: &[u8]) -> usize
         requires reads { IsPartialLine self.old }
-        requires place { self.old.place ≡ Place.Body }
+        requires state { self.old.state ≡ ParserState.Body }
         ensures { ReadsAhead self.old piece.now result self.new }
     {
         let Some(last) = memrchr(b' ', piece) else {
@@ -259,7 +259,7 @@ impl PartialLine {
 
     fn read_items_ahead(&mut self, piece: &[u8]) -> usize
         requires reads { IsPartialLine self.old }
-        requires place { self.old.place ≡ Place.Item }
+        requires state { self.old.state ≡ ParserState.Item }
         ensures { ReadsAhead self.old piece.now result self.new }
     {
         let Some(last) = memrchr(b' ', piece) else {
@@ -276,17 +276,17 @@ impl PartialLine {
         requires { IsPartialLine self.old }
         ensures { ReadsByte self.old byte result self.new }
     {
-        match self.place {
-            Place::Start => self.step_at_start(byte),
-            Place::Lead => self.step_in_lead(byte),
-            Place::Import => self.step_after_import(byte),
-            Place::Body => self.step_in_body(byte),
-            Place::Minus => self.step_after_minus(byte),
-            Place::Literal => self.step_in_literal(byte),
-            Place::List => self.step_before_list(byte),
-            Place::Item => self.step_before_item(byte),
-            Place::Number => self.step_in_number(byte),
-            Place::LineEnd => self.step_at_end(byte),
+        match self.state {
+            ParserState::Start => self.step_at_start(byte),
+            ParserState::Lead => self.step_in_lead(byte),
+            ParserState::Import => self.step_after_import(byte),
+            ParserState::Body => self.step_in_body(byte),
+            ParserState::Minus => self.step_after_minus(byte),
+            ParserState::Literal => self.step_in_literal(byte),
+            ParserState::List => self.step_before_list(byte),
+            ParserState::Item => self.step_before_item(byte),
+            ParserState::Number => self.step_in_number(byte),
+            ParserState::LineEnd => self.step_at_end(byte),
         }
     }
 
@@ -316,13 +316,13 @@ impl PartialLine {
 
     fn step_at_start(&mut self, byte: u8) -> ByteStep
         requires reads { IsPartialLine self.old }
-        requires place { self.old.place ≡ Place.Start }
+        requires state { self.old.state ≡ ParserState.Start }
         ensures { ReadsByte self.old byte result self.new }
     {
         match byte {
             b'1'..=b'9' => {
                 self.begin_number(byte);
-                self.place = Place::Lead;
+                self.state = ParserState::Lead;
                 ByteStep::More
             }
             _ => ByteStep::Refused(LineFault::Spelling),
@@ -331,7 +331,7 @@ impl PartialLine {
 
     fn step_in_lead(&mut self, byte: u8) -> ByteStep
         requires reads { IsPartialLine self.old }
-        requires place { self.old.place ≡ Place.Lead }
+        requires state { self.old.state ≡ ParserState.Lead }
         ensures { ReadsByte self.old byte result self.new }
     {
         match byte {
@@ -345,7 +345,7 @@ impl PartialLine {
                 self.imports = false;
                 self.literal_count = 0;
                 self.identity_count = 0;
-                self.place = Place::Body;
+                self.state = ParserState::Body;
                 ByteStep::More
             }
             _ => ByteStep::Refused(LineFault::Spelling),
@@ -354,12 +354,12 @@ impl PartialLine {
 
     fn step_after_import(&mut self, byte: u8) -> ByteStep
         requires reads { IsPartialLine self.old }
-        requires place { self.old.place ≡ Place.Import }
+        requires state { self.old.state ≡ ParserState.Import }
         ensures { ReadsByte self.old byte result self.new }
     {
         match byte {
             b' ' => {
-                self.place = Place::Body;
+                self.state = ParserState::Body;
                 ByteStep::More
             }
             _ => ByteStep::Refused(LineFault::Spelling),
@@ -368,37 +368,37 @@ impl PartialLine {
 
     fn step_in_body(&mut self, byte: u8) -> ByteStep
         requires reads { IsPartialLine self.old }
-        requires place { self.old.place ≡ Place.Body }
+        requires state { self.old.state ≡ ParserState.Body }
         ensures { ReadsByte self.old byte result self.new }
     {
         match byte {
             b'0' if self.imports => {
-                self.place = Place::LineEnd;
+                self.state = ParserState::LineEnd;
                 ByteStep::More
             }
             b'0' => {
                 self.deletes = false;
-                self.place = Place::List;
+                self.state = ParserState::List;
                 ByteStep::More
             }
             b'd' if self.literal_count == 0 && !self.imports => {
                 self.deletes = true;
-                self.place = Place::List;
+                self.state = ParserState::List;
                 ByteStep::More
             }
             b'i' if self.literal_count == 0 && !self.imports => {
                 self.imports = true;
-                self.place = Place::Import;
+                self.state = ParserState::Import;
                 ByteStep::More
             }
             b'-' if self.literal_count < MAX_LITERALS => {
-                self.place = Place::Minus;
+                self.state = ParserState::Minus;
                 ByteStep::More
             }
             b'1'..=b'9' if self.literal_count < MAX_LITERALS => {
                 self.negative = false;
                 self.begin_number(byte);
-                self.place = Place::Literal;
+                self.state = ParserState::Literal;
                 ByteStep::More
             }
             b'-' | b'1'..=b'9' => ByteStep::Refused(LineFault::TooLong),
@@ -408,14 +408,14 @@ impl PartialLine {
 
     fn step_after_minus(&mut self, byte: u8) -> ByteStep
         requires reads { IsPartialLine self.old }
-        requires place { self.old.place ≡ Place.Minus }
+        requires state { self.old.state ≡ ParserState.Minus }
         ensures { ReadsByte self.old byte result self.new }
     {
         match byte {
             b'1'..=b'9' => {
                 self.negative = true;
                 self.begin_number(byte);
-                self.place = Place::Literal;
+                self.state = ParserState::Literal;
                 ByteStep::More
             }
             _ => ByteStep::Refused(LineFault::Spelling),
@@ -424,7 +424,7 @@ impl PartialLine {
 
     fn step_in_literal(&mut self, byte: u8) -> ByteStep
         requires reads { IsPartialLine self.old }
-        requires place { self.old.place ≡ Place.Literal }
+        requires state { self.old.state ≡ ParserState.Literal }
         ensures { ReadsByte self.old byte result self.new }
     {
         match byte {
@@ -436,7 +436,7 @@ impl PartialLine {
             b' ' => {
                 self.literals[self.literal_count] = literal_of(self.negative, self.number);
                 self.literal_count += 1;
-                self.place = Place::Body;
+                self.state = ParserState::Body;
                 ByteStep::More
             }
             _ => ByteStep::Refused(LineFault::Spelling),
@@ -445,12 +445,12 @@ impl PartialLine {
 
     fn step_before_list(&mut self, byte: u8) -> ByteStep
         requires reads { IsPartialLine self.old }
-        requires place { self.old.place ≡ Place.List }
+        requires state { self.old.state ≡ ParserState.List }
         ensures { ReadsByte self.old byte result self.new }
     {
         match byte {
             b' ' => {
-                self.place = Place::Item;
+                self.state = ParserState::Item;
                 ByteStep::More
             }
             _ => ByteStep::Refused(LineFault::Spelling),
@@ -459,12 +459,12 @@ impl PartialLine {
 
     fn step_before_item(&mut self, byte: u8) -> ByteStep
         requires reads { IsPartialLine self.old }
-        requires place { self.old.place ≡ Place.Item }
+        requires state { self.old.state ≡ ParserState.Item }
         ensures { ReadsByte self.old byte result self.new }
     {
         match byte {
             b'0' => {
-                self.place = Place::LineEnd;
+                self.state = ParserState::LineEnd;
                 ByteStep::More
             }
             b'1'..=b'9' if self.identity_count == MAX_IDENTITIES => {
@@ -472,7 +472,7 @@ impl PartialLine {
             }
             b'1'..=b'9' => {
                 self.begin_number(byte);
-                self.place = Place::Number;
+                self.state = ParserState::Number;
                 ByteStep::More
             }
             b'-' if !self.deletes => ByteStep::Refused(LineFault::RatHint),
@@ -482,7 +482,7 @@ impl PartialLine {
 
     fn step_in_number(&mut self, byte: u8) -> ByteStep
         requires reads { IsPartialLine self.old }
-        requires place { self.old.place ≡ Place.Number }
+        requires state { self.old.state ≡ ParserState.Number }
         ensures { ReadsByte self.old byte result self.new }
     {
         match byte {
@@ -494,7 +494,7 @@ impl PartialLine {
             b' ' => {
                 self.identities[self.identity_count] = self.number;
                 self.identity_count += 1;
-                self.place = Place::Item;
+                self.state = ParserState::Item;
                 ByteStep::More
             }
             _ => ByteStep::Refused(LineFault::Spelling),
@@ -503,12 +503,12 @@ impl PartialLine {
 
     fn step_at_end(&mut self, byte: u8) -> ByteStep
         requires reads { IsPartialLine self.old }
-        requires place { self.old.place ≡ Place.LineEnd }
+        requires state { self.old.state ≡ ParserState.LineEnd }
         ensures { ReadsByte self.old byte result self.new }
     {
         match byte {
             b'\n' => {
-                self.place = Place::Start;
+                self.state = ParserState::Start;
                 ByteStep::Done
             }
             _ => ByteStep::Refused(LineFault::Spelling),

@@ -77,7 +77,7 @@ impl LineReader {
     pub fn feed(&mut self, piece: &[u8]) -> Fed<'_>
         ensures gives { Feeds self.old piece.now result.used result.turn }
         ensures bound { result.used ≤ length piece.now }
-        ensures* leaves { sem 𝓛 (FeedEnds self.entry piece.now result.turn) }
+        ensures* reaches { sem 𝓛 (FeedEnds self.entry piece.now result.turn) }
     {
         if let Some(fault) = self.fault {
             return Fed {

@@ -13,16 +13,16 @@ use Rattle.lrup_text.specs.Lines.{StreamLine, line_text}
 use Rattle.lrup_text.specs.ReadOut.{SourceView}
 use Rattle.stream_check.specs.declared.report.Report.{Report}
 use Rattle.stream_check.specs.Laws.{EmptyCubeReported}
-use Rattle.runs.specs.Headline.{AreJudgedIn}
+use Rattle.runs.specs.SequentialConsistency.{AreJudgedIn}
 use Rattle.runs.specs.Closed.{IsOfStream}
-use Rattle.runs.specs.Streams.{Stream, Telling, TermsValue, setting_of, tellings}
-use Rattle.runs.specs.lemmas.StreamLemmas.{judged_count, same_at, told_as_many, telling_at, some_end}
+use Rattle.runs.specs.Streams.{Stream, InputObservation, RunParamsValue, stream_params, observations}
+use Rattle.runs.specs.lemmas.StreamLemmas.{judged_count, same_at, observed_as_many, observation_at, some_end}
 use Rattle.runs.specs.Turns.{IsOrderedByTurns}
-use Rattle.run_laws.specs.Blame.{LacksOfAnotherIn}
+use Rattle.run_laws.specs.AnyRun.{LacksOfAnotherIn}
 use Rattle.run_laws.specs.Groups.{IsRun}
-use Rattle.run_laws.specs.Right.{AddsEmpty, IsCutOffIn, IsRightBeginning}
-use Rattle.run_laws.specs.RightLaws.{RightBegins, RightEmpty}
-use Rattle.run_laws.specs.Together.{Step, IsRightOrder, HaveTexts, lines_by, TogetherBegins}
+use Rattle.run_laws.specs.Valid.{AddsEmpty, IsCutOffIn, IsValidPrefix}
+use Rattle.run_laws.specs.ValidLaws.{ValidBegins, ValidEmpty}
+use Rattle.run_laws.specs.Together.{Step, IsValidOrder, HaveTexts, lines_by, TogetherBegins}
 use Rattle.portfolio.specs.Histories.{OnOneThread, way_of}
 use Rattle.portfolio.specs.Outcomes.{verdict_of}
 use Rattle.portfolio.specs.declared.outcome.Verdict.{Verdict}
@@ -33,16 +33,16 @@ use Rattle.command.specs.Commands.{AreChecked, Text}
 pub record Check {R : Type 0} (reading : SourceView R) : Type 0 where
   pub serial : Bool
   pub formula : Cnf
-  pub terms : TermsValue
-  pub fits : Fits terms.layout formula
+  pub run_params : RunParamsValue
+  pub fits : Fits run_params.layout formula
   pub tells : Text → Option (List ℕ)
   pub paths : List Text
-  pub count : length paths ≡ terms.layout.streams
+  pub count : length paths ≡ run_params.layout.streams
   pub readers : List R
   pub left : map reading.left readers ≡ map tells paths
   pub reports : List Report
   pub verdict : Verdict
-  pub checked : AreChecked reading serial formula terms readers reports verdict
+  pub checked : AreChecked reading serial formula run_params readers reports verdict
 
 -- a report of the empty clause comes to 'unsatisfiable'
 one_says : (reports : List Report) (k : ℕ) (report : Report) → slice_get reports k ≡ Some report → report.empty ≡ true
@@ -69,27 +69,28 @@ of_some s P (step ∷ steps) all some = elim (cases_eq step.stream s) [
 ]
 
 -- a stream of a run has a report
-pub has_report : (f : Cnf) (terms : TermsValue) (told : List Telling) (reports : List Report) (r : IsRun f terms told reports) (s : ℕ)
-    → IsStream terms.layout s → (report : Report) × IsOfStream reports s report
-has_report f terms told reports r s is =
+pub has_report : (f : Cnf) (run_params : RunParamsValue) (observed : List InputObservation) (reports : List Report)
+    (r : IsRun f run_params observed reports) (s : ℕ)
+    → IsStream run_params.layout s → (report : Report) × IsOfStream reports s report
+has_report f run_params observed reports r s is =
     elim (slice_get_cases reports (s - 1)).1 [
       | inl has ↦ (has.0, (is.0, has.2))
       | inr past ↦
-          absurd (omega (arith, past.0, is.0, is.1, r.count, judged_count terms (λ t. true) r.history 1 r.streams reports r.judged))
+          absurd (omega (arith, past.0, is.0, is.1, r.count, judged_count run_params (λ t. true) r.history 1 r.streams reports r.judged))
     ]
 
 -- without a cube just the empty clause is within it
-within_empty : EmptyCubeReported → (terms : TermsValue) → terms.cube ≡ [] → (h : History) (s : ℕ) (streams : List Stream)
-    (reports : List Report) → AreJudgedIn terms (λ t. true) h s streams reports
+within_empty : EmptyCubeReported → (run_params : RunParamsValue) → run_params.cube ≡ [] → (h : History) (s : ℕ) (streams : List Stream)
+    (reports : List Report) → AreJudgedIn run_params (λ t. true) h s streams reports
     → list_any (λ r. r.within) reports ≡ list_any (λ r. r.empty) reports
-within_empty bare terms none h s [] [] judged = refl
-within_empty bare terms none h s [] (r ∷ rs) judged = absurd judged
-within_empty bare terms none h s (t ∷ ts) [] judged = absurd judged
-within_empty bare terms none h s (t ∷ ts) (r ∷ rs) judged =
+within_empty bare run_params none h s [] [] judged = refl
+within_empty bare run_params none h s [] (r ∷ rs) judged = absurd judged
+within_empty bare run_params none h s (t ∷ ts) [] judged = absurd judged
+within_empty bare run_params none h s (t ∷ ts) (r ∷ rs) judged =
     let by = judged.0 refl in
-    let its = some_end (setting_of terms s) t by.0 r by.2 in
-    let same : r.within ≡ r.empty = bare (setting_of terms s) t.bytes its.0 by.0 r none its.1 in
-    ap₂ (λ (a b : Bool). a || b) same (within_empty bare terms none h (s + 1) ts rs judged.1)
+    let its = some_end (stream_params run_params s) t by.0 r by.2 in
+    let same : r.within ≡ r.empty = bare (stream_params run_params s) t.bytes its.0 by.0 r none its.1 in
+    ap₂ (λ (a b : Bool). a || b) same (within_empty bare run_params none h (s + 1) ts rs judged.1)
 
 not_under : (empty within : Bool) → within ≡ empty
     → ¬ ((if empty then Unsatisfiable else if within then UnsatisfiableUnder else Unknown) ≡ UnsatisfiableUnder)
@@ -98,73 +99,74 @@ not_under false true same is = let no : true ≡ false = same in cc
 not_under false false same is = let no : Unknown ≡ UnsatisfiableUnder = is in cc
 
 module _ {R : Type 0} (reading : SourceView R) (c : Check reading) where
-  -- what the readers told
-  abbrev pub told_of : List Telling
-  told_of = tellings reading c.readers c.checked.lasts
+  -- what is observed of the readers
+  abbrev pub observed_of : List InputObservation
+  observed_of = observations reading c.readers c.checked.lasts
 
   -- each stream's reader told something
-  pub told_length : length told_of ≡ length c.paths
-  told_length =
-      told_as_many reading c.readers c.checked.lasts c.checked.ran.run.streams c.checked.ran.read
+  pub observed_length : length observed_of ≡ length c.paths
+  observed_length =
+      observed_as_many reading c.readers c.checked.lasts c.checked.ran.run.streams c.checked.ran.read
       ∙ sym (length-map c.readers reading.left) ∙ ap length c.left ∙ length-map c.paths c.tells
 
   -- the reports are those of a run
-  abbrev pub run_of : IsRun c.formula c.terms told_of c.reports
+  abbrev pub run_of : IsRun c.formula c.run_params observed_of c.reports
   run_of = c.checked.ran.run
 
   -- those on one thread have an order by turns
-  pub turns_of : c.serial ≡ true → IsOrderedByTurns c.formula c.terms run_of.streams c.reports
+  pub turns_of : c.serial ≡ true → IsOrderedByTurns c.formula c.run_params run_of.streams c.reports
   turns_of on_one =
-      let way : OnOneThread c.formula c.terms run_of.history run_of.streams c.reports =
-      subst (λ (b : Bool). way_of b c.formula c.terms run_of.history run_of.streams c.reports) on_one c.checked.ran.way in
+      let way : OnOneThread c.formula c.run_params run_of.history run_of.streams c.reports =
+      subst (λ (b : Bool). way_of b c.formula c.run_params run_of.history run_of.streams c.reports) on_one c.checked.ran.way in
       way.0
 
   -- without a cube there is nothing under it
-  pub never_under : EmptyCubeReported → c.terms.cube ≡ [] → ¬ (c.verdict ≡ UnsatisfiableUnder)
+  pub never_under : EmptyCubeReported → c.run_params.cube ≡ [] → ¬ (c.verdict ≡ UnsatisfiableUnder)
   never_under bare none under =
-      let same = within_empty bare c.terms none run_of.history 1 run_of.streams c.reports run_of.judged in
+      let same = within_empty bare c.run_params none run_of.history 1 run_of.streams c.reports run_of.judged in
       not_under (list_any (λ r. r.empty) c.reports) (list_any (λ r. r.within) c.reports) same (sym c.checked.is_verdict ∙ under)
 
   -- what a file tells its reader had left at first
-  pub telling_of_file : (s : ℕ) (path : Text) (whole : List ℕ) → IsOfStream c.paths s path → c.tells path ≡ Some whole
-      → (telling : Telling) × IsOfStream told_of s telling × (telling.entry ≡ Some whole)
-  telling_of_file s path whole at told =
+  pub observation_of_file : (s : ℕ) (path : Text) (whole : List ℕ) → IsOfStream c.paths s path → c.tells path ≡ Some whole
+      → (observation : InputObservation) × IsOfStream observed_of s observation × (observation.entry ≡ Some whole)
+  observation_of_file s path whole at told =
       let entry : slice_get (map reading.left c.readers) (s - 1) ≡ Some (Some whole) =
       ap (λ (es : List (Option (List ℕ))). slice_get es (s - 1)) c.left
       ∙ slice_get-map c.tells c.paths (s - 1) ∙ ap (option_map c.tells) at.1 ∙ ap (λ (x : Option (List ℕ)). Some x) told in
-      let is = telling_at reading c.readers c.checked.lasts run_of.streams c.checked.ran.read (s - 1) (Some whole) entry in
+      let is = observation_at reading c.readers c.checked.lasts run_of.streams c.checked.ran.read (s - 1) (Some whole) entry in
       (is.0, (at.0, is.1), is.2)
 
   -- a stream that told something has a path
-  pub path_at : (s : ℕ) (telling : Telling) → IsOfStream told_of s telling → (path : Text) × IsOfStream c.paths s path
-  path_at s telling at =
-      let within = slice_get_within told_of (s - 1) telling at.1 in
+  pub path_at : (s : ℕ) (observation : InputObservation) → IsOfStream observed_of s observation → (path : Text) × IsOfStream c.paths s path
+  path_at s observation at =
+      let within = slice_get_within observed_of (s - 1) observation at.1 in
       elim (slice_get_cases c.paths (s - 1)).1 [
         | inl has ↦ (has.0, (at.0, has.2))
-        | inr past ↦ absurd (omega (arith, past.0, within, told_length))
+        | inr past ↦ absurd (omega (arith, past.0, within, observed_length))
       ]
 
   -- what it told is what its file tells
-  pub entry_at : (s : ℕ) (telling : Telling) (path : Text) (whole : List ℕ) → IsOfStream told_of s telling
-      → IsOfStream c.paths s path → c.tells path ≡ Some whole → telling.entry ≡ Some whole
-  entry_at s telling path whole at names tells =
-      let here = telling_of_file s path whole names tells in
-      ap (λ (x : Telling). x.entry) (same_at told_of s telling here.0 at here.1) ∙ here.2
+  pub entry_at : (s : ℕ) (observation : InputObservation) (path : Text) (whole : List ℕ) → IsOfStream observed_of s observation
+      → IsOfStream c.paths s path → c.tells path ≡ Some whole → observation.entry ≡ Some whole
+  entry_at s observation path whole at names tells =
+      let here = observation_of_file s path whole names tells in
+      ap (λ (x : InputObservation). x.entry) (same_at observed_of s observation here.0 at here.1) ∙ here.2
 
-  -- A stream with a right refutation comes to 'unsatisfiable', or was cut off in it.
-  pub refutation_says : RightBegins → RightEmpty → IsCnf c.formula → (s : ℕ) (path : Text) (bytes : List ℕ)
+  -- A stream with a valid refutation comes to 'unsatisfiable', or was cut off in it.
+  pub refutation_says : ValidBegins → ValidEmpty → IsCnf c.formula → (s : ℕ) (path : Text) (bytes : List ℕ)
       (lines : List StreamLine) → IsOfStream c.paths s path → c.tells path ≡ Some bytes
-      → IsRightBeginning c.formula c.terms.layout s bytes lines → Any AddsEmpty lines
+      → IsValidPrefix c.formula c.run_params.layout s bytes lines → Any AddsEmpty lines
       → (c.verdict ≡ Unsatisfiable) ⊎ ((report : Report) × IsOfStream c.reports s report × IsCutOffIn (length lines) report)
-  refutation_says begins empty cnf s path bytes lines names tells right refutes =
-      let here = telling_of_file s path bytes names tells in
+  refutation_says begins empty cnf s path bytes lines names tells valid refutes =
+      let here = observation_of_file s path bytes names tells in
       let within = slice_get_within c.paths (s - 1) path names.1 in
-      let stream : IsStream c.terms.layout s = (names.0, omega (arith, within, names.0, c.count)) in
-      let report = has_report c.formula c.terms told_of c.reports run_of s stream in
-      elim (begins c.formula c.terms s bytes lines told_of here.0 c.reports report.0 cnf c.fits stream right run_of here.1 here.2
+      let stream : IsStream c.run_params.layout s = (names.0, omega (arith, within, names.0, c.count)) in
+      let report = has_report c.formula c.run_params observed_of c.reports run_of s stream in
+      elim (begins c.formula c.run_params s bytes lines observed_of here.0 c.reports report.0 cnf c.fits stream valid run_of here.1 here.2
       report.1) [
         | inl least ↦
-            inl (comes_to c.reports c.verdict s report.0 c.checked.is_verdict report.1 (least.empty ((empty c.terms s lines).1 refutes)))
+            inl (comes_to c.reports c.verdict s report.0 c.checked.is_verdict report.1
+            (least.empty ((empty c.run_params s lines).1 refutes)))
         | inr cut ↦ inr (report.0, report.1, cut)
       ]
 
@@ -173,27 +175,27 @@ module _ {R : Type 0} (reading : SourceView R) (c : Check reading) where
   BeginSo set steps = (t : ℕ) (path : Text) → IsTrue (set t) → IsOfStream c.paths t path
       → (more : List ℕ) × (c.tells path ≡ Some (flat_map line_text (lines_by t steps) ++ more))
 
-  pub have_texts : (set : ℕ → Bool) (steps : List Step) → BeginSo set steps → HaveTexts set steps told_of
-  have_texts set steps begin t telling member at =
-      let path = path_at t telling at in
+  pub have_texts : (set : ℕ → Bool) (steps : List Step) → BeginSo set steps → HaveTexts set steps observed_of
+  have_texts set steps begin t observation member at =
+      let path = path_at t observation at in
       let tells = begin t path.0 member path.1 in
-      (tells.0, entry_at t telling path.0 (flat_map line_text (lines_by t steps) ++ tells.0) at path.1 tells.1)
+      (tells.0, entry_at t observation path.0 (flat_map line_text (lines_by t steps) ++ tells.0) at path.1 tells.1)
 
-  -- A stream that adds the empty clause in a right order comes to 'unsatisfiable', or was cut off in its lines, or lacks another's clause.
-  pub order_says : TogetherBegins → RightEmpty → IsCnf c.formula → (s : ℕ) (set : ℕ → Bool) (steps : List Step)
-      → IsRightOrder c.formula c.terms.layout steps → AllByRecursion (λ step. IsTrue (set step.stream)) steps
+  -- A stream that adds the empty clause in a valid order comes to 'unsatisfiable', or was cut off in its lines, or lacks another's clause.
+  pub order_says : TogetherBegins → ValidEmpty → IsCnf c.formula → (s : ℕ) (set : ℕ → Bool) (steps : List Step)
+      → IsValidOrder c.formula c.run_params.layout steps → AllByRecursion (λ step. IsTrue (set step.stream)) steps
       → BeginSo set steps → Any AddsEmpty (lines_by s steps)
       → (c.verdict ≡ Unsatisfiable)
       ⊎ ((report : Report) × IsOfStream c.reports s report × (IsCutOffIn (length (lines_by s steps)) report
-      ⊎ LacksOfAnotherIn (setting_of c.terms s) (length (lines_by s steps)) report))
+      ⊎ LacksOfAnotherIn (stream_params c.run_params s) (length (lines_by s steps)) report))
   order_says together empty cnf s set steps order members begin refutes =
       let some : 0 < length (lines_by s steps) = omega (arith, refutes.2) in
-      let stream : IsStream c.terms.layout s = of_some s (IsStream c.terms.layout) steps order.streams some in
+      let stream : IsStream c.run_params.layout s = of_some s (IsStream c.run_params.layout) steps order.streams some in
       let member : IsTrue (set s) = of_some s (λ t. IsTrue (set t)) steps members some in
-      let report = has_report c.formula c.terms told_of c.reports run_of s stream in
-      elim (together c.formula c.terms set steps told_of c.reports s report.0 cnf c.fits order members run_of
+      let report = has_report c.formula c.run_params observed_of c.reports run_of s stream in
+      elim (together c.formula c.run_params set steps observed_of c.reports s report.0 cnf c.fits order members run_of
       (have_texts set steps begin) member report.1) [
         | inl least ↦ inl (comes_to c.reports c.verdict s report.0 c.checked.is_verdict report.1
-            (least.empty ((empty c.terms s (lines_by s steps)).1 refutes)))
+            (least.empty ((empty c.run_params s (lines_by s steps)).1 refutes)))
         | inr held ↦ inr (report.0, report.1, held)
       ]

@@ -7,43 +7,45 @@ use Rattle.lrup_text.specs.declared.device.StreamEnd.{StreamEnd}
 use Rattle.stream_check.specs.declared.fault.Fault.{Fault}
 use Rattle.stream_check.specs.declared.report.Ending.{Ending}
 use Rattle.stream_check.specs.declared.report.Report.{Report}
-use Rattle.stream_check.specs.declared.setting.Side.{Side}
-use Rattle.stream_check.specs.declared.setting.Side.TheVariants as sides
-use Rattle.stream_check.specs.Setting.{Setting, side_of}
-use Rattle.stream_check.specs.Standing.{standing_of, additions_of}
+use Rattle.stream_check.specs.declared.params.Ownership.{Ownership}
+use Rattle.stream_check.specs.declared.params.Ownership.TheVariants as ownerships
+use Rattle.stream_check.specs.StreamParams.{StreamParams, ownership_of}
+use Rattle.stream_check.specs.StreamContext.{context_of, additions_of}
 use Rattle.stream_check.specs.Verdicts.{LineVerdict, Good, Bad}
-use Rattle.stream_check.specs.Asking.{AsksAt, LooksUp}
+use Rattle.stream_check.specs.Lookup.{AsksAt, LooksUp}
 use Rattle.stream_check.specs.lemmas.MappingLemmas.{LooksOn, line_maps}
 use Rattle.stream_check.specs.Judging.{JudgesLine, AreGood, report_of, EndsAfter, at_bad_line, at_bad_text, at_memory, at_end}
 use Rattle.stream_check.specs.lemmas.ReportLemmas.{all_only_empty}
-use Rattle.outcome_laws.specs.Outcomes.{bare_setting, bare_report}
+use Rattle.outcome_laws.specs.Outcomes.{bare_params, bare_report}
 use Rattle.outcome_laws.specs.Laws.{NoCubeJudgesAlike}
 
 -- Lines
 
-asks_bare : (side : Side) (c : Setting) (h : ℕ) (es : History) (r : Reply) → AsksAt side c h es r → AsksAt side (bare_setting c) h es r
-asks_bare sides.Formula c h es r asks = asks
-asks_bare sides.Own c h es r asks = asks
-asks_bare sides.Foreign c h es r asks = asks
-asks_bare sides.Outside c h es r asks = asks
+asks_bare : (ownership : Ownership) (c : StreamParams) (h : ℕ) (es : History) (r : Reply) → AsksAt ownership c h es r
+    → AsksAt ownership (bare_params c) h es r
+asks_bare ownerships.Formula c h es r asks = asks
+asks_bare ownerships.Own c h es r asks = asks
+asks_bare ownerships.Foreign c h es r asks = asks
+asks_bare ownerships.Outside c h es r asks = asks
 
-looks_bare : (c : Setting) (gone : ℕ → Bool) (h : ℕ) (asked rest : History) (answer : Result Clause Fault) → LooksUp c gone h asked answer
-    → LooksOn (bare_setting c) (λ es. es) gone h asked rest answer
+looks_bare : (c : StreamParams) (gone : ℕ → Bool) (h : ℕ) (asked rest : History) (answer : Result Clause Fault)
+    → LooksUp c gone h asked answer
+    → LooksOn (bare_params c) (λ es. es) gone h asked rest answer
 looks_bare c gone h asked rest answer (inl dropped) = record { fewer = asked; events = refl; looks = inl dropped }
 looks_bare c gone h asked rest answer (inr found) = record {
   fewer = asked;
   events = refl;
-  looks = inr (found.0, found.1, asks_bare (side_of c h) c h asked found.1 found.2, found.3);
+  looks = inr (found.0, found.1, asks_bare (ownership_of c h) c h asked found.1 found.2, found.3);
 }
 
-line_bare : (c : Setting) (before : List StreamLine) (line : StreamLine) (es : History) (v : LineVerdict)
-    → JudgesLine c (standing_of c before) line es v → JudgesLine (bare_setting c) (standing_of (bare_setting c) before) line es v
+line_bare : (c : StreamParams) (before : List StreamLine) (line : StreamLine) (es : History) (v : LineVerdict)
+    → JudgesLine c (context_of c before) line es v → JudgesLine (bare_params c) (context_of (bare_params c) before) line es v
 line_bare c before line es v judged =
     line_maps c [] (λ e. e) refl (λ id lits. refl) (λ id r rest. refl)
-    (λ gone h asked rest answer looks ends. looks_bare c gone h asked rest answer looks) (standing_of c before) line es v judged
+    (λ gone h asked rest answer looks ends. looks_bare c gone h asked rest answer looks) (context_of c before) line es v judged
 
-good_bare : (c : Setting) (before lines : List StreamLine) (blocks : List History) → AreGood c before lines blocks
-    → AreGood (bare_setting c) before lines blocks
+good_bare : (c : StreamParams) (before lines : List StreamLine) (blocks : List History) → AreGood c before lines blocks
+    → AreGood (bare_params c) before lines blocks
 good_bare c before [] [] good = tt
 good_bare c before [] (block ∷ blocks) good = absurd good
 good_bare c before (line ∷ lines) [] good = absurd good
@@ -52,16 +54,16 @@ good_bare c before (line ∷ lines) (block ∷ blocks) good =
 
 -- Reports
 
-says_bare : (c : Setting) (lines : List StreamLine) (deleted : ℕ) (ending : Ending) (report : Report)
-    → report ≡ report_of c lines deleted ending → bare_report report ≡ report_of (bare_setting c) lines deleted ending
+says_bare : (c : StreamParams) (lines : List StreamLine) (deleted : ℕ) (ending : Ending) (report : Report)
+    → report ≡ report_of c lines deleted ending → bare_report report ≡ report_of (bare_params c) lines deleted ending
 says_bare c lines deleted ending report says =
     let r = report_of c lines deleted ending in
     ap bare_report says
     ∙ ap (λ (w : Bool). record { added = r.added; deleted = r.deleted; empty = r.empty; within = w; ending = r.ending })
     (sym (all_only_empty (additions_of lines)))
 
-ends_bare : (c : Setting) (lines : List StreamLine) (rest : List ℕ) (end : StreamEnd) (back : List History) (report : Report)
-    → EndsAfter c lines rest end back report → EndsAfter (bare_setting c) lines rest end back (bare_report report)
+ends_bare : (c : StreamParams) (lines : List StreamLine) (rest : List ℕ) (end : StreamEnd) (back : List History) (report : Report)
+    → EndsAfter c lines rest end back report → EndsAfter (bare_params c) lines rest end back (bare_report report)
 ends_bare c lines rest end back report (at_bad_line line more text fits block one_block deleted fault bad says) =
     at_bad_line line more text fits block one_block deleted fault (line_bare c lines line block (Bad deleted fault) bad)
     (says_bare c lines _ _ report says)

@@ -4,7 +4,7 @@ mod RunLemmas
 mod WordLemmas
 mod OutcomeLemmas
 mod StatusLemmas
-mod RightLemmas
+mod ValidLemmas
 mod SerialLemmas
 mod RefutingLemmas
 mod StreamLemmas

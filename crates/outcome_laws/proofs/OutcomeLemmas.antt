@@ -12,10 +12,10 @@ use Rattle.run_laws.specs.Groups.{IsRun}
 use Rattle.portfolio.specs.Outcomes.{OptionsValue, layout_of}
 use Rattle.portfolio.specs.ReportText.{ending_text, stream_line}
 use Rattle.portfolio.specs.declared.outcome.Verdict.{Verdict}
-use Rattle.command.specs.Commands.{FilesView, IsFormulaAt, IsOutcome, Text, layout_at, options_of, terms_given}
+use Rattle.command.specs.Commands.{FilesView, IsFormulaAt, IsOutcome, Text, layout_at, options_of, run_params_given}
 use Rattle.outcome_laws.specs.Outcomes.{SayTheSame}
 use Rattle.outcome_laws.specs.Laws.{SameBytesSayTheSame, OutcomesAgree}
-use Rattle.outcome_laws.proofs.CheckLemmas.{Check, run_of, telling_of_file, told_of}
+use Rattle.outcome_laws.proofs.CheckLemmas.{Check, run_of, observation_of_file, observed_of}
 
 -- a text is that of one formula: the law of `dimacs`
 abbrev pub OneFormula : Type 0
@@ -45,7 +45,7 @@ abbrev pub check_of : (files : FilesView) (words : List Text) (reports : List Re
 check_of files words reports verdict a = record {
   serial = a.given.serial;
   formula = a.formula;
-  terms = terms_given a.given a.cube a.formula;
+  run_params = run_params_given a.given a.cube a.formula;
   fits = record { vars = refl; clauses = refl; literals = refl };
   tells = files.tells;
   paths = a.given.streams;
@@ -71,13 +71,13 @@ outcomes_agree one_formula same files others words other_words reports other_rep
     let fits : Fits (layout_at a.given a.formula) a.formula = record { vars = refl; clauses = refl; literals = refl } in
     let mine = check_of files words reports verdict a in
     let theirs = check_of others other_words other_reports other_verdict b in
-    let here = telling_of_file files.its.reading mine s on.path whole on.names on.tells in
-    let over = telling_of_file others.its.reading theirs s there.path whole there.names there.tells in
+    let here = observation_of_file files.its.reading mine s on.path whole on.names on.tells in
+    let over = observation_of_file others.its.reading theirs s there.path whole there.names there.tells in
     same_line s report other
-    (same a.formula (terms_given a.given a.cube a.formula) (terms_given b.given b.cube b.formula) s whole
-    (told_of files.its.reading mine) (told_of others.its.reading theirs) here.0 over.0 reports other_reports report other
+    (same a.formula (run_params_given a.given a.cube a.formula) (run_params_given b.given b.cube b.formula) s whole
+    (observed_of files.its.reading mine) (observed_of others.its.reading theirs) here.0 over.0 reports other_reports report other
     fits layouts (ap (λ (x : OptionsValue). x.tries) options) cites
-    (run_of files.its.reading mine) (subst (λ (g : Cnf). IsRun g (terms_given b.given b.cube b.formula)
-    (told_of others.its.reading theirs) other_reports) formulas (run_of others.its.reading theirs))
+    (run_of files.its.reading mine) (subst (λ (g : Cnf). IsRun g (run_params_given b.given b.cube b.formula)
+    (observed_of others.its.reading theirs) other_reports) formulas (run_of others.its.reading theirs))
     here.1 here.2 over.1 over.2
     on.says there.says on.memory on.failure there.memory there.failure)

@@ -1,4 +1,4 @@
--- What is printed of a right refutation.
+-- What is printed of a valid refutation.
 use Rattle.std.proofs.Common.{◌≡◌, ◌≢◌, ◌++◌, ◌+◌, ◌-◌, ◌<◌, ◌≤◌, ◌/◌, ◌%◌, ◌==◌, ℕ, Bool, true, false, List, [], ◌∷◌, length, Option}
 use Rattle.std.proofs.Common.{suc, zero, None, Some, inl, inr, refl, sym, ap, subst, ◌∙◌, arith, append_assoc, length-append}
 use Rattle.std.proofs.lemmas.Bool.{cases_eq, cond_both, cond-false, cond-true, eq-eqb, lt-ltb, ne_eqb}
@@ -16,11 +16,11 @@ use Rattle.stream_check.specs.declared.report.Ending.{Ending}
 use Rattle.stream_check.specs.declared.report.Ending.TheVariants as endings
 use Rattle.stream_check.specs.declared.report.Report.{Report}
 use Rattle.runs.specs.Closed.{IsOfStream}
-use Rattle.run_laws.specs.Right.{IsCutOffIn}
+use Rattle.run_laws.specs.Valid.{IsCutOffIn}
 use Rattle.portfolio.specs.ReportText.{ending_text, report_text, stream_line, stream_lines, verdict_line}
 use Rattle.portfolio.specs.declared.outcome.Verdict.{Verdict}
 use Rattle.command.specs.Commands.{FilesView, IsUntouched, SinkChange, SinkTook, TakesUnlessFailed, Text}
-use Rattle.outcome_laws.specs.Right.{IsExcused, unwritten, no_report, lost, RightRefutationSays}
+use Rattle.outcome_laws.specs.Valid.{InconclusiveBecause, unwritten, no_report, lost, ValidRefutationSays}
 use Rattle.outcome_laws.specs.Printed.{HoldsBackRefuted, NoBadLineShown, ShowsBadLine}
 
 -- Bytes before a mark
@@ -261,7 +261,7 @@ module _ (s count : ℕ) (out : SinkChange) (shows : ShowsBadLine s out) where
       omega (arith, some_shown, ap length none)
 
   pub shown_so : (files : FilesView) (words : List Text) (after : files.its.State) (err : SinkChange) (status : ℕ)
-      → IsExcused files words s (IsCutOffIn count) after out err status → HoldsBackRefuted files words after out err status
+      → InconclusiveBecause files words s (IsCutOffIn count) after out err status → HoldsBackRefuted files words after out err status
   shown_so files words after err status (no_report ends machine is) = absurd (none_untouched ends.untouched)
   shown_so files words after err status (lost ends written report says why is) =
       absurd (none_of_lost ends.reports ends.verdict ends.printed report says why)
@@ -269,8 +269,8 @@ module _ (s count : ℕ) (out : SinkChange) (shows : ShowsBadLine s out) where
   shown_so files words after err status (unwritten ends failed (inr (report, says, why)) is) =
       absurd (none_of_lost ends.reports ends.verdict ends.printed report says why)
 
-pub no_bad_line_shown : (files : FilesView) → RightRefutationSays files → NoBadLineShown files
+pub no_bad_line_shown : (files : FilesView) → ValidRefutationSays files → NoBadLineShown files
 no_bad_line_shown files law words after s out err status ask ends shows = elim (law words after s out err status ask ends) [
   | inl is ↦ inl is
-  | inr excused ↦ inr (shown_so s (length ask.right.lines) out shows files words after err status excused)
+  | inr inconclusive ↦ inr (shown_so s (length ask.valid.lines) out shows files words after err status inconclusive)
 ]

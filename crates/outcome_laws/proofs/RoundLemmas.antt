@@ -1,4 +1,4 @@
--- What the program says of right streams in rounds.
+-- What the program says of valid proofs in rounds.
 use Rattle.std.proofs.Common.{◌≡◌, ◌⊎◌, ◌<◌, ◌≤◌, ◌-◌, ◌+◌, ℕ, Bool, true, false, List, [], ◌∷◌, length, map, Option, None, Some, inl, inr}
 use Rattle.std.proofs.Common.{refl, sym, ap, subst, drop, ◌∙◌, arith}
 use Rattle.std.proofs.lemmas.Bool.{cases_lt}
@@ -9,9 +9,9 @@ use Rattle.dimacs.specs.FormulaText.{IsFormulaText}
 use Rattle.stream_check.specs.declared.report.Ending.TheVariants as endings
 use Rattle.stream_check.specs.declared.report.Report.{Report}
 use Rattle.stream_check.specs.Laws.{EmptyCubeReported}
-use Rattle.run_laws.specs.RightLaws.{RightBegins, RightEmpty, RightReported}
-use Rattle.run_laws.specs.TurnsLaws.{RightByTurns}
-use Rattle.run_laws.specs.Together.{RightTogether, TogetherBegins}
+use Rattle.run_laws.specs.ValidLaws.{ValidBegins, ValidEmpty, ValidReported}
+use Rattle.run_laws.specs.TurnsLaws.{ValidByTurns}
+use Rattle.run_laws.specs.Together.{ValidTogether, TogetherBegins}
 use Rattle.portfolio.specs.Outcomes.{OptionsValue}
 use Rattle.portfolio.specs.declared.outcome.Verdict.{Verdict}
 use Rattle.portfolio.specs.declared.outcome.Verdict.TheVariants.{Unsatisfiable, UnsatisfiableUnder, Unknown}
@@ -24,19 +24,19 @@ use Rattle.command.specs.Commands.{SinkChange, Text, options_of, report_status}
 use Rattle.command.specs.Faults.{status_of}
 use Rattle.command.specs.Paths.{formula_path, sizes_path, stream_path, stream_paths}
 use Rattle.command.specs.Rounds.{AreSized, CarriesOn, FailsInRound, HaveEnded, IsFirstCause, IsRoundCause, IsSizesCause, ProgramEnds}
-use Rattle.command.specs.Rounds.{ReportsRounds, Round, Plan, WasChecked, WereRounds, plan_at, sizes_of, terms_by}
+use Rattle.command.specs.Rounds.{ReportsRounds, Round, Plan, WasChecked, WereRounds, plan_at, sizes_of, run_params_by}
 use Rattle.command.specs.declared.fault.CommandFault.{CommandFault}
 use Rattle.command.specs.declared.fault.CommandFault.TheVariants as faults
 use Rattle.outcome_laws.specs.Laws.{SameWordsAskAlike}
-use Rattle.outcome_laws.specs.RightRounds.{AreRightAlone, AreRightInOrder, AskForRightRounds, IsAskedOf, IsCutOffOf, IsExcusedInRounds}
-use Rattle.outcome_laws.specs.RightRounds.{IsOfMachineInRound, IsProvided, IsRefutedAlone, IsRefutedInOrder, IsStopped, IsStoppedOf, Loss}
-use Rattle.outcome_laws.specs.RightRounds.{AreRightByTurns, IsRefutedByTurns, RightTurnRoundsSay, RightOrdersSay, RightRoundsSay, RoundAsk}
-use Rattle.outcome_laws.specs.RightRounds.{EndedOrStopped, FallsShort, HasStopped, layout_in, not_begun, not_gone_on, not_kept, not_printed}
-use Rattle.outcome_laws.specs.RightRounds.{printed, stopped, under_cube}
+use Rattle.outcome_laws.specs.ValidRounds.{AreValidAlone, AreValidInOrder, AskForValidRounds, IsAskedOf, IsCutOffOf, InconclusiveInRounds}
+use Rattle.outcome_laws.specs.ValidRounds.{IsOfMachineInRound, IsProvided, IsRefutedAlone, IsRefutedInOrder, IsStopped, IsStoppedOf, Loss}
+use Rattle.outcome_laws.specs.ValidRounds.{AreValidByTurns, IsRefutedByTurns, ValidTurnRoundsSay, ValidOrdersSay, ValidRoundsSay, RoundAsk}
+use Rattle.outcome_laws.specs.ValidRounds.{EndedOrStopped, FallsShort, HasStopped, layout_in, not_begun, not_gone_on, not_kept, not_printed}
+use Rattle.outcome_laws.specs.ValidRounds.{printed, stopped, under_cube}
 use Rattle.outcome_laws.specs.Serial.{IsCutOff}
 use Rattle.outcome_laws.proofs.CheckLemmas.{Check, never_under}
 use Rattle.outcome_laws.proofs.OutcomeLemmas.{OneFormula}
-use Rattle.outcome_laws.proofs.RightLemmas.{NoFormulaFault, formula_at, machine_status, of_machine, text_cnf}
+use Rattle.outcome_laws.proofs.ValidLemmas.{NoFormulaFault, formula_at, machine_status, of_machine, text_cnf}
 use Rattle.outcome_laws.proofs.StreamLemmas.{Either, OnOne, ends_by_turns, refutes_by_turns, EndsSo, RefutesSo, cut_is_open}
 use Rattle.outcome_laws.proofs.StreamLemmas.{ended_at, ends_alone, ends_in_order, cut_of_is_open, refutes_alone, refutes_in_order}
 use Rattle.outcome_laws.proofs.StreamLemmas.{stopped_is_open, stopped_of_is_open}
@@ -56,7 +56,7 @@ module _ (its : Deeds) (plan : Plan) (number : ℕ) (old : Sizes) (formula : Cnf
       → ((from : its.State) (path : Text) → IsFirstCause its from path fault after → ⊥)
       → ((next : its.State) (paths : List Text) → IsOpenCause its 1 next paths fault after → ⊥)
       → ((sizes : Sizes) (sized : its.State) → Read sizes sized → (opened : its.State) (path : Option Text)
-      → IsStartCause its plan.serial (terms_by plan formula sizes).layout opened path fault after → ⊥)
+      → IsStartCause its plan.serial (run_params_by plan formula sizes).layout opened path fault after → ⊥)
       → IsRoundCause its plan number old formula before fault after → ⊥
   none_so fault sizes first opens starts (inl cause) = sizes cause
   none_so fault sizes first opens starts (inr (read, sized, are, inl (inl cause))) =
@@ -121,7 +121,7 @@ abbrev check_in : (Before Last : RoundAsk) (last : ℕ) (its : Deeds) (plan : Pl
 check_in Before Last last its plan number round is = record {
   serial = plan.serial;
   formula = round.formula;
-  terms = terms_by plan round.formula round.sizes;
+  run_params = run_params_by plan round.formula round.sizes;
   fits = record { vars = refl; clauses = refl; literals = refl };
   tells = is.tells;
   paths = is.paths;
@@ -156,7 +156,7 @@ module _ (Mode : Bool → Type 0) (Before Last : RoundAsk) (Early Late : Loss) (
     (bare : EmptyCubeReported)
     (one_formula : OneFormula) (no_fault : NoFormulaFault) (alike : SameWordsAskAlike) (files : FilesView) (words : List Text)
     (folder : Text)
-    (last : ℕ) (ask : AskForRightRounds Before Last files words folder last)
+    (last : ℕ) (ask : AskForValidRounds Before Last files words folder last)
     (mode : (given : CommandLine) → IsCommandLineOf words given → Mode given.serial) where
   -- the words ask for no checkpoint
   two_files : (after : files.its.State) → ¬ IsCause files words faults.TwoCheckpoints after
@@ -318,7 +318,7 @@ module _ (Mode : Bool → Type 0) (Before Last : RoundAsk) (Early Late : Loss) (
 
   module _ (after : files.its.State) (out err : SinkChange) (status : ℕ) where
     abbrev Goal : Type 0
-    Goal = (status ≡ 0) ⊎ IsExcusedInRounds files words folder Early Late last after out err status
+    Goal = (status ≡ 0) ⊎ InconclusiveInRounds files words folder Early Late last after out err status
 
     abbrev Short : (given : CommandLine) → ReportsRounds files given folder after out err status → ℕ → Type 0
     Short given ends wanted = FallsShort given Early Late last (length (ends.last ∷ ends.before)) ends.last wanted
@@ -395,24 +395,24 @@ module _ (Mode : Bool → Type 0) (Before Last : RoundAsk) (Early Late : Loss) (
           | inr fails ↦ failed_so ends.given ends.command_line fails
         ]
 
-pub right_rounds_say : OneFormula → NoFormulaFault → EmptyCubeReported → SameWordsAskAlike → RightReported → RightBegins
-    → RightEmpty → (files : FilesView) → RightRoundsSay files
-right_rounds_say one_formula no_fault bare alike reported begins empty files words folder last s count after out err status ask =
-    rounds_say Either AreRightAlone (IsRefutedAlone s count) (λ layout t report. IsCutOff report) (IsCutOffOf s count)
+pub valid_rounds_say : OneFormula → NoFormulaFault → EmptyCubeReported → SameWordsAskAlike → ValidReported → ValidBegins
+    → ValidEmpty → (files : FilesView) → ValidRoundsSay files
+valid_rounds_say one_formula no_fault bare alike reported begins empty files words folder last s count after out err status ask =
+    rounds_say Either AreValidAlone (IsRefutedAlone s count) (λ layout t report. IsCutOff report) (IsCutOffOf s count)
     (ends_alone reported) (refutes_alone begins empty s count) cut_is_open (cut_of_is_open s count)
     bare one_formula no_fault alike files words folder last ask (λ given line. tt) after out err status
 
-pub right_orders_say : OneFormula → NoFormulaFault → EmptyCubeReported → SameWordsAskAlike → RightTogether → TogetherBegins
-    → RightEmpty → (files : FilesView) → RightOrdersSay files
-right_orders_say one_formula no_fault bare alike together begins empty files words folder last s count after out err status ask =
-    rounds_say Either AreRightInOrder (IsRefutedInOrder s count) IsStopped (IsStoppedOf s count)
+pub valid_orders_say : OneFormula → NoFormulaFault → EmptyCubeReported → SameWordsAskAlike → ValidTogether → TogetherBegins
+    → ValidEmpty → (files : FilesView) → ValidOrdersSay files
+valid_orders_say one_formula no_fault bare alike together begins empty files words folder last s count after out err status ask =
+    rounds_say Either AreValidInOrder (IsRefutedInOrder s count) IsStopped (IsStoppedOf s count)
     (ends_in_order together) (refutes_in_order begins empty s count) stopped_is_open (stopped_of_is_open s count)
     bare one_formula no_fault alike files words folder last ask (λ given line. tt) after out err status
 
-pub right_turn_rounds_say : OneFormula → NoFormulaFault → EmptyCubeReported → SameWordsAskAlike → RightByTurns → RightEmpty
-    → (files : FilesView) → RightTurnRoundsSay files
-right_turn_rounds_say one_formula no_fault bare alike by_turns empty files words folder last s after out err status ask on_one =
-    rounds_say OnOne AreRightByTurns (IsRefutedByTurns s) (λ layout t report. IsCutOff report) (λ layout t report. IsCutOff report)
+pub valid_turn_rounds_say : OneFormula → NoFormulaFault → EmptyCubeReported → SameWordsAskAlike → ValidByTurns → ValidEmpty
+    → (files : FilesView) → ValidTurnRoundsSay files
+valid_turn_rounds_say one_formula no_fault bare alike by_turns empty files words folder last s after out err status ask on_one =
+    rounds_say OnOne AreValidByTurns (IsRefutedByTurns s) (λ layout t report. IsCutOff report) (λ layout t report. IsCutOff report)
     (ends_by_turns by_turns) (refutes_by_turns by_turns empty s) cut_is_open cut_is_open
     bare one_formula no_fault alike files words folder last ask
     (λ given line. line.said.serial ∙ sym ask.asks.command_line.said.serial ∙ on_one) after out err status

@@ -14,26 +14,26 @@ use Rattle.stream_check.specs.declared.report.Report.{Report}
 use Rattle.stream_check.specs.Laws.{IsOfMemory, IsOfFailure}
 use Rattle.runs.specs.Turns.{IsByTurns, IsOrderedByTurns}
 use Rattle.runs.specs.Closed.{IsOfStream}
-use Rattle.runs.specs.Streams.{Telling, TermsValue}
+use Rattle.runs.specs.Streams.{InputObservation, RunParamsValue}
 use Rattle.run_laws.specs.Groups.{IsRun}
-use Rattle.run_laws.specs.Right.{AddsEmpty, right_report}
-use Rattle.run_laws.specs.RightLaws.{RightEmpty}
-use Rattle.run_laws.specs.Together.{Step, IsRightOrder, lines_by}
-use Rattle.run_laws.specs.TurnsLaws.{BytesDecide, HaveJustTexts, HaveSameBytes, NoneCutShort, RightByTurns}
+use Rattle.run_laws.specs.Valid.{AddsEmpty, valid_report}
+use Rattle.run_laws.specs.ValidLaws.{ValidEmpty}
+use Rattle.run_laws.specs.Together.{Step, IsValidOrder, lines_by}
+use Rattle.run_laws.specs.TurnsLaws.{BytesDecide, HaveJustTexts, HaveSameBytes, NoneCutShort, ValidByTurns}
 use Rattle.portfolio.specs.Outcomes.{OptionsValue, layout_of, verdict_of}
 use Rattle.portfolio.specs.declared.outcome.Verdict.{Verdict}
 use Rattle.portfolio.specs.declared.outcome.Verdict.TheVariants.{Unsatisfiable}
-use Rattle.command.specs.Commands.{EndsWithReport, FilesView, IsOutcome, SinkChange, Text, layout_at, options_of, terms_given}
+use Rattle.command.specs.Commands.{EndsWithReport, FilesView, IsOutcome, SinkChange, Text, layout_at, options_of, run_params_given}
 use Rattle.outcome_laws.specs.Laws.{SameWordsAskAlike}
-use Rattle.outcome_laws.specs.Right.{IsExcused}
-use Rattle.outcome_laws.specs.Serial.{AskForRightTurns, IsCutOff, RightTurnsSay, SerialOutcomesAgree}
-use Rattle.outcome_laws.proofs.CheckLemmas.{Check, turns_of, comes_to, entry_at, has_report, of_some, path_at, run_of, told_of}
+use Rattle.outcome_laws.specs.Valid.{InconclusiveBecause}
+use Rattle.outcome_laws.specs.Serial.{AskForValidTurns, IsCutOff, ValidTurnsSay, SerialOutcomesAgree}
+use Rattle.outcome_laws.proofs.CheckLemmas.{Check, turns_of, comes_to, entry_at, has_report, of_some, path_at, run_of, observed_of}
 use Rattle.outcome_laws.proofs.OutcomeLemmas.{OneFormula, is_text, check_of}
-use Rattle.outcome_laws.proofs.RightLemmas.{NoFormulaFault, IsOf, is_of, with_report, without_report}
+use Rattle.outcome_laws.proofs.ValidLemmas.{NoFormulaFault, IsOf, is_of, with_report, without_report}
 
 -- a run whose lines have an order by turns
-abbrev IsRunInTurns : Cnf → TermsValue → List Telling → List Report → Type 0
-IsRunInTurns f terms told reports = (run : IsRun f terms told reports) × IsOrderedByTurns f terms run.streams reports
+abbrev IsRunInTurns : Cnf → RunParamsValue → List InputObservation → List Report → Type 0
+IsRunInTurns f run_params told reports = (run : IsRun f run_params told reports) × IsOrderedByTurns f run_params run.streams reports
 
 pub serial_outcomes_agree : OneFormula → BytesDecide → (files : FilesView) (others : FilesView) → SerialOutcomesAgree files others
 serial_outcomes_agree one_formula decide files others words other_words reports other_reports verdict other_verdict a b ask
@@ -41,37 +41,37 @@ serial_outcomes_agree one_formula decide files others words other_words reports 
     let formulas : b.formula ≡ a.formula =
     one_formula ask.text b.formula a.formula (is_text others b.given.formula.now b.formula b.next ask.text ask.same_formula b.is_formula)
     (is_text files a.given.formula.now a.formula a.next ask.text ask.formula a.is_formula) in
-    let terms = terms_given a.given a.cube a.formula in
+    let run_params = run_params_given a.given a.cube a.formula in
     let layouts : layout_at b.given b.formula ≡ layout_at a.given a.formula =
     ap (λ (x : OptionsValue). layout_of x b.formula (length b.given.streams)) ask.options
     ∙ ap (λ (x : Cnf). layout_of (options_of a.given) x (length b.given.streams)) formulas
     ∙ ap (layout_of (options_of a.given) a.formula) ask.count in
-    let same_terms : terms_given b.given b.cube b.formula ≡ terms =
+    let same_run_params : run_params_given b.given b.cube b.formula ≡ run_params =
     ap (λ (p : LayoutValue). record { layout = p; cube = b.cube; tries = b.given.tries }) layouts
     ∙ ap (λ (c : CubeValue). record { layout = layout_at a.given a.formula; cube = c; tries = b.given.tries }) cubes
     ∙ ap (λ (x : OptionsValue). record { layout = layout_at a.given a.formula; cube = a.cube; tries = x.tries }) ask.options in
     let mine = check_of files words reports verdict a in
     let others_check = check_of others other_words other_reports other_verdict b in
-    let told = told_of files.its.reading mine in
-    let other_told = told_of others.its.reading others_check in
-    let theirs : IsRunInTurns a.formula terms other_told other_reports =
-    subst (λ (t : TermsValue). IsRunInTurns a.formula t other_told other_reports) same_terms
-    (subst (λ (g : Cnf). IsRunInTurns g (terms_given b.given b.cube b.formula) other_told other_reports) formulas
+    let told = observed_of files.its.reading mine in
+    let other_observed = observed_of others.its.reading others_check in
+    let theirs : IsRunInTurns a.formula run_params other_observed other_reports =
+    subst (λ (t : RunParamsValue). IsRunInTurns a.formula t other_observed other_reports) same_run_params
+    (subst (λ (g : Cnf). IsRunInTurns g (run_params_given b.given b.cube b.formula) other_observed other_reports) formulas
     (run_of others.its.reading others_check, turns_of others.its.reading others_check ask.too)) in
-    let bytes : HaveSameBytes told other_told = λ s telling other at there.
-    let path = path_at files.its.reading mine s telling at in
+    let bytes : HaveSameBytes told other_observed = λ s observation other at there.
+    let path = path_at files.its.reading mine s observation at in
     let other_path = path_at others.its.reading others_check s other there in
     let both = ask.streams s path.0 other_path.0 path.1 other_path.1 in (
       both.0,
-      entry_at files.its.reading mine s telling path.0 both.0 at path.1 both.1,
+      entry_at files.its.reading mine s observation path.0 both.0 at path.1 both.1,
       entry_at others.its.reading others_check s other other_path.0 both.0 there other_path.1 both.2,
     ) in
     let same : reports ≡ other_reports =
-    decide a.formula terms told other_told reports other_reports bytes (run_of files.its.reading mine) theirs.0
+    decide a.formula run_params told other_observed reports other_reports bytes (run_of files.its.reading mine) theirs.0
     (turns_of files.its.reading mine ask.serial) theirs.1 fine good in
     (same, a.checked.is_verdict ∙ ap verdict_of same ∙ sym b.checked.is_verdict)
 
--- Right streams, by turns
+-- Valid proofs, by turns
 
 by_ending : (ending : Ending) (report : Report) → report.ending ≡ ending → IsCutOff report ⊎ ((¬ IsOfMemory report) × ¬ IsOfFailure report)
 by_ending endings.Ended report is = inr (
@@ -117,30 +117,30 @@ some_cut reports = elim (cut_at reports) [
   | inr none ↦ inr (λ t report at. none (t - 1) report at.1)
 ]
 
--- Lines that have a right order by turns, where no stream was cut off.
-module _ {R : Type 0} (reading : SourceView R) (c : Check reading) (cnf : IsCnf c.formula) (right : RightByTurns) (on_one : c.serial ≡ true)
-    (steps : List Step) (order : IsRightOrder c.formula c.terms.layout steps) (turns : IsByTurns (map (λ step. step.stream) steps))
+-- Lines that have a valid order by turns, where no stream was cut off.
+module _ {R : Type 0} (reading : SourceView R) (c : Check reading) (cnf : IsCnf c.formula) (valid : ValidByTurns) (on_one : c.serial ≡ true)
+    (steps : List Step) (order : IsValidOrder c.formula c.run_params.layout steps) (turns : IsByTurns (map (λ step. step.stream) steps))
     (tells : (t : ℕ) (path : Text) → IsOfStream c.paths t path → c.tells path ≡ Some (flat_map line_text (lines_by t steps)))
     (fine : NoneCutShort c.reports) where
-  pub right_by_turns : (s : ℕ) (report : Report) → IsOfStream c.reports s report → report ≡ right_report c.terms s (lines_by s steps)
-  right_by_turns s report says =
-      let texts : HaveJustTexts steps (told_of reading c) = λ t telling at.
-      let path = path_at reading c t telling at in
-      entry_at reading c t telling path.0 (flat_map line_text (lines_by t steps)) at path.1 (tells t path.0 path.1) in
-      right c.formula c.terms steps (told_of reading c) c.reports s report cnf c.fits order turns texts
+  pub valid_by_turns : (s : ℕ) (report : Report) → IsOfStream c.reports s report → report ≡ valid_report c.run_params s (lines_by s steps)
+  valid_by_turns s report says =
+      let texts : HaveJustTexts steps (observed_of reading c) = λ t observation at.
+      let path = path_at reading c t observation at in
+      entry_at reading c t observation path.0 (flat_map line_text (lines_by t steps)) at path.1 (tells t path.0 path.1) in
+      valid c.formula c.run_params steps (observed_of reading c) c.reports s report cnf c.fits order turns texts
       (run_of reading c) (turns_of reading c on_one) fine says
 
-  pub by_turns_refutes : RightEmpty → (s : ℕ) → Any AddsEmpty (lines_by s steps) → c.verdict ≡ Unsatisfiable
+  pub by_turns_refutes : ValidEmpty → (s : ℕ) → Any AddsEmpty (lines_by s steps) → c.verdict ≡ Unsatisfiable
   by_turns_refutes empty s refutes =
       let some : 0 < length (lines_by s steps) = omega (arith, refutes.2) in
-      let stream : IsStream c.terms.layout s = of_some s (IsStream c.terms.layout) steps order.streams some in
-      let report = has_report c.formula c.terms (told_of reading c) c.reports (run_of reading c) s stream in
+      let stream : IsStream c.run_params.layout s = of_some s (IsStream c.run_params.layout) steps order.streams some in
+      let report = has_report c.formula c.run_params (observed_of reading c) c.reports (run_of reading c) s stream in
       comes_to c.reports c.verdict s report.0 c.checked.is_verdict report.1
-      (ap (λ (r : Report). r.empty) (right_by_turns s report.0 report.1) ∙ (empty c.terms s (lines_by s steps)).1 refutes)
+      (ap (λ (r : Report). r.empty) (valid_by_turns s report.0 report.1) ∙ (empty c.run_params s (lines_by s steps)).1 refutes)
 
-module _ (one_formula : OneFormula) (no_fault : NoFormulaFault) (alike : SameWordsAskAlike) (right : RightByTurns)
-    (empty : RightEmpty)
-    (files : FilesView) (words : List Text) (s : ℕ) (ask : AskForRightTurns files words s) where
+module _ (one_formula : OneFormula) (no_fault : NoFormulaFault) (alike : SameWordsAskAlike) (valid : ValidByTurns)
+    (empty : ValidEmpty)
+    (files : FilesView) (words : List Text) (s : ℕ) (ask : AskForValidTurns files words s) where
   -- where no stream was cut off the verdict is 'unsatisfiable'
   turns_refute : (reports : List Report) (verdict : Verdict) (a : IsOutcome files words reports verdict) → NoneCutShort reports
       → verdict ≡ Unsatisfiable
@@ -148,31 +148,31 @@ module _ (one_formula : OneFormula) (no_fault : NoFormulaFault) (alike : SameWor
       let asks = ask.asks in
       let is : IsOf one_formula alike empty files words asks reports verdict a =
       is_of one_formula alike empty files words asks reports verdict a in
-      let order : IsRightOrder a.formula (layout_at a.given a.formula) ask.steps =
-      subst (λ (x : Cnf). IsRightOrder x (layout_at a.given a.formula) ask.steps) (sym is.formulas)
-      (subst (λ (p : LayoutValue). IsRightOrder asks.formula p ask.steps) is.layouts ask.order) in
+      let order : IsValidOrder a.formula (layout_at a.given a.formula) ask.steps =
+      subst (λ (x : Cnf). IsValidOrder x (layout_at a.given a.formula) ask.steps) (sym is.formulas)
+      (subst (λ (p : LayoutValue). IsValidOrder asks.formula p ask.steps) is.layouts ask.order) in
       let on_one : a.given.serial ≡ true = a.command_line.said.serial ∙ sym asks.command_line.said.serial ∙ ask.serial in
-      by_turns_refutes files.its.reading (check_of files words reports verdict a) is.cnf right on_one ask.steps order ask.turns
+      by_turns_refutes files.its.reading (check_of files words reports verdict a) is.cnf valid on_one ask.steps order ask.turns
       (λ t path names. ask.tells t path (subst (λ (x : List Text). IsOfStream x t path) is.streams names)) fine empty s ask.empty
 
   turns_say : (after : files.its.State) (out err : SinkChange) (status : ℕ) → EndsWithReport files words after out err status
-      → (status ≡ 0) ⊎ ((t : ℕ) × IsExcused files words t IsCutOff after out err status)
+      → (status ≡ 0) ⊎ ((t : ℕ) × InconclusiveBecause files words t IsCutOff after out err status)
   turns_say after out err status ends = elim (some_cut ends.reports) [
     | inl cut ↦ elim (with_report files IsCutOff words after cut.0 out err status ends (inr (cut.1, cut.2, cut.3))) [
       | inl is ↦ inl is
-      | inr excused ↦ inr (cut.0, excused)
+      | inr inconclusive ↦ inr (cut.0, inconclusive)
     ]
     | inr fine ↦
         let refuted = turns_refute ends.reports ends.verdict ends.outcome fine in
         elim (with_report files IsCutOff words after s out err status ends (inl refuted)) [
           | inl is ↦ inl is
-          | inr excused ↦ inr (s, excused)
+          | inr inconclusive ↦ inr (s, inconclusive)
         ]
   ]
 
-pub right_turns_say : OneFormula → NoFormulaFault → SameWordsAskAlike → RightByTurns → RightEmpty
-    → (files : FilesView) → RightTurnsSay files
-right_turns_say one_formula no_fault alike right empty files words after s out err status ask (inl report) =
-    turns_say one_formula no_fault alike right empty files words s ask after out err status report
-right_turns_say one_formula no_fault alike right empty files words after s out err status ask (inr fault) =
+pub valid_turns_say : OneFormula → NoFormulaFault → SameWordsAskAlike → ValidByTurns → ValidEmpty
+    → (files : FilesView) → ValidTurnsSay files
+valid_turns_say one_formula no_fault alike valid empty files words after s out err status ask (inl report) =
+    turns_say one_formula no_fault alike valid empty files words s ask after out err status report
+valid_turns_say one_formula no_fault alike valid empty files words after s out err status ask (inr fault) =
     inr (s, without_report one_formula no_fault alike files IsCutOff words after s out err status ask.asks fault)

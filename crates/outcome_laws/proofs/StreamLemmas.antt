@@ -1,4 +1,4 @@
--- What right streams of a round come to.
+-- What valid proofs of a round come to.
 use Rattle.std.proofs.Common.{◌≡◌, ◌⊎◌, ◌≤◌, ◌-◌, ◌+◌, ℕ, Bool, true, List, [], ◌∷◌, length, zero, suc, Some, inl, inr, refl, sym, ap}
 use Rattle.std.proofs.Common.{subst, ◌∙◌, arith}
 use Rattle.std.specs.Prelude.{IsTrue, slice_get}
@@ -14,18 +14,18 @@ use Rattle.stream_check.specs.declared.report.Ending.TheVariants as endings
 use Rattle.stream_check.specs.declared.report.Report.{Report}
 use Rattle.runs.specs.Closed.{IsOfStream}
 use Rattle.runs.specs.lemmas.StreamLemmas.{judged_count}
-use Rattle.run_laws.specs.Right.{IsCutOffIn}
-use Rattle.run_laws.specs.RightLaws.{RightBegins, RightEmpty, RightReported}
-use Rattle.run_laws.specs.Together.{Step, TogetherBegins, RightTogether, lines_by}
-use Rattle.run_laws.specs.TurnsLaws.{RightByTurns}
+use Rattle.run_laws.specs.Valid.{IsCutOffIn}
+use Rattle.run_laws.specs.ValidLaws.{ValidBegins, ValidEmpty, ValidReported}
+use Rattle.run_laws.specs.Together.{Step, TogetherBegins, ValidTogether, lines_by}
+use Rattle.run_laws.specs.TurnsLaws.{ValidByTurns}
 use Rattle.portfolio.specs.declared.outcome.Verdict.TheVariants.{Unsatisfiable}
 use Rattle.command.specs.Commands.{Text}
 use Rattle.command.specs.Rounds.{HaveEnded}
-use Rattle.outcome_laws.specs.RightRounds.{AreRightAlone, AreRightInOrder, IsCutOffOf, IsRefutedAlone, IsRefutedInOrder, IsStopped}
-use Rattle.outcome_laws.specs.RightRounds.{AreRightByTurns, IsRefutedByTurns, IsStoppedOf, Loss, RoundAsk}
+use Rattle.outcome_laws.specs.ValidRounds.{AreValidAlone, AreValidInOrder, IsCutOffOf, IsRefutedAlone, IsRefutedInOrder, IsStopped}
+use Rattle.outcome_laws.specs.ValidRounds.{AreValidByTurns, IsRefutedByTurns, IsStoppedOf, Loss, RoundAsk}
 use Rattle.outcome_laws.specs.Serial.{IsCutOff}
-use Rattle.outcome_laws.proofs.CheckLemmas.{Check, have_texts, order_says, refutation_says, run_of, telling_of_file, told_of}
-use Rattle.outcome_laws.proofs.SerialLemmas.{by_turns_refutes, right_by_turns, said_of, some_cut}
+use Rattle.outcome_laws.proofs.CheckLemmas.{Check, have_texts, order_says, refutation_says, run_of, observation_of_file, observed_of}
+use Rattle.outcome_laws.proofs.SerialLemmas.{by_turns_refutes, valid_by_turns, said_of, some_cut}
 
 -- with threads or on one
 abbrev pub Either : Bool → Type 0
@@ -42,12 +42,12 @@ HaveLost Lost layout reports = (s : ℕ) × (report : Report) × IsOfStream repo
 -- streams of which this is asked have ended, or some was stopped
 abbrev pub EndsSo : (Bool → Type 0) → RoundAsk → Loss → Type 1
 EndsSo Mode Before Lost = (R : Type 0) (reading : SourceView R) (c : Check reading) → Mode c.serial → IsCnf c.formula
-    → Before c.formula c.terms.layout c.tells c.paths → HaveEnded c.reports ⊎ HaveLost Lost c.terms.layout c.reports
+    → Before c.formula c.run_params.layout c.tells c.paths → HaveEnded c.reports ⊎ HaveLost Lost c.run_params.layout c.reports
 
 -- they come to 'unsatisfiable', or some was stopped
 abbrev pub RefutesSo : (Bool → Type 0) → RoundAsk → Loss → Type 1
 RefutesSo Mode Last Lost = (R : Type 0) (reading : SourceView R) (c : Check reading) → Mode c.serial → IsCnf c.formula
-    → Last c.formula c.terms.layout c.tells c.paths → (c.verdict ≡ Unsatisfiable) ⊎ HaveLost Lost c.terms.layout c.reports
+    → Last c.formula c.run_params.layout c.tells c.paths → (c.verdict ≡ Unsatisfiable) ⊎ HaveLost Lost c.run_params.layout c.reports
 
 -- All streams ended, or one didn't.
 all_ended : (P : ℕ → Report → Type 0) (reports : List Report)
@@ -86,27 +86,27 @@ ended_at (r ∷ rs) (suc k) report at all = ended_at rs k report at all.1
 module _ {R : Type 0} (reading : SourceView R) (c : Check reading) (cnf : IsCnf c.formula) where
   -- a stream with a report has a path
   path_of : (s : ℕ) (report : Report) → IsOfStream c.reports s report
-      → IsStream c.terms.layout s × ((path : Text) × IsOfStream c.paths s path)
+      → IsStream c.run_params.layout s × ((path : Text) × IsOfStream c.paths s path)
   path_of s report says =
       let run = run_of reading c in
       let within = slice_get_within c.reports (s - 1) report says.1 in
-      let count = judged_count c.terms (λ t. true) run.history 1 run.streams c.reports run.judged in
-      let stream : IsStream c.terms.layout s = (says.0, omega (arith, within, count, run.count, says.0)) in
+      let count = judged_count c.run_params (λ t. true) run.history 1 run.streams c.reports run.judged in
+      let stream : IsStream c.run_params.layout s = (says.0, omega (arith, within, count, run.count, says.0)) in
       elim (slice_get_cases c.paths (s - 1)).1 [
         | inl has ↦ (stream, (has.0, (says.0, has.2)))
         | inr past ↦ absurd (omega (arith, past.0, stream.1, says.0, c.count))
       ]
 
-  alone_ends : RightReported → AreRightAlone c.formula c.terms.layout c.tells c.paths → (s : ℕ) (report : Report)
+  alone_ends : ValidReported → AreValidAlone c.formula c.run_params.layout c.tells c.paths → (s : ℕ) (report : Report)
       → IsOfStream c.reports s report → (report.ending ≡ endings.Ended) ⊎ IsCutOff report
-  alone_ends reported right s report says =
+  alone_ends reported valid s report says =
       let at = path_of s report says in
-      let asked = right s at.1.0 at.1.1 in
-      let here = telling_of_file reading c s at.1.0 asked.0 at.1.1 asked.2 in
+      let asked = valid s at.1.0 at.1.1 in
+      let here = observation_of_file reading c s at.1.0 asked.0 at.1.1 asked.2 in
       elim (said_of report) [
         | inl cut ↦ inr cut
         | inr fine ↦ inl (ap (λ (r : Report). r.ending)
-            (reported c.formula c.terms s asked.0 asked.1 (told_of reading c) here.0 c.reports report cnf c.fits at.0 asked.3
+            (reported c.formula c.run_params s asked.0 asked.1 (observed_of reading c) here.0 c.reports report cnf c.fits at.0 asked.3
             (run_of reading c) here.1 here.2 says fine.0 fine.1))
       ]
 
@@ -115,74 +115,75 @@ all_true [] = tt
 all_true (step ∷ steps) = (refl, all_true steps)
 
 module _ {R : Type 0} (reading : SourceView R) (c : Check reading) (cnf : IsCnf c.formula) where
-  order_ends : RightTogether → AreRightInOrder c.formula c.terms.layout c.tells c.paths → (s : ℕ) (report : Report)
-      → IsOfStream c.reports s report → (report.ending ≡ endings.Ended) ⊎ IsStopped c.terms.layout s report
-  order_ends together right s report says =
+  order_ends : ValidTogether → AreValidInOrder c.formula c.run_params.layout c.tells c.paths → (s : ℕ) (report : Report)
+      → IsOfStream c.reports s report → (report.ending ≡ endings.Ended) ⊎ IsStopped c.run_params.layout s report
+  order_ends together valid s report says =
       let at = path_of reading c cnf s report says in
-      let steps = right.0 in
+      let steps = valid.0 in
       let lines = flat_map line_text (lines_by s steps) in
-      let here = telling_of_file reading c s at.1.0 lines at.1.1 (right.2 s at.1.0 at.1.1) in
+      let here = observation_of_file reading c s at.1.0 lines at.1.1 (valid.2 s at.1.0 at.1.1) in
       elim (said_of report) [
         | inl cut ↦ inr (inl cut)
-        | inr fine ↦ elim (together c.formula c.terms (λ t. true) steps (told_of reading c) c.reports s here.0 report cnf c.fits right.1
+        | inr fine ↦ elim (together c.formula c.run_params (λ t. true) steps (observed_of reading c) c.reports s here.0 report cnf
+            c.fits valid.1
             (all_true steps) (run_of reading c) (have_texts reading c (λ t. true) steps (λ t path member names.
-            ([], right.2 t path names ∙ ap (λ (b : List ℕ). Some b) (sym (append-nil (flat_map line_text (lines_by t steps)))))))
+            ([], valid.2 t path names ∙ ap (λ (b : List ℕ). Some b) (sym (append-nil (flat_map line_text (lines_by t steps)))))))
             refl here.1 here.2 says fine.0 fine.1) [
               | inl same ↦ inl (ap (λ (r : Report). r.ending) same)
               | inr lacks ↦ inr (inr lacks)
             ]
       ]
 
-pub ends_alone : RightReported → EndsSo Either AreRightAlone (λ layout s report. IsCutOff report)
-ends_alone reported R reading c mode cnf right =
-    all_streams (λ s report. IsCutOff report) c.reports (alone_ends reading c cnf reported right)
+pub ends_alone : ValidReported → EndsSo Either AreValidAlone (λ layout s report. IsCutOff report)
+ends_alone reported R reading c mode cnf valid =
+    all_streams (λ s report. IsCutOff report) c.reports (alone_ends reading c cnf reported valid)
 
-pub ends_in_order : RightTogether → EndsSo Either AreRightInOrder IsStopped
-ends_in_order together R reading c mode cnf right =
-    all_streams (IsStopped c.terms.layout) c.reports (order_ends reading c cnf together right)
+pub ends_in_order : ValidTogether → EndsSo Either AreValidInOrder IsStopped
+ends_in_order together R reading c mode cnf valid =
+    all_streams (IsStopped c.run_params.layout) c.reports (order_ends reading c cnf together valid)
 
 -- who was cut off in some first lines was so in more
 cut_in : (few many : ℕ) (report : Report) → few ≤ many → IsCutOffIn few report → IsCutOffIn many report
 cut_in few many report more cut = (cut.0, omega (arith, cut.1, more), cut.2)
 
-pub refutes_alone : RightBegins → RightEmpty → (s count : ℕ) → RefutesSo Either (IsRefutedAlone s count) (IsCutOffOf s count)
-refutes_alone begins empty s count R reading c mode cnf right =
-    let refutation = right.4.0 in
-    elim (refutation_says reading c begins empty cnf s right.0 right.1 refutation.lines right.2 right.3 refutation.right
+pub refutes_alone : ValidBegins → ValidEmpty → (s count : ℕ) → RefutesSo Either (IsRefutedAlone s count) (IsCutOffOf s count)
+refutes_alone begins empty s count R reading c mode cnf valid =
+    let refutation = valid.4.0 in
+    elim (refutation_says reading c begins empty cnf s valid.0 valid.1 refutation.lines valid.2 valid.3 refutation.valid
     refutation.empty) [
       | inl says ↦ inl says
-      | inr cut ↦ inr (s, cut.0, cut.1, (refl, cut_in (length refutation.lines) count cut.0 right.4.1 cut.2))
+      | inr cut ↦ inr (s, cut.0, cut.1, (refl, cut_in (length refutation.lines) count cut.0 valid.4.1 cut.2))
     ]
 
-pub refutes_in_order : TogetherBegins → RightEmpty → (s count : ℕ)
+pub refutes_in_order : TogetherBegins → ValidEmpty → (s count : ℕ)
     → RefutesSo Either (IsRefutedInOrder s count) (IsStoppedOf s count)
-refutes_in_order together empty s count R reading c mode cnf right =
-    let lines = length (lines_by s right.1) in
-    elim (order_says reading c together empty cnf s right.0 right.1 right.2 right.3 right.4 right.5) [
+refutes_in_order together empty s count R reading c mode cnf valid =
+    let lines = length (lines_by s valid.1) in
+    elim (order_says reading c together empty cnf s valid.0 valid.1 valid.2 valid.3 valid.4 valid.5) [
       | inl says ↦ inl says
-      | inr (report, says, inl cut) ↦ inr (s, report, says, (refl, inl (cut_in lines count report right.6 cut)))
+      | inr (report, says, inl cut) ↦ inr (s, report, says, (refl, inl (cut_in lines count report valid.6 cut)))
       | inr (report, says, inr lacks) ↦ inr (
         s,
         report,
         says,
-        (refl, inr (lacks.0, lacks.1, omega (arith, lacks.2, right.6), lacks.3, lacks.4)),
+        (refl, inr (lacks.0, lacks.1, omega (arith, lacks.2, valid.6), lacks.3, lacks.4)),
       )
     ]
 
-pub ends_by_turns : RightByTurns → EndsSo OnOne AreRightByTurns (λ layout s report. IsCutOff report)
-ends_by_turns by_turns R reading c on_one cnf right = elim (some_cut c.reports) [
+pub ends_by_turns : ValidByTurns → EndsSo OnOne AreValidByTurns (λ layout s report. IsCutOff report)
+ends_by_turns by_turns R reading c on_one cnf valid = elim (some_cut c.reports) [
   | inl cut ↦ inr cut
   | inr fine ↦ all_streams (λ s report. IsCutOff report) c.reports (λ s report says. inl (ap (λ (r : Report). r.ending)
-      (right_by_turns reading c cnf by_turns on_one right.0.0 right.0.1 right.1 right.0.2 fine s report says)))
+      (valid_by_turns reading c cnf by_turns on_one valid.0.0 valid.0.1 valid.1 valid.0.2 fine s report says)))
 ]
 
-pub refutes_by_turns : RightByTurns → RightEmpty → (s : ℕ)
+pub refutes_by_turns : ValidByTurns → ValidEmpty → (s : ℕ)
     → RefutesSo OnOne (IsRefutedByTurns s) (λ layout t report. IsCutOff report)
-refutes_by_turns by_turns empty s R reading c on_one cnf right = elim (some_cut c.reports) [
+refutes_by_turns by_turns empty s R reading c on_one cnf valid = elim (some_cut c.reports) [
   | inl cut ↦ inr cut
   | inr fine ↦
-      let order = right.0.0 in
-      inl (by_turns_refutes reading c cnf by_turns on_one order.0 order.1 right.0.1 order.2 fine empty s right.1)
+      let order = valid.0.0 in
+      inl (by_turns_refutes reading c cnf by_turns on_one order.0 order.1 valid.0.1 order.2 fine empty s valid.1)
 ]
 
 -- who was stopped hasn't ended

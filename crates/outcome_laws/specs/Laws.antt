@@ -7,9 +7,9 @@ use Rattle.lrup_text.specs.declared.device.StreamEnd.{StreamEnd}
 use Rattle.stream_check.specs.declared.report.Report.{Report}
 use Rattle.stream_check.specs.Judging.{JudgesBlocks}
 use Rattle.stream_check.specs.Laws.{IsOfMemory, IsOfFailure}
-use Rattle.stream_check.specs.Setting.{Setting}
+use Rattle.stream_check.specs.StreamParams.{StreamParams}
 use Rattle.runs.specs.Closed.{IsOfStream, CiteWithin}
-use Rattle.runs.specs.Streams.{Telling, TermsValue}
+use Rattle.runs.specs.Streams.{InputObservation, RunParamsValue}
 use Rattle.run_laws.specs.Groups.{one, IsRun}
 use Rattle.portfolio.specs.ReportText.{stream_line}
 use Rattle.portfolio.specs.declared.outcome.Verdict.{Verdict}
@@ -20,27 +20,30 @@ use Rattle.command.specs.Commands.{layout_at, options_of}
 use Rattle.command.specs.Rounds.{ProgramEnds}
 use Rattle.dimacs.specs.FormulaText.{IsFormulaText}
 use Rattle.lrup_model.specs.Entailment.{IsUnsatisfiable}
-use Rattle.outcome_laws.specs.Outcomes.{bare_setting, bare_report, SayTheSame, ReportsOn}
+use Rattle.outcome_laws.specs.Outcomes.{bare_params, bare_report, SayTheSame, ReportsOn}
 
 -- what a stream is judged by under a cube, it is judged by without one, and its report says the same, but of clauses within the cube
 abbrev pub NoCubeJudgesAlike : Type 0
-NoCubeJudgesAlike = (c : Setting) (bytes : List ℕ) (end : StreamEnd) (blocks : List History)
+NoCubeJudgesAlike = (c : StreamParams) (bytes : List ℕ) (end : StreamEnd) (blocks : List History)
     (report : Report)
     → JudgesBlocks c bytes end blocks report
-    → JudgesBlocks (bare_setting c) bytes end blocks (bare_report report)
+    → JudgesBlocks (bare_params c) bytes end blocks (bare_report report)
 
 -- In two runs of one formula, by one layout and so many tries, a stream that cites within itself has reports that say the same, but of
 -- clauses within a cube, where both readers have the same bytes left at first, unless memory ran out or a read failed: whatever the
 -- cubes and the other streams are, and whichever runs have threads.
 abbrev pub SameBytesSayTheSame : Type 0
-SameBytesSayTheSame = (f : Cnf) (terms other_terms : TermsValue) (s : ℕ) (whole : List ℕ)
-    (told other_told : List Telling) (telling other_telling : Telling)
+SameBytesSayTheSame =
+    (f : Cnf) (run_params other_run_params : RunParamsValue) (s : ℕ) (whole : List ℕ)
+    (observed other_observed : List InputObservation)
+    (observation other_observation : InputObservation)
     (reports other_reports : List Report) (report other_report : Report)
-    → Fits terms.layout f → other_terms.layout ≡ terms.layout → other_terms.tries ≡ terms.tries
-    → CiteWithin terms.layout (one s) whole
-    → IsRun f terms told reports → IsRun f other_terms other_told other_reports
-    → IsOfStream told s telling → telling.entry ≡ Some whole
-    → IsOfStream other_told s other_telling → other_telling.entry ≡ Some whole
+    → Fits run_params.layout f → other_run_params.layout ≡ run_params.layout
+    → other_run_params.tries ≡ run_params.tries
+    → CiteWithin run_params.layout (one s) whole
+    → IsRun f run_params observed reports → IsRun f other_run_params other_observed other_reports
+    → IsOfStream observed s observation → observation.entry ≡ Some whole
+    → IsOfStream other_observed s other_observation → other_observation.entry ≡ Some whole
     → IsOfStream reports s report → IsOfStream other_reports s other_report
     → ¬ IsOfMemory report → ¬ IsOfFailure report → ¬ IsOfMemory other_report
     → ¬ IsOfFailure other_report

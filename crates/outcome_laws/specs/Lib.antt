@@ -1,7 +1,7 @@
 pub mod Outcomes
 pub mod Laws
-pub mod Right
+pub mod Valid
 pub mod Serial
 pub mod Refuting
-pub mod RightRounds
+pub mod ValidRounds
 pub mod Printed

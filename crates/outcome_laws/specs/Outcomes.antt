@@ -2,17 +2,17 @@
 use Rattle.std.specs.Prelude.{◌≡◌, ℕ, List, [], Some}
 use Rattle.stream_check.specs.declared.report.Report.{Report}
 use Rattle.stream_check.specs.Laws.{IsOfMemory, IsOfFailure}
-use Rattle.stream_check.specs.Setting.{Setting}
+use Rattle.stream_check.specs.StreamParams.{StreamParams}
 use Rattle.runs.specs.Closed.{IsOfStream}
 use Rattle.command_line.specs.declared.words.CommandLine.{CommandLine}
 use Rattle.command.specs.Commands.{FilesView, Text}
 
 -- Without a cube
 
--- a setting, with the empty cube
-abbrev pub bare_setting : Setting → Setting
-bare_setting setting =
-    record { layout = setting.layout; cube = []; stream = setting.stream; tries = setting.tries }
+-- a stream's parameters, with the empty cube
+abbrev pub bare_params : StreamParams → StreamParams
+bare_params params =
+    record { layout = params.layout; cube = []; stream = params.stream; tries = params.tries }
 
 -- the report, as it is under the empty cube: within that is the empty clause alone
 abbrev pub bare_report : Report → Report

@@ -1,4 +1,4 @@
--- What is printed of a right refutation, and the law that says so (this project's own).
+-- What is printed of a valid refutation, and the law that says so (this project's own).
 use Rattle.std.specs.Prelude.{◌≡◌, ◌⊎◌, ◌++◌, ◌+◌, ℕ, List, length, Some}
 use Rattle.stream_check.specs.declared.fault.Fault.{Fault}
 use Rattle.stream_check.specs.declared.report.Ending.TheVariants as endings
@@ -6,7 +6,7 @@ use Rattle.stream_check.specs.declared.report.Report.{Report}
 use Rattle.portfolio.specs.ReportText.{stream_line, stream_lines}
 use Rattle.portfolio.specs.declared.outcome.Verdict.TheVariants.{Unsatisfiable}
 use Rattle.command.specs.Commands.{EndsWithFault, EndsWithReport, FilesView, SinkChange, Text}
-use Rattle.outcome_laws.specs.Right.{AskForRightRefutation}
+use Rattle.outcome_laws.specs.Valid.{AskForValidRefutation}
 
 -- What went out to the sink begins with lines of the streams before stream s, and one of stream s, by which a line of it is bad. What
 -- comes behind may be anything.
@@ -29,11 +29,11 @@ pub record HoldsBackRefuted (files : FilesView) (words : List Text) (after : fil
   pub refuted : ends.verdict ≡ Unsatisfiable
   pub is : status ≡ 7
 
--- Where the words ask for a right refutation as stream s, a bad line of it is shown only with status 0, or with 7 where the report says
+-- Where the words ask for a valid refutation as stream s, a bad line of it is shown only with status 0, or with 7 where the report says
 -- 'unsatisfiable': a line behind the refutation may be bad. With each other status none is.
 abbrev pub NoBadLineShown : FilesView → Type 0
 NoBadLineShown files = (words : List Text) (after : files.its.State) (s : ℕ) (out err : SinkChange)
-    (status : ℕ) → AskForRightRefutation files words s
+    (status : ℕ) → AskForValidRefutation files words s
     → EndsWithReport files words after out err status ⊎ EndsWithFault files words after out err
     status
     → ShowsBadLine s out → (status ≡ 0) ⊎ HoldsBackRefuted files words after out err status

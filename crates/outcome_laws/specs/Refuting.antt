@@ -6,10 +6,10 @@ use Rattle.portfolio.specs.declared.outcome.Verdict.{Verdict}
 use Rattle.portfolio.specs.declared.outcome.Verdict.TheVariants.{Unsatisfiable}
 use Rattle.checkpoint.specs.Checkpoints.{IsUnsatisfiableText, IsUnsatisfiableTextUnder}
 use Rattle.checkpoint.specs.declared.saving.SaveFault.{SaveFault}
-use Rattle.runs.specs.Streams.{TermsValue}
+use Rattle.runs.specs.Streams.{RunParamsValue}
 use Rattle.stream_check.specs.declared.report.Report.{Report}
 use Rattle.command.specs.Commands.{Deeds, EndsWithReport, FilesView, LeavesBehind, SavesCheckpoint, SinkChange, Text, checkpoint_at}
-use Rattle.command.specs.Commands.{terms_given}
+use Rattle.command.specs.Commands.{run_params_given}
 
 -- A run ended with a report and this status, and these bytes were read of its FORMULA.
 pub record IsRunOn (files : FilesView) (bytes : List ℕ) (status : ℕ) : Type 0 where
@@ -21,28 +21,35 @@ pub record IsRunOn (files : FilesView) (bytes : List ℕ) (status : ℕ) : Type 
   pub read : ends.outcome.is_formula.0 ≡ bytes
 
 -- the bytes that were written to a sink, where that succeeded
-abbrev pub written_bytes : (its : Deeds) (serial : Bool) (formula : Cnf) (terms : TermsValue)
+abbrev pub written_bytes : (its : Deeds) (serial : Bool) (formula : Cnf)
+    (run_params : RunParamsValue)
     (readers : List its.Reader) (reports : List Report) (result : Result (Unit {0}) SaveFault)
     (first last : its.Output)
-    → SavesCheckpoint its serial formula terms readers reports result first last
+    → SavesCheckpoint its serial formula run_params readers reports result first last
     → Option (List ℕ)
-written_bytes its serial formula terms readers reports (Ok _) first last saves =
+written_bytes its serial formula run_params readers reports (Ok _) first last saves =
     Some saves.checkpoint.0
-written_bytes its serial formula terms readers reports (Err fault) first last saves = None
+written_bytes its serial formula run_params readers reports (Err fault) first last saves = None
 
 -- the bytes that were saved as a checkpoint, if there is one
-abbrev pub saved_bytes : (its : Deeds) (serial : Bool) (formula : Cnf) (terms : TermsValue)
+abbrev pub saved_bytes : (its : Deeds) (serial : Bool) (formula : Cnf) (run_params : RunParamsValue)
     (readers : List its.Reader) (reports : List Report) (verdict : Verdict) (before : its.State)
     (path : Option Text) (unsaved : Option SaveFault) (after : its.State)
-    → LeavesBehind its (SavesCheckpoint its serial formula terms readers reports) verdict before
+    → LeavesBehind its (SavesCheckpoint its serial formula run_params readers reports)
+    verdict before
     path unsaved after → Option (List ℕ)
-saved_bytes its serial formula terms readers reports verdict before None unsaved after leaves = None
-saved_bytes its serial formula terms readers reports Unsatisfiable before (Some path) unsaved after
+saved_bytes its serial formula run_params readers reports verdict before None unsaved after
     leaves = None
-saved_bytes its serial formula terms readers reports verdict before (Some path) (Some fault) after
+saved_bytes its serial formula run_params readers reports Unsatisfiable before (Some path)
+    unsaved after
     leaves = None
-saved_bytes its serial formula terms readers reports verdict before (Some path) None after leaves =
-    written_bytes its serial formula terms readers reports leaves.result leaves.first leaves.last
+saved_bytes its serial formula run_params readers reports verdict before (Some path)
+    (Some fault) after
+    leaves = None
+saved_bytes its serial formula run_params readers reports verdict before (Some path) None
+    after leaves =
+    written_bytes its serial formula run_params readers reports leaves.result
+    leaves.first leaves.last
     leaves.saving
 
 -- the same, of a run
@@ -51,7 +58,7 @@ abbrev pub saved_by : (files : FilesView) (bytes : List ℕ) (status : ℕ)
 saved_by files bytes status run =
     let outcome = run.ends.outcome in
     saved_bytes files.its outcome.given.serial outcome.formula
-    (terms_given outcome.given outcome.cube outcome.formula) outcome.readers run.ends.reports
+    (run_params_given outcome.given outcome.cube outcome.formula) outcome.readers run.ends.reports
     run.ends.verdict outcome.last (checkpoint_at outcome.given) run.ends.unsaved run.after
     run.ends.checkpoint
 

@@ -6,13 +6,13 @@ use Rattle.stream_check.specs.declared.report.Report.{Report}
 use Rattle.stream_check.specs.Laws.{IsOfMemory, IsOfFailure}
 use Rattle.runs.specs.Closed.{IsOfStream}
 use Rattle.runs.specs.Turns.{IsByTurns}
-use Rattle.run_laws.specs.Right.{AddsEmpty}
-use Rattle.run_laws.specs.Together.{Step, IsRightOrder, lines_by}
+use Rattle.run_laws.specs.Valid.{AddsEmpty}
+use Rattle.run_laws.specs.Together.{Step, IsValidOrder, lines_by}
 use Rattle.run_laws.specs.TurnsLaws.{NoneCutShort}
 use Rattle.portfolio.specs.declared.outcome.Verdict.{Verdict}
 use Rattle.command_line.specs.declared.words.CommandLine.{CommandLine}
 use Rattle.command.specs.Commands.{EndsWithFault, EndsWithReport, FilesView, IsOutcome, SinkChange, Text, layout_at, options_of}
-use Rattle.outcome_laws.specs.Right.{AskWell, IsExcused}
+use Rattle.outcome_laws.specs.Valid.{AskWell, InconclusiveBecause}
 
 -- Two command lines ask for the same run on one thread: with the same options, and formulas and streams whose files tell the same
 -- bytes.
@@ -43,14 +43,14 @@ SerialOutcomesAgree files others =
     → NoneCutShort reports → NoneCutShort other_reports
     → (reports ≡ other_reports) × (verdict ≡ other_verdict)
 
--- The words ask for a run on one thread; lines of its streams have a right order that is by turns; the file of each stream tells the
+-- The words ask for a run on one thread; lines of its streams have a valid order that is by turns; the file of each stream tells the
 -- texts of its lines, and nothing else; and some line of stream s adds the empty clause.
-pub record AskForRightTurns (files : FilesView) (words : List Text)
+pub record AskForValidTurns (files : FilesView) (words : List Text)
     (s : ℕ) : Type 0 where
   pub asks : AskWell files words None
   pub serial : asks.given.serial ≡ true
   pub steps : List Step
-  pub order : IsRightOrder asks.formula (layout_at asks.given asks.formula) steps
+  pub order : IsValidOrder asks.formula (layout_at asks.given asks.formula) steps
   pub turns : IsByTurns (map (λ step. step.stream) steps)
   pub tells : (t : ℕ) (path : Text) → IsOfStream asks.given.streams t path
       → files.tells path ≡ Some (flat_map line_text (lines_by t steps))
@@ -62,9 +62,9 @@ IsCutOff report = IsOfMemory report ⊎ IsOfFailure report
 
 -- Then the program ends with status 0; or with 7, for a report that wasn't written; or with 5 or 6, for a fault of the machine; or with
 -- 3 or 8, or 9 in their place, and then memory ran out in some stream, or a read of it failed.
-abbrev pub RightTurnsSay : FilesView → Type 0
-RightTurnsSay files = (words : List Text) (after : files.its.State) (s : ℕ) (out err : SinkChange)
-    (status : ℕ) → AskForRightTurns files words s
+abbrev pub ValidTurnsSay : FilesView → Type 0
+ValidTurnsSay files = (words : List Text) (after : files.its.State) (s : ℕ) (out err : SinkChange)
+    (status : ℕ) → AskForValidTurns files words s
     → EndsWithReport files words after out err status ⊎ EndsWithFault files words after out err
     status
-    → (status ≡ 0) ⊎ ((t : ℕ) × IsExcused files words t IsCutOff after out err status)
+    → (status ≡ 0) ⊎ ((t : ℕ) × InconclusiveBecause files words t IsCutOff after out err status)

@@ -2,17 +2,17 @@
 ghost use Rattle.command.specs.Commands.{files_view};
 ghost use Rattle.outcome_laws.specs.Printed.{NoBadLineShown};
 ghost use Rattle.outcome_laws.specs.Refuting.{OutcomesRefute, OutcomesRefuteUnder};
-ghost use Rattle.outcome_laws.specs.Right.{RightOrderSays, RightRefutationSays};
-ghost use Rattle.outcome_laws.specs.RightRounds.{RightOrdersSay, RightRoundsSay, RightTurnRoundsSay};
-ghost use Rattle.outcome_laws.specs.Serial.{RightTurnsSay, SerialOutcomesAgree};
+ghost use Rattle.outcome_laws.specs.Valid.{ValidOrderSays, ValidRefutationSays};
+ghost use Rattle.outcome_laws.specs.ValidRounds.{ValidOrdersSay, ValidRoundsSay, ValidTurnRoundsSay};
+ghost use Rattle.outcome_laws.specs.Serial.{ValidTurnsSay, SerialOutcomesAgree};
 ghost use Rattle.outcome_laws.specs.Laws.{NoCubeJudgesAlike, SameBytesSayTheSame, SameWordsAskAlike, OutcomesAgree, PlainEnds, Status0HasACommandLine};
 
 use checkpoint::laws::{files_refute, files_refute_under};
 use command::Machine;
 use dimacs::laws::{formula_or_fault, one_formula};
 use run_laws::groups::same_bytes_agree;
-use run_laws::right::{right_begins, right_empty, right_reported, right_together, together_begins};
-use run_laws::turns::{bytes_decide, right_by_turns};
+use run_laws::turns::{bytes_decide, valid_by_turns};
+use run_laws::valid::{together_begins, valid_begins, valid_empty, valid_reported, valid_together};
 use stream_check::laws::empty_cube_reported;
 
 /// What a stream is judged by under a cube, it is judged by without one too, and its report says the same, but of clauses within
@@ -62,42 +62,42 @@ pub fn status_0_has_a_command_line<F: Machine>(files: &F)
         Status0HasACommandLine view }
 {}
 
-/// Where the words ask for a right refutation, the program ends with status 0; or with 7, for a report that wasn't written; or with
+/// Where the words ask for a valid refutation, the program ends with status 0; or with 7, for a report that wasn't written; or with
 /// 5 or 6, for a fault of the machine; or with 3 or 8, and then memory ran out, or a read failed, in the refutation's lines; or with
 /// 9 in their place, for a checkpoint that the words ask for and that wasn't saved: the clause `ends` of `command` says so.
-pub fn right_refutation_says<F: Machine>(files: &F)
+pub fn valid_refutation_says<F: Machine>(files: &F)
     ensures { let view = files_view F.Files F.Machine.own F.Input.Source F.Output.Sink files.now in
-        RightRefutationSays view }
+        ValidRefutationSays view }
 {
     one_formula();
     formula_or_fault();
     same_words_ask_alike();
-    right_begins();
-    right_empty();
+    valid_begins();
+    valid_empty();
 }
 
-/// Where the words ask for a right refutation, no bad line of its stream is printed, but with status 0, or with 7 where the report says
-/// 'unsatisfiable'. The law `right_refutation_says` alone says so: a status 5 or 6 leaves standard output as it was, and each other
+/// Where the words ask for a valid refutation, no bad line of its stream is printed, but with status 0, or with 7 where the report says
+/// 'unsatisfiable'. The law `valid_refutation_says` alone says so: a status 5 or 6 leaves standard output as it was, and each other
 /// report tells that the stream was stopped by the machine.
 pub fn no_bad_line_shown<F: Machine>(files: &F)
     ensures { let view = files_view F.Files F.Machine.own F.Input.Source F.Output.Sink files.now in
         NoBadLineShown view }
 {
-    right_refutation_says(files);
+    valid_refutation_says(files);
 }
 
-/// Where the words ask for streams whose lines have a right order, one of which adds the empty clause, the program ends so too; or with
+/// Where the words ask for streams whose lines have a valid order, one of which adds the empty clause, the program ends so too; or with
 /// 3 or 8, or 9 in their place, and then a line of that stream cites a clause of another stream, which wasn't there, or wasn't any
 /// more.
-pub fn right_order_says<F: Machine>(files: &F)
+pub fn valid_order_says<F: Machine>(files: &F)
     ensures { let view = files_view F.Files F.Machine.own F.Input.Source F.Output.Sink files.now in
-        RightOrderSays view }
+        ValidOrderSays view }
 {
     one_formula();
     formula_or_fault();
     same_words_ask_alike();
     together_begins();
-    right_empty();
+    valid_empty();
 }
 
 /// In two outcomes of the program on one thread, over files that stand before the runs, the reports are the same: where the options
@@ -112,69 +112,69 @@ pub fn serial_outcomes_agree<F: Machine, G: Machine>(files: &F, others: &G)
     bytes_decide();
 }
 
-/// Where the words ask for a run on one thread over streams whose lines have a right order by turns, and one of which adds the empty
+/// Where the words ask for a run on one thread over streams whose lines have a valid order by turns, and one of which adds the empty
 /// clause, the program ends with status 0; or with 7, for a report that wasn't written; or with 5 or 6, for a fault of the machine;
 /// or with 3 or 8, or 9 in their place, and then memory ran out in some stream, or a read of it failed: the clause `ends` of `command`
 /// says so.
-pub fn right_turns_say<F: Machine>(files: &F)
+pub fn valid_turns_say<F: Machine>(files: &F)
     ensures { let view = files_view F.Files F.Machine.own F.Input.Source F.Output.Sink files.now in
-        RightTurnsSay view }
+        ValidTurnsSay view }
 {
     one_formula();
     formula_or_fault();
     same_words_ask_alike();
-    right_by_turns();
-    right_empty();
+    valid_by_turns();
+    valid_empty();
 }
 
-/// Where the words ask for rounds, in each of which before the last each stream is right and cites only its own clauses and the
-/// formula's, and in the last one some stream is a right refutation, the program ends with status 0; or with 7, for a report that
+/// Where the words ask for rounds, in each of which before the last each stream is valid and cites only its own clauses and the
+/// formula's, and in the last one some stream is a valid refutation, the program ends with status 0; or with 7, for a report that
 /// wasn't written; or with 5 or 6, for a fault of the machine; or with 9, for a formula of the next round that wasn't saved; or with
 /// 8, and then there are assumed literals, and the report says 'unsatisfiable under assumptions'; or with 3, and then the report says
 /// that memory ran out, or a read failed: in the refutation's lines, or in some stream of a round before the last. The clause `ends` of
 /// `command` says so.
-pub fn right_rounds_say<F: Machine>(files: &F)
+pub fn valid_rounds_say<F: Machine>(files: &F)
     ensures { let view = files_view F.Files F.Machine.own F.Input.Source F.Output.Sink files.now in
-        RightRoundsSay view }
+        ValidRoundsSay view }
 {
     one_formula();
     formula_or_fault();
     empty_cube_reported();
     same_words_ask_alike();
-    right_reported();
-    right_begins();
-    right_empty();
+    valid_reported();
+    valid_begins();
+    valid_empty();
 }
 
-/// Where in each round before the last lines of all streams have a right order, and in the last one some stream of such an order adds
+/// Where in each round before the last lines of all streams have a valid order, and in the last one some stream of such an order adds
 /// the empty clause, the program ends so too; or with 3, and then such a line cites a clause of another stream, which wasn't there, or
 /// wasn't any more.
-pub fn right_orders_say<F: Machine>(files: &F)
+pub fn valid_orders_say<F: Machine>(files: &F)
     ensures { let view = files_view F.Files F.Machine.own F.Input.Source F.Output.Sink files.now in
-        RightOrdersSay view }
+        ValidOrdersSay view }
 {
     one_formula();
     formula_or_fault();
     empty_cube_reported();
     same_words_ask_alike();
-    right_together();
+    valid_together();
     together_begins();
-    right_empty();
+    valid_empty();
 }
 
-/// Where the words ask for rounds on one thread, in each of which lines of all streams have a right order by turns, and in the last
+/// Where the words ask for rounds on one thread, in each of which lines of all streams have a valid order by turns, and in the last
 /// one some stream adds the empty clause, the program ends so too; with 3 the report says that memory ran out in some stream, or that
 /// a read of it failed.
-pub fn right_turn_rounds_say<F: Machine>(files: &F)
+pub fn valid_turn_rounds_say<F: Machine>(files: &F)
     ensures { let view = files_view F.Files F.Machine.own F.Input.Source F.Output.Sink files.now in
-        RightTurnRoundsSay view }
+        ValidTurnRoundsSay view }
 {
     one_formula();
     formula_or_fault();
     empty_cube_reported();
     same_words_ask_alike();
-    right_by_turns();
-    right_empty();
+    valid_by_turns();
+    valid_empty();
 }
 
 /// Where runs of the program follow one another, each on the checkpoint that the one before it saved, and the last one ends with

@@ -16,15 +16,15 @@ use Rattle.lrup_model.specs.History.{LegalFrom, IsLegal, IsPublishable}
 use Rattle.lrup_model.specs.declared.clause_map.Published.TheVariants as publishing
 use Rattle.lrup_text.specs.declared.device.StreamEnd.{StreamEnd}
 use Rattle.stream_check.specs.declared.report.Report.{Report}
-use Rattle.stream_check.specs.Setting.{Setting}
-use Rattle.stream_check.specs.Standing.{is_within}
+use Rattle.stream_check.specs.StreamParams.{StreamParams}
+use Rattle.stream_check.specs.StreamContext.{is_within}
 use Rattle.stream_check.specs.lemmas.CubeLemmas.{is_within-decides}
 use Rattle.stream_check.specs.Judging.{joined, JudgesBlocks}
 use Rattle.stream_check.specs.lemmas.ReportLemmas.{said_within}
 use Rattle.runs.specs.lemmas.StreamLemmas.{some_end}
-use Rattle.runs.specs.Streams.{Stream, JudgesStream, Telling, TermsValue, setting_of}
+use Rattle.runs.specs.Streams.{Stream, JudgesStream, InputObservation, RunParamsValue, stream_params}
 use Rattle.run_laws.specs.Groups.{IsRun}
-use Rattle.runs.specs.Headline.{AreJudgedIn}
+use Rattle.runs.specs.SequentialConsistency.{AreJudgedIn}
 use Rattle.run_laws.specs.lemmas.PublishLemmas.{publishes_within}
 use Rattle.portfolio.specs.declared.outcome.Verdict.{Verdict}
 use Rattle.portfolio.specs.declared.outcome.Verdict.TheVariants.{Unsatisfiable, UnsatisfiableUnder, Unknown}
@@ -34,7 +34,7 @@ use Rattle.portfolio.proofs.EmptyLemmas.{any_front, any_filtered, lines_publish}
 -- ---- the lines of a stream
 
 -- where the report says 'within', one of the events published a clause within the cube
-within_is_published : (c : Setting) (bytes : List ℕ) (end : StreamEnd) (blocks : List History) (report : Report)
+within_is_published : (c : StreamParams) (bytes : List ℕ) (end : StreamEnd) (blocks : List History) (report : Report)
     → JudgesBlocks c bytes end blocks report → IsTrue report.within → IsTrue (list_any (publishes_within c.cube) (joined blocks))
 within_is_published c bytes end blocks report judged is =
     let said = said_within c judged.lines judged.rest end judged.back report judged.ends in
@@ -44,7 +44,7 @@ within_is_published c bytes end blocks report judged is =
     ∙ ap (list_any (publishes_within c.cube)) (flat_map-append (λ (block : History). block) judged.front judged.back)
     ∙ any_front (publishes_within c.cube) (joined judged.front) (joined judged.back) front
 
-stream_publishes : (c : Setting) (stream : Stream) (blocks : List History) (report : Report)
+stream_publishes : (c : StreamParams) (stream : Stream) (blocks : List History) (report : Report)
     → JudgesStream c stream blocks report → IsTrue report.within → IsTrue (list_any (publishes_within c.cube) (joined blocks))
 stream_publishes c stream blocks report judged is =
     let way = some_end c stream blocks report judged in
@@ -72,7 +72,7 @@ refuted_from f p cube m (events.publish s id c publishing.Done ∷ es) legal h =
     (refuted_from f p cube (after m (events.publish s id c publishing.Done)) es legal.2)
 
 -- So where a stream's events are its own of a legal history, and its report says 'within', the formula is unsatisfiable under the cube.
-sound : (f : Cnf) (p : LayoutValue) (h : History) (c : Setting) (stream : Stream) (blocks : List History) (report : Report)
+sound : (f : Cnf) (p : LayoutValue) (h : History) (c : StreamParams) (stream : Stream) (blocks : List History) (report : Report)
     → IsLegal f p h → own h c.stream ≡ joined blocks → JudgesStream c stream blocks report → IsTrue report.within
     → IsUnsatisfiableUnder f c.cube
 sound f p h c stream blocks report legal mine judged is =
@@ -82,18 +82,20 @@ sound f p h c stream blocks report legal mine judged is =
 
 -- ---- a run
 
-sound_by : (f : Cnf) (terms : TermsValue) (h : History) → IsLegal f terms.layout h → (s : ℕ) (streams : List Stream) (reports : List Report)
-    → AreJudgedIn terms (λ t. true) h s streams reports → list_any (λ report. report.within) reports ≡ true
-    → IsUnsatisfiableUnder f terms.cube
-sound_by f terms h legal s [] [] judged is = absurd (let no : false ≡ true = is in cc)
-sound_by f terms h legal s [] (r ∷ rs) judged is = absurd judged
-sound_by f terms h legal s (t ∷ ts) [] judged is = absurd judged
-sound_by f terms h legal s (t ∷ ts) (r ∷ rs) judged is =
+sound_by : (f : Cnf) (run_params : RunParamsValue) (h : History) → IsLegal f run_params.layout h
+    → (s : ℕ) (streams : List Stream) (reports : List Report)
+    → AreJudgedIn run_params (λ t. true) h s streams reports → list_any (λ report. report.within) reports ≡ true
+    → IsUnsatisfiableUnder f run_params.cube
+sound_by f run_params h legal s [] [] judged is = absurd (let no : false ≡ true = is in cc)
+sound_by f run_params h legal s [] (r ∷ rs) judged is = absurd judged
+sound_by f run_params h legal s (t ∷ ts) [] judged is = absurd judged
+sound_by f run_params h legal s (t ∷ ts) (r ∷ rs) judged is =
     let this = judged.0 refl in
     elim (cases_Bool r.within) [
-      | inl here ↦ sound f terms.layout h (setting_of terms s) t this.0 r legal this.1 this.2 here
+      | inl here ↦ sound f run_params.layout h (stream_params run_params s) t this.0 r legal this.1 this.2 here
       | inr none ↦
-          sound_by f terms h legal (s + 1) ts rs judged.1 (ap (λ b. b || list_any (λ (report : Report). report.within) rs) (sym none) ∙ is)
+          sound_by f run_params h legal (s + 1) ts rs judged.1
+          (ap (λ b. b || list_any (λ (report : Report). report.within) rs) (sym none) ∙ is)
     ]
 
 -- ---- the verdict
@@ -110,7 +112,8 @@ is_within_some reports verdict of is =
     some_within (list_any (λ (report : Report). report.empty) reports) (list_any (λ (report : Report). report.within) reports) (sym of ∙ is)
 
 -- so it is true, with two threads for each stream
-pub sound_under_run : (f : Cnf) (terms : TermsValue) (told : List Telling) (reports : List Report) (verdict : Verdict)
-    → IsRun f terms told reports → verdict ≡ verdict_of reports → verdict ≡ UnsatisfiableUnder → IsUnsatisfiableUnder f terms.cube
-sound_under_run f terms told reports verdict run of is =
-    sound_by f terms run.history run.legal 1 run.streams reports run.judged (is_within_some reports verdict of is)
+pub sound_under_run : (f : Cnf) (run_params : RunParamsValue) (observed : List InputObservation) (reports : List Report) (verdict : Verdict)
+    → IsRun f run_params observed reports → verdict ≡ verdict_of reports → verdict ≡ UnsatisfiableUnder
+    → IsUnsatisfiableUnder f run_params.cube
+sound_under_run f run_params observed reports verdict run of is =
+    sound_by f run_params run.history run.legal 1 run.streams reports run.judged (is_within_some reports verdict of is)

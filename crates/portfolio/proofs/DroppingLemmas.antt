@@ -6,26 +6,26 @@ use Rattle.lrup_text.specs.declared.device.StreamEnd.TheVariants as stream_ends
 use Rattle.stream_check.specs.declared.report.Ending.{Ending}
 use Rattle.stream_check.specs.declared.report.Ending.TheVariants as endings
 use Rattle.stream_check.specs.declared.report.Report.{Report}
-use Rattle.stream_check.specs.Checker.{checker_state, holding_of, state_by}
+use Rattle.stream_check.specs.Checker.{checker_state, going_of, state_by}
 use Rattle.stream_check.specs.CheckerValue.{Tally, report_of_tally, CheckerValue}
 use Rattle.stream_check.specs.Judging.{ending_at}
-use Rattle.stream_check.specs.Leaving.{Holding, Leaves, LeavesGoing}
-use Rattle.stream_check.specs.Setting.{Setting}
-use Rattle.stream_check.specs.Standing.{is_among, standing_of}
+use Rattle.stream_check.specs.Reaching.{GoingState, ReachesState, ReachesGoing}
+use Rattle.stream_check.specs.StreamParams.{StreamParams}
+use Rattle.stream_check.specs.StreamContext.{is_among, context_of}
 use Rattle.stream_check.specs.Stopping.{DropsUntilStop}
 use Rattle.stream_check.specs.lemmas.StoppingLemmas.{drops_none}
 use Rattle.stream_jobs.specs.Judged.{DropsBy, ending_with}
 use Rattle.portfolio.specs.Dropping.{AreDroppedBy, HasDropped}
 
 -- where a checker isn't over, all lines were good
-good_drops : (c : Setting) (bytes : List ℕ) (blocks : List History) (now : Holding) (ids : List ℕ) → LeavesGoing c bytes blocks now
-    → ((id : ℕ) → is_among ids id ≡ now.standing.gone id) → AreDroppedBy c bytes ids
+good_drops : (c : StreamParams) (bytes : List ℕ) (blocks : List History) (now : GoingState) (ids : List ℕ) → ReachesGoing c bytes blocks now
+    → ((id : ℕ) → is_among ids id ≡ now.context.gone id) → AreDroppedBy c bytes ids
 good_drops c bytes blocks now ids left same =
-    record { lines = left.lines; rest = now.pending; cut = left.cut; are = λ id. same id ∙ left.standing.gone id }
+    record { lines = left.lines; rest = now.pending; cut = left.cut; are = λ id. same id ∙ left.context.gone id }
 
 -- so they were where the stream ended in the middle of a line, which dropped nothing
-ended_by : (end : StreamEnd) (rest : List ℕ) (c : Setting) (bytes : List ℕ) (blocks : List History) (now : Holding) (ids : List ℕ)
-    → LeavesGoing c bytes blocks now → ((id : ℕ) → is_among ids id ≡ now.standing.gone id)
+ended_by : (end : StreamEnd) (rest : List ℕ) (c : StreamParams) (bytes : List ℕ) (blocks : List History) (now : GoingState) (ids : List ℕ)
+    → ReachesGoing c bytes blocks now → ((id : ℕ) → is_among ids id ≡ now.context.gone id)
     → HasDropped c bytes (report_of_tally now.tally (ending_at end rest now.line)) ids
 ended_by stream_ends.Ended [] c bytes blocks now ids left same = good_drops c bytes blocks now ids left same
 ended_by stream_ends.Ended (byte ∷ rest) c bytes blocks now ids left same = record {
@@ -37,36 +37,37 @@ ended_by stream_ends.Ended (byte ∷ rest) c bytes blocks now ids left same = re
   ids = [];
   are_first = inl refl;
   count = ap (λ (r : Report). r.deleted) (left.tally (ending_at stream_ends.Ended (byte ∷ rest) now.line));
-  drops = λ id. same id ∙ left.standing.gone id ∙ drops_none c (standing_of c left.lines).gone id;
+  drops = λ id. same id ∙ left.context.gone id ∙ drops_none c (context_of c left.lines).gone id;
 }
 ended_by stream_ends.Failed rest c bytes blocks now ids left same = good_drops c bytes blocks now ids left same
 
 -- what a checker dropped that isn't over, and takes this end
-pub going_drops : (c : Setting) (v : CheckerValue) (room : ℕ) (bytes : List ℕ) (blocks : List History) (end : StreamEnd)
-    → v.ending ≡ None → Leaves c bytes blocks (checker_state v room)
+pub going_drops : (c : StreamParams) (v : CheckerValue) (room : ℕ) (bytes : List ℕ) (blocks : List History) (end : StreamEnd)
+    → v.ending ≡ None → ReachesState c bytes blocks (checker_state v room)
     → HasDropped c bytes (report_of_tally v.tally (ending_at end v.pending v.line)) v.dropped
-going_drops c v room bytes blocks end going leaves = ended_by end v.pending c bytes blocks (holding_of v room) v.dropped
-    (subst (λ (e : Option Ending). Leaves c bytes blocks (state_by v room e)) going leaves) (λ id. refl)
+going_drops c v room bytes blocks end going reaches = ended_by end v.pending c bytes blocks (going_of v room) v.dropped
+    (subst (λ (e : Option Ending). ReachesState c bytes blocks (state_by v room e)) going reaches) (λ id. refl)
 
 -- what a checker dropped that a line stopped
-pub stopped_drops : (ending : Ending) (c : Setting) (bytes : List ℕ) (tally : Tally) (ids : List ℕ)
+pub stopped_drops : (ending : Ending) (c : StreamParams) (bytes : List ℕ) (tally : Tally) (ids : List ℕ)
     → DropsUntilStop c bytes (report_of_tally tally ending) (is_among ids) → HasDropped c bytes (report_of_tally tally ending) ids
 stopped_drops endings.Ended c bytes tally ids drops = absurd drops.number
 stopped_drops (endings.Bad line fault) c bytes tally ids drops = drops
 stopped_drops (endings.ReadFailed line) c bytes tally ids drops = absurd drops.number
 stopped_drops (endings.Memory line) c bytes tally ids drops = drops
 
-checker_drops : (c : Setting) (v : CheckerValue) (room : ℕ) (bytes : List ℕ) (blocks : List History) (end : StreamEnd)
-    (ending : Option Ending) → v.ending ≡ ending → Leaves c bytes blocks (checker_state v room)
+checker_drops : (c : StreamParams) (v : CheckerValue) (room : ℕ) (bytes : List ℕ) (blocks : List History) (end : StreamEnd)
+    (ending : Option Ending) → v.ending ≡ ending → ReachesState c bytes blocks (checker_state v room)
     → HasDropped c bytes (report_of_tally v.tally (ending_with ending end v)) v.dropped
-checker_drops c v room bytes blocks end None is leaves = going_drops c v room bytes blocks end is leaves
-checker_drops c v room bytes blocks end (Some ending) is leaves =
-    stopped_drops ending c bytes v.tally v.dropped (subst (λ (e : Option Ending). Leaves c bytes blocks (state_by v room e)) is leaves).1
+checker_drops c v room bytes blocks end None is reaches = going_drops c v room bytes blocks end is reaches
+checker_drops c v room bytes blocks end (Some ending) is reaches =
+    stopped_drops ending c bytes v.tally v.dropped
+    (subst (λ (e : Option Ending). ReachesState c bytes blocks (state_by v room e)) is reaches).1
 
 -- what a stream's threads found that it dropped
 pub job_drops : (v : CheckerValue) (room : ℕ) (bytes : List ℕ) (blocks : List History) (report : Report) (ids : List ℕ)
-    → Leaves v.setting [] [] (checker_state v room) → DropsBy v room bytes blocks ids report → HasDropped v.setting bytes report ids
+    → ReachesState v.params [] [] (checker_state v room) → DropsBy v room bytes blocks ids report → HasDropped v.params bytes report ids
 job_drops v room bytes blocks report ids fresh d =
-    subst (λ (r : Report). HasDropped v.setting bytes r ids) (sym d.reports)
-    (subst (HasDropped v.setting bytes (report_of_tally d.last.tally (ending_with d.last.ending d.end d.last))) (sym d.are)
-    (checker_drops v.setting d.last d.free bytes blocks d.end d.last.ending refl (d.left [] [] fresh)))
+    subst (λ (r : Report). HasDropped v.params bytes r ids) (sym d.reports)
+    (subst (HasDropped v.params bytes (report_of_tally d.last.tally (ending_with d.last.ending d.end d.last))) (sym d.are)
+    (checker_drops v.params d.last d.free bytes blocks d.end d.last.ending refl (d.left [] [] fresh)))

@@ -21,8 +21,8 @@ use Rattle.lrup_text.specs.declared.device.StreamEnd.{StreamEnd}
 use Rattle.stream_check.specs.declared.fault.Fault.{Fault}
 use Rattle.stream_check.specs.declared.fault.Fault.TheVariants as faults
 use Rattle.stream_check.specs.declared.report.Report.{Report}
-use Rattle.stream_check.specs.Setting.{Setting}
-use Rattle.stream_check.specs.Standing.{Standing, additions_of}
+use Rattle.stream_check.specs.StreamParams.{StreamParams}
+use Rattle.stream_check.specs.StreamContext.{StreamContext, additions_of}
 use Rattle.stream_check.specs.Verdicts.{Good}
 use Rattle.stream_check.specs.Additions.{published_by}
 use Rattle.stream_check.specs.Judging.{JudgesLine, AreGood, joined, JudgesBlocks}
@@ -62,7 +62,7 @@ module _ (p : Event → Bool) where
 -- ---- the publish of a good addition
 
 -- a good addition whose publish passes
-addition_publishes : (p : Event → Bool) (c : Setting) (st : Standing) (id : ℕ) (lits : List ℤ) (hints : List ℕ) (es : History)
+addition_publishes : (p : Event → Bool) (c : StreamParams) (st : StreamContext) (id : ℕ) (lits : List ℤ) (hints : List ℕ) (es : History)
     → JudgesLine c st (Addition id lits hints) es Good → p (published_by c id lits) ≡ true → list_any p es ≡ true
 addition_publishes p c st id lits hints es good passes =
     let last = published_by c id lits in
@@ -71,7 +71,7 @@ addition_publishes p c st id lits hints es good passes =
 -- ---- the lines of a stream
 
 -- where one of the good additions passes, one of the publishes does
-pub lines_publish : (p : Event → Bool) (adds : ℕ × Clause → Bool) (c : Setting)
+pub lines_publish : (p : Event → Bool) (adds : ℕ × Clause → Bool) (c : StreamParams)
     → ((id : ℕ) (lits : List ℤ) → p (published_by c id lits) ≡ adds (id, distinct lits))
     → (before lines : List StreamLine) (blocks : List History) → AreGood c before lines blocks → list_any adds (additions_of lines) ≡ true
     → list_any p (joined blocks) ≡ true
@@ -90,7 +90,7 @@ lines_publish p adds c same before (Addition id lits hints ∷ lines) (block ∷
     ]
 
 -- Where the report says 'empty', one of the events published the empty clause.
-pub empty_is_published : (c : Setting) (bytes : List ℕ) (end : StreamEnd) (blocks : List History) (report : Report)
+pub empty_is_published : (c : StreamParams) (bytes : List ℕ) (end : StreamEnd) (blocks : List History) (report : Report)
     → JudgesBlocks c bytes end blocks report → IsTrue report.empty → IsTrue (list_any publishes_empty (joined blocks))
 empty_is_published c bytes end blocks report judged is =
     let said = said_empty c judged.lines judged.rest end judged.back report judged.ends in
@@ -100,7 +100,7 @@ empty_is_published c bytes end blocks report judged is =
     ∙ ap (list_any publishes_empty) (flat_map-append (λ (block : History). block) judged.front judged.back)
     ∙ any_front publishes_empty (joined judged.front) (joined judged.back) front
 
-pub stream_publishes : (c : Setting) (stream : Stream) (blocks : List History) (report : Report)
+pub stream_publishes : (c : StreamParams) (stream : Stream) (blocks : List History) (report : Report)
     → JudgesStream c stream blocks report → IsTrue report.empty → IsTrue (list_any publishes_empty (joined blocks))
 stream_publishes c stream blocks report judged is =
     let way = some_end c stream blocks report judged in
@@ -133,7 +133,7 @@ pub refuted : (f : Cnf) (p : LayoutValue) (h : History) → IsLegal f p h → Is
 refuted f p h legal is = empty_refutes f (empty_follows f p (opening f) h legal.events is)
 
 -- So where a stream's events are its own of a legal history, and its report says 'empty', the formula is unsatisfiable.
-pub sound : (f : Cnf) (p : LayoutValue) (h : History) (c : Setting) (stream : Stream) (blocks : List History) (report : Report)
+pub sound : (f : Cnf) (p : LayoutValue) (h : History) (c : StreamParams) (stream : Stream) (blocks : List History) (report : Report)
     → IsLegal f p h → own h c.stream ≡ joined blocks → JudgesStream c stream blocks report → IsTrue report.empty → IsUnsatisfiable f
 sound f p h c stream blocks report legal mine judged is =
     let published = stream_publishes c stream blocks report judged is in

@@ -1,7 +1,7 @@
 pub mod EmptyLemmas
 pub mod CubeLemmas
 pub mod DroppingLemmas
-pub mod HeadlineLemmas
+pub mod ConsistencyLemmas
 pub mod JoiningLemmas
 pub mod ReportLines
 pub mod RoundLemmas

@@ -12,14 +12,14 @@ use Rattle.lrup_model.specs.History.{IsLegal, LegalFrom}
 use Rattle.lrup_model.specs.lemmas.HistoryLemmas.{legal-back, own-mine, own-other}
 use Rattle.lrup_model.specs.Layout.{LayoutValue, Owns}
 use Rattle.lrup_model.specs.lemmas.OwnerLemmas.{owned}
-use Rattle.lrup_model.specs.Pass.{View, IsFair, PassMoves, AreMet, AllSaw}
-use Rattle.lrup_model.specs.Place.{Caller}
+use Rattle.lrup_model.specs.Pass.{View, IsFair, PassMoves, AreSynced, AllSaw}
+use Rattle.lrup_model.specs.CallerView.{Caller}
 use Rattle.lrup_model.specs.lemmas.RunningLemmas.{own-append}
 use Rattle.lrup_model.specs.State.{State, Answers, opening, state}
 use Rattle.stream_check.specs.internal.Checking.{IsFetch}
 use Rattle.checkpoint.specs.Live.{fetches}
 use Rattle.clause_store.specs.Passes.{AreOf, PassValue, StoreValue, store_of}
-use Rattle.runs.specs.Headline.{HaveOneHistory}
+use Rattle.runs.specs.SequentialConsistency.{HaveOneHistory}
 use Rattle.run_laws.specs.lemmas.OwnLemmas.{own_all}
 
 -- ---- histories of fetches
@@ -92,24 +92,24 @@ answered_behind f p h more s replies legal owners mine t =
 -- ---- passes that meet once more
 
 -- the pass at this place after all met: it made no call, and is fair at their history
-record MetAt (h : History) (x : View) : Type 0 where
+record SyncedAt (h : History) (x : View) : Type 0 where
   after : View
   moves : PassMoves x after []
   fair : IsFair after
   saw : after.seen ≡ h
 
-met_at : (h : History) (xs ys : List View) → AreMet xs ys → AllSaw h ys → (k : ℕ) (x : View) → slice_get xs k ≡ Some x → MetAt h x
-met_at h [] [] met saw k x at = absurd (cc)
-met_at h [] (y ∷ ys) met saw k x at = absurd met
-met_at h (w ∷ xs) [] met saw k x at = absurd met
-met_at h (w ∷ xs) (y ∷ ys) met saw zero x at =
+synced_at : (h : History) (xs ys : List View) → AreSynced xs ys → AllSaw h ys → (k : ℕ) (x : View) → slice_get xs k ≡ Some x → SyncedAt h x
+synced_at h [] [] synced saw k x at = absurd (cc)
+synced_at h [] (y ∷ ys) synced saw k x at = absurd synced
+synced_at h (w ∷ xs) [] synced saw k x at = absurd synced
+synced_at h (w ∷ xs) (y ∷ ys) synced saw zero x at =
     let this : w ≡ x = cc in
-    subst (MetAt h) this (record { after = y; moves = met.0; fair = met.1; saw = saw.0 })
-met_at h (w ∷ xs) (y ∷ ys) met saw (suc k) x at = met_at h xs ys met.2 saw.1 k x at
+    subst (SyncedAt h) this (record { after = y; moves = synced.0; fair = synced.1; saw = saw.0 })
+synced_at h (w ∷ xs) (y ∷ ys) synced saw (suc k) x at = synced_at h xs ys synced.2 saw.1 k x at
 
 -- its calls are its stream's events
-met_own : (h : History) (x : View) → MetAt h x → own h x.caller.stream ≡ x.mine
-met_own h x at =
+synced_own : (h : History) (x : View) → SyncedAt h x → own h x.caller.stream ≡ x.mine
+synced_own h x at =
     ap₂ (λ (g : History) (c : Caller). own g c.stream) (sym at.saw) (sym at.moves.caller)
     ∙ at.fair.mine ∙ at.moves.mine ∙ append-nil x.mine
 
@@ -137,13 +137,13 @@ own_none_behind h more s same =
 pub fetched_so : (f : Cnf) (p : LayoutValue) (h : History) (vs : List View) (v w : View) (replies : List Reply)
     (us : List View) (g : History)
     → HaveOneHistory f p h (vs ++ v ∷ []) → PassMoves v w (fetches v.caller.stream 1 replies)
-    → AreMet (vs ++ w ∷ []) us → AllSaw g us → (t : ℕ) → AllByRecursion (Answers (state f h)) (fetches t 1 replies)
-fetched_so f p h vs v w replies us g one moves met saw =
+    → AreSynced (vs ++ w ∷ []) us → AllSaw g us → (t : ℕ) → AllByRecursion (Answers (state f h)) (fetches t 1 replies)
+fetched_so f p h vs v w replies us g one moves synced saw =
     let count : length vs + 1 ≡ p.streams = sym (last_count vs v) ∙ one.count in
     let s : ℕ = length vs + 1 in
     let place : length vs + 1 - 1 ≡ length vs = omega arith in
     let called = one.calls s v (omega arith, ap (slice_get (vs ++ v ∷ [])) place ∙ last_at vs v) in
-    let last : MetAt g w = met_at g (vs ++ w ∷ []) us met saw (length vs) w (last_at vs w) in
+    let last : SyncedAt g w = synced_at g (vs ++ w ∷ []) us synced saw (length vs) w (last_at vs w) in
     let more : History = moves.seen.0 ++ last.moves.seen.0 in
     let whole : g ≡ h ++ more =
     sym last.saw ∙ last.moves.seen.1
@@ -155,7 +155,7 @@ fetched_so f p h vs v w replies us g one moves met saw =
     moves.mine ∙ ap₂ (λ (k : History) (n : ℕ). k ++ fetches n 1 replies) called.2 stream in
     let mine : own more s ≡ fetches s 1 replies =
     append_cancel_left (own h s) (own more s) (fetches s 1 replies)
-    (sym (own-append h more s) ∙ ap₂ (λ (k : History) (n : ℕ). own k n) (sym whole) (sym stays) ∙ met_own g w last ∙ fetched) in
+    (sym (own-append h more s) ∙ ap₂ (λ (k : History) (n : ℕ). own k n) (sym whole) (sym stays) ∙ synced_own g w last ∙ fetched) in
     let caller : last.after.caller ≡ record { formula = f; layout = p; stream = s } = last.moves.caller ∙ moves.caller ∙ called.0 in
     let legal : IsLegal f p (h ++ more) =
     subst (λ (k : History). IsLegal f p k) (last.saw ∙ whole)
@@ -169,9 +169,9 @@ fetched_so f p h vs v w replies us g one moves met saw =
           let at = front_at vs v w (t - 1) front in
           let x : View = at.0 in
           let before = one.calls t x (first, at.1) in
-          let after : MetAt g x = met_at g (vs ++ w ∷ []) us met saw (t - 1) x at.2 in
+          let after : SyncedAt g x = synced_at g (vs ++ w ∷ []) us synced saw (t - 1) x at.2 in
           let same : own g t ≡ own h t =
-          ap (λ (n : ℕ). own g n) (sym (ap (λ (c : Caller). c.stream) before.0)) ∙ met_own g x after ∙ before.2 in
+          ap (λ (n : ℕ). own g n) (sym (ap (λ (c : Caller). c.stream) before.0)) ∙ synced_own g x after ∙ before.2 in
           let none : own more t ≡ [] = own_none_behind h more t (ap (λ (k : History). own k t) (sym whole) ∙ same) in
           subst (λ (k : History). AllByRecursion IsFetch k) (sym none) tt
       | inr past ↦

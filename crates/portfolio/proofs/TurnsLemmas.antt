@@ -16,11 +16,11 @@ use Rattle.lrup_model.specs.State.{State, opening, run, state}
 use Rattle.lrup_model.specs.History.{LegalFrom, IsLegal}
 use Rattle.lrup_model.specs.lemmas.HistoryLemmas.{opening-owned}
 use Rattle.lrup_model.specs.lemmas.RunningLemmas.{run-append, legal-append, spent-append}
-use Rattle.lrup_model.specs.Plain.{Plain, formula_of, plain_state, free_at, plain_place, PlainMoves}
+use Rattle.lrup_model.specs.Plain.{Plain, formula_of, plain_state, free_at, plain_caller_view, PlainMoves}
 use Rattle.lrup_model.specs.lemmas.ListLemmas.{All-append}
 use Rattle.stream_check.specs.declared.report.Ending.{Ending}
 use Rattle.stream_check.specs.declared.report.Report.{Report}
-use Rattle.stream_check.specs.Setting.{Setting}
+use Rattle.stream_check.specs.StreamParams.{StreamParams}
 use Rattle.stream_check.specs.Judging.{joined}
 use Rattle.stream_check.specs.DroppedValue.{DroppedValue}
 use Rattle.stream_check.specs.CheckerValue.{Tally, report_of_tally}
@@ -32,16 +32,18 @@ use Rattle.portfolio.proofs.WorkingLemmas.{not_over}
 use Rattle.portfolio.specs.Dropping.{HasDropped, HaveDropped}
 use Rattle.lrup_text.specs.ReadOut.{SourceView}
 use Rattle.runs.specs.Readings.{AreRead, IsStreamOf}
-use Rattle.runs.specs.Streams.{Stream, tellings, IsTold, JudgesStream, Block, blocks_of, events_in, IsBlockWithin, setting_of, AreJudged}
-use Rattle.runs.specs.Streams.{TermsValue}
+use Rattle.runs.specs.Streams.{Stream, observations, MatchesInput, JudgesStream, Block, blocks_of, events_in, IsBlockWithin, stream_params}
+use Rattle.runs.specs.Streams.{AreJudged}
+use Rattle.runs.specs.Streams.{RunParamsValue}
 use Rattle.runs.specs.lemmas.EachLemmas.{each_count, each_push, each_second, each_set, each_within}
-use Rattle.runs.specs.lemmas.StreamLemmas.{told_as_many, told_count}
+use Rattle.runs.specs.lemmas.StreamLemmas.{observed_as_many, observed_count}
 use Rattle.runs.specs.Turns.{IsOrderedByTurns, streams_of}
 use Rattle.run_laws.specs.lemmas.OwnLemmas.{ordered_judged}
 use Rattle.portfolio.specs.Histories.{IsRunOf, OnOneThread}
-use Rattle.portfolio.specs.internal.Working.{AreBlocksOfTurn, WorkerValue, WorksBy, Works, WorksOn, IsStarted}
-use Rattle.portfolio.specs.internal.Turns.{HasRun, IsWorking, AreWorking, Runs, IsRunning, GoesOn, IsOver, AreOver, IsOverAt, AreStarted}
-use Rattle.portfolio.specs.internal.Turns.{AreRun, HaveReports}
+use Rattle.portfolio.specs.internal.Working.{AreBlocksOfTurn, WorkerValue, WorkerInvariantBy, WorkerInvariant, WorkerStep, IsStarted}
+use Rattle.portfolio.specs.internal.Turns.{HasRun, IsWorking, AreWorking, SerialInvariant, IsInSerialRun, SerialStep, IsOver, AreOver}
+use Rattle.portfolio.specs.internal.Turns.{IsOverAt, AreStarted}
+use Rattle.portfolio.specs.internal.Turns.{SerialEnd, HaveReports}
 
 -- ---- room
 
@@ -129,47 +131,52 @@ report_at_end (Some ending) t r over is = (ending, refl, is)
 
 module _ {S : Type 0} (view : SourceView S) where
   -- the worker whose turn it was
-  working_on : (terms : TermsValue) (blocks : List Block) (m n : Plain) (s : ℕ) (bs : List History) (first : S) (w v : WorkerValue S)
-      → IsWorking view terms blocks m s first w
-      → WorksOn view w (free_at m s) bs v (free_at n s) → IsReadyAt v.checker (plain_place n s) → v.checker.setting ≡ w.checker.setting
-      → IsWorking view terms (blocks ++ tagged s bs) n s first v
-  working_on terms blocks m n s bs first w v working on ready setting = record {
-    setting = setting ∙ working.setting;
-    works = subst (Works view first v (free_at n s)) (sym (blocks_more s blocks bs)) (on first (blocks_of s blocks) working.works);
+  working_on : (run_params : RunParamsValue) (blocks : List Block) (m n : Plain) (s : ℕ) (bs : List History) (first : S)
+      (w v : WorkerValue S)
+      → IsWorking view run_params blocks m s first w
+      → WorkerStep view w (free_at m s) bs v (free_at n s) → IsReadyAt v.checker (plain_caller_view n s)
+      → v.checker.params ≡ w.checker.params
+      → IsWorking view run_params (blocks ++ tagged s bs) n s first v
+  working_on run_params blocks m n s bs first w v working on ready params = record {
+    params = params ∙ working.params;
+    holds = subst (WorkerInvariant view first v (free_at n s)) (sym (blocks_more s blocks bs))
+        (on first (blocks_of s blocks) working.holds);
     ready = ready;
   }
 
   -- the other workers
-  module _ (law : ReadyBeside) (terms : TermsValue) (blocks : List Block) (m n : Plain) (s : ℕ) (bs : List History)
+  module _ (law : ReadyBeside) (run_params : RunParamsValue) (blocks : List Block) (m n : Plain) (s : ℕ) (bs : List History)
       (moves : PlainMoves m n s (joined bs)) where
-    working_beside : (t : ℕ) (first : S) (w : WorkerValue S) → 0 < t → s ≢ t → IsWorking view terms blocks m t first w
-        → IsWorking view terms (blocks ++ tagged s bs) n t first w
+    working_beside : (t : ℕ) (first : S) (w : WorkerValue S) → 0 < t → s ≢ t → IsWorking view run_params blocks m t first w
+        → IsWorking view run_params (blocks ++ tagged s bs) n t first w
     working_beside t first w positive other working =
-        let stream : w.checker.setting.stream ≡ t = ap (λ (c : Setting). c.stream) working.setting in
-        let here : IsReadyAt w.checker (plain_place m w.checker.setting.stream) =
-        subst (λ k. IsReadyAt w.checker (plain_place m k)) (sym stream) working.ready in
+        let stream : w.checker.params.stream ≡ t = ap (λ (c : StreamParams). c.stream) working.params in
+        let here : IsReadyAt w.checker (plain_caller_view m w.checker.params.stream) =
+        subst (λ k. IsReadyAt w.checker (plain_caller_view m k)) (sym stream) working.ready in
         record {
-          setting = working.setting;
-          works =
-              subst (λ k. Works view first w k (blocks_of t (blocks ++ tagged s bs))) (sym (moves.others t positive (λ is. other (sym is))))
-              (subst (Works view first w (free_at m t)) (sym (blocks_beside s t blocks bs other)) working.works);
-          ready = subst (λ k. IsReadyAt w.checker (plain_place n k)) stream
+          params = working.params;
+          holds =
+              subst (λ k. WorkerInvariant view first w k (blocks_of t (blocks ++ tagged s bs)))
+              (sym (moves.others t positive (λ is. other (sym is))))
+              (subst (WorkerInvariant view first w (free_at m t)) (sym (blocks_beside s t blocks bs other)) working.holds);
+          ready = subst (λ k. IsReadyAt w.checker (plain_caller_view n k)) stream
               (law w.checker m n s (joined bs) here moves (λ is. other (is ∙ stream)));
         }
 
     -- the turn of the worker at place i, which is now v
     turn_at : (i : ℕ) (firsts : List S) (ws : List (WorkerValue S)) (w v : WorkerValue S) → s ≡ 1 + i → slice_get ws i ≡ Some w
-        → WorksOn view w (free_at m s) bs v (free_at n s) → IsReadyAt v.checker (plain_place n s) → v.checker.setting ≡ w.checker.setting
-        → AreWorking view terms blocks m 1 firsts ws → AreWorking view terms (blocks ++ tagged s bs) n 1 firsts (set ws i v)
-    turn_at i firsts ws w v place at on ready setting working =
+        → WorkerStep view w (free_at m s) bs v (free_at n s) → IsReadyAt v.checker (plain_caller_view n s)
+        → v.checker.params ≡ w.checker.params
+        → AreWorking view run_params blocks m 1 firsts ws → AreWorking view run_params (blocks ++ tagged s bs) n 1 firsts (set ws i v)
+    turn_at i firsts ws w v place at on ready params working =
         each_set 1 i firsts ws v working
         (λ t first other from apart its. working_beside t first other (omega (arith, from)) (λ same. apart (sym same ∙ place)) its)
         (λ first was there its.
         let same : was ≡ w = let e : Some was ≡ Some w = sym there ∙ at in cc in
-        let mine : IsWorking view terms blocks m s first w = subst (λ k. IsWorking view terms blocks m k first w) (sym place)
-        (subst (λ (x : WorkerValue S). IsWorking view terms blocks m (1 + i) first x) same its) in
-        subst (λ k. IsWorking view terms (blocks ++ tagged s bs) n k first v) place
-        (working_on terms blocks m n s bs first w v mine on ready setting))
+        let mine : IsWorking view run_params blocks m s first w = subst (λ k. IsWorking view run_params blocks m k first w) (sym place)
+        (subst (λ (x : WorkerValue S). IsWorking view run_params blocks m (1 + i) first x) same its) in
+        subst (λ k. IsWorking view run_params (blocks ++ tagged s bs) n k first v) place
+        (working_on run_params blocks m n s bs first w v mine on ready params))
 
   -- ---- what a worker has before its turn
 
@@ -180,37 +187,41 @@ module _ {S : Type 0} (view : SourceView S) where
       ap (λ (w : WorkerValue S). w.checker.ending) (get_or_default ws i e d within) ∙ not_over over (get_or ws i d).checker.ending is going
 
   -- the worker of stream i + 1 of a run, whatever run it is
-  pub ready_at : (taken : ℕ) (m : Plain) (ws : List (WorkerValue S)) (i : ℕ) (d : WorkerValue S) → IsRunning view taken m ws → i < length ws
-      → IsReadyAt (get_or ws i d).checker (plain_place m (i + 1))
+  pub ready_at : (taken : ℕ) (m : Plain) (ws : List (WorkerValue S)) (i : ℕ) (d : WorkerValue S) → IsInSerialRun view taken m ws
+      → i < length ws
+      → IsReadyAt (get_or ws i d).checker (plain_caller_view m (i + 1))
   ready_at taken m ws i d running within =
       let runs = running.3 in
       let here = each_second _ 1 running.2 ws runs.workers_are i (get_or ws i d) (slice_get-get_or ws i d within) in
       let place : 1 + i ≡ i + 1 = omega arith in
-      subst (λ t. IsReadyAt (get_or ws i d).checker (plain_place m t)) place here.1.ready
+      subst (λ t. IsReadyAt (get_or ws i d).checker (plain_caller_view m t)) place here.1.ready
 
   -- a run goes on by a turn of the worker at place i
-  pub runs_more : (law : ReadyBeside) (f : Cnf) (terms : TermsValue) (firsts : List S) (m n : Plain) (ws : List (WorkerValue S)) (i : ℕ)
+  pub serial_more : (law : ReadyBeside) (f : Cnf) (run_params : RunParamsValue) (firsts : List S) (m n : Plain)
+      (ws : List (WorkerValue S)) (i : ℕ)
       (d v : WorkerValue S) (bs : List History)
       → i < length ws → (get_or ws i d).checker.ending ≡ None → PlainMoves m n (i + 1) (joined bs) → AreBlocksOfTurn v.checker.ending bs
-      → WorksOn view (get_or ws i d) (free_at m (i + 1)) bs v (free_at n (i + 1)) → IsReadyAt v.checker (plain_place n (i + 1))
-      → v.checker.setting ≡ (get_or ws i d).checker.setting
-      → Runs view f terms firsts i m ws → Runs view f terms firsts (i + 1) n (set ws i v)
-  runs_more law f terms firsts m n ws i d v bs within going moves are on ready setting runs =
-      let count : length (set ws i v) ≡ terms.layout.streams = omega (arith, length-set {A = WorkerValue S}, runs.count) in
+      → WorkerStep view (get_or ws i d) (free_at m (i + 1)) bs v (free_at n (i + 1)) → IsReadyAt v.checker (plain_caller_view n (i + 1))
+      → v.checker.params ≡ (get_or ws i d).checker.params
+      → SerialInvariant view f run_params firsts i m ws → SerialInvariant view f run_params firsts (i + 1) n (set ws i v)
+  serial_more law f run_params firsts m n ws i d v bs within going moves are on ready params runs =
+      let count : length (set ws i v) ≡ run_params.layout.streams = omega (arith, length-set {A = WorkerValue S}, runs.count) in
       record {
         count = count;
         blocks = runs.blocks ++ tagged (i + 1) bs;
-        map_is = run_more f terms.layout runs.blocks m n (i + 1) bs runs.map_is (omega arith, omega (arith, within, runs.count)) moves;
-        workers_are = turn_at law terms runs.blocks m n (i + 1) bs moves i firsts ws (get_or ws i d) v (omega arith)
-            (slice_get-get_or ws i d within) on ready setting runs.workers_are;
+        map_is = run_more f run_params.layout runs.blocks m n (i + 1) bs runs.map_is (omega arith, omega (arith, within, runs.count)) moves;
+        workers_are = turn_at law run_params runs.blocks m n (i + 1) bs moves i firsts ws (get_or ws i d) v (omega arith)
+            (slice_get-get_or ws i d within) on ready params runs.workers_are;
         rounds = runs.rounds;
         in_round = round_turned runs.rounds i runs.blocks ws (get_or ws i d) (slice_get-get_or ws i d within) runs.in_round v bs going are;
       }
 
   -- a stream that is over has no turn
-  pub runs_past : (f : Cnf) (terms : TermsValue) (firsts : List S) (m : Plain) (ws : List (WorkerValue S)) (i : ℕ) (d : WorkerValue S)
-      → i < length ws → IsSome (get_or ws i d).checker.ending → Runs view f terms firsts i m ws → Runs view f terms firsts (i + 1) m ws
-  runs_past f terms firsts m ws i d within over runs = record {
+  pub serial_past : (f : Cnf) (run_params : RunParamsValue) (firsts : List S) (m : Plain) (ws : List (WorkerValue S)) (i : ℕ)
+      (d : WorkerValue S)
+      → i < length ws → IsSome (get_or ws i d).checker.ending → SerialInvariant view f run_params firsts i m ws
+      → SerialInvariant view f run_params firsts (i + 1) m ws
+  serial_past f run_params firsts m ws i d within over runs = record {
     count = runs.count;
     blocks = runs.blocks;
     map_is = runs.map_is;
@@ -220,9 +231,9 @@ module _ {S : Type 0} (view : SourceView S) where
   }
 
   -- after the last stream's turn the next round begins
-  pub runs_round : (f : Cnf) (terms : TermsValue) (firsts : List S) (m : Plain) (ws : List (WorkerValue S))
-      → Runs view f terms firsts (length ws) m ws → Runs view f terms firsts 0 m ws
-  runs_round f terms firsts m ws runs = record {
+  pub serial_round : (f : Cnf) (run_params : RunParamsValue) (firsts : List S) (m : Plain) (ws : List (WorkerValue S))
+      → SerialInvariant view f run_params firsts (length ws) m ws → SerialInvariant view f run_params firsts 0 m ws
+  serial_round f run_params firsts m ws runs = record {
     count = runs.count;
     blocks = runs.blocks;
     map_is = runs.map_is;
@@ -232,13 +243,14 @@ module _ {S : Type 0} (view : SourceView S) where
   }
 
   -- whatever run stood at the start stands after two stretches
-  pub goes_twice : (i j k : ℕ) (a b c : Plain) (us vs ws : List (WorkerValue S)) → GoesOn view i a us j b vs → GoesOn view j b vs k c ws
-      → GoesOn view i a us k c ws
-  goes_twice i j k a b c us vs ws front back f terms firsts runs = back f terms firsts (front f terms firsts runs)
+  pub step_twice : (i j k : ℕ) (a b c : Plain) (us vs ws : List (WorkerValue S)) → SerialStep view i a us j b vs
+      → SerialStep view j b vs k c ws
+      → SerialStep view i a us k c ws
+  step_twice i j k a b c us vs ws front back f run_params firsts runs = back f run_params firsts (front f run_params firsts runs)
 
   -- so some run stands
-  pub running_on : (i j : ℕ) (a b : Plain) (us vs : List (WorkerValue S)) → IsRunning view i a us → GoesOn view i a us j b vs
-      → IsRunning view j b vs
+  pub running_on : (i j : ℕ) (a b : Plain) (us vs : List (WorkerValue S)) → IsInSerialRun view i a us → SerialStep view i a us j b vs
+      → IsInSerialRun view j b vs
   running_on i j a b us vs running on = (running.0, running.1, running.2, on running.0 running.1 running.2 running.3)
 
   -- one more stream was over, where all were
@@ -276,43 +288,44 @@ module _ {S : Type 0} (view : SourceView S) where
   -- ---- before the first turn
 
   -- one worker more
-  pub started_pushed : {X : Type 0} (terms : TermsValue) (s : ℕ) (f : X → S) (xs : List X) (x : X) (ws vs : List (WorkerValue S))
+  pub started_pushed : {X : Type 0} (run_params : RunParamsValue) (s : ℕ) (f : X → S) (xs : List X) (x : X) (ws vs : List (WorkerValue S))
       (w : WorkerValue S)
-      → vs ≡ ws ++ w ∷ [] → s ≡ length ws + 1 → AreStarted view terms 1 (map f xs) ws → IsStarted view terms s (f x) w
-      → AreStarted view terms 1 (map f (xs ++ x ∷ [])) vs
-  started_pushed {X} terms s f xs x ws vs w pushed place started here =
+      → vs ≡ ws ++ w ∷ [] → s ≡ length ws + 1 → AreStarted view run_params 1 (map f xs) ws → IsStarted view run_params s (f x) w
+      → AreStarted view run_params 1 (map f (xs ++ x ∷ [])) vs
+  started_pushed {X} run_params s f xs x ws vs w pushed place started here =
       let next : s ≡ 1 + length ws = omega (arith, place) in
-      let more : AreStarted view terms 1 (map f xs ++ f x ∷ []) (ws ++ w ∷ []) =
-      each_push _ 1 (map f xs) ws (f x) w started (subst (λ k. IsStarted view terms k (f x) w) next here) in
-      subst (AreStarted view terms 1 (map f (xs ++ x ∷ []))) (sym pushed)
-      (subst (λ firsts. AreStarted view terms 1 firsts (ws ++ w ∷ [])) (sym (map-append f xs (x ∷ []))) more)
+      let more : AreStarted view run_params 1 (map f xs ++ f x ∷ []) (ws ++ w ∷ []) =
+      each_push _ 1 (map f xs) ws (f x) w started (subst (λ k. IsStarted view run_params k (f x) w) next here) in
+      subst (AreStarted view run_params 1 (map f (xs ++ x ∷ []))) (sym pushed)
+      (subst (λ firsts. AreStarted view run_params 1 firsts (ws ++ w ∷ [])) (sym (map-append f xs (x ∷ []))) more)
 
-  module _ (f : Cnf) (terms : TermsValue) (m : Plain) (opened : IsOpened f terms.layout m) where
-    room_opened : (s : ℕ) → IsStream terms.layout s → free_at m s ≡ terms.layout.room
+  module _ (f : Cnf) (run_params : RunParamsValue) (m : Plain) (opened : IsOpened f run_params.layout m) where
+    room_opened : (s : ℕ) → IsStream run_params.layout s → free_at m s ≡ run_params.layout.room
     room_opened s stream = ap (λ (rooms : List ℕ). get_or rooms (s - 1) 0) opened.room
-        ∙ get_or-replicate terms.layout.streams (s - 1) terms.layout.room 0 (omega (arith, stream.0, stream.1))
+        ∙ get_or-replicate run_params.layout.streams (s - 1) run_params.layout.room 0 (omega (arith, stream.0, stream.1))
 
-    ready_opened : (s : ℕ) (first : S) (w : WorkerValue S) → IsStarted view terms s first w → IsReadyAt w.checker (plain_place m s)
+    ready_opened : (s : ℕ) (first : S) (w : WorkerValue S) → IsStarted view run_params s first w
+        → IsReadyAt w.checker (plain_caller_view m s)
     ready_opened s first w started = record {
       at = record {
-        layout = opened.layout ∙ sym (ap (λ (c : Setting). c.layout) started.setting);
-        stream = sym (ap (λ (c : Setting). c.stream) started.setting);
+        layout = opened.layout ∙ sym (ap (λ (c : StreamParams). c.layout) started.params);
+        stream = sym (ap (λ (c : StreamParams). c.stream) started.params);
       };
       vacant = λ id owns above.
           ap (λ (state : State). state id) opened.state
-          ∙ opening-owned f terms.layout s id opened.fits (subst (λ (q : LayoutValue). Owns q s id) opened.layout owns);
+          ∙ opening-owned f run_params.layout s id opened.fits (subst (λ (q : LayoutValue). Owns q s id) opened.layout owns);
     }
 
-    working_started : (firsts : List S) (ws : List (WorkerValue S)) → length firsts ≡ terms.layout.streams
-        → AreStarted view terms 1 firsts ws → AreWorking view terms [] m 1 firsts ws
+    working_started : (firsts : List S) (ws : List (WorkerValue S)) → length firsts ≡ run_params.layout.streams
+        → AreStarted view run_params 1 firsts ws → AreWorking view run_params [] m 1 firsts ws
     working_started firsts ws count started =
-        each_within terms.layout.streams 1 firsts ws (omega (arith, count)) started (λ s first w from to its. record {
-          setting = its.setting;
-          works = subst (λ free. Works view first w free []) (sym (room_opened s (omega (arith, from), to))) its.works;
+        each_within run_params.layout.streams 1 firsts ws (omega (arith, count)) started (λ s first w from to its. record {
+          params = its.params;
+          holds = subst (λ free. WorkerInvariant view first w free []) (sym (room_opened s (omega (arith, from), to))) its.holds;
           ready = ready_opened s first w its;
         })
 
-    run_opened : HasRun f terms.layout [] m
+    run_opened : HasRun f run_params.layout [] m
     run_opened = record {
       layout = opened.layout;
       formula = opened.formula;
@@ -323,10 +336,10 @@ module _ {S : Type 0} (view : SourceView S) where
     }
 
     -- a run before its first turn
-    pub runs_opened : (firsts : List S) (ws : List (WorkerValue S)) → length firsts ≡ terms.layout.streams
-        → AreStarted view terms 1 firsts ws → Runs view f terms firsts 0 m ws
-    runs_opened firsts ws count started =
-        let same : length ws ≡ terms.layout.streams = each_count _ 1 firsts ws started ∙ count in
+    pub serial_opened : (firsts : List S) (ws : List (WorkerValue S)) → length firsts ≡ run_params.layout.streams
+        → AreStarted view run_params 1 firsts ws → SerialInvariant view f run_params firsts 0 m ws
+    serial_opened firsts ws count started =
+        let same : length ws ≡ run_params.layout.streams = each_count _ 1 firsts ws started ∙ count in
         record {
           count = same;
           blocks = [];
@@ -340,34 +353,36 @@ module _ {S : Type 0} (view : SourceView S) where
 
   -- a worker that is over tells of its stream
   told_over : (o : Option Ending) (ending : Ending) (first : S) (w : WorkerValue S) (free : ℕ) (blocks : List History) → o ≡ Some ending
-      → WorksBy view o first w free blocks
+      → WorkerInvariantBy view o first w free blocks
       → (stream : Stream) × IsStreamOf view first w.reader stream
-      × JudgesStream w.checker.setting stream blocks (report_of_tally w.checker.tally ending)
-      × HasDropped w.checker.setting stream.bytes (report_of_tally w.checker.tally ending) w.checker.dropped
-  told_over o ending first w free blocks is works =
-      let at : WorksBy view (Some ending) first w free blocks = subst (λ e. WorksBy view e first w free blocks) is works in at
+      × JudgesStream w.checker.params stream blocks (report_of_tally w.checker.tally ending)
+      × HasDropped w.checker.params stream.bytes (report_of_tally w.checker.tally ending) w.checker.dropped
+  told_over o ending first w free blocks is holds =
+      let at : WorkerInvariantBy view (Some ending) first w free blocks = subst (λ e. WorkerInvariantBy view e first w free blocks)
+      is holds in at
 
-  -- each stream is what its reader told, is judged by its blocks, and has dropped what its bytes and its report say
-  pub streams_over : (terms : TermsValue) (blocks : List Block) (m : Plain) (k : ℕ) (firsts : List S) (ws : List (WorkerValue S))
+  -- each stream matches what is observed of its reader, is judged by its blocks, and has dropped what its bytes and its report say
+  pub streams_over : (run_params : RunParamsValue) (blocks : List Block) (m : Plain) (k : ℕ) (firsts : List S) (ws : List (WorkerValue S))
       (reports : List Report)
-      → AreWorking view terms blocks m k firsts ws → HaveReports ws reports
-      → (streams : List Stream) × AllZip IsTold (tellings view firsts (map (λ w. w.reader) ws)) streams × AreRead S view.reads firsts
-      (map (λ w. w.reader) ws) streams × AreJudged terms (λ s. true) (λ s events. events ≡ blocks_of s blocks) k streams reports
-      × HaveDropped terms k streams reports (map (λ w. w.checker.dropped) ws)
-  streams_over terms blocks m k [] [] [] working have = ([], tt, tt, tt, tt)
-  streams_over terms blocks m k [] [] (r ∷ reports) working have = absurd have
-  streams_over terms blocks m k [] (w ∷ ws) reports working have = absurd working
-  streams_over terms blocks m k (first ∷ firsts) [] reports working have = absurd working
-  streams_over terms blocks m k (first ∷ firsts) (w ∷ ws) [] working have = absurd have
-  streams_over terms blocks m k (first ∷ firsts) (w ∷ ws) (r ∷ reports) working have =
-      let others = streams_over terms blocks m (k + 1) firsts ws reports working.1 have.1 in
-      let told = told_over w.checker.ending have.0.0 first w (free_at m k) (blocks_of k blocks) have.0.1 working.0.works in
-      let judged : JudgesStream (setting_of terms k) told.0 (blocks_of k blocks) r =
-      subst (λ (c : Setting). JudgesStream c told.0 (blocks_of k blocks) r) working.0.setting
-      (subst (λ (x : Report). JudgesStream w.checker.setting told.0 (blocks_of k blocks) x) (sym have.0.2) told.2) in
-      let dropped : HasDropped (setting_of terms k) told.0.bytes r w.checker.dropped =
-      subst (λ (c : Setting). HasDropped c told.0.bytes r w.checker.dropped) working.0.setting
-      (subst (λ (x : Report). HasDropped w.checker.setting told.0.bytes x w.checker.dropped) (sym have.0.2) told.3) in (
+      → AreWorking view run_params blocks m k firsts ws → HaveReports ws reports
+      → (streams : List Stream) × AllZip MatchesInput (observations view firsts (map (λ w. w.reader) ws)) streams
+      × AreRead S view.reads firsts
+      (map (λ w. w.reader) ws) streams × AreJudged run_params (λ s. true) (λ s events. events ≡ blocks_of s blocks) k streams reports
+      × HaveDropped run_params k streams reports (map (λ w. w.checker.dropped) ws)
+  streams_over run_params blocks m k [] [] [] working have = ([], tt, tt, tt, tt)
+  streams_over run_params blocks m k [] [] (r ∷ reports) working have = absurd have
+  streams_over run_params blocks m k [] (w ∷ ws) reports working have = absurd working
+  streams_over run_params blocks m k (first ∷ firsts) [] reports working have = absurd working
+  streams_over run_params blocks m k (first ∷ firsts) (w ∷ ws) [] working have = absurd have
+  streams_over run_params blocks m k (first ∷ firsts) (w ∷ ws) (r ∷ reports) working have =
+      let others = streams_over run_params blocks m (k + 1) firsts ws reports working.1 have.1 in
+      let told = told_over w.checker.ending have.0.0 first w (free_at m k) (blocks_of k blocks) have.0.1 working.0.holds in
+      let judged : JudgesStream (stream_params run_params k) told.0 (blocks_of k blocks) r =
+      subst (λ (c : StreamParams). JudgesStream c told.0 (blocks_of k blocks) r) working.0.params
+      (subst (λ (x : Report). JudgesStream w.checker.params told.0 (blocks_of k blocks) x) (sym have.0.2) told.2) in
+      let dropped : HasDropped (stream_params run_params k) told.0.bytes r w.checker.dropped =
+      subst (λ (c : StreamParams). HasDropped c told.0.bytes r w.checker.dropped) working.0.params
+      (subst (λ (x : Report). HasDropped w.checker.params told.0.bytes x w.checker.dropped) (sym have.0.2) told.3) in (
         told.0 ∷ others.0,
         (told.1.0, others.1),
         (told.1.1, others.2),
@@ -376,13 +391,15 @@ module _ {S : Type 0} (view : SourceView S) where
       )
 
   -- the reports have an order of lines, by turns, whose events leave the map as it is
-  pub ordered_over : (f : Cnf) (terms : TermsValue) (firsts : List S) (m : Plain) (ws : List (WorkerValue S)) (reports : List Report)
-      → Runs view f terms firsts 0 m ws → HaveReports ws reports
-      → (streams : List Stream) × AllZip IsTold (tellings view firsts (map (λ w. w.reader) ws)) streams
-      × AreRead S view.reads firsts (map (λ w. w.reader) ws) streams × ((ordered : IsOrderedByTurns f terms streams reports)
-      × HaveDropped terms 1 streams reports (map (λ w. w.checker.dropped) ws) × (plain_state m ≡ state f (events_in ordered.order.blocks)))
-  ordered_over f terms firsts m ws reports runs have =
-      let streams = streams_over terms runs.blocks m 1 firsts ws reports runs.workers_are have in (
+  pub ordered_over : (f : Cnf) (run_params : RunParamsValue) (firsts : List S) (m : Plain) (ws : List (WorkerValue S))
+      (reports : List Report)
+      → SerialInvariant view f run_params firsts 0 m ws → HaveReports ws reports
+      → (streams : List Stream) × AllZip MatchesInput (observations view firsts (map (λ w. w.reader) ws)) streams
+      × AreRead S view.reads firsts (map (λ w. w.reader) ws) streams × ((ordered : IsOrderedByTurns f run_params streams reports)
+      × HaveDropped run_params 1 streams reports (map (λ w. w.checker.dropped) ws)
+      × (plain_state m ≡ state f (events_in ordered.order.blocks)))
+  ordered_over f run_params firsts m ws reports runs have =
+      let streams = streams_over run_params runs.blocks m 1 firsts ws reports runs.workers_are have in (
         streams.0,
         streams.1,
         streams.2,
@@ -391,7 +408,7 @@ module _ {S : Type 0} (view : SourceView S) where
             order = record {
               blocks = runs.blocks;
               within = runs.map_is.within;
-              legal = record { events = runs.map_is.legal; room = within_room f terms.layout runs.blocks m runs.map_is };
+              legal = record { events = runs.map_is.legal; room = within_room f run_params.layout runs.blocks m runs.map_is };
               judged = streams.3;
             };
             turns = runs.in_round.turns;
@@ -402,28 +419,28 @@ module _ {S : Type 0} (view : SourceView S) where
       )
 
 -- the whole run: begun, gone on with, and over
-pub run_ordered : {S : Type 0} (view : SourceView S) (f : Cnf) (terms : TermsValue) (firsts : List S) (m : Plain)
-    (ws : List (WorkerValue S)) → length firsts ≡ terms.layout.streams → Runs view f terms firsts 0 m ws
-    → (n : Plain) (reports : List Report) (lasts : List S) (dropped : List DroppedValue) → AreRun view m ws n reports lasts dropped
-    → (ran : IsRunOf OnOneThread view f terms firsts lasts reports dropped) × (plain_state n ≡ state f ran.run.history)
-run_ordered {S} view f terms firsts m ws count begun n reports lasts dropped so =
-    let over = ordered_over view f terms firsts n so.ended reports (so.goes f terms firsts begun) so.reports_are in
+pub run_ordered : {S : Type 0} (view : SourceView S) (f : Cnf) (run_params : RunParamsValue) (firsts : List S) (m : Plain)
+    (ws : List (WorkerValue S)) → length firsts ≡ run_params.layout.streams → SerialInvariant view f run_params firsts 0 m ws
+    → (n : Plain) (reports : List Report) (lasts : List S) (dropped : List DroppedValue) → SerialEnd view m ws n reports lasts dropped
+    → (ran : IsRunOf OnOneThread view f run_params firsts lasts reports dropped) × (plain_state n ≡ state f ran.run.history)
+run_ordered {S} view f run_params firsts m ws count begun n reports lasts dropped so =
+    let over = ordered_over view f run_params firsts n so.ended reports (so.goes f run_params firsts begun) so.reports_are in
     let streams = over.0 in
     let order = over.3.0.order in
-    let told = subst (λ (ls : List S). AllZip IsTold (tellings view firsts ls) streams) (sym so.readers_are) over.1 in
+    let told = subst (λ (ls : List S). AllZip MatchesInput (observations view firsts ls) streams) (sym so.readers_are) over.1 in
     let read = subst (λ (ls : List S). AreRead S view.reads firsts ls streams) (sym so.readers_are) over.2 in (
       record {
         run = record {
           streams = streams;
-          are_told = told;
-          count = told_count _ _ told ∙ told_as_many view firsts lasts streams read ∙ count;
+          match_inputs = told;
+          count = observed_count _ _ told ∙ observed_as_many view firsts lasts streams read ∙ count;
           history = events_in order.blocks;
           legal = order.legal;
-          judged = ordered_judged terms (λ s. true) (λ s. true) order.blocks 1 streams reports order.within order.judged;
+          judged = ordered_judged run_params (λ s. true) (λ s. true) order.blocks 1 streams reports order.within order.judged;
         };
         way = (over.3.0, refl);
         read = read;
-        have_dropped = subst (HaveDropped terms 1 streams reports) (sym so.dropped_are) over.3.1;
+        have_dropped = subst (HaveDropped run_params 1 streams reports) (sym so.dropped_are) over.3.1;
       },
       over.3.2,
     )

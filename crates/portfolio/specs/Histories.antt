@@ -9,7 +9,7 @@ use Rattle.lrup_text.specs.ReadOut.{SourceView}
 use Rattle.stream_check.specs.DroppedValue.{DroppedValue}
 use Rattle.stream_check.specs.declared.report.Report.{Report}
 use Rattle.runs.specs.Readings.{AreRead}
-use Rattle.runs.specs.Streams.{Stream, TermsValue, events_in, tellings}
+use Rattle.runs.specs.Streams.{Stream, RunParamsValue, events_in, observations}
 use Rattle.runs.specs.Turns.{IsOrderedByTurns}
 use Rattle.run_laws.specs.Groups.{IsRun}
 use Rattle.checkpoint.specs.declared.saving.SaveFault.{SaveFault}
@@ -18,17 +18,17 @@ use Rattle.portfolio.specs.Saving.{CarriesState, SavesState, is_wanted}
 
 -- in which way the streams were checked: what more is known of a run's history, its streams and its reports
 abbrev pub Way : Type 1
-Way = Cnf → TermsValue → History → List Stream → List Report → Type 0
+Way = Cnf → RunParamsValue → History → List Stream → List Report → Type 0
 
 -- in threads: each stream was read to its end, or to a read that failed
 abbrev pub InThreads : Way
-InThreads formula terms history streams reports =
+InThreads formula run_params history streams reports =
     AllByRecursion (λ stream. IsSome stream.end) streams
 
 -- on one thread: the history is that of an order of lines, which is by turns
 abbrev pub OnOneThread : Way
-OnOneThread formula terms history streams reports =
-    (ordered : IsOrderedByTurns formula terms streams reports)
+OnOneThread formula run_params history streams reports =
+    (ordered : IsOrderedByTurns formula run_params streams reports)
     × (history ≡ events_in ordered.order.blocks)
 
 -- the one or the other
@@ -40,31 +40,33 @@ way_of false = InThreads
 -- those in the end. It is a run of what these told; reads of them gave its streams; and each stream dropped just what its lines drop,
 -- or where one stopped it what was dropped until then.
 pub record IsRunOf {S : Type 0} (Checked : Way) (view : SourceView S) (formula : Cnf)
-    (terms : TermsValue) (firsts lasts : List S) (reports : List Report)
+    (run_params : RunParamsValue) (firsts lasts : List S) (reports : List Report)
     (dropped : List DroppedValue) : Type 0 where
-  pub run : IsRun formula terms (tellings view firsts lasts) reports
-  pub way : Checked formula terms run.history run.streams reports
+  pub run : IsRun formula run_params (observations view firsts lasts) reports
+  pub way : Checked formula run_params run.history run.streams reports
   pub read : AreRead S view.reads firsts lasts run.streams
-  pub have_dropped : HaveDropped terms 1 run.streams reports (map (λ d. d.ids) dropped)
+  pub have_dropped : HaveDropped run_params 1 run.streams reports (map (λ d. d.ids) dropped)
 
 -- What became of the saving of a run's clauses to a sink that was the first and is the last: those that its history leaves live, but for
 -- those that all streams dropped, and no others, were saved, as the result says.
 pub record SavesRun {S W : Type 0} (view : SourceView S) (written : W → Option (List ℕ))
-    (serial : Bool) (formula : Cnf) (terms : TermsValue) (firsts : List S) (reports : List Report)
+    (serial : Bool) (formula : Cnf) (run_params : RunParamsValue) (firsts : List S)
+    (reports : List Report)
     (result : Result (Unit {0}) SaveFault) (first last : W) : Type 0 where
   pub lasts : List S
   pub dropped : List DroppedValue
-  pub ran : IsRunOf (way_of serial) view formula terms firsts lasts reports dropped
-  pub saves : SavesState written result (state formula ran.run.history) terms.layout
+  pub ran : IsRunOf (way_of serial) view formula run_params firsts lasts reports dropped
+  pub saves : SavesState written result (state formula ran.run.history) run_params.layout
       (is_wanted dropped) first last
 
 -- What became of the carrying of a run's clauses to a later round, by a sink that was the first and is the last: those that its history
 -- leaves live, but for those that all streams dropped, and no others, were carried, as the result says.
 pub record CarriesRun {S W : Type 0} (view : SourceView S) (written : W → Option (List ℕ))
-    (serial : Bool) (formula : Cnf) (terms : TermsValue) (firsts : List S) (reports : List Report)
+    (serial : Bool) (formula : Cnf) (run_params : RunParamsValue) (firsts : List S)
+    (reports : List Report)
     (result : Result Cnf SaveFault) (first last : W) : Type 0 where
   pub lasts : List S
   pub dropped : List DroppedValue
-  pub ran : IsRunOf (way_of serial) view formula terms firsts lasts reports dropped
-  pub carries : CarriesState written result (state formula ran.run.history) terms.layout
+  pub ran : IsRunOf (way_of serial) view formula run_params firsts lasts reports dropped
+  pub carries : CarriesState written result (state formula ran.run.history) run_params.layout
       (is_wanted dropped) first last

@@ -7,7 +7,7 @@ use Rattle.lrup_model.specs.Layout.{LayoutValue}
 use Rattle.stream_check.specs.declared.report.Report.{Report}
 use Rattle.portfolio.specs.declared.outcome.Verdict.{Verdict}
 use Rattle.portfolio.specs.declared.outcome.Verdict.TheVariants.{Unsatisfiable, UnsatisfiableUnder, Unknown}
-use Rattle.runs.specs.Streams.{TermsValue}
+use Rattle.runs.specs.Streams.{RunParamsValue}
 
 -- how often an identity of another stream is fetched again while it is vacant; and for each stream, identities and room in literals
 pub record OptionsValue : Type 0 where
@@ -28,8 +28,8 @@ layout_of options formula streams =
     }
 
 -- what a run of a formula and so many streams is checked by, under a cube
-abbrev pub terms_of : OptionsValue → CubeValue → Cnf → ℕ → TermsValue
-terms_of options cube formula streams =
+abbrev pub run_params_of : OptionsValue → CubeValue → Cnf → ℕ → RunParamsValue
+run_params_of options cube formula streams =
     record { layout = layout_of options formula streams; cube = cube; tries = options.tries }
 
 -- The verdict: 'unsatisfiable' exactly if some stream added the empty clause; else 'unsatisfiable under assumptions' exactly if

@@ -6,7 +6,7 @@ use Rattle.lrup_model.specs.Formula.{Cnf}
 use Rattle.lrup_model.specs.Layout.{LayoutValue, last_identity}
 use Rattle.lrup_model.specs.State.{State, Answers}
 use Rattle.stream_check.specs.DroppedValue.{DroppedValue}
-use Rattle.stream_check.specs.Standing.{is_among}
+use Rattle.stream_check.specs.StreamContext.{is_among}
 use Rattle.checkpoint.specs.Checkpoints.{Carries, Saves}
 use Rattle.checkpoint.specs.Live.{fetches, wanted_of}
 use Rattle.checkpoint.specs.declared.saving.SaveFault.{SaveFault}

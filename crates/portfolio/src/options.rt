@@ -3,7 +3,7 @@ ghost use Rattle.std.specs.Prelude.{◌≡◌, ◌≤◌, ◌<◌, ◌↔◌, Is
 ghost use Rattle.lrup_model.specs.Layout.{IsLayout, IsFault, Fits};
 ghost use Rattle.lrup_model.specs.declared.layout.LayoutFault.{LayoutFault};
 ghost use Rattle.portfolio.specs.Outcomes.{layout_of};
-ghost use Rattle.stream_check.specs.Setting.{max_tries};
+ghost use Rattle.stream_check.specs.StreamParams.{max_tries};
 
 use lrup_model::{Formula, Layout, LayoutFault};
 use std::marker::Model;
@@ -19,7 +19,7 @@ pub struct Options {
 
 impl Model for Options {
     ghost use Rattle.portfolio.specs.Outcomes.{OptionsValue};
-    ghost use Rattle.stream_check.specs.Setting.{max_tries};
+    ghost use Rattle.stream_check.specs.StreamParams.{max_tries};
     ghost use Rattle.std.specs.Prelude.{◌≤◌};
 
     ghost Value = { OptionsValue };

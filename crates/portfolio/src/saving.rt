@@ -7,7 +7,7 @@ ghost use Rattle.lrup_model.specs.Layout.{Fits};
 ghost use Rattle.lrup_model.specs.Plain.{PlainMoves, formula_of, plain_state};
 ghost use Rattle.lrup_model.specs.State.{state};
 ghost use Rattle.clause_store.specs.Passes.{AreOf, views};
-ghost use Rattle.runs.specs.Headline.{HaveOneHistory};
+ghost use Rattle.runs.specs.SequentialConsistency.{HaveOneHistory};
 ghost use Rattle.checkpoint.specs.Checkpoints.{IsCheckpoint, IsCheckpointOf};
 ghost use Rattle.checkpoint.specs.Live.{fetches};
 ghost use Rattle.portfolio.specs.Saving.{CarriesState, SavesState, is_wanted};
@@ -62,7 +62,7 @@ pub fn save_live<W: Sink>(
     let Some(pass) = passes.pop() else {
         unreachable!()
     };
-    // The call shows that the pass is fair, and so that the layout is the formula's.
+    // Brings the pass's consistency invariant into scope: the pass is fair, and so the layout is the formula's.
     let _ = pass.stream();
     let mut desk = Desk::new(store, pass);
     let saved = save(alloc, &mut desk, layout, &NotAllDropped { dropped }, sink);
@@ -129,7 +129,7 @@ pub fn carry_live<W: Sink>(
     let Some(last) = passes.pop() else {
         unreachable!()
     };
-    // The call shows that the pass is fair, and so that the layout is the formula's.
+    // Brings the pass's consistency invariant into scope: the pass is fair, and so the layout is the formula's.
     let _ = last.stream();
     let mut desk = Desk::new(store, last);
     let carried = carry(alloc, &mut desk, layout, &NotAllDropped { dropped }, sink);

@@ -6,17 +6,17 @@ ghost use Rattle.lrup_model.specs.Entailment.{IsUnsatisfiable};
 ghost use Rattle.lrup_model.specs.Event.{History};
 ghost use Rattle.lrup_model.specs.Layout.{Fits, IsFault, IsStream};
 ghost use Rattle.lrup_model.specs.declared.layout.LayoutFault.{LayoutFault};
-ghost use Rattle.lrup_model.specs.Plain.{PlainMoves, formula_of, free_at, plain_place, plain_state};
+ghost use Rattle.lrup_model.specs.Plain.{PlainMoves, formula_of, free_at, plain_caller_view, plain_state};
 ghost use Rattle.lrup_model.specs.State.{state};
 ghost use Rattle.stream_check.specs.Checker.{IsReadyAt};
 ghost use Rattle.stream_check.specs.Judging.{joined};
 ghost use Rattle.run_laws.specs.Groups.{AreIsolated};
 ghost use Rattle.portfolio.specs.Histories.{IsRunOf, OnOneThread};
-ghost use Rattle.portfolio.specs.Outcomes.{layout_of, terms_of, verdict_of};
+ghost use Rattle.portfolio.specs.Outcomes.{layout_of, run_params_of, verdict_of};
 ghost use Rattle.runs.specs.Readings.{readers_view};
-ghost use Rattle.runs.specs.Streams.{tellings};
-ghost use Rattle.portfolio.specs.internal.Turns.{AreOver, AreRun, AreStarted, GoesOn, HaveReports, IsOverAt, IsRunning, Runs};
-ghost use Rattle.portfolio.specs.internal.Working.{AreBlocksOfTurn, WorksOn};
+ghost use Rattle.runs.specs.Streams.{observations};
+ghost use Rattle.portfolio.specs.internal.Turns.{AreOver, SerialEnd, AreStarted, SerialStep, HaveReports, IsOverAt, IsInSerialRun, SerialInvariant};
+ghost use Rattle.portfolio.specs.internal.Working.{AreBlocksOfTurn, WorkerStep};
 
 use crate::options::Options;
 use crate::outcome::{RunFault, SerialOutcome, Verdict};
@@ -24,7 +24,7 @@ use crate::worker::Worker;
 use lrup_model::{Cube, Formula, PlainMap};
 use lrup_text::Source;
 use run_laws::groups::run_isolated;
-use runs::Terms;
+use runs::RunParams;
 use std::alloc::{AllocError, Global};
 use std::sync::Wait;
 use stream_check::laws::ready_beside;
@@ -52,14 +52,16 @@ pub fn run_serial<W: Wait, R: Source + Drop, G: Gate + Drop>(
         × (result ≢ Err (RunFault.Ring stream)) }
     // It is a run of what the readers told and their reads gave, and its history is that of an order of
     // lines, which is by turns. The map has what this leaves.
-    ensures ordered { let terms = terms_of options cube.now formula.now (length readers.items) in
+    ensures ordered { let run_params = run_params_of options cube.now formula.now
+        (length readers.items) in
         IfOk result (λ outcome. (ran : IsRunOf OnOneThread (readers_view R.Source) formula.now
-        terms readers.items outcome.readers.items outcome.reports.items outcome.dropped.items)
+        run_params readers.items outcome.readers.items outcome.reports.items outcome.dropped.items)
         × (plain_state outcome.map ≡ state formula.now ran.run.history)) }
     // Groups of streams are isolated.
-    ensures isolated { let terms = terms_of options cube.now formula.now (length readers.items) in
-        IfOk result (λ outcome. AreIsolated formula.now terms
-        (tellings (readers_view R.Source) readers.items outcome.readers.items)
+    ensures isolated { let run_params = run_params_of options cube.now formula.now
+        (length readers.items) in
+        IfOk result (λ outcome. AreIsolated formula.now run_params
+        (observations (readers_view R.Source) readers.items outcome.readers.items)
         outcome.reports.items) }
     ensures verdict { IfOk result (λ outcome.
         outcome.verdict ≡ verdict_of outcome.reports.items) }
@@ -73,29 +75,29 @@ pub fn run_serial<W: Wait, R: Source + Drop, G: Gate + Drop>(
         → IsUnsatisfiableUnder formula.now cube.now) }
 {
     let layout = options.layout(formula, readers.len())?;
-    let terms = Terms::new(&layout, cube, options.tries());
-    let (map, workers) = open(alloc, formula, &terms, readers, gates)?;
+    let run_params = RunParams::new(&layout, cube, options.tries());
+    let (map, workers) = open(alloc, formula, &run_params, readers, gates)?;
     run_isolated();
     check(wait, alloc, map, workers)
 }
 
-/// The map of a run, and a worker for each stream, by its terms.
+/// The map of a run, and a worker for each stream, by its parameters.
 fn open<R: Source + Drop, G: Gate + Drop>(
     alloc: Global,
     formula: &Formula,
-    terms: &Terms<'_>,
+    run_params: &RunParams<'_>,
     readers: Vec<R>,
     gates: Vec<G>,
 ) -> Result<(PlainMap, Vec<Worker<R, G>>), AllocError>
-    requires fits { Fits terms.now.layout formula.now }
-    requires streams { terms.now.layout.streams ≡ length readers.items }
+    requires fits { Fits run_params.now.layout formula.now }
+    requires streams { run_params.now.layout.streams ≡ length readers.items }
     requires gates { vec_len gates ≡ vec_len readers }
     requires running { AllByRecursion (λ r. R.has_failed r ≡ false) readers.items }
-    ensures { IfOk result (λ opened. Runs (readers_view R.Source) formula.now
-        terms.now readers.items 0 opened.0 opened.1.items) }
+    ensures { IfOk result (λ opened. SerialInvariant (readers_view R.Source) formula.now
+        run_params.now readers.items 0 opened.0 opened.1.items) }
 {
-    let map = PlainMap::open(alloc, formula, terms.layout())?;
-    let workers = workers_of(alloc, terms, readers, gates)?;
+    let map = PlainMap::open(alloc, formula, run_params.layout())?;
+    let workers = workers_of(alloc, run_params, readers, gates)?;
     Ok((map, workers))
 }
 
@@ -106,9 +108,9 @@ fn check<W: Wait, R: Source + Drop, G: Gate + Drop>(
     mut map: PlainMap,
     mut workers: Vec<Worker<R, G>>,
 ) -> Result<SerialOutcome<R>, RunFault>
-    requires running { IsRunning (readers_view R.Source) 0 map workers.items }
+    requires running { IsInSerialRun (readers_view R.Source) 0 map workers.items }
     ensures memory { IfErr result (λ fault. fault ≡ RunFault.Memory) }
-    ensures ran { IfOk result (λ outcome. AreRun (readers_view R.Source) map
+    ensures ran { IfOk result (λ outcome. SerialEnd (readers_view R.Source) map
         workers.items outcome.map outcome.reports.items outcome.readers.items
         outcome.dropped.items) }
     ensures verdict { IfOk result (λ outcome.
@@ -124,20 +126,20 @@ fn check<W: Wait, R: Source + Drop, G: Gate + Drop>(
 /// A worker for each stream.
 pub(crate) fn workers_of<R: Source + Drop, G: Gate + Drop>(
     alloc: Global,
-    terms: &Terms<'_>,
+    run_params: &RunParams<'_>,
     readers: Vec<R>,
     gates: Vec<G>,
 ) -> Result<Vec<Worker<R, G>>, AllocError>
     requires gates { vec_len gates ≡ vec_len readers }
     requires running { AllByRecursion (λ r. R.has_failed r ≡ false) readers.items }
-    requires streams { terms.now.layout.streams ≡ length readers.items }
+    requires streams { run_params.now.layout.streams ≡ length readers.items }
     ensures { IfOk result (λ workers. AreStarted (readers_view R.Source)
-        terms.now 1 readers.items workers.items) }
+        run_params.now 1 readers.items workers.items) }
 {
     let mut workers = Vec::with_capacity(alloc, readers.len())?;
     for (reader, gate) in readers.into_iter().zip(gates) {
         let stream = workers.len() as u64 + 1;
-        workers.push_reserved(Worker::new(alloc, reader, gate, stream, terms)?);
+        workers.push_reserved(Worker::new(alloc, reader, gate, stream, run_params)?);
     }
     Ok(workers)
 }
@@ -148,9 +150,9 @@ fn take_turns<W: Wait, R: Source + Drop, G: Gate + Drop>(
     map: &mut PlainMap,
     workers: &mut [Worker<R, G>],
 )
-    requires running { IsRunning (readers_view R.Source) 0 map.old
+    requires running { IsInSerialRun (readers_view R.Source) 0 map.old
         workers.old }
-    ensures runs { GoesOn (readers_view R.Source) 0 map.old workers.old 0
+    ensures step { SerialStep (readers_view R.Source) 0 map.old workers.old 0
         map.new workers.new }
     ensures over { AreOver workers.new }
 {
@@ -167,9 +169,9 @@ fn take_round<W: Wait, R: Source + Drop, G: Gate + Drop>(
     map: &mut PlainMap,
     workers: &mut [Worker<R, G>],
 ) -> bool
-    requires running { IsRunning (readers_view R.Source) 0 map.old
+    requires running { IsInSerialRun (readers_view R.Source) 0 map.old
         workers.old }
-    ensures runs { GoesOn (readers_view R.Source) 0 map.old workers.old 0
+    ensures step { SerialStep (readers_view R.Source) 0 map.old workers.old 0
         map.new workers.new }
     ensures over { result ≡ false → AreOver workers.new }
 {
@@ -187,10 +189,10 @@ fn take_turn<W: Wait, R: Source + Drop, G: Gate + Drop>(
     workers: &mut [Worker<R, G>],
     i: usize,
 ) -> bool
-    requires running { IsRunning (readers_view R.Source) i map.old
+    requires running { IsInSerialRun (readers_view R.Source) i map.old
         workers.old }
     requires within { i < length workers.old }
-    ensures runs { GoesOn (readers_view R.Source) i map.old workers.old (i + 1)
+    ensures step { SerialStep (readers_view R.Source) i map.old workers.old (i + 1)
         map.new workers.new }
     ensures over { result ≡ false → IsOverAt workers.old i × (workers.new ≡ workers.old) }
 {
@@ -210,14 +212,14 @@ fn turn_at_desk<W: Wait, R: Source + Drop, G: Gate + Drop>(
     worker: &mut Worker<R, G>,
 )
     requires stream { IsStream map.old.layout s }
-    requires ready { IsReadyAt worker.old.checker (plain_place map.old s) }
+    requires ready { IsReadyAt worker.old.checker (plain_caller_view map.old s) }
     requires going { worker.old.checker.ending ≡ None }
-    ensures works { (blocks : List History) × PlainMoves map.old map.new s (joined blocks)
+    ensures holds { (blocks : List History) × PlainMoves map.old map.new s (joined blocks)
         × AreBlocksOfTurn worker.new.checker.ending blocks
-        × WorksOn (readers_view R.Source) worker.old (free_at map.old s) blocks
+        × WorkerStep (readers_view R.Source) worker.old (free_at map.old s) blocks
         worker.new (free_at map.new s) }
-    ensures ready { IsReadyAt worker.new.checker (plain_place map.new s) }
-    ensures setting { worker.new.checker.setting ≡ worker.old.checker.setting }
+    ensures ready { IsReadyAt worker.new.checker (plain_caller_view map.new s) }
+    ensures params { worker.new.checker.params ≡ worker.old.checker.params }
 {
     worker.turn(wait, &mut map.desk(s));
 }

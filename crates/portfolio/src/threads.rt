@@ -5,15 +5,15 @@ ghost use Rattle.lrup_model.specs.Cube.{IsUnsatisfiableUnder};
 ghost use Rattle.lrup_model.specs.Entailment.{IsUnsatisfiable};
 ghost use Rattle.lrup_model.specs.Layout.{Fits, IsFault, IsLayout, IsStream};
 ghost use Rattle.lrup_model.specs.declared.layout.LayoutFault.{LayoutFault};
-ghost use Rattle.lrup_model.specs.Pass.{AreMet};
-ghost use Rattle.clause_store.specs.Passes.{AreOf, HaveMet, store_of, views};
+ghost use Rattle.lrup_model.specs.Pass.{AreSynced};
+ghost use Rattle.clause_store.specs.Passes.{AreOf, ShareHistory, store_of, views};
 ghost use Rattle.runs.specs.Readings.{readers_view};
-ghost use Rattle.runs.specs.Headline.{HaveOneHistory, seen_by};
+ghost use Rattle.runs.specs.SequentialConsistency.{HaveOneHistory, seen_by};
 ghost use Rattle.portfolio.specs.Histories.{InThreads, IsRunOf};
-ghost use Rattle.portfolio.specs.Outcomes.{layout_of, terms_of, verdict_of};
+ghost use Rattle.portfolio.specs.Outcomes.{layout_of, run_params_of, verdict_of};
 ghost use Rattle.portfolio.specs.internal.Threads.{AreGathered, IsBegun, WereGathered};
 ghost use Rattle.portfolio.specs.Dropping.{StopsAtRing, WasReadOut};
-ghost use Rattle.runs.specs.Streams.{tellings};
+ghost use Rattle.runs.specs.Streams.{observations};
 ghost use Rattle.run_laws.specs.Groups.{AreIsolated};
 ghost use Rattle.run_laws.specs.Serializable.{IsSerializable};
 ghost use Rattle.stream_threads.specs.Jobs.{CanBegin};
@@ -25,7 +25,7 @@ use lrup_model::{Cube, Formula};
 use lrup_text::Source;
 use run_laws::groups::run_isolated;
 use run_laws::orders::run_serializable;
-use runs::Terms;
+use runs::RunParams;
 use std::alloc::{AllocError, Global};
 use std::sync::Wait;
 use std::thread::Threads;
@@ -56,27 +56,30 @@ pub fn run<T: Threads + Wait + Sync, R: Source + Send + Drop, G: Gate + Send + D
     ensures spawn { (stream : ℕ) → result ≡ Err (RunFault.Spawn stream)
         → IsStream (layout_of options formula.now (length readers.items)) stream }
     // Each stream before it was judged, as in a run with an outcome; and its own reader was read out.
-    ensures ring { let terms = terms_of options cube.now formula.now (length readers.items) in
+    ensures ring { let run_params = run_params_of options cube.now formula.now
+        (length readers.items) in
         (stream : ℕ) → result ≡ Err (RunFault.Ring stream)
-        → StopsAtRing (readers_view R.Source) formula.now terms readers.items stream }
+        → StopsAtRing (readers_view R.Source) formula.now run_params readers.items stream }
     // One legal history has each stream's calls once, in its order, with the replies that it got.
     ensures history { IfOk result (λ outcome. let passes = views outcome.passes.items in
         HaveOneHistory formula.now (layout_of options formula.now (length readers.items))
         (seen_by passes) passes) }
     // It is a run by that history, of what the readers told and their reads gave.
-    ensures reports { let terms = terms_of options cube.now formula.now (length readers.items) in
+    ensures reports { let run_params = run_params_of options cube.now formula.now
+        (length readers.items) in
         IfOk result (λ outcome. (ran : IsRunOf InThreads (readers_view R.Source) formula.now
-        terms readers.items outcome.readers.items outcome.reports.items outcome.dropped.items)
+        run_params readers.items outcome.readers.items outcome.reports.items outcome.dropped.items)
         × (ran.run.history ≡ seen_by (views outcome.passes.items))) }
     // Groups of streams are isolated.
-    ensures isolated { let terms = terms_of options cube.now formula.now (length readers.items) in
-        IfOk result (λ outcome. AreIsolated formula.now terms
-        (tellings (readers_view R.Source) readers.items outcome.readers.items)
+    ensures isolated { let run_params = run_params_of options cube.now formula.now
+        (length readers.items) in
+        IfOk result (λ outcome. AreIsolated formula.now run_params
+        (observations (readers_view R.Source) readers.items outcome.readers.items)
         outcome.reports.items) }
     // The lines are serializable.
-    ensures serializable { let terms = terms_of options cube.now formula.now
-        (length readers.items) in IfOk result (λ outcome. IsSerializable formula.now terms
-        (tellings (readers_view R.Source) readers.items outcome.readers.items)
+    ensures serializable { let run_params = run_params_of options cube.now formula.now
+        (length readers.items) in IfOk result (λ outcome. IsSerializable formula.now run_params
+        (observations (readers_view R.Source) readers.items outcome.readers.items)
         outcome.reports.items) }
     ensures verdict { IfOk result (λ outcome.
         outcome.verdict ≡ verdict_of outcome.reports.items) }
@@ -90,8 +93,8 @@ pub fn run<T: Threads + Wait + Sync, R: Source + Send + Drop, G: Gate + Send + D
         → IsUnsatisfiableUnder formula.now cube.now) }
 {
     let layout = options.layout(formula, readers.len())?;
-    let terms = Terms::new(&layout, cube, options.tries());
-    let Opened { store, jobs } = open(alloc, formula, &terms, readers, gates)?;
+    let run_params = RunParams::new(&layout, cube, options.tries());
+    let Opened { store, jobs } = open(alloc, formula, &run_params, readers, gates)?;
     run_isolated();
     run_serializable();
     check(threads, alloc, store, jobs)
@@ -104,24 +107,24 @@ struct Opened<R: Source + Drop, G: Gate + Drop> {
     jobs: Vec<StreamJobs<R, G>>,
 }
 
-/// Opens the store of a run, and makes the jobs of its streams, by its terms.
+/// Opens the store of a run, and makes the jobs of its streams, by its parameters.
 fn open<R: Source + Drop, G: Gate + Drop>(
     alloc: Global,
     formula: &Formula,
-    terms: &Terms<'_>,
+    run_params: &RunParams<'_>,
     readers: Vec<R>,
     gates: Vec<G>,
 ) -> Result<Opened<R, G>, AllocError>
-    requires layout { IsLayout terms.now.layout }
-    requires fits { Fits terms.now.layout formula.now }
-    requires streams { terms.now.layout.streams ≡ length readers.items }
+    requires layout { IsLayout run_params.now.layout }
+    requires fits { Fits run_params.now.layout formula.now }
+    requires streams { run_params.now.layout.streams ≡ length readers.items }
     requires gates { vec_len gates ≡ vec_len readers }
     requires running { AllByRecursion (λ r. R.has_failed r ≡ false) readers.items }
-    ensures { IfOk result (λ opened. IsBegun formula.now terms.now opened.store readers.items
+    ensures { IfOk result (λ opened. IsBegun formula.now run_params.now opened.store readers.items
         opened.jobs.items) }
 {
-    let (store, passes) = Store::open(alloc, formula, *terms.layout())?;
-    let jobs = jobs_of(alloc, terms, readers, gates, passes)?;
+    let (store, passes) = Store::open(alloc, formula, *run_params.layout())?;
+    let jobs = jobs_of(alloc, run_params, readers, gates, passes)?;
     Ok(Opened { store, jobs })
 }
 
@@ -155,16 +158,16 @@ fn check<T: Threads + Wait + Sync, R: Source + Send + Drop, G: Gate + Send + Dro
     let Lists {
         room,
         reports,
-        met,
+        synced,
         readers,
         dropped,
     } = lists_for(alloc, &signal, jobs.len())?;
     match check_all(threads, &store, jobs, room) {
-        Ok(found) => Ok(outcome_of(store, found, reports, met, readers, dropped)),
+        Ok(found) => Ok(outcome_of(store, found, reports, synced, readers, dropped)),
         Err(ThreadFault::Spawn(stream)) => Err(RunFault::Spawn(stream)),
         Err(ThreadFault::Ring(found)) => {
             let stream = found.len() as u64 + 1;
-            let _before = outcome_of(store, found, reports, met, readers, dropped);
+            let _before = outcome_of(store, found, reports, synced, readers, dropped);
             Err(RunFault::Ring(stream))
         }
     }
@@ -175,7 +178,7 @@ fn check<T: Threads + Wait + Sync, R: Source + Send + Drop, G: Gate + Send + Dro
 struct Lists<'a, R: Source + Drop, G: Gate + Drop> {
     room: Room<'a, R, G>,
     reports: Vec<Report>,
-    met: Vec<Pass>,
+    synced: Vec<Pass>,
     readers: Vec<R>,
     dropped: Vec<Dropped>,
 }
@@ -189,8 +192,8 @@ fn lists_for<'a, R: Source + Drop, G: Gate + Drop>(
     ensures room { IfOk result (λ lists. lists.room ≡ count) }
     ensures reports { IfOk result (λ lists.
         (lists.reports.items ≡ []) × (vec_capacity lists.reports ≡ count)) }
-    ensures met { IfOk result (λ lists.
-        (lists.met.items ≡ []) × (vec_capacity lists.met ≡ count)) }
+    ensures synced { IfOk result (λ lists.
+        (lists.synced.items ≡ []) × (vec_capacity lists.synced ≡ count)) }
     ensures readers { IfOk result (λ lists.
         (lists.readers.items ≡ []) × (vec_capacity lists.readers ≡ count)) }
     ensures dropped { IfOk result (λ lists.
@@ -199,7 +202,7 @@ fn lists_for<'a, R: Source + Drop, G: Gate + Drop>(
     Ok(Lists {
         room: Room::new(alloc, signal, count)?,
         reports: Vec::with_capacity(alloc, count)?,
-        met: Vec::with_capacity(alloc, count)?,
+        synced: Vec::with_capacity(alloc, count)?,
         readers: Vec::with_capacity(alloc, count)?,
         dropped: Vec::with_capacity(alloc, count)?,
     })
@@ -224,8 +227,8 @@ fn outcome_of<R: Source + Drop>(
     ensures reports { result.reports.items ≡ map (λ f. f.report) found.items }
     ensures readers { result.readers.items ≡ map (λ f. f.reader) found.items }
     ensures dropped { result.dropped.items ≡ map (λ f. f.dropped) found.items }
-    ensures met { AreMet (views (map (λ f. f.pass) found.items)) (views result.passes.items) }
-    ensures one { HaveMet (views result.passes.items) }
+    ensures synced { AreSynced (views (map (λ f. f.pass) found.items)) (views result.passes.items) }
+    ensures one { ShareHistory (views result.passes.items) }
     ensures verdict { result.verdict ≡ verdict_of result.reports.items }
     ensures of { AreOf store result.passes.items }
     ensures kept { result.store ≡ store }

@@ -7,11 +7,11 @@ ghost use Rattle.stream_check.specs.CheckerValue.{report_of_tally};
 ghost use Rattle.stream_check.specs.Checker.{AreBlocksOf, Ends, IsReadyAt, ReportsEnd};
 ghost use Rattle.stream_check.specs.Judging.{joined};
 ghost use Rattle.runs.specs.Readings.{readers_view};
-ghost use Rattle.portfolio.specs.internal.Working.{AreBlocksOfTurn, IsStarted, WorksOn};
+ghost use Rattle.portfolio.specs.internal.Working.{AreBlocksOfTurn, IsStarted, WorkerStep};
 
 use lrup_model::ClauseMap;
 use lrup_text::{PIECE, Source, StreamEnd};
-use runs::Terms;
+use runs::RunParams;
 use std::alloc::{AllocError, Global};
 use std::marker::Model;
 use std::sync::Wait;
@@ -52,17 +52,23 @@ impl<R: Source + Drop, G: Gate + Drop> Worker<R, G> {
         reader: R,
         gate: G,
         stream: u64,
-        terms: &Terms<'_>,
+        run_params: &RunParams<'_>,
     ) -> Result<Worker<R, G>, AllocError>
         requires running { R.has_failed reader ≡ false }
-        requires stream { IsStream terms.now.layout stream }
+        requires stream { IsStream run_params.now.layout stream }
         ensures { IfOk result (IsStarted (readers_view R.Source)
-            terms.now stream reader) }
+            run_params.now stream reader) }
     {
         Ok(Worker {
             reader,
             gate,
-            checker: Checker::new(alloc, stream, terms.layout(), terms.cube(), terms.tries())?,
+            checker: Checker::new(
+                alloc,
+                stream,
+                run_params.layout(),
+                run_params.cube(),
+                run_params.tries(),
+            )?,
             buffer: vec![in alloc; 0; PIECE]?,
             from: 0,
             to: 0,
@@ -78,14 +84,14 @@ impl<R: Source + Drop, G: Gate + Drop> Worker<R, G> {
 
     /// Reads until one line was taken, or nothing more is. It blocks while the reader does.
     pub fn turn<W: Wait, M: ClauseMap>(&mut self, wait: &W, map: &mut M)
-        requires ready { IsReadyAt self.old.checker (M.place map.old) }
+        requires ready { IsReadyAt self.old.checker (M.caller_view map.old) }
         requires going { self.old.checker.ending ≡ None }
-        ensures works { (blocks : List History) × M.moves map.old map.new (joined blocks)
+        ensures holds { (blocks : List History) × M.moves map.old map.new (joined blocks)
             × AreBlocksOfTurn self.new.checker.ending blocks
-            × WorksOn (readers_view R.Source) self.old (M.place map.old).room
-            blocks self.new (M.place map.new).room }
-        ensures ready { IsReadyAt self.new.checker (M.place map.new) }
-        ensures setting { self.new.checker.setting ≡ self.old.checker.setting }
+            × WorkerStep (readers_view R.Source) self.old (M.caller_view map.old).room
+            blocks self.new (M.caller_view map.new).room }
+        ensures ready { IsReadyAt self.new.checker (M.caller_view map.new) }
+        ensures params { self.new.checker.params ≡ self.old.checker.params }
     {
         for _ in wait.forever() {
             if !self.read() {
@@ -103,12 +109,12 @@ impl<R: Source + Drop, G: Gate + Drop> Worker<R, G> {
     /// false.
     fn read(&mut self) -> bool
         requires { self.old.checker.ending ≡ None }
-        ensures works { (room : ℕ) → WorksOn (readers_view R.Source)
+        ensures holds { (room : ℕ) → WorkerStep (readers_view R.Source)
             self.old room [] self.new room }
         ensures going { OnTrue result (self.new.checker.ending ≡ None) }
         ensures over { OnFalse result (IsSome self.new.checker.ending) }
         ensures last { self.new.checker.last ≡ self.old.checker.last }
-        ensures setting { self.new.checker.setting ≡ self.old.checker.setting }
+        ensures params { self.new.checker.params ≡ self.old.checker.params }
     {
         if self.from < self.to {
             return true;
@@ -132,16 +138,16 @@ impl<R: Source + Drop, G: Gate + Drop> Worker<R, G> {
 
     /// Lets the checker take bytes that were read.
     fn feed<M: ClauseMap>(&mut self, map: &mut M) -> CheckTurn
-        requires ready { IsReadyAt self.old.checker (M.place map.old) }
+        requires ready { IsReadyAt self.old.checker (M.caller_view map.old) }
         requires going { self.old.checker.ending ≡ None }
-        ensures works { (blocks : List History) × M.moves map.old map.new (joined blocks)
+        ensures holds { (blocks : List History) × M.moves map.old map.new (joined blocks)
             × AreBlocksOf result blocks
-            × WorksOn (readers_view R.Source) self.old (M.place map.old).room
-            blocks self.new (M.place map.new).room }
+            × WorkerStep (readers_view R.Source) self.old (M.caller_view map.old).room
+            blocks self.new (M.caller_view map.new).room }
         ensures going { result ≡ CheckTurn.More → self.new.checker.ending ≡ None }
         ensures over { result ≡ CheckTurn.Over → IsSome self.new.checker.ending }
-        ensures ready { IsReadyAt self.new.checker (M.place map.new) }
-        ensures setting { self.new.checker.setting ≡ self.old.checker.setting }
+        ensures ready { IsReadyAt self.new.checker (M.caller_view map.new) }
+        ensures params { self.new.checker.params ≡ self.old.checker.params }
     {
         let piece = &self.buffer[self.from..self.to];
         let progress = self.checker.feed(map, &mut self.gate, piece);

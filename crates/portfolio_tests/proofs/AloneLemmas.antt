@@ -19,89 +19,90 @@ use Rattle.lrup_model.specs.Formula.{Cnf}
 use Rattle.lrup_model.specs.Event.{History, published}
 use Rattle.portfolio.specs.declared.outcome.Verdict.{Verdict}
 use Rattle.portfolio.specs.declared.outcome.Verdict.TheVariants.{Unsatisfiable, UnsatisfiableUnder, Unknown}
-use Rattle.portfolio.specs.Outcomes.{OptionsValue, terms_of, verdict_of}
+use Rattle.portfolio.specs.Outcomes.{OptionsValue, run_params_of, verdict_of}
 use Rattle.run_laws.specs.Serializable.{ComeToVerdict, IsSerializable}
 use Rattle.run_laws.specs.Premises.{FoundStays}
 use Rattle.runs.specs.lemmas.StreamLemmas.{same_at}
 use Rattle.lrup_text.specs.ReadOut.{SourceView}
 use Rattle.runs.specs.Readings.{AreRead}
-use Rattle.runs.specs.Streams.{Stream, Telling, TermsValue, telling_of, tellings, IsOrdered, events_in}
+use Rattle.runs.specs.Streams.{Stream, InputObservation, RunParamsValue, observation_of, observations, IsOrdered, events_in}
 use Rattle.runs.specs.Closed.{IsOfStream, IsOwnedWithin, CiteWithin}
 use Rattle.run_laws.specs.Groups.{one, AreIsolated, IsRun}
 use Rattle.run_laws.specs.lemmas.ReportLemmas.{only}
-use Rattle.run_laws.specs.GroupLaws.{ReadersClosed, ToldIsReading}
+use Rattle.run_laws.specs.GroupLaws.{ReadersClosed, MatchIsReading}
 use Rattle.test_support.specs.Worked.{four}
 use Rattle.portfolio_tests.specs.Alone.{first_bytes, usual, layout_of_two, two_terms, HasOrder, IsOnlyReport}
 
 -- Places
 
 -- the first stream, and what its reader told, which hasn't failed
-record IsFirst (told : List Telling) (streams : List Stream) (bytes : List ℕ) : Type 0 where
+record IsFirst (told : List InputObservation) (streams : List Stream) (bytes : List ℕ) : Type 0 where
   stream : Stream
   at : IsOfStream streams 1 stream
-  telling : Telling
-  telling_at : IsOfStream told 1 telling
-  entry : telling.entry ≡ Some bytes
-  running : telling.has_failed ≡ false
+  observation : InputObservation
+  observation_at : IsOfStream told 1 observation
+  entry : observation.entry ≡ Some bytes
+  running : observation.has_failed ≡ false
 
 first_told : {S : Type 0} (view : SourceView S) (firsts lasts : List S) (streams : List Stream) (bytes : List ℕ)
     → AreRead S view.reads firsts lasts streams → IsOfStream (map view.left firsts) 1 (Some bytes)
-    → IsOfStream (map view.has_failed lasts) 1 false → IsFirst (tellings view firsts lasts) streams bytes
+    → IsOfStream (map view.has_failed lasts) 1 false → IsFirst (observations view firsts lasts) streams bytes
 first_told view [] [] [] bytes read entry fine = absurd (let none : None ≡ Some (Some bytes) = entry.1 in cc)
 first_told view (first ∷ firsts) (last ∷ lasts) (stream ∷ streams) bytes read entry fine = record {
   stream = stream;
   at = (omega arith, refl);
-  telling = telling_of view first last;
-  telling_at = (omega arith, refl);
+  observation = observation_of view first last;
+  observation_at = (omega arith, refl);
   entry = let same : Some (view.left first) ≡ Some (Some bytes) = entry.1 in cc;
   running = let same : Some (view.has_failed last) ≡ Some false = fine.1 in cc;
 }
 first_told view _ _ _ bytes read entry fine = absurd read
 
--- the terms of such a run are those of two streams over the four clauses
-of_two : (Holds : Cnf → TermsValue → Type 0) (options : OptionsValue) (cube : CubeValue) (f : Cnf) (count : ℕ)
-    → options ≡ usual → cube ≡ [] → f ≡ four → count ≡ 2 → Holds f (terms_of options cube f count) → Holds four two_terms
+-- the parameters of such a run are those of two streams over the four clauses
+of_two : (Holds : Cnf → RunParamsValue → Type 0) (options : OptionsValue) (cube : CubeValue) (f : Cnf) (count : ℕ)
+    → options ≡ usual → cube ≡ [] → f ≡ four → count ≡ 2 → Holds f (run_params_of options cube f count) → Holds four two_terms
 of_two Holds options cube f count same none formula two holds =
-    subst (λ n. Holds four (terms_of usual [] four n)) two
-    (subst (λ g. Holds g (terms_of usual [] g count)) formula
-    (subst (λ k. Holds f (terms_of usual k f count)) none
-    (subst (λ o. Holds f (terms_of o cube f count)) same holds)))
+    subst (λ n. Holds four (run_params_of usual [] four n)) two
+    (subst (λ g. Holds g (run_params_of usual [] g count)) formula
+    (subst (λ k. Holds f (run_params_of usual k f count)) none
+    (subst (λ o. Holds f (run_params_of o cube f count)) same holds)))
 
 -- what a run promises of its reports, whichever way its history is known
-abbrev pub IsIsolated : {S : Type 0} → SourceView S → List S → List S → List Report → Cnf → TermsValue → Type 0
-IsIsolated {S} view firsts lasts reports f terms =
-    AreIsolated f terms (tellings view firsts lasts) reports
-    × ((run : IsRun f terms (tellings view firsts lasts) reports) × AreRead S view.reads firsts lasts run.streams)
+abbrev pub IsIsolated : {S : Type 0} → SourceView S → List S → List S → List Report → Cnf → RunParamsValue → Type 0
+IsIsolated {S} view firsts lasts reports f run_params =
+    AreIsolated f run_params (observations view firsts lasts) reports
+    × ((run : IsRun f run_params (observations view firsts lasts) reports) × AreRead S view.reads firsts lasts run.streams)
 
 -- the streams of a run that has this history have an order that comes to the verdict, where it leaves what they found of one another
-abbrev pub HasOrdered : List Telling → List Report → History → Cnf → TermsValue → Type 0
-HasOrdered told reports h f terms =
-    IsSerializable f terms told reports × ((run : IsRun f terms told reports) × (run.history ≡ h))
+abbrev pub HasOrdered : List InputObservation → List Report → History → Cnf → RunParamsValue → Type 0
+HasOrdered told reports h f run_params =
+    IsSerializable f run_params told reports × ((run : IsRun f run_params told reports) × (run.history ≡ h))
 
 pub two_isolated : {S : Type 0} (view : SourceView S) (firsts lasts : List S) (reports : List Report) (options : OptionsValue)
     (cube : CubeValue) (f : Cnf) (count : ℕ) → options ≡ usual → cube ≡ [] → f ≡ four → count ≡ 2
-    → IsIsolated view firsts lasts reports f (terms_of options cube f count) → IsIsolated view firsts lasts reports four two_terms
+    → IsIsolated view firsts lasts reports f (run_params_of options cube f count) → IsIsolated view firsts lasts reports four two_terms
 two_isolated view firsts lasts reports options cube f count = of_two (IsIsolated view firsts lasts reports) options cube f count
 
-pub two_ordered : (told : List Telling) (reports : List Report) (h : History) (options : OptionsValue) (cube : CubeValue) (f : Cnf)
+pub two_ordered : (told : List InputObservation) (reports : List Report) (h : History) (options : OptionsValue) (cube : CubeValue) (f : Cnf)
     (count : ℕ) → options ≡ usual → cube ≡ [] → f ≡ four → count ≡ 2
-    → HasOrdered told reports h f (terms_of options cube f count) → HasOrdered told reports h four two_terms
+    → HasOrdered told reports h f (run_params_of options cube f count) → HasOrdered told reports h four two_terms
 two_ordered told reports h options cube f count = of_two (HasOrdered told reports h) options cube f count
 
 -- A report of stream 1 is the one that it may have alone, by what a run promises.
-pub report_alone : ReadersClosed → ToldIsReading → {S : Type 0} (view : SourceView S) (firsts lasts : List S) (bytes : List ℕ)
+pub report_alone : ReadersClosed → MatchIsReading → {S : Type 0} (view : SourceView S) (firsts lasts : List S) (bytes : List ℕ)
     (reports : List Report) (report : Report)
     → IsIsolated view firsts lasts reports four two_terms → CiteWithin layout_of_two (one 1) bytes
     → IsOfStream (map view.left firsts) 1 (Some bytes) → IsOfStream (map view.has_failed lasts) 1 false
     → IsOfStream reports 1 report → ¬ IsOfMemory report → IsOnlyReport bytes report
 report_alone closes reads view firsts lasts bytes reports report (isolated, run, read) cites entry fine says memory =
-    let tells = tellings view firsts lasts in
+    let tells = observations view firsts lasts in
     let first = first_told view firsts lasts run.streams bytes read entry fine in
-    let closed = closes layout_of_two (one 1) tells run.streams run.are_told
+    let closed = closes layout_of_two (one 1) tells run.streams run.match_inputs
     (λ s other member at.
-    let same = same_at tells 1 other first.telling (subst (λ n. IsOfStream tells n other) (only 1 s member) at) first.telling_at in
-    (bytes, ap (λ (t : Telling). t.entry) same ∙ first.entry, cites)) in
-    let is_reading = reads tells run.streams 1 first.telling first.stream bytes run.are_told first.telling_at first.at first.entry
+    let same = same_at tells 1 other first.observation (subst (λ n. IsOfStream tells n other) (only 1 s member) at) first.observation_at in
+    (bytes, ap (λ (t : InputObservation). t.entry) same ∙ first.entry, cites)) in
+    let is_reading = reads tells run.streams 1 first.observation first.stream bytes run.match_inputs first.observation_at
+    first.at first.entry
     first.running in
     record {
       alone = record {
@@ -145,7 +146,8 @@ order_says streams reports verdict (order, comes) is = record {
 }
 
 -- A run's verdict is that of an order of its lines, by what it promises.
-pub has_order : (told : List Telling) (reports : List Report) (h : History) (verdict : Verdict) → HasOrdered told reports h four two_terms
+pub has_order : (told : List InputObservation) (reports : List Report) (h : History) (verdict : Verdict)
+    → HasOrdered told reports h four two_terms
     → verdict ≡ verdict_of reports → FoundStays four layout_of_two (λ s. true) h → HasOrder verdict
 has_order told reports h verdict (serializable, run, same) is stays =
     order_says run.streams reports verdict

@@ -6,10 +6,10 @@ use Rattle.lrup_model.specs.Event.{published}
 use Rattle.lrup_model.specs.History.{IsLegal}
 use Rattle.stream_check.specs.declared.report.Report.{Report}
 use Rattle.lrup_text.specs.declared.device.StreamEnd.TheVariants as stream_ends
-use Rattle.portfolio.specs.Outcomes.{OptionsValue, layout_of, terms_of}
+use Rattle.portfolio.specs.Outcomes.{OptionsValue, layout_of, run_params_of}
 use Rattle.portfolio.specs.declared.outcome.Verdict.{Verdict}
 use Rattle.portfolio.specs.declared.outcome.Verdict.TheVariants.{Unsatisfiable}
-use Rattle.runs.specs.Streams.{Block, TermsValue, events_in}
+use Rattle.runs.specs.Streams.{Block, RunParamsValue, events_in}
 use Rattle.run_laws.specs.Groups.{IsReportAlone}
 use Rattle.test_support.specs.Worked.{four}
 
@@ -21,12 +21,12 @@ first_bytes = codes "5 2 0 1 2 0\n7 0 5 3 4 0\n"
 abbrev pub usual : OptionsValue
 usual = record { tries = 1000; lines = 65536; room = 1048576 }
 
--- the layout and the terms of two streams over the four clauses, without assumptions
+-- the layout and the parameters of two streams over the four clauses, without assumptions
 abbrev pub layout_of_two : LayoutValue
 layout_of_two = layout_of usual four 2
 
-abbrev pub two_terms : TermsValue
-two_terms = terms_of usual [] four 2
+abbrev pub two_terms : RunParamsValue
+two_terms = run_params_of usual [] four 2
 
 -- the report is one that stream 1 may have alone, where it has these bytes and ends after them, and the only one
 pub record IsOnlyReport (bytes : List ℕ) (report : Report) : Type 0 where

@@ -1,7 +1,7 @@
 // The texts of a report, and sinks that fail; and what the runs of both modules are given.
 ghost use Rattle.std.specs.Prelude.{◌≡◌, ◌≤◌, false, IfOk, IsTrue, vec_len};
 ghost use Rattle.std.specs.List.{AllByRecursion};
-ghost use Rattle.stream_check.specs.Setting.{max_tries};
+ghost use Rattle.stream_check.specs.StreamParams.{max_tries};
 
 use lrup_model::{Cube, Id, LayoutFault};
 use lrup_text::{LineFault, Sink, Source, WriteFault};

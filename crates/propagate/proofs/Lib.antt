@@ -1,3 +1,3 @@
 pub mod MarkLemmas
-pub mod LeftLemmas
+pub mod StatusLemmas
 pub mod TakenLemmas

@@ -11,7 +11,7 @@ use Rattle.std.proofs.lemmas.Map.Steps.{length-le_from_distinct_below}
 use Rattle.lrup_model.specs.Literal.{IsLiteral, code_of}
 use Rattle.lrup_model.specs.lemmas.CodeLemmas.{code_of-injective, IsCode-code_of}
 use Rattle.lrup_model.specs.Clause.{Has, IsClause}
-use Rattle.lrup_model.specs.Place.{Place, ClipValue, IsKnown, AllFollow, clip_clause}
+use Rattle.lrup_model.specs.CallerView.{CallerView, ClipValue, IsKnown, AllFollow, clip_clause}
 use Rattle.lrup_model.specs.lemmas.PassLemmas.{known_follows}
 use Rattle.propagate.specs.internal.Trail.{AreApart, AreMarks}
 use Rattle.lrup_model.specs.lemmas.ClauseLemmas.{Has-append_left, Has-at, Has-push, Has-push_cases, All-Has, int_cases, take-read}
@@ -125,14 +125,14 @@ marked_before (x ∷ marks) (suc i) zero h = h
 marked_before (x ∷ marks) (suc i) (suc k) h = marked_before marks i k h
 
 -- the marks of one more literal are taken away
-pub cleared-next : (marks : List Bool) (ls : List ℤ) (k place : ℕ) (x : ℤ) → k < length ls → x ≡ get_or ls k x → place ≡ code_of x
+pub cleared-next : (marks : List Bool) (ls : List ℤ) (k view : ℕ) (x : ℤ) → k < length ls → x ≡ get_or ls k x → view ≡ code_of x
     → ((l : ℤ) → Has (take k ls) l → get_or marks (code_of l) false ≡ false) → (l : ℤ) → Has (take (k + 1) ls) l
-    → get_or (set marks place false) (code_of l) false ≡ false
-cleared-next marks ls k place x lt at e cleared l h =
+    → get_or (set marks view false) (code_of l) false ≡ false
+cleared-next marks ls k view x lt at e cleared l h =
     elim (Has-push_cases (take k ls) x l (subst (λ m. Has m l) (take-read ls k x lt at) h)) [
-      | inl t ↦ false_from_ne_true (get_or (set marks place false) (code_of l) false)
-          (λ set. false≢true (sym (cleared l t) ∙ marked_before marks place (code_of l) set))
-      | inr same ↦ ap (λ j. get_or (set marks place false) j false) (ap code_of (sym same) ∙ sym e) ∙ cleared-at marks place
+      | inl t ↦ false_from_ne_true (get_or (set marks view false) (code_of l) false)
+          (λ set. false≢true (sym (cleared l t) ∙ marked_before marks view (code_of l) set))
+      | inr same ↦ ap (λ j. get_or (set marks view false) j false) (ap code_of (sym same) ∙ sym e) ∙ cleared-at marks view
     ]
 
 -- a literal of a clause is one over more variables too
@@ -141,8 +141,8 @@ IsLiteral-read vars more d l clause le h =
     let is : IsLiteral vars l = All-Has (IsLiteral vars) d l clause.literals h in (is.0, omega (arith, is.1))
 
 -- a literal of a clause that is known is one of the formula's, and so of more variables
-pub IsLiteral-known : (vars : ℕ) (place : Place) (clip : ClipValue) (k : ℕ) (l : ℤ) → AllFollow place → IsKnown place clip
-    → place.caller.formula.vars ≤ vars → slice_get (clip_clause place clip) k ≡ Some l → IsLiteral vars l
-IsLiteral-known vars place clip k l follow known le at =
-    IsLiteral-read place.caller.formula.vars vars (clip_clause place clip) l (known_follows place clip follow known).0 le
-    (Has-at (clip_clause place clip) k l at)
+pub IsLiteral-known : (vars : ℕ) (view : CallerView) (clip : ClipValue) (k : ℕ) (l : ℤ) → AllFollow view → IsKnown view clip
+    → view.caller.formula.vars ≤ vars → slice_get (clip_clause view clip) k ≡ Some l → IsLiteral vars l
+IsLiteral-known vars view clip k l follow known le at =
+    IsLiteral-read view.caller.formula.vars vars (clip_clause view clip) l (known_follows view clip follow known).0 le
+    (Has-at (clip_clause view clip) k l at)

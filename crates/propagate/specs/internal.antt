@@ -1,3 +1,3 @@
 -- What contracts of private functions say.
 pub mod Trail
-pub mod Left
+pub mod ClauseStatus

@@ -3,11 +3,11 @@ ghost use Rattle.std.specs.Prelude.{◌≡◌, ◌↔◌, ◌≤◌, ◌+◌, �
 ghost use Rattle.std.specs.List.{AllByRecursion};
 ghost use Rattle.lrup_model.specs.Literal.{IsLiteral, max_variable};
 ghost use Rattle.lrup_model.specs.Clause.{Has, EachOnce, IsClause, IsTautology};
-ghost use Rattle.lrup_model.specs.Place.{IsKnown, AllFollow, clip_clause};
+ghost use Rattle.lrup_model.specs.CallerView.{IsKnown, AllFollow, clip_clause};
 ghost use Rattle.lrup_model.specs.Propagation.{IsConflict, IsUnit};
 ghost use Rattle.lrup_model.specs.Distinct.{distinct};
 ghost use Rattle.propagate.specs.Marks.{Propagation, Steps};
-ghost use Rattle.propagate.specs.internal.Left.{IsLeft};
+ghost use Rattle.propagate.specs.internal.ClauseStatus.{HasStatus};
 
 use crate::tautology::Tautology;
 use crate::trail::Trail;
@@ -28,7 +28,7 @@ pub enum Step {
 
 /// What is left of a clause, by the literals that were read.
 #[derive(Clone, Copy, Debug, PartialEq, Eq)]
-enum Left {
+enum ClauseStatus {
     /// All literals are false.
     Nothing,
     /// All but this one are false, and this one is neither false nor true.
@@ -121,29 +121,30 @@ impl Marks {
     /// Tries the clause of a hint, reading each of its literals at most once.
     pub fn hint<M: ClauseMap>(&mut self, map: &mut M, clip: &Clip) -> Step
         requires ready { IsTrue self.old.ready }
-        requires known { IsKnown (M.place map.old) clip.now }
-        requires follow { AllFollow (M.place map.old) }
-        requires variables { (M.place map.old).caller.formula.vars ≤ self.old.vars }
+        requires known { IsKnown (M.caller_view map.old) clip.now }
+        requires follow { AllFollow (M.caller_view map.old) }
+        requires variables { (M.caller_view map.old).caller.formula.vars ≤ self.old.vars }
         ensures conflict { (result ≡ Step.Conflict)
-            ↔ IsConflict self.old.falses (clip_clause (M.place map.old) clip.now) }
+            ↔ IsConflict self.old.falses (clip_clause (M.caller_view map.old) clip.now) }
         ensures unit { (result ≡ Step.Unit)
-            ↔ ((l : ℤ) × IsUnit self.old.falses (clip_clause (M.place map.old) clip.now) l) }
-        ensures step { Steps self.old (clip_clause (M.place map.old) clip.now) result self.new }
+            ↔ ((l : ℤ) × IsUnit self.old.falses (clip_clause (M.caller_view map.old) clip.now) l) }
+        ensures step { Steps self.old (clip_clause (M.caller_view map.old) clip.now)
+            result self.new }
 
         // At the map it is no event.
         ensures event { M.moves map.old map.new [] }
-        ensures stays { M.place map.new ≡ M.place map.old }
+        ensures stays { M.caller_view map.new ≡ M.caller_view map.old }
     {
-        match rest_of(&self.trail, map, clip) {
-            Left::Nothing => {
+        match clause_status(&self.trail, map, clip) {
+            ClauseStatus::Nothing => {
                 self.ready = false;
                 Step::Conflict
             }
-            Left::One(lit) => {
+            ClauseStatus::One(lit) => {
                 self.trail.add(lit.complement());
                 Step::Unit
             }
-            Left::More => {
+            ClauseStatus::More => {
                 self.ready = false;
                 Step::NotUnit
             }
@@ -153,18 +154,18 @@ impl Marks {
     /// Whether the literals of the clip's clause are those of the list, in which a literal may repeat, and stand beside its
     /// complement. It reads the clause once. No clause is taken up afterwards.
     pub fn same<M: ClauseMap>(&mut self, map: &mut M, clip: &Clip, lits: &[Lit]) -> bool
-        requires known { IsKnown (M.place map.old) clip.now }
-        requires follow { AllFollow (M.place map.old) }
-        requires variables { (M.place map.old).caller.formula.vars ≤ self.old.vars }
+        requires known { IsKnown (M.caller_view map.old) clip.now }
+        requires follow { AllFollow (M.caller_view map.old) }
+        requires variables { (M.caller_view map.old).caller.formula.vars ≤ self.old.vars }
         requires literals { AllByRecursion (IsLiteral self.old.vars) lits.now }
         ensures same { IsTrue result
-            ↔ ((l : ℤ) → Has (clip_clause (M.place map.old) clip.now) l ↔ Has lits.now l) }
+            ↔ ((l : ℤ) → Has (clip_clause (M.caller_view map.old) clip.now) l ↔ Has lits.now l) }
         ensures idle { self.new
             ≡ record { vars = self.old.vars; clause = []; falses = []; ready = false } }
 
         // At the map it is no event.
         ensures event { M.moves map.old map.new [] }
-        ensures stays { M.place map.new ≡ M.place map.old }
+        ensures stays { M.caller_view map.new ≡ M.caller_view map.old }
     {
         self.trail.clear();
         self.clause_len = 0;
@@ -174,46 +175,54 @@ impl Marks {
 }
 
 /// What is left of the clause. It stops reading where more than one literal is left.
-fn rest_of<M: ClauseMap>(falses: &Trail, map: &mut M, clip: &Clip) -> Left
-    requires known { IsKnown (M.place map.old) clip.now }
-    requires follow { AllFollow (M.place map.old) }
-    requires variables { (M.place map.old).caller.formula.vars ≤ falses.now.vars }
-    ensures left { IsLeft falses.now.literals (clip_clause (M.place map.old) clip.now) result }
+fn clause_status<M: ClauseMap>(falses: &Trail, map: &mut M, clip: &Clip) -> ClauseStatus
+    requires known { IsKnown (M.caller_view map.old) clip.now }
+    requires follow { AllFollow (M.caller_view map.old) }
+    requires variables { (M.caller_view map.old).caller.formula.vars ≤ falses.now.vars }
+    ensures status { HasStatus falses.now.literals
+        (clip_clause (M.caller_view map.old) clip.now) result }
     ensures event { M.moves map.old map.new [] }
-    ensures stays { M.place map.new ≡ M.place map.old }
+    ensures stays { M.caller_view map.new ≡ M.caller_view map.old }
 {
     for i in 0..clip.pairs() {
         let (first, second) = map.pair(clip, i);
         if are_false(falses, first, &second) {
             continue;
         }
-        match left_with_pair(falses, first, second) {
-            Left::Nothing => {}
-            Left::One(lit) => return rest_after(falses, map, clip, i + 1, lit),
-            Left::More => return Left::More,
+        match status_with_pair(falses, first, second) {
+            ClauseStatus::Nothing => {}
+            ClauseStatus::One(lit) => return status_after(falses, map, clip, i + 1, lit),
+            ClauseStatus::More => return ClauseStatus::More,
         }
     }
-    Left::Nothing
+    ClauseStatus::Nothing
 }
 
 /// What is left of the clause, where just `lit` is left of its first `pairs` pairs.
-fn rest_after<M: ClauseMap>(falses: &Trail, map: &mut M, clip: &Clip, pairs: u32, lit: Lit) -> Left
-    requires known { IsKnown (M.place map.old) clip.now }
-    requires follow { AllFollow (M.place map.old) }
-    requires variables { (M.place map.old).caller.formula.vars ≤ falses.now.vars }
-    requires left { let clause = clip_clause (M.place map.old) clip.now in
+fn status_after<M: ClauseMap>(
+    falses: &Trail,
+    map: &mut M,
+    clip: &Clip,
+    pairs: u32,
+    lit: Lit,
+) -> ClauseStatus
+    requires known { IsKnown (M.caller_view map.old) clip.now }
+    requires follow { AllFollow (M.caller_view map.old) }
+    requires variables { (M.caller_view map.old).caller.formula.vars ≤ falses.now.vars }
+    requires status { let clause = clip_clause (M.caller_view map.old) clip.now in
         IsUnit falses.now.literals (take (2 * pairs) clause) lit }
-    ensures left { IsLeft falses.now.literals (clip_clause (M.place map.old) clip.now) result }
+    ensures status { HasStatus falses.now.literals
+        (clip_clause (M.caller_view map.old) clip.now) result }
     ensures event { M.moves map.old map.new [] }
-    ensures stays { M.place map.new ≡ M.place map.old }
+    ensures stays { M.caller_view map.new ≡ M.caller_view map.old }
 {
     for i in pairs..clip.pairs() {
         let (first, second) = map.pair(clip, i);
         if !are_false(falses, first, &second) {
-            return Left::More;
+            return ClauseStatus::More;
         }
     }
-    Left::One(lit)
+    ClauseStatus::One(lit)
 }
 
 /// Whether both literals are false, or the one, if there is no other.
@@ -236,36 +245,36 @@ fn are_false(falses: &Trail, first: Lit, second: &Option<Lit>) -> bool
 /// What is left when the next literal is read, or the next two, of a clause that has each once, and whose literals before
 /// them are false.
 #[inline]
-fn left_with_pair(falses: &Trail, first: Lit, second: Option<Lit>) -> Left
+fn status_with_pair(falses: &Trail, first: Lit, second: Option<Lit>) -> ClauseStatus
     requires first { IsLiteral falses.now.vars first }
     requires second { (l : ℤ) → second ≡ Some l → IsLiteral falses.now.vars l }
     ensures { (d : List ℤ) (i : ℕ) → EachOnce d
         → slice_get d (2 * i) ≡ Some first → slice_get d (2 * i + 1) ≡ second
         → IsConflict falses.now.literals (take (2 * i) d)
-        → IsLeft falses.now.literals (take (2 * (i + 1)) d) result }
+        → HasStatus falses.now.literals (take (2 * (i + 1)) d) result }
 {
-    let left = left_with(falses, Left::Nothing, first);
+    let status = status_with(falses, ClauseStatus::Nothing, first);
     match second {
-        Some(second) => left_with(falses, left, second),
-        None => left,
+        Some(second) => status_with(falses, status, second),
+        None => status,
     }
 }
 
 /// What is left when one more literal is read, which isn't one of those read before.
 #[inline]
-fn left_with(falses: &Trail, left: Left, lit: Lit) -> Left
+fn status_with(falses: &Trail, status: ClauseStatus, lit: Lit) -> ClauseStatus
     requires { IsLiteral falses.now.vars lit }
-    ensures { (d : List ℤ) → IsLeft falses.now.literals d left → (¬ Has d lit)
-        → IsLeft falses.now.literals (d ++ lit ∷ []) result }
+    ensures { (d : List ℤ) → HasStatus falses.now.literals d status → (¬ Has d lit)
+        → HasStatus falses.now.literals (d ++ lit ∷ []) result }
 {
     if falses.has(lit) {
-        return left;
+        return status;
     }
     if falses.has(lit.complement()) {
-        return Left::More;
+        return ClauseStatus::More;
     }
-    match left {
-        Left::Nothing => Left::One(lit),
-        Left::One(_) | Left::More => Left::More,
+    match status {
+        ClauseStatus::Nothing => ClauseStatus::One(lit),
+        ClauseStatus::One(_) | ClauseStatus::More => ClauseStatus::More,
     }
 }

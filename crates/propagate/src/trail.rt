@@ -3,7 +3,7 @@ ghost use Rattle.std.specs.Prelude.{◌≡◌, ◌↔◌, ◌⊎◌, ◌≤◌, 
 ghost use Rattle.std.specs.List.{AllByRecursion};
 ghost use Rattle.lrup_model.specs.Literal.{IsLiteral, code_of};
 ghost use Rattle.lrup_model.specs.Clause.{Has, EachOnce, IsTautology};
-ghost use Rattle.lrup_model.specs.Place.{IsKnown, AllFollow, clip_clause};
+ghost use Rattle.lrup_model.specs.CallerView.{IsKnown, AllFollow, clip_clause};
 ghost use Rattle.lrup_model.specs.Distinct.{distinct};
 ghost use Rattle.propagate.specs.internal.Trail.{AreTaken, HaveMarks, IsMarked};
 
@@ -95,15 +95,16 @@ impl Trail {
     /// Whether the literals of the clip's clause are those of the list. No literal is false before, nor afterwards.
     pub fn same<M: ClauseMap>(&mut self, map: &mut M, clip: &Clip, literals: &[Lit]) -> bool
         requires empty { self.old.literals ≡ [] }
-        requires known { IsKnown (M.place map.old) clip.now }
-        requires follow { AllFollow (M.place map.old) }
-        requires variables { (M.place map.old).caller.formula.vars ≤ self.old.vars }
+        requires known { IsKnown (M.caller_view map.old) clip.now }
+        requires follow { AllFollow (M.caller_view map.old) }
+        requires variables { (M.caller_view map.old).caller.formula.vars ≤ self.old.vars }
         requires literals { AllByRecursion (IsLiteral self.old.vars) literals.now }
         ensures same { IsTrue result
-            ↔ ((l : ℤ) → Has (clip_clause (M.place map.old) clip.now) l ↔ Has literals.now l) }
+            ↔ ((l : ℤ) → Has (clip_clause (M.caller_view map.old) clip.now) l
+            ↔ Has literals.now l) }
         ensures idle { self.new ≡ self.old }
         ensures event { M.moves map.old map.new [] }
-        ensures stays { M.place map.new ≡ M.place map.old }
+        ensures stays { M.caller_view map.new ≡ M.caller_view map.old }
     {
         is_same(&mut self.marks, map, clip, literals)
     }
@@ -141,17 +142,17 @@ fn unmark(marks: &mut [bool], literals: &[Lit])
 
 /// Whether the literals of the clip's clause, none of which has a mark, are those of the list. It leaves no mark that wasn't there.
 fn is_same<M: ClauseMap>(marks: &mut [bool], map: &mut M, clip: &Clip, literals: &[Lit]) -> bool
-    requires known { IsKnown (M.place map.old) clip.now }
-    requires follow { AllFollow (M.place map.old) }
-    requires clause { HaveMarks marks.old (clip_clause (M.place map.old) clip.now) }
+    requires known { IsKnown (M.caller_view map.old) clip.now }
+    requires follow { AllFollow (M.caller_view map.old) }
+    requires clause { HaveMarks marks.old (clip_clause (M.caller_view map.old) clip.now) }
     requires literals { HaveMarks marks.old literals.now }
-    requires unmarked { (l : ℤ) → Has (clip_clause (M.place map.old) clip.now) l
+    requires unmarked { (l : ℤ) → Has (clip_clause (M.caller_view map.old) clip.now) l
         → ¬ IsMarked marks.old l }
     ensures same { IsTrue result
-        ↔ ((l : ℤ) → Has (clip_clause (M.place map.old) clip.now) l ↔ Has literals.now l) }
+        ↔ ((l : ℤ) → Has (clip_clause (M.caller_view map.old) clip.now) l ↔ Has literals.now l) }
     ensures others { (l : ℤ) → IsMarked marks.new l → IsMarked marks.old l }
     ensures event { M.moves map.old map.new [] }
-    ensures stays { M.place map.new ≡ M.place map.old }
+    ensures stays { M.caller_view map.new ≡ M.caller_view map.old }
 {
     mark_all(marks, literals);
     let same = take_clause(marks, map, clip) && !any_marked(marks, literals);
@@ -184,16 +185,17 @@ fn any_marked(marks: &[bool], literals: &[Lit]) -> bool
 
 /// Takes the marks of the clip's clause away, up to a literal that has none, and returns whether each had one.
 fn take_clause<M: ClauseMap>(marks: &mut [bool], map: &mut M, clip: &Clip) -> bool
-    requires known { IsKnown (M.place map.old) clip.now }
-    requires follow { AllFollow (M.place map.old) }
-    requires marks { HaveMarks marks.old (clip_clause (M.place map.old) clip.now) }
+    requires known { IsKnown (M.caller_view map.old) clip.now }
+    requires follow { AllFollow (M.caller_view map.old) }
+    requires marks { HaveMarks marks.old (clip_clause (M.caller_view map.old) clip.now) }
     ensures yes { IsTrue result
-        → AreTaken marks.old marks.new (clip_clause (M.place map.old) clip.now) }
+        → AreTaken marks.old marks.new (clip_clause (M.caller_view map.old) clip.now) }
     ensures no { IsFalse result
-        → (l : ℤ) × Has (clip_clause (M.place map.old) clip.now) l × (¬ IsMarked marks.old l) }
+        → (l : ℤ) × Has (clip_clause (M.caller_view map.old) clip.now) l
+        × (¬ IsMarked marks.old l) }
     ensures others { (l : ℤ) → IsMarked marks.new l → IsMarked marks.old l }
     ensures event { M.moves map.old map.new [] }
-    ensures stays { M.place map.new ≡ M.place map.old }
+    ensures stays { M.caller_view map.new ≡ M.caller_view map.old }
 {
     for i in 0..clip.pairs() {
         let (first, second) = map.pair(clip, i);

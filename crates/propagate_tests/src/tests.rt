@@ -3,7 +3,7 @@ ghost use Rattle.std.specs.Prelude.{◌≡◌, IfOk, IfSome, OnOk, IsTrue};
 ghost use Rattle.std.specs.List.{AllByRecursion};
 ghost use Rattle.lrup_model.specs.Literal.{IsLiteral};
 ghost use Rattle.lrup_model.specs.Plain.{formula_of};
-ghost use Rattle.lrup_model.specs.Place.{IsKnown, AllFollow};
+ghost use Rattle.lrup_model.specs.CallerView.{IsKnown, AllFollow};
 
 use lrup_model::{ClauseMap, Clip, Fetched, Formula, Layout, Lit, PlainMap};
 use propagate::{Marks, Step, Tautology};
@@ -134,10 +134,10 @@ fn map_of_pairs(rt: &(impl Abort + AllocGlobal), pairs: &[(i64, i64)]) -> Result
 
 /// The clip of the clause that the map has under the identity.
 fn live<M: ClauseMap>(map: &mut M, id: u64) -> Option<Clip>
-    requires { (M.place map.old).caller.formula.vars ≡ 3 }
-    ensures vars { (M.place map.new).caller.formula.vars ≡ 3 }
-    ensures known { IfSome result (λ clip. IsKnown (M.place map.new) clip) }
-    ensures follow { IfSome result (λ _. AllFollow (M.place map.new)) }
+    requires { (M.caller_view map.old).caller.formula.vars ≡ 3 }
+    ensures vars { (M.caller_view map.new).caller.formula.vars ≡ 3 }
+    ensures known { IfSome result (λ clip. IsKnown (M.caller_view map.new) clip) }
+    ensures follow { IfSome result (λ _. AllFollow (M.caller_view map.new)) }
 {
     if !map.covers(id) {
         return None;
@@ -151,9 +151,9 @@ fn live<M: ClauseMap>(map: &mut M, id: u64) -> Option<Clip>
 /// Tries the clause that the map has under the identity.
 fn try_hint<M: ClauseMap>(marks: &mut Marks, map: &mut M, id: u64) -> Option<Step>
     requires marks { marks.old.vars ≡ 3 }
-    requires map { (M.place map.old).caller.formula.vars ≡ 3 }
+    requires map { (M.caller_view map.old).caller.formula.vars ≡ 3 }
     ensures marks { marks.new.vars ≡ 3 }
-    ensures map { (M.place map.new).caller.formula.vars ≡ 3 }
+    ensures map { (M.caller_view map.new).caller.formula.vars ≡ 3 }
 {
     let clip = live(map, id)?;
     if !marks.ready() {
@@ -170,9 +170,9 @@ fn try_hints<M: ClauseMap>(
     ids: &[u64],
 ) -> Option<(Option<Step>, bool, bool)>
     requires marks { marks.old.vars ≡ 3 }
-    requires map { (M.place map.old).caller.formula.vars ≡ 3 }
+    requires map { (M.caller_view map.old).caller.formula.vars ≡ 3 }
     ensures marks { marks.new.vars ≡ 3 }
-    ensures map { (M.place map.new).caller.formula.vars ≡ 3 }
+    ensures map { (M.caller_view map.new).caller.formula.vars ≡ 3 }
 {
     let clause = [lit(1)];
     marks.begin(&clause).ok()?;
@@ -189,7 +189,7 @@ type HintRow = (&'static [u64], Step, bool);
 /// Tries the hints of each row.
 fn try_rows<M: ClauseMap>(rt: &impl Abort, marks: &mut Marks, map: &mut M, rows: &[HintRow])
     requires marks { marks.old.vars ≡ 3 }
-    requires map { (M.place map.old).caller.formula.vars ≡ 3 }
+    requires map { (M.caller_view map.old).caller.formula.vars ≡ 3 }
 {
     for &(ids, step, more) in rows {
         let found = try_hints(marks, map, ids);
@@ -220,7 +220,7 @@ fn do_work<M: ClauseMap>(
     work: &Work,
 ) -> Result<(), Fail>
     requires marks { marks.old.vars ≡ 3 }
-    requires map { (M.place map.old).caller.formula.vars ≡ 3 }
+    requires map { (M.caller_view map.old).caller.formula.vars ≡ 3 }
 {
     match work {
         Work::Hints(rows) => try_rows(rt, marks, map, rows),
@@ -269,10 +269,10 @@ fn lits_of(rt: &(impl Abort + AllocGlobal), values: &[i64]) -> Result<Vec<Lit>, 
 /// Are these the literals of the clause that the map has under the identity?
 fn is_clause<M: ClauseMap>(marks: &mut Marks, map: &mut M, id: u64, lits: &[Lit]) -> Option<bool>
     requires marks { marks.old.vars ≡ 3 }
-    requires map { (M.place map.old).caller.formula.vars ≡ 3 }
+    requires map { (M.caller_view map.old).caller.formula.vars ≡ 3 }
     requires literals { AllByRecursion (IsLiteral 3) lits.now }
     ensures marks { marks.new.vars ≡ 3 }
-    ensures map { (M.place map.new).caller.formula.vars ≡ 3 }
+    ensures map { (M.caller_view map.new).caller.formula.vars ≡ 3 }
 {
     let clip = live(map, id)?;
     Some(marks.same(map, &clip, lits))
@@ -302,9 +302,9 @@ fn compare<M: ClauseMap>(
     row: (u64, &[i64], bool),
 ) -> Result<(), Fail>
     requires marks { marks.old.vars ≡ 3 }
-    requires map { (M.place map.old).caller.formula.vars ≡ 3 }
+    requires map { (M.caller_view map.old).caller.formula.vars ≡ 3 }
     ensures marks { marks.new.vars ≡ 3 }
-    ensures map { (M.place map.new).caller.formula.vars ≡ 3 }
+    ensures map { (M.caller_view map.new).caller.formula.vars ≡ 3 }
 {
     let (id, values, wanted) = row;
     let lits = lits_of(rt, values)?;
@@ -321,7 +321,7 @@ fn compare_all<M: ClauseMap>(
     map: &mut M,
 ) -> Result<(), Fail>
     requires marks { marks.old.vars ≡ 3 }
-    requires map { (M.place map.old).caller.formula.vars ≡ 3 }
+    requires map { (M.caller_view map.old).caller.formula.vars ≡ 3 }
 {
     for &row in &COMPARED {
         compare(rt, marks, map, row)?;
@@ -337,7 +337,7 @@ fn a_clause_is_compared_as_a_set(rt: HostRuntime) -> Result<(), Fail> {
 /// A clause is taken up, its hints are tried, and one is compared, a thousand times.
 fn call_often<M: ClauseMap>(marks: &mut Marks, map: &mut M, lits: &[Lit]) -> Option<()>
     requires marks { marks.old.vars ≡ 3 }
-    requires map { (M.place map.old).caller.formula.vars ≡ 3 }
+    requires map { (M.caller_view map.old).caller.formula.vars ≡ 3 }
     requires literals { AllByRecursion (IsLiteral 3) lits.now }
 {
     for _ in 0..1_000 {
@@ -354,7 +354,7 @@ fn call_with_list<M: ClauseMap>(
     map: &mut M,
 ) -> Result<(), Fail>
     requires marks { marks.old.vars ≡ 3 }
-    requires map { (M.place map.old).caller.formula.vars ≡ 3 }
+    requires map { (M.caller_view map.old).caller.formula.vars ≡ 3 }
 {
     let lits = lits_of(rt, &[3, -2, 3])?;
     holds(rt, call_often(marks, map, lits.as_slice()).is_some());

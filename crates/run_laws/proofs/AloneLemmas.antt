@@ -10,10 +10,10 @@ use Rattle.lrup_model.specs.lemmas.ListLemmas.{All-front}
 use Rattle.lrup_text.specs.declared.device.StreamEnd.{StreamEnd}
 use Rattle.lrup_text.specs.declared.device.StreamEnd.TheVariants as stream_ends
 use Rattle.stream_check.specs.declared.report.Report.{Report}
-use Rattle.stream_check.specs.Setting.{Setting}
+use Rattle.stream_check.specs.StreamParams.{StreamParams}
 use Rattle.stream_check.specs.Judging.{JudgesBlocks, Judges}
 use Rattle.stream_check.specs.Laws.{cited_by, OverStays, AloneDecides}
-use Rattle.runs.specs.Streams.{Stream, TermsValue, setting_of}
+use Rattle.runs.specs.Streams.{Stream, RunParamsValue, stream_params}
 use Rattle.runs.specs.Closed.{IsOfStream, IsOwnedWithin}
 use Rattle.run_laws.specs.Groups.{one, IsGroup, IsReadingOf}
 use Rattle.run_laws.specs.GroupLaws.{AloneHasOneReport, BeginningsWithin}
@@ -25,7 +25,7 @@ ReadsTo its bytes whole end = MatchOption its ((more : List ℕ) × (whole ≡ b
 
 -- however much of a stream was read, all of it is judged so
 pub judged_whole : OverStays
-    → (c : Setting) (its : Option StreamEnd) (bytes whole : List ℕ) (end : StreamEnd) (blocks : List History) (report : Report)
+    → (c : StreamParams) (its : Option StreamEnd) (bytes whole : List ℕ) (end : StreamEnd) (blocks : List History) (report : Report)
     → ReadsTo its bytes whole end → ((other : StreamEnd) → IfSome its (λ e. e ≡ other) → JudgesBlocks c bytes other blocks report)
     → JudgesBlocks c whole end blocks report
 judged_whole law c (Some its) bytes whole end blocks report is j = subst (λ b. JudgesBlocks c b end blocks report) (sym is.0) (j end is.1)
@@ -44,24 +44,25 @@ own-one s [] all = refl
 own-one s (e ∷ h) all = cond-true (eqb (stream_of e) s) (e ∷ own h s) (own h s) all.0 ∙ ap (λ (k : History). e ∷ k) (own-one s h all.1)
 
 -- the group of one stream is a judgement of all its bytes
-pub alone_judged : OverStays → (f : Cnf) (terms : TermsValue) (s : ℕ) (streams : List Stream) (reports : List Report)
+pub alone_judged : OverStays → (f : Cnf) (run_params : RunParamsValue) (s : ℕ) (streams : List Stream) (reports : List Report)
     (whole : List ℕ) (end : StreamEnd) (stream : Stream) (report : Report)
-    → (g : IsGroup f terms (one s) streams reports) → IsOfStream streams s stream → IsReadingOf whole end stream
-    → IsOfStream reports s report → Judges (setting_of terms s) whole end g.history report
-alone_judged law f terms s streams reports whole end stream report g at reads says =
-    let j = judged_at terms (one s) g.history streams reports g.judged s stream report (me s) at says in
+    → (g : IsGroup f run_params (one s) streams reports) → IsOfStream streams s stream → IsReadingOf whole end stream
+    → IsOfStream reports s report → Judges (stream_params run_params s) whole end g.history report
+alone_judged law f run_params s streams reports whole end stream report g at reads says =
+    let j = judged_at run_params (one s) g.history streams reports g.judged s stream report (me s) at says in
     record {
       blocks = j.0;
       events = sym (own-one s g.history g.members) ∙ j.1;
-      judges = judged_whole law (setting_of terms s) stream.end stream.bytes whole end j.0 report reads j.2;
+      judges = judged_whole law (stream_params run_params s) stream.end stream.bytes whole end j.0 report reads j.2;
     }
 
 pub alone_has_one_report : OverStays → AloneDecides → AloneHasOneReport
-alone_has_one_report stays decides f terms s whole end streams others reports other_reports stream other report other_report g h at there
+alone_has_one_report stays decides f run_params s whole end streams others reports other_reports stream other report other_report
+    g h at there
     reads also says too =
-    (decides f terms.layout (setting_of terms s) whole end g.history h.history report other_report g.legal h.legal
-    (alone_judged stays f terms s streams reports whole end stream report g at reads says)
-    (alone_judged stays f terms s others other_reports whole end other other_report h there also too)
+    (decides f run_params.layout (stream_params run_params s) whole end g.history h.history report other_report g.legal h.legal
+    (alone_judged stays f run_params s streams reports whole end stream report g at reads says)
+    (alone_judged stays f run_params s others other_reports whole end other other_report h there also too)
     (g.memory s report (me s) says) (h.memory s other_report (me s) too)).1
 
 -- Beginnings of bytes

@@ -7,40 +7,40 @@ use Rattle.lrup_model.specs.Event.{History, stream_of, own}
 use Rattle.lrup_model.specs.lemmas.HistoryLemmas.{own-none}
 use Rattle.lrup_text.specs.declared.device.StreamEnd.TheVariants as stream_ends
 use Rattle.stream_check.specs.declared.report.Report.{Report}
-use Rattle.stream_check.specs.Setting.{Setting}
-use Rattle.stream_check.specs.Standing.{standing_of}
-use Rattle.stream_check.specs.Leaving.{Holding}
+use Rattle.stream_check.specs.StreamParams.{StreamParams}
+use Rattle.stream_check.specs.StreamContext.{context_of}
+use Rattle.stream_check.specs.Reaching.{GoingState}
 use Rattle.stream_check.specs.Laws.{FreshLeft, EndJudged}
-use Rattle.runs.specs.Streams.{Stream, JudgesStream, TermsValue, setting_of}
+use Rattle.runs.specs.Streams.{Stream, JudgesStream, RunParamsValue, stream_params}
 use Rattle.runs.specs.lemmas.StreamLemmas.{IsJudgedBy, judged_out}
-use Rattle.runs.specs.Headline.{AreJudgedIn}
+use Rattle.runs.specs.SequentialConsistency.{AreJudgedIn}
 use Rattle.run_laws.specs.Groups.{empty_stream, empty_report, with_others}
 use Rattle.run_laws.specs.GroupLaws.{OthersEmpty}
 
-fresh : Setting → Holding
+fresh : StreamParams → GoingState
 fresh c = record {
   tally = record { added = 0; deleted = 0; empty = false; within = false };
-  standing = standing_of c [];
+  context = context_of c [];
   pending = [];
   line = 1;
 }
 
-nothing_judged : FreshLeft → EndJudged → (c : Setting) → JudgesStream c empty_stream [] empty_report
+nothing_judged : FreshLeft → EndJudged → (c : StreamParams) → JudgesStream c empty_stream [] empty_report
 unfolding fresh
 nothing_judged first last c = judged_out c [] [] stream_ends.Ended [] empty_report (last c [] [] (fresh c) stream_ends.Ended (first c
-    (fresh c) (record { tally = refl; standing = record { last = refl; free = refl; gone = λ id. refl }; pending = refl; line = refl })))
+    (fresh c) (record { tally = refl; context = record { last = refl; free = refl; gone = λ id. refl }; pending = refl; line = refl })))
 
 others_call : (set : ℕ → Bool) (s : ℕ) (h : History) → set s ≡ false → AllByRecursion (λ e. IsTrue (set (stream_of e))) h
     → AllByRecursion (λ e. stream_of e ≡ s → ⊥) h
 others_call set s [] out all = tt
 others_call set s (e ∷ h) out all = (λ is. true≢false (sym all.0 ∙ ap set is ∙ out), others_call set s h out all.1)
 
-emptied : FreshLeft → EndJudged → (terms : TermsValue) (set : ℕ → Bool) (h : History) (s : ℕ) (stream : Stream) (report : Report)
+emptied : FreshLeft → EndJudged → (run_params : RunParamsValue) (set : ℕ → Bool) (h : History) (s : ℕ) (stream : Stream) (report : Report)
     → AllByRecursion (λ e. IsTrue (set (stream_of e))) h
-    → (IsTrue (set s) → IsJudgedBy (setting_of terms s) stream (own h s) report)
-    → IsJudgedBy (setting_of terms s) (cond (set s) stream empty_stream) (own h s) (cond (set s) report empty_report)
-emptied first last terms set h s stream report members judged =
-    let c = setting_of terms s in
+    → (IsTrue (set s) → IsJudgedBy (stream_params run_params s) stream (own h s) report)
+    → IsJudgedBy (stream_params run_params s) (cond (set s) stream empty_stream) (own h s) (cond (set s) report empty_report)
+emptied first last run_params set h s stream report members judged =
+    let c = stream_params run_params s in
     elim (cases_Bool (set s)) [
       | inl member ↦
           subst (λ (x : Stream). IsJudgedBy c x (own h s) (cond (set s) report empty_report))
@@ -54,16 +54,19 @@ emptied first last terms set h s stream report members judged =
           (subst (λ (es : History). IsJudgedBy c empty_stream es empty_report) (sym none) ([], refl, nothing_judged first last c)))
     ]
 
-emptied_from : FreshLeft → EndJudged → (terms : TermsValue) (set all : ℕ → Bool) (h : History)
+emptied_from : FreshLeft → EndJudged → (run_params : RunParamsValue) (set all : ℕ → Bool) (h : History)
     → AllByRecursion (λ e. IsTrue (set (stream_of e))) h
-    → (s : ℕ) (streams : List Stream) (reports : List Report) → AreJudgedIn terms set h s streams reports
-    → AreJudgedIn terms all h s (with_others set empty_stream s streams) (with_others set empty_report s reports)
-emptied_from first last terms set all h members s [] [] judged = tt
-emptied_from first last terms set all h members s [] (r ∷ rs) judged = absurd judged
-emptied_from first last terms set all h members s (t ∷ ts) [] judged = absurd judged
-emptied_from first last terms set all h members s (t ∷ ts) (r ∷ rs) judged =
-    (λ _. emptied first last terms set h s t r members judged.0, emptied_from first last terms set all h members (s + 1) ts rs judged.1)
+    → (s : ℕ) (streams : List Stream) (reports : List Report) → AreJudgedIn run_params set h s streams reports
+    → AreJudgedIn run_params all h s (with_others set empty_stream s streams) (with_others set empty_report s reports)
+emptied_from first last run_params set all h members s [] [] judged = tt
+emptied_from first last run_params set all h members s [] (r ∷ rs) judged = absurd judged
+emptied_from first last run_params set all h members s (t ∷ ts) [] judged = absurd judged
+emptied_from first last run_params set all h members s (t ∷ ts) (r ∷ rs) judged = (
+  λ _. emptied first last run_params set h s t r members judged.0,
+  emptied_from first last run_params set all h members (s + 1) ts
+      rs judged.1,
+)
 
 pub others_empty : FreshLeft → EndJudged → OthersEmpty
-others_empty first last f terms set streams reports g =
-    (g.history, g.legal, emptied_from first last terms set _ g.history g.members 1 streams reports g.judged)
+others_empty first last f run_params set streams reports g =
+    (g.history, g.legal, emptied_from first last run_params set _ g.history g.members 1 streams reports g.judged)

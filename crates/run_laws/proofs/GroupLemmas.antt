@@ -16,13 +16,13 @@ use Rattle.lrup_model.specs.lemmas.HistoryLemmas.{own-mine, own-other}
 use Rattle.lrup_model.specs.lemmas.ListLemmas.{All-map}
 use Rattle.lrup_text.specs.Lines.{StreamLine}
 use Rattle.stream_check.specs.declared.report.Report.{Report}
-use Rattle.stream_check.specs.Setting.{Setting}
+use Rattle.stream_check.specs.StreamParams.{StreamParams}
 use Rattle.stream_check.specs.Judging.{joined}
 use Rattle.stream_check.specs.Laws.{cited_by, FetchesOnly, CitedFetched}
 use Rattle.runs.specs.lemmas.EachLemmas.{each_within}
 use Rattle.runs.specs.lemmas.StreamLemmas.{IsJudgedBy, some_end, judged_count}
-use Rattle.runs.specs.Streams.{Stream, JudgesStream, TermsValue, setting_of}
-use Rattle.runs.specs.Headline.{AreJudgedIn}
+use Rattle.runs.specs.Streams.{Stream, JudgesStream, RunParamsValue, stream_params}
+use Rattle.runs.specs.SequentialConsistency.{AreJudgedIn}
 use Rattle.runs.specs.Closed.{IsOwnedWithin, CiteWithin, IsClosed}
 use Rattle.run_laws.specs.GroupLaws.{ClosedIsGroup}
 use Rattle.run_laws.proofs.Places.{has_place, judged_at}
@@ -95,7 +95,8 @@ cites_pass p set lines some within =
     lines within
 
 -- what a stream that cites within the set fetches is within it
-fetches_within : CitedFetched → (p : LayoutValue) (set : ℕ → Bool) (c : Setting) (stream : Stream) (blocks : List History) (report : Report)
+fetches_within : CitedFetched
+    → (p : LayoutValue) (set : ℕ → Bool) (c : StreamParams) (stream : Stream) (blocks : List History) (report : Report)
     → 0 < p.streams → CiteWithin p set stream.bytes → JudgesStream c stream blocks report
     → AllByRecursion (FetchesOnly (is_within p (inside p set))) (joined blocks)
 unfolding CitePass
@@ -127,41 +128,43 @@ finds_outside p set (events.publish s id c r) out = tt
 finds_outside p set (events.retire s id r) out = tt
 
 -- a history by which the streams of a closed set are judged finds within the set
-pub closed_finds : CitedFetched → (terms : TermsValue) (set : ℕ → Bool) (h : History) (streams : List Stream) (reports : List Report)
-    → length streams ≡ terms.layout.streams → AreJudgedIn terms set h 1 streams reports → IsClosed terms.layout set streams
-    → AllByRecursion (FindsWithin terms.layout (inside terms.layout set)) h
-closed_finds law terms set h streams reports count judged closed =
-    let p = terms.layout in
-    let many = judged_count terms set h 1 streams reports judged in
+pub closed_finds : CitedFetched
+    → (run_params : RunParamsValue) (set : ℕ → Bool) (h : History) (streams : List Stream) (reports : List Report)
+    → length streams ≡ run_params.layout.streams → AreJudgedIn run_params set h 1 streams reports → IsClosed run_params.layout set streams
+    → AllByRecursion (FindsWithin run_params.layout (inside run_params.layout set)) h
+closed_finds law run_params set h streams reports count judged closed =
+    let p = run_params.layout in
+    let many = judged_count run_params set h 1 streams reports judged in
     each_stream (FindsWithin p (inside p set)) (inside p set) h
     (λ s member.
     let is = inside_is p set s member in
     let some : 0 < p.streams = omega (arith, is.1.0, is.1.1) in
     let stream = has_place streams s is.1.0 (omega (arith, is.1.1, count)) in
     let report = has_place reports s is.1.0 (omega (arith, is.1.1, count, many)) in
-    let j = judged_at terms set h streams reports judged s stream.0 report.0 is.0 stream.1 report.1 in
+    let j = judged_at run_params set h streams reports judged s stream.0 report.0 is.0 stream.1 report.1 in
     subst (λ (es : History). AllByRecursion (FindsWithin p (inside p set)) es) (sym j.1) (finds_within p (inside p set) (joined j.0)
-    (fetches_within law p set (setting_of terms s) stream.0 j.0 report.0 some (closed s stream.0 is.0 stream.1) j.2)))
+    (fetches_within law p set (stream_params run_params s) stream.0 j.0 report.0 some (closed s stream.0 is.0 stream.1) j.2)))
     (finds_outside p (inside p set))
 
-judged_among : (terms : TermsValue) (set : ℕ → Bool) (h : History) (s : ℕ) (streams : List Stream) (reports : List Report)
-    → 0 < s → s + length streams ≤ terms.layout.streams + 1
-    → AreJudgedIn terms set h s streams reports → AreJudgedIn terms set (among (inside terms.layout set) h) s streams reports
-judged_among terms set h s streams reports first last judged =
-    each_within terms.layout.streams s streams reports last judged (λ t stream report from to j member.
-    let is = is_inside terms.layout set t member (omega (arith, first, from), to) in
-    subst (λ (es : History). IsJudgedBy (setting_of terms t) stream es report) (sym (own-among (inside terms.layout set) h t is))
+judged_among : (run_params : RunParamsValue) (set : ℕ → Bool) (h : History) (s : ℕ) (streams : List Stream) (reports : List Report)
+    → 0 < s → s + length streams ≤ run_params.layout.streams + 1
+    → AreJudgedIn run_params set h s streams reports → AreJudgedIn run_params set (among (inside run_params.layout set) h) s streams reports
+judged_among run_params set h s streams reports first last judged =
+    each_within run_params.layout.streams s streams reports last judged (λ t stream report from to j member.
+    let is = is_inside run_params.layout set t member (omega (arith, first, from), to) in
+    subst (λ (es : History). IsJudgedBy (stream_params run_params t) stream es report)
+    (sym (own-among (inside run_params.layout set) h t is))
     (j member))
 
 pub closed_is_group : CitedFetched → ClosedIsGroup
-closed_is_group law f terms set h streams reports fits count legal judged closed memory =
-    let p = terms.layout in
+closed_is_group law f run_params set h streams reports fits count legal judged closed memory =
+    let p = run_params.layout in
     record {
       history = among (inside p set) h;
       members = All-map (λ e. IsTrue (inside p set (stream_of e))) (λ e. IsTrue (set (stream_of e)))
           (λ e member. (inside_is p set (stream_of e) member).0)
           (among (inside p set) h) (among-members (inside p set) h);
-      legal = restriction_legal f p (inside p set) h fits legal (closed_finds law terms set h streams reports count judged closed);
-      judged = judged_among terms set h 1 streams reports (omega arith) (omega (arith, count)) judged;
+      legal = restriction_legal f p (inside p set) h fits legal (closed_finds law run_params set h streams reports count judged closed);
+      judged = judged_among run_params set h 1 streams reports (omega arith) (omega (arith, count)) judged;
       memory = memory;
     }

@@ -8,8 +8,8 @@ use Rattle.lrup_text.specs.Lines.{StreamLine, Deletion, IsWithinLimits, line_tex
 use Rattle.lrup_text.specs.Laws.{OneFirstLine}
 use Rattle.lrup_text.specs.declared.device.StreamEnd.{StreamEnd}
 use Rattle.stream_check.specs.declared.report.Report.{Report}
-use Rattle.stream_check.specs.Setting.{Setting}
-use Rattle.stream_check.specs.Standing.{Standing, standing_of, deleted_by}
+use Rattle.stream_check.specs.StreamParams.{StreamParams}
+use Rattle.stream_check.specs.StreamContext.{StreamContext, context_of, deleted_by}
 use Rattle.stream_check.specs.Verdicts.{LineVerdict, Good, Bad}
 use Rattle.stream_check.specs.Judging.{JudgesLine, AreGood, EndsAfter, at_bad_line, at_bad_text, at_memory, at_end, joined}
 use Rattle.stream_check.specs.Reducing.{IsEarly}
@@ -45,8 +45,8 @@ are_early (e ∷ es) early = (
 
 -- The blocks of a stream
 
-module _ (early_events : EarlyEvents) (vacant_tries_again : VacantTriesAgain) (c : Setting) where
-  line_block : (st : Standing) (line : StreamLine) (es : History) (v : LineVerdict) → JudgesLine c st line es v → IsLineBlock es
+module _ (early_events : EarlyEvents) (vacant_tries_again : VacantTriesAgain) (c : StreamParams) where
+  line_block : (st : StreamContext) (line : StreamLine) (es : History) (v : LineVerdict) → JudgesLine c st line es v → IsLineBlock es
   line_block st line es v judged = record {
     early = are_early es (λ front last is. early_events c st line es front last v judged is);
     again = vacant_tries_again c st line es v judged;
@@ -59,7 +59,7 @@ module _ (early_events : EarlyEvents) (vacant_tries_again : VacantTriesAgain) (c
   good_blocks before [] (block ∷ blocks) good = absurd good
   good_blocks before (line ∷ lines) [] good = absurd good
   good_blocks before (line ∷ lines) (block ∷ blocks) good =
-      (line_block (standing_of c before) line block Good good.0, good_blocks (before ++ line ∷ []) lines blocks good.1)
+      (line_block (context_of c before) line block Good good.0, good_blocks (before ++ line ∷ []) lines blocks good.1)
 
   one_block : (block : History) (blocks : List History) → blocks ≡ block ∷ [] → IsLineBlock block → AllByRecursion IsLineBlock blocks
   one_block block blocks is line = subst (AllByRecursion IsLineBlock) (sym is) (line, tt)
@@ -67,10 +67,10 @@ module _ (early_events : EarlyEvents) (vacant_tries_again : VacantTriesAgain) (c
   end_blocks : (lines : List StreamLine) (rest : List ℕ) (end : StreamEnd) (back : List History) (report : Report)
       → EndsAfter c lines rest end back report → AllByRecursion IsLineBlock back
   end_blocks lines rest end back report (at_bad_line line more text fits block is_one deleted fault bad says) =
-      one_block block back is_one (line_block (standing_of c lines) line block (Bad deleted fault) bad)
+      one_block block back is_one (line_block (context_of c lines) line block (Bad deleted fault) bad)
   end_blocks lines rest end back report (at_bad_text fault text no_block says) = subst (AllByRecursion IsLineBlock) (sym no_block) tt
   end_blocks lines rest end back report (at_memory lead ids more text fits block is_one earlier stops says) =
-      one_block block back is_one (line_block (standing_of c lines) (Deletion lead earlier) block Good stops.before)
+      one_block block back is_one (line_block (context_of c lines) (Deletion lead earlier) block Good stops.before)
   end_blocks lines rest end back report (at_end pending no_block says) = subst (AllByRecursion IsLineBlock) (sym no_block) tt
 
 pub judged_blocks : EarlyEvents → VacantTriesAgain → JudgedBlocks
@@ -121,7 +121,7 @@ pub parts : {X : Type 0} (P : X → Type 0) (a b : List X) → AllByRecursion P 
 parts P [] b all = (tt, all)
 parts P (x ∷ a) b all = let rest : AllByRecursion P a × AllByRecursion P b = parts P a b all.1 in ((all.0, rest.0), rest.1)
 
-module _ (c : Setting) (p : ℕ → Bool) where
+module _ (c : StreamParams) (p : ℕ → Bool) where
   abbrev Passes : StreamLine → Type 0
   Passes line = AllByRecursion (λ id. IsTrue (p id)) (deleted_by line)
 
@@ -134,7 +134,7 @@ module _ (c : Setting) (p : ℕ → Bool) where
   good_retire before [] (block ∷ blocks) all good = absurd good
   good_retire before (line ∷ lines) [] all good = absurd good
   good_retire before (line ∷ lines) (block ∷ blocks) all good =
-      All-append (RetiresOnly p) block (joined blocks) (line_retires c p (standing_of c before) line block Good all.0 good.0)
+      All-append (RetiresOnly p) block (joined blocks) (line_retires c p (context_of c before) line block Good all.0 good.0)
       (good_retire (before ++ line ∷ []) lines blocks all.1 good.1)
 
   one_retires : (block : History) (back : List History) → back ≡ block ∷ [] → Retires block → Retires (joined back)
@@ -151,7 +151,7 @@ module _ (c : Setting) (p : ℕ → Bool) where
       let found : (others : List StreamLine) × (more ≡ line ∷ others)
       = line_first first line more after left rest fit fits none text is in
       one_retires block back is_one
-      (line_retires c p (standing_of c lines) line block (Bad deleted fault) (subst (AllByRecursion Passes) found.1 all).0 bad)
+      (line_retires c p (context_of c lines) line block (Bad deleted fault) (subst (AllByRecursion Passes) found.1 all).0 bad)
   ends_retire first lines more left rest end back report is fits none all (at_bad_text fault text no_block says) =
       none_retires back no_block
   ends_retire first lines more left rest end back report is fits none all
@@ -161,7 +161,7 @@ module _ (c : Setting) (p : ℕ → Bool) where
       let pass : AllByRecursion (λ id. IsTrue (p id)) (earlier ++ stops.id ∷ stops.later)
       = subst (AllByRecursion (λ id. IsTrue (p id))) stops.identities (subst (AllByRecursion Passes) found.1 all).0 in
       one_retires block back is_one
-      (line_retires c p (standing_of c lines) (Deletion lead earlier) block Good
+      (line_retires c p (context_of c lines) (Deletion lead earlier) block Good
       (parts (λ id. IsTrue (p id)) earlier (stops.id ∷ stops.later) pass).0 stops.before)
   ends_retire first lines more left rest end back report is fits none all (at_end pending no_block says) = none_retires back no_block
 

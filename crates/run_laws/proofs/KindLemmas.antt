@@ -6,8 +6,8 @@ use Rattle.lrup_model.specs.Event as events
 use Rattle.lrup_model.specs.Event.{Event, History}
 use Rattle.lrup_model.specs.declared.clause_map.Retired.{Retired}
 use Rattle.lrup_text.specs.Lines.{StreamLine, Addition, Deletion, Import}
-use Rattle.stream_check.specs.Setting.{Setting}
-use Rattle.stream_check.specs.Standing.{Standing, deleted_by}
+use Rattle.stream_check.specs.StreamParams.{StreamParams}
+use Rattle.stream_check.specs.StreamContext.{StreamContext, deleted_by}
 use Rattle.stream_check.specs.Verdicts.{LineVerdict}
 use Rattle.stream_check.specs.Deletions.{JudgesDeletion, IsRetire}
 use Rattle.stream_check.specs.lemmas.EventLemmas.{identities_hold, addition_all, import_all}
@@ -16,7 +16,7 @@ use Rattle.run_laws.specs.Lines.{RetiresLast}
 use Rattle.run_laws.specs.OrderLaws.{RetiresOnly}
 
 -- what holds of the retires of a deletion's identities holds of its events
-pub identities_all : (c : Setting) (P : Event → Type 0) (gone : ℕ → Bool) (earlier ids : List ℕ) (es : History) (v : LineVerdict)
+pub identities_all : (c : StreamParams) (P : Event → Type 0) (gone : ℕ → Bool) (earlier ids : List ℕ) (es : History) (v : LineVerdict)
     → AllByRecursion (λ id. (r : Retired) → P (events.retire c.stream id r)) ids → JudgesDeletion c gone earlier ids es v
     → AllByRecursion P es
 identities_all c P gone earlier ids es v each judged =
@@ -38,7 +38,7 @@ never_last [] all = tt
 never_last (e ∷ es) all = ((λ is. absurd (all.0 is)), never_last es all.1)
 
 -- after a retire of a line there are only retires
-pub line_last : (c : Setting) (st : Standing) (line : StreamLine) (es : History) (v : LineVerdict) → JudgesLine c st line es v
+pub line_last : (c : StreamParams) (st : StreamContext) (line : StreamLine) (es : History) (v : LineVerdict) → JudgesLine c st line es v
     → RetiresLast es
 line_last c st (Addition id lits hints) es v judged =
     never_last es (addition_all c (λ e. ¬ IsRetire e) (λ h r is. is) id lits v (λ good is. is) st hints es judged)
@@ -53,7 +53,7 @@ all_pass p s [] all = tt
 all_pass p s (id ∷ ids) all = ((λ r. all.0), all_pass p s ids all.1)
 
 -- a line retires only what it deletes
-pub line_retires : (c : Setting) (p : ℕ → Bool) (st : Standing) (line : StreamLine) (es : History) (v : LineVerdict)
+pub line_retires : (c : StreamParams) (p : ℕ → Bool) (st : StreamContext) (line : StreamLine) (es : History) (v : LineVerdict)
     → AllByRecursion (λ id. IsTrue (p id)) (deleted_by line) → JudgesLine c st line es v → AllByRecursion (RetiresOnly p) es
 line_retires c p st (Addition id lits hints) es v all judged =
     addition_all c (RetiresOnly p) (λ h r. tt) id lits v (λ good. tt) st hints es judged

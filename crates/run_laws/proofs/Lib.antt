@@ -5,19 +5,19 @@ mod AloneLemmas
 mod EarlyLemmas
 mod EmptiedLemmas
 mod RunLemmas
-mod RightLines
-mod RightLemmas
-mod RightCites
-mod RightExactly
+mod ValidLines
+mod ValidLemmas
+mod ValidCites
+mod ValidExactly
 pub mod SwapLemmas
-mod BlameLines
-mod BlameStreams
-mod BlameLemmas
+mod AnyRunLines
+mod AnyRunStreams
+mod AnyRunLemmas
 mod BeginLemmas
 mod TogetherLemmas
 mod OneOrder
 mod TurnsLemmas
-mod RightTurns
+mod ValidTurns
 pub mod BlockLemmas
 pub mod AheadLemmas
 pub mod WalkLemmas

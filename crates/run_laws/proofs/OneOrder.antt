@@ -14,8 +14,8 @@ use Rattle.lrup_text.specs.declared.device.StreamEnd.{StreamEnd}
 use Rattle.stream_check.specs.declared.report.Report.{Report}
 use Rattle.stream_check.specs.Judging.{JudgesBlocks}
 use Rattle.stream_check.specs.Laws.{BlocksGoAlike, GoAlike, IsOfMemory, LegalNeverFork}
-use Rattle.stream_check.specs.Setting.{Setting}
-use Rattle.runs.specs.Streams.{Block, blocks_of, events_in, IsBlockWithin, TermsValue, setting_of}
+use Rattle.stream_check.specs.StreamParams.{StreamParams}
+use Rattle.runs.specs.Streams.{Block, blocks_of, events_in, IsBlockWithin, RunParamsValue, stream_params}
 use Rattle.runs.specs.lemmas.StreamLemmas.{blocks-same, blocks-other}
 use Rattle.runs.specs.lemmas.TurnLemmas.{blocks_of-append, lines_before, lines_beside, lines_pushed, streams_of-push}
 use Rattle.runs.specs.Turns.{AreTurns, IsByTurns, IsTurnOf, line_count, streams_of}
@@ -102,7 +102,7 @@ alike_some (x ∷ xs) [] alike some = absurd alike
 alike_some xs (y ∷ ys) alike some = omega arith
 
 -- a stream that is judged twice, by blocks of two orders, while there is memory
-pub record JudgedTwice (c : Setting) (xs ys : List History) : Type 0 where
+pub record JudgedTwice (c : StreamParams) (xs ys : List History) : Type 0 where
   pub bytes : List ℕ
   pub end : StreamEnd
   pub report : Report
@@ -112,35 +112,35 @@ pub record JudgedTwice (c : Setting) (xs ys : List History) : Type 0 where
   pub memory : ¬ IsOfMemory report
   pub none : ¬ IsOfMemory other
 
-module _ (alike : BlocksGoAlike) (forks : LegalNeverFork) (f : Cnf) (terms : TermsValue) (ps qs : List Block)
-    (both : (s : ℕ) → IsStream terms.layout s → JudgedTwice (setting_of terms s) (blocks_of s ps) (blocks_of s qs)) where
+module _ (alike : BlocksGoAlike) (forks : LegalNeverFork) (f : Cnf) (run_params : RunParamsValue) (ps qs : List Block)
+    (both : (s : ℕ) → IsStream run_params.layout s → JudgedTwice (stream_params run_params s) (blocks_of s ps) (blocks_of s qs)) where
   -- behind the same lines each stream goes on alike
-  alike_at : (before xs ys : List Block) (s : ℕ) → IsStream terms.layout s → ps ≡ before ++ xs → qs ≡ before ++ ys
+  alike_at : (before xs ys : List Block) (s : ℕ) → IsStream run_params.layout s → ps ≡ before ++ xs → qs ≡ before ++ ys
       → GoAlike (blocks_of s xs) (blocks_of s ys)
   alike_at before xs ys s stream is also =
       let j = both s stream in
-      alike (setting_of terms s) j.bytes j.end (blocks_of s before) (blocks_of s xs) (blocks_of s ys) j.report j.other
-      (subst (λ (hs : List History). JudgesBlocks (setting_of terms s) j.bytes j.end hs j.report)
+      alike (stream_params run_params s) j.bytes j.end (blocks_of s before) (blocks_of s xs) (blocks_of s ys) j.report j.other
+      (subst (λ (hs : List History). JudgesBlocks (stream_params run_params s) j.bytes j.end hs j.report)
       (ap (blocks_of s) is ∙ blocks_of-append s before xs) j.first)
-      (subst (λ (hs : List History). JudgesBlocks (setting_of terms s) j.bytes j.end hs j.other)
+      (subst (λ (hs : List History). JudgesBlocks (stream_params run_params s) j.bytes j.end hs j.other)
       (ap (blocks_of s) also ∙ blocks_of-append s before ys) j.second)
       j.memory j.none
 
   -- the next line of both orders is one
-  same_line : (before xs ys : List Block) (x y : Block) (m : State) → IsStream terms.layout x.stream → x.stream ≡ y.stream
+  same_line : (before xs ys : List Block) (x y : Block) (m : State) → IsStream run_params.layout x.stream → x.stream ≡ y.stream
       → ps ≡ before ++ x ∷ xs → qs ≡ before ++ y ∷ ys
-      → LegalFrom f terms.layout m (events_in (x ∷ xs)) → LegalFrom f terms.layout m (events_in (y ∷ ys)) → x ≡ y
+      → LegalFrom f run_params.layout m (events_in (x ∷ xs)) → LegalFrom f run_params.layout m (events_in (y ∷ ys)) → x ≡ y
   same_line before xs ys x y m stream same is also legal lawful =
       let s = x.stream in
       let go = subst (λ (hs : List History). GoAlike (x.events ∷ blocks_of s xs) hs) (blocks-same y ys s (sym same))
       (subst (λ (hs : List History). GoAlike hs (blocks_of s (y ∷ ys))) (blocks-same x xs s refl)
       (alike_at before (x ∷ xs) (y ∷ ys) s stream is also)) in
       let events : x.events ≡ y.events =
-      go (events_in xs) (events_in ys) (forks f terms.layout m (x.events ++ events_in xs) (y.events ++ events_in ys) legal lawful) in
+      go (events_in xs) (events_in ys) (forks f run_params.layout m (x.events ++ events_in xs) (y.events ++ events_in ys) legal lawful) in
       ap₂ (λ (t : ℕ) (es : History). record { stream = t; events = es }) same events
 
   -- where the stream of a line of one order has a line left, it has one in the other
-  left_in_both : (before xs ys : List Block) (s : ℕ) → IsStream terms.layout s → ps ≡ before ++ xs → qs ≡ before ++ ys
+  left_in_both : (before xs ys : List Block) (s : ℕ) → IsStream run_params.layout s → ps ≡ before ++ xs → qs ≡ before ++ ys
       → (0 < line_count s (streams_of xs) → 0 < line_count s (streams_of ys))
       × (0 < line_count s (streams_of ys) → 0 < line_count s (streams_of xs))
   left_in_both before xs ys s stream is also =
@@ -150,8 +150,8 @@ module _ (alike : BlocksGoAlike) (forks : LegalNeverFork) (f : Cnf) (terms : Ter
       )
 
   one_order : (before xs ys : List Block) (m : State) → ps ≡ before ++ xs → qs ≡ before ++ ys
-      → AllByRecursion (IsBlockWithin terms.layout (λ s. true)) xs → AllByRecursion (IsBlockWithin terms.layout (λ s. true)) ys
-      → LegalFrom f terms.layout m (events_in xs) → LegalFrom f terms.layout m (events_in ys)
+      → AllByRecursion (IsBlockWithin run_params.layout (λ s. true)) xs → AllByRecursion (IsBlockWithin run_params.layout (λ s. true)) ys
+      → LegalFrom f run_params.layout m (events_in xs) → LegalFrom f run_params.layout m (events_in ys)
       → AreTurns (streams_of before) (streams_of xs) → AreTurns (streams_of before) (streams_of ys) → xs ≡ ys
   one_order before [] [] m is also within too legal lawful turns others = refl
   one_order before [] (y ∷ ys) m is also within too legal lawful turns others =
@@ -162,23 +162,24 @@ module _ (alike : BlocksGoAlike) (forks : LegalNeverFork) (f : Cnf) (terms : Ter
       absurd (omega (arith, none))
   one_order before (x ∷ xs) (y ∷ ys) m is also within too legal lawful turns others =
       let left = (left_in_both before (x ∷ xs) (y ∷ ys) y.stream too.0.0 is also).1 (omega (arith, lines_own y.stream (streams_of ys))) in
-      let right =
+      let valid =
       (left_in_both before (x ∷ xs) (y ∷ ys) x.stream within.0.0 is also).0 (omega (arith, lines_own x.stream (streams_of xs))) in
-      let stream = same_turn (streams_of before) (streams_of xs) (streams_of ys) x.stream y.stream turns others left right in
+      let stream = same_turn (streams_of before) (streams_of xs) (streams_of ys) x.stream y.stream turns others left valid in
       let same = same_line before xs ys x y m within.0.0 stream is also legal lawful in
       let rest = one_order (before ++ x ∷ []) xs ys (run m x.events)
       (is ∙ sym (append_assoc before (x ∷ []) xs))
       (also ∙ ap (λ (b : Block). before ++ b ∷ ys) (sym same) ∙ sym (append_assoc before (x ∷ []) ys))
       within.1 too.1
-      (legal-back f terms.layout m x.events (events_in xs) legal)
-      (legal-back f terms.layout m x.events (events_in ys)
-      (subst (λ (b : Block). LegalFrom f terms.layout m (b.events ++ events_in ys)) (sym same) lawful))
+      (legal-back f run_params.layout m x.events (events_in xs) legal)
+      (legal-back f run_params.layout m x.events (events_in ys)
+      (subst (λ (b : Block). LegalFrom f run_params.layout m (b.events ++ events_in ys)) (sym same) lawful))
       (subst (λ (order : List ℕ). AreTurns order (streams_of xs)) (sym (streams_of-push before x)) turns.1)
       (subst (λ (order : List ℕ). AreTurns order (streams_of ys)) (sym (streams_of-push before x))
       (subst (λ t. AreTurns (streams_of before ++ t ∷ []) (streams_of ys)) (sym stream) others.1)) in
       ap₂ (λ (b : Block) (zs : List Block). b ∷ zs) same rest
 
-  pub same_order : AllByRecursion (IsBlockWithin terms.layout (λ s. true)) ps → AllByRecursion (IsBlockWithin terms.layout (λ s. true)) qs
-      → LegalFrom f terms.layout (opening f) (events_in ps) → LegalFrom f terms.layout (opening f) (events_in qs)
+  pub same_order : AllByRecursion (IsBlockWithin run_params.layout (λ s. true)) ps
+      → AllByRecursion (IsBlockWithin run_params.layout (λ s. true)) qs
+      → LegalFrom f run_params.layout (opening f) (events_in ps) → LegalFrom f run_params.layout (opening f) (events_in qs)
       → IsByTurns (streams_of ps) → IsByTurns (streams_of qs) → ps ≡ qs
   same_order within too legal lawful turns others = one_order [] ps qs (opening f) refl refl within too legal lawful turns others

@@ -4,10 +4,10 @@ use Rattle.std.specs.Prelude.{IsTrue}
 use Rattle.std.proofs.lemmas.Option.{slice_get_cases}
 use Rattle.lrup_model.specs.Event.{History, own}
 use Rattle.stream_check.specs.declared.report.Report.{Report}
-use Rattle.runs.specs.Streams.{Stream, TermsValue, setting_of}
+use Rattle.runs.specs.Streams.{Stream, RunParamsValue, stream_params}
 use Rattle.runs.specs.lemmas.EachLemmas.{each_at, each_more}
 use Rattle.runs.specs.lemmas.StreamLemmas.{IsJudgedBy}
-use Rattle.runs.specs.Headline.{AreJudgedIn}
+use Rattle.runs.specs.SequentialConsistency.{AreJudgedIn}
 use Rattle.runs.specs.Closed.{IsOfStream}
 
 pub has_place : {X : Type 0} (xs : List X) (s : ℕ) → 0 < s → s ≤ length xs → (x : X) × IsOfStream xs s x
@@ -20,16 +20,16 @@ has_place xs s first last =
 -- Judged streams
 
 -- stream s of the set is judged by its own events
-pub judged_at : (terms : TermsValue) (set : ℕ → Bool) (h : History) (streams : List Stream) (reports : List Report)
-    → AreJudgedIn terms set h 1 streams reports
+pub judged_at : (run_params : RunParamsValue) (set : ℕ → Bool) (h : History) (streams : List Stream) (reports : List Report)
+    → AreJudgedIn run_params set h 1 streams reports
     → (s : ℕ) (stream : Stream) (report : Report) → IsTrue (set s) → IsOfStream streams s stream → IsOfStream reports s report
-    → IsJudgedBy (setting_of terms s) stream (own h s) report
-judged_at terms set h streams reports judged s stream report member at says =
+    → IsJudgedBy (stream_params run_params s) stream (own h s) report
+judged_at run_params set h streams reports judged s stream report member at says =
     each_at _ streams reports judged s stream report at says member
 
 -- fewer streams are judged too
-pub judged_fewer : (terms : TermsValue) (all set : ℕ → Bool) (h : History) → ((s : ℕ) → IsTrue (set s) → IsTrue (all s))
-    → (s : ℕ) (streams : List Stream) (reports : List Report) → AreJudgedIn terms all h s streams reports
-    → AreJudgedIn terms set h s streams reports
-judged_fewer terms all set h sub s streams reports judged =
+pub judged_fewer : (run_params : RunParamsValue) (all set : ℕ → Bool) (h : History) → ((s : ℕ) → IsTrue (set s) → IsTrue (all s))
+    → (s : ℕ) (streams : List Stream) (reports : List Report) → AreJudgedIn run_params all h s streams reports
+    → AreJudgedIn run_params set h s streams reports
+judged_fewer run_params all set h sub s streams reports judged =
     each_more s streams reports judged (λ t stream report j member. j (sub t member))

@@ -18,10 +18,10 @@ use Rattle.lrup_model.specs.declared.clause_map.Published.TheVariants as publish
 use Rattle.lrup_model.specs.declared.clause_map.Retired.TheVariants as retiring
 use Rattle.lrup_text.specs.Lines.{StreamLine}
 use Rattle.lrup_text.specs.Laws.{BeginningCut, EveryCut}
-use Rattle.stream_check.specs.Standing.{is_among, deleted_by}
+use Rattle.stream_check.specs.StreamContext.{is_among, deleted_by}
 use Rattle.stream_check.specs.Laws.{cited_by, FetchesOnly, CitedFetched}
-use Rattle.runs.specs.Streams.{setting_of}
-use Rattle.runs.specs.lemmas.StreamLemmas.{told_from, told_begins}
+use Rattle.runs.specs.Streams.{stream_params}
+use Rattle.runs.specs.lemmas.StreamLemmas.{observed_from, observed_begins}
 use Rattle.runs.specs.Closed.{CiteWithin}
 use Rattle.run_laws.specs.Premises.{FindsKept, FindsUnretired, MeetsUnretired, IsRetireOf, HistoryRetires, cites, deletes, Cites}
 use Rattle.run_laws.specs.Premises.{SomeLineDeletes}
@@ -224,13 +224,13 @@ shared_each p final s lines inside stays (events.retire t id r ∷ es) calls cit
     (tt, shared_each p final s lines inside stays es calls.1 cited.1 within.1)
 
 pub shared_stays : CitedFetched → DeletedRetired → SharedStays
-shared_stays cited_fetched deleted_retired f terms set h streams reports fits count legal judged closed keeps s is member =
-    let p : LayoutValue = terms.layout in
-    let mine : IsJudgedStream terms h streams s = judged_stream terms set h streams reports count judged s is member in
+shared_stays cited_fetched deleted_retired f run_params set h streams reports fits count legal judged closed keeps s is member =
+    let p : LayoutValue = run_params.layout in
+    let mine : IsJudgedStream run_params h streams s = judged_stream run_params set h streams reports count judged s is member in
     let my_lines : CiteWithin p set mine.stream.bytes = closed s mine.stream member mine.at in
     let cited : AllByRecursion (FetchesOnly (cites my_lines.lines)) (own h s)
     = subst (AllByRecursion (FetchesOnly (cites my_lines.lines))) (sym mine.own_events)
-    (cited_fetched (setting_of terms s) mine.stream.bytes mine.end mine.blocks mine.report my_lines.lines my_lines.rest
+    (cited_fetched (stream_params run_params s) mine.stream.bytes mine.end mine.blocks mine.report my_lines.lines my_lines.rest
     (cites my_lines.lines) mine.judges my_lines.cut (all_named cited_by my_lines.lines)) in
     shared_each p (state f h) s my_lines.lines (is_inside p set)
     (λ id is_cited inside other gone.
@@ -239,18 +239,18 @@ shared_stays cited_fetched deleted_retired f terms set h streams reports fits co
     let t : ℕ = retires.0 in
     let theirs : IsOwned p t id = owned p t id (omega (arith, is.0, is.1)) retires.1 in
     let also : IsTrue (set t) = inside_owner p set id t inside retires.1 in
-    let your : IsJudgedStream terms h streams t
-    = judged_stream terms set h streams reports count judged t (theirs.first, theirs.last) also in
+    let your : IsJudgedStream run_params h streams t
+    = judged_stream run_params set h streams reports count judged t (theirs.first, theirs.last) also in
     let your_lines : CiteWithin p set your.stream.bytes = closed t your.stream also your.at in
     let only : AllByRecursion (RetiresOnly (deletes your_lines.lines)) (own h t)
     = subst (AllByRecursion (RetiresOnly (deletes your_lines.lines))) (sym your.own_events)
-    (deleted_retired (setting_of terms t) your.stream.bytes your.end your.blocks your.report your_lines.lines your_lines.rest
+    (deleted_retired (stream_params run_params t) your.stream.bytes your.end your.blocks your.report your_lines.lines your_lines.rest
     (deletes your_lines.lines) your.judges your_lines.cut (all_named deleted_by your_lines.lines)) in
     keeps s t id mine.stream your.stream (λ same. other (subst (λ (i : ℕ). Owns p i id) (sym same) retires.1)) member also
     mine.at your.at retires.1
     (my_lines.lines, my_lines.rest, my_lines.cut, is_cited)
     (your_lines.lines, your_lines.rest, your_lines.cut, retired_passes (deletes your_lines.lines) id (own h t) only retires.2))
-    (own h s) (own-calls h s) cited (fetched_inside cited_fetched terms set h streams s mine my_lines)
+    (own h s) (own-calls h s) cited (fetched_inside cited_fetched run_params set h streams s mine my_lines)
 
 -- Beginnings
 
@@ -276,11 +276,12 @@ beginnings_cite beginning every_cut bytes more id =
 -- Readers
 
 pub readers_share : BeginningsCite → ReadersShare
-readers_share beginnings_cite p set told streams are_told keeps s t id citing deleting other member also at yours owns cited deleted =
-    let mine = told_from told streams (s - 1) citing are_told at.1 in
-    let theirs = told_from told streams (t - 1) deleting are_told yours.1 in
-    let kept = keeps s t id mine.telling theirs.telling other member also (at.0, mine.at) (yours.0, theirs.at) owns in
-    let front = told_begins mine.telling kept.0 citing mine.is_told kept.2 in
-    let behind = told_begins theirs.telling kept.1 deleting theirs.is_told kept.3 in
+readers_share beginnings_cite p set observed streams match_inputs keeps s t id citing deleting other member also at yours owns
+    cited deleted =
+    let mine = observed_from observed streams (s - 1) citing match_inputs at.1 in
+    let theirs = observed_from observed streams (t - 1) deleting match_inputs yours.1 in
+    let kept = keeps s t id mine.observation theirs.observation other member also (at.0, mine.at) (yours.0, theirs.at) owns in
+    let front = observed_begins mine.observation kept.0 citing mine.matches_input kept.2 in
+    let behind = observed_begins theirs.observation kept.1 deleting theirs.matches_input kept.3 in
     kept.4 (subst (λ (bytes : List ℕ). Cites bytes id) (sym front.1) ((beginnings_cite citing.bytes front.0 id).0 cited))
     (subst (λ (bytes : List ℕ). SomeLineDeletes bytes id) (sym behind.1) ((beginnings_cite deleting.bytes behind.0 id).1 deleted))

@@ -10,7 +10,7 @@ use Rattle.lrup_model.specs.History.{IsLegal}
 use Rattle.lrup_model.specs.lemmas.RestrictionLemmas.{among, restriction_legal}
 use Rattle.stream_check.specs.declared.report.Report.{Report}
 use Rattle.stream_check.specs.Laws.{CitedFetched}
-use Rattle.runs.specs.Streams.{Stream, TermsValue, Block, blocks_of, events_in, IsBlockWithin, AreJudged}
+use Rattle.runs.specs.Streams.{Stream, RunParamsValue, Block, blocks_of, events_in, IsBlockWithin, AreJudged}
 use Rattle.runs.specs.lemmas.StreamLemmas.{blocks-same, blocks-other}
 use Rattle.run_laws.specs.GroupLaws.{ClosedIsGroup, OrderedIsGroup, OrderedRestricts}
 use Rattle.run_laws.specs.lemmas.OwnLemmas.{ordered_judged}
@@ -18,10 +18,10 @@ use Rattle.run_laws.proofs.Places.{judged_fewer}
 use Rattle.run_laws.proofs.GroupLemmas.{inside, is_inside, inside_is, closed_finds}
 
 pub ordered_is_group : ClosedIsGroup → OrderedIsGroup
-ordered_is_group law f terms all set streams reports fits count sub o closed memory =
-    law f terms set (events_in o.blocks) streams reports fits count o.legal
-    (judged_fewer terms all set (events_in o.blocks) sub 1 streams reports
-    (ordered_judged terms all all o.blocks 1 streams reports o.within o.judged))
+ordered_is_group law f run_params all set streams reports fits count sub o closed memory =
+    law f run_params set (events_in o.blocks) streams reports fits count o.legal
+    (judged_fewer run_params all set (events_in o.blocks) sub 1 streams reports
+    (ordered_judged run_params all all o.blocks 1 streams reports o.within o.judged))
     closed memory
 
 -- The lines of the set
@@ -106,29 +106,31 @@ inside-same p all set (b ∷ bs) within =
       ]
     ]
 
-judged-within : (terms : TermsValue) (all set : ℕ → Bool) (bs : List Block) → ((s : ℕ) → IsTrue (set s) → IsTrue (all s))
-    → (s : ℕ) (streams : List Stream) (reports : List Report) → AreJudged terms all (λ t events. events ≡ blocks_of t bs) s streams reports
-    → AreJudged terms set (λ t events. events ≡ blocks_of t (blocks_within set bs)) s streams reports
-judged-within terms all set bs sub s [] [] judged = tt
-judged-within terms all set bs sub s [] (r ∷ rs) judged = absurd judged
-judged-within terms all set bs sub s (t ∷ ts) [] judged = absurd judged
-judged-within terms all set bs sub s (t ∷ ts) (r ∷ rs) judged = (
+judged-within : (run_params : RunParamsValue) (all set : ℕ → Bool) (bs : List Block) → ((s : ℕ) → IsTrue (set s) → IsTrue (all s))
+    → (s : ℕ) (streams : List Stream) (reports : List Report)
+    → AreJudged run_params all (λ t events. events ≡ blocks_of t bs) s streams reports
+    → AreJudged run_params set (λ t events. events ≡ blocks_of t (blocks_within set bs)) s streams reports
+judged-within run_params all set bs sub s [] [] judged = tt
+judged-within run_params all set bs sub s [] (r ∷ rs) judged = absurd judged
+judged-within run_params all set bs sub s (t ∷ ts) [] judged = absurd judged
+judged-within run_params all set bs sub s (t ∷ ts) (r ∷ rs) judged = (
   λ member. let j = judged.0 (sub s member) in (j.0, j.1 ∙ sym (blocks-kept set s bs member), j.2),
-  judged-within terms all set bs sub (s + 1) ts rs judged.1,
+  judged-within run_params all set bs sub (s + 1) ts rs judged.1,
 )
 
 pub ordered_restricts : CitedFetched → OrderedRestricts
-ordered_restricts law f terms all set streams reports fits count sub o closed =
-    let p = terms.layout in
+ordered_restricts law f run_params all set streams reports fits count sub o closed =
+    let p = run_params.layout in
     let h = events_in o.blocks in
     let judged =
-    judged_fewer terms all set h sub 1 streams reports (ordered_judged terms all all o.blocks 1 streams reports o.within o.judged) in
-    let finds = closed_finds law terms set h streams reports count judged closed in
+    judged_fewer run_params all set h sub 1 streams reports
+    (ordered_judged run_params all all o.blocks 1 streams reports o.within o.judged) in
+    let finds = closed_finds law run_params set h streams reports count judged closed in
     let same : among (inside p set) h ≡ events_in (blocks_within set o.blocks) =
     sym (events-within p all (inside p set) o.blocks o.within) ∙ ap events_in (inside-same p all set o.blocks o.within) in
     record {
       blocks = blocks_within set o.blocks;
       within = all-kept p all set o.blocks o.within;
       legal = subst (IsLegal f p) same (restriction_legal f p (inside p set) h fits o.legal finds);
-      judged = judged-within terms all set o.blocks sub 1 streams reports o.judged;
+      judged = judged-within run_params all set o.blocks sub 1 streams reports o.judged;
     }

@@ -1,4 +1,4 @@
--- What readers told, and two runs of one stream.
+-- What is observed of readers, and two runs of one stream.
 use Rattle.std.proofs.Common.{◌≡◌, ℕ, ◌-◌, Bool, true, false, Option, List, [], ◌++◌, Some, None, refl, sym, ap, subst, ◌∙◌, append_assoc}
 use Rattle.std.proofs.Common.{append-nil, arith}
 use Rattle.std.specs.Prelude.{IfSome, IsSome, MatchOption}
@@ -14,61 +14,63 @@ use Rattle.lrup_text.specs.ReadOut.{EndsSo}
 use Rattle.lrup_text.specs.declared.device.StreamEnd.{StreamEnd}
 use Rattle.lrup_text.specs.declared.device.StreamEnd.TheVariants as stream_ends
 use Rattle.stream_check.specs.declared.report.Report.{Report}
-use Rattle.stream_check.specs.Setting.{Setting}
+use Rattle.stream_check.specs.StreamParams.{StreamParams}
 use Rattle.stream_check.specs.Judging.{JudgesBlocks, Judges}
 use Rattle.stream_check.specs.Laws.{AloneDecides, DecidedBeforeFailure, IsOfMemory, IsOfFailure}
-use Rattle.runs.specs.Streams.{Stream, Telling, IsTold, TermsValue, setting_of}
+use Rattle.runs.specs.Streams.{Stream, InputObservation, MatchesInput, RunParamsValue, stream_params}
 use Rattle.runs.specs.Closed.{IsOfStream, CiteWithin, IsClosed}
-use Rattle.runs.specs.lemmas.StreamLemmas.{told_from, told_begins, same_at, judged_count}
+use Rattle.runs.specs.lemmas.StreamLemmas.{observed_from, observed_begins, same_at, judged_count}
 use Rattle.run_laws.specs.Groups.{one, IsGroup, IsRun, NoneOutOfMemory}
 use Rattle.run_laws.specs.GroupLaws.{BeginningsWithin, ReadersClosed, ClosedIsGroup, AloneHasOneReport, RunIsolated}
-use Rattle.run_laws.specs.GroupLaws.{ToldIsReading, FailedIsReading, SameReadingAgrees, SameBytesAgree}
+use Rattle.run_laws.specs.GroupLaws.{MatchIsReading, FailedIsReading, SameReadingAgrees, SameBytesAgree}
 use Rattle.run_laws.proofs.Places.{has_place, judged_at, judged_fewer}
 use Rattle.run_laws.specs.lemmas.ReportLemmas.{only}
 use Rattle.run_laws.proofs.AloneLemmas.{ReadsTo, me, own-one}
 
--- What a reader told
+-- What is observed of a reader
 
--- what a reader of known place told
-pub told_at : (told : List Telling) (streams : List Stream) (s : ℕ) (telling : Telling) (stream : Stream)
-    → AllZip IsTold told streams → IsOfStream told s telling → IsOfStream streams s stream → IsTold telling stream
-told_at told streams s telling stream are_told here at =
-    let was = told_from told streams (s - 1) stream are_told at.1 in
-    subst (λ (t : Telling). IsTold t stream) (same_at told s was.telling telling (here.0, was.at) here) was.is_told
+-- what is observed of a reader of known place
+pub observed_at : (observed : List InputObservation) (streams : List Stream) (s : ℕ) (observation : InputObservation) (stream : Stream)
+    → AllZip MatchesInput observed streams → IsOfStream observed s observation → IsOfStream streams s stream
+    → MatchesInput observation stream
+observed_at observed streams s observation stream match_inputs here at =
+    let was = observed_from observed streams (s - 1) stream match_inputs at.1 in
+    subst (λ (t : InputObservation). MatchesInput t stream) (same_at observed s was.observation observation (here.0, was.at) here)
+    was.matches_input
 
-told_within : BeginningsWithin → (p : LayoutValue) (set : ℕ → Bool) (telling : Telling) (whole : List ℕ) (stream : Stream)
-    → IsTold telling stream → telling.entry ≡ Some whole → CiteWithin p set whole → CiteWithin p set stream.bytes
-told_within law p set telling whole stream told entry cites =
-    let front = told_begins telling whole stream told entry in
+observed_within : BeginningsWithin → (p : LayoutValue) (set : ℕ → Bool) (observation : InputObservation) (whole : List ℕ) (stream : Stream)
+    → MatchesInput observation stream → observation.entry ≡ Some whole → CiteWithin p set whole → CiteWithin p set stream.bytes
+observed_within law p set observation whole stream observed entry cites =
+    let front = observed_begins observation whole stream observed entry in
     law p set stream.bytes front.0 (subst (CiteWithin p set) front.1 cites)
 
 pub readers_closed : BeginningsWithin → ReadersClosed
-readers_closed law p set told streams are_told closed s stream member at =
-    let was = told_from told streams (s - 1) stream are_told at.1 in
-    let known = closed s was.telling member (at.0, was.at) in
-    told_within law p set was.telling known.0 stream was.is_told known.1 known.2
+readers_closed law p set observed streams match_inputs closed s stream member at =
+    let was = observed_from observed streams (s - 1) stream match_inputs at.1 in
+    let known = closed s was.observation member (at.0, was.at) in
+    observed_within law p set was.observation known.0 stream was.matches_input known.1 known.2
 
 -- how a reader ends whose stream has this end, if any
 abbrev pub EndsWith : Option StreamEnd → Option (List ℕ) → Bool → Type 0
 EndsWith its left has_failed = MatchOption its (has_failed ≡ false) (λ end. EndsSo end left has_failed)
 
-told_reads : (left : Option (List ℕ)) (its : Option StreamEnd) (whole bytes unneeded : List ℕ)
+observed_reads : (left : Option (List ℕ)) (its : Option StreamEnd) (whole bytes unneeded : List ℕ)
     → Consumes (Some whole) left (bytes ++ unneeded) → EndsWith its left false → (IsSome its → unneeded ≡ [])
     → ReadsTo its bytes whole stream_ends.Ended
-told_reads None its whole bytes unneeded took ends needed = absurd took
-told_reads (Some left) (Some stream_ends.Ended) whole bytes unneeded took ends needed = (
+observed_reads None its whole bytes unneeded took ends needed = absurd took
+observed_reads (Some left) (Some stream_ends.Ended) whole bytes unneeded took ends needed = (
   took ∙ ap (λ l. (bytes ++ unneeded) ++ l) ends.0 ∙ append-nil (bytes ++ unneeded) ∙ ap (λ l. bytes ++ l) (needed refl) ∙ append-nil bytes,
   refl,
 )
-told_reads (Some left) (Some stream_ends.Failed) whole bytes unneeded took ends needed = absurd (let no : false ≡ true = ends in cc)
-told_reads (Some left) None whole bytes unneeded took ends needed = (unneeded ++ left, took ∙ append_assoc bytes unneeded left)
+observed_reads (Some left) (Some stream_ends.Failed) whole bytes unneeded took ends needed = absurd (let no : false ≡ true = ends in cc)
+observed_reads (Some left) None whole bytes unneeded took ends needed = (unneeded ++ left, took ∙ append_assoc bytes unneeded left)
 
-pub told_is_reading : ToldIsReading
-told_is_reading told streams s telling stream whole are_told here at entry fine =
-    let is = told_at told streams s telling stream are_told here at in
-    told_reads telling.left stream.end whole stream.bytes stream.unneeded
-    (subst (λ (e : Option (List ℕ)). Consumes e telling.left (stream.bytes ++ stream.unneeded)) entry is.consumes)
-    (subst (EndsWith stream.end telling.left) fine is.ends) is.needed
+pub match_is_reading : MatchIsReading
+match_is_reading observed streams s observation stream whole match_inputs here at entry fine =
+    let is = observed_at observed streams s observation stream match_inputs here at in
+    observed_reads observation.left stream.end whole stream.bytes stream.unneeded
+    (subst (λ (e : Option (List ℕ)). Consumes e observation.left (stream.bytes ++ stream.unneeded)) entry is.consumes)
+    (subst (EndsWith stream.end observation.left) fine is.ends) is.needed
 
 failure_reads : (left : List ℕ) (its : Option StreamEnd) (whole bytes unneeded : List ℕ)
     → whole ++ left ≡ (bytes ++ unneeded) ++ left → EndsWith its (Some left) true → (IsSome its → unneeded ≡ [])
@@ -79,24 +81,26 @@ failure_reads left (Some stream_ends.Failed) whole bytes unneeded took ends need
 failure_reads left None whole bytes unneeded took ends needed = absurd (let no : true ≡ false = ends in cc)
 
 pub failed_is_reading : FailedIsReading
-failed_is_reading told streams s telling stream whole left are_told here at entry has fails =
-    let is = told_at told streams s telling stream are_told here at in
+failed_is_reading observed streams s observation stream whole left match_inputs here at entry has fails =
+    let is = observed_at observed streams s observation stream match_inputs here at in
     let read = stream.bytes ++ stream.unneeded in
     failure_reads left stream.end whole stream.bytes stream.unneeded
     (subst (λ (l : Option (List ℕ)). Consumes (Some (whole ++ left)) l read) has
-    (subst (λ (e : Option (List ℕ)). Consumes e telling.left read) entry is.consumes))
+    (subst (λ (e : Option (List ℕ)). Consumes e observation.left read) entry is.consumes))
     (subst (λ (l : Option (List ℕ)). EndsWith stream.end l true) has
-    (subst (EndsWith stream.end telling.left) fails is.ends)) is.needed
+    (subst (EndsWith stream.end observation.left) fails is.ends)) is.needed
 
 -- A run
 
 -- a closed set of its streams is a group
-closed_group : ClosedIsGroup → (f : Cnf) (terms : TermsValue) (told : List Telling) (reports : List Report) → Fits terms.layout f
-    → (run : IsRun f terms told reports) (set : ℕ → Bool) → IsClosed terms.layout set run.streams → NoneOutOfMemory set reports
-    → IsGroup f terms set run.streams reports
-closed_group law f terms told reports fits run set closed memory =
-    law f terms set run.history run.streams reports fits run.count run.legal
-    (judged_fewer terms (λ s. true) set run.history (λ s member. refl) 1 run.streams reports run.judged) closed memory
+closed_group : ClosedIsGroup → (f : Cnf) (run_params : RunParamsValue) (observed : List InputObservation) (reports : List Report)
+    → Fits run_params.layout f
+    → (run : IsRun f run_params observed reports) (set : ℕ → Bool) → IsClosed run_params.layout set run.streams
+    → NoneOutOfMemory set reports
+    → IsGroup f run_params set run.streams reports
+closed_group law f run_params observed reports fits run set closed memory =
+    law f run_params set run.history run.streams reports fits run.count run.legal
+    (judged_fewer run_params (λ s. true) set run.history (λ s member. refl) 1 run.streams reports run.judged) closed memory
 
 -- where one stream's report doesn't tell that memory ran out, none of it alone does
 alone_fine : (s : ℕ) (reports : List Report) (report : Report) → IsOfStream reports s report → ¬ IsOfMemory report
@@ -106,26 +110,27 @@ alone_fine s reports report says memory t other member there =
     subst (λ (r : Report). ¬ IsOfMemory r) (same_at reports s report other says here) memory
 
 pub run_isolated : ClosedIsGroup → AloneHasOneReport → RunIsolated
-run_isolated law alone f terms told reports fits = record {
-  groups = closed_group law f terms told reports fits;
+run_isolated law alone f run_params observed reports fits = record {
+  groups = closed_group law f run_params observed reports fits;
   alone = λ run s stream report at says closed memory whole end reads other is.
-      alone f terms s whole end is.streams run.streams is.reports reports is.stream stream other report is.alone
-      (closed_group law f terms told reports fits run (one s) closed (alone_fine s reports report says memory)) is.at at is.reads reads
+      alone f run_params s whole end is.streams run.streams is.reports reports is.stream stream other report is.alone
+      (closed_group law f run_params observed reports fits run (one s) closed (alone_fine s reports report says memory)) is.at at
+      is.reads reads
       is.says says;
 }
 
 -- Two runs
 
 -- a stream that cites within itself is alone
-run_alone : ClosedIsGroup → (f : Cnf) (terms : TermsValue) (s : ℕ) (told : List Telling) (reports : List Report)
-    (stream : Stream) (report : Report) → Fits terms.layout f → (a : IsRun f terms told reports)
-    → IsOfStream a.streams s stream → IsOfStream reports s report → CiteWithin terms.layout (one s) stream.bytes → ¬ IsOfMemory report
-    → IsGroup f terms (one s) a.streams reports
-run_alone law f terms s told reports stream report fits a at says cites memory =
-    closed_group law f terms told reports fits a (one s)
+run_alone : ClosedIsGroup → (f : Cnf) (run_params : RunParamsValue) (s : ℕ) (observed : List InputObservation) (reports : List Report)
+    (stream : Stream) (report : Report) → Fits run_params.layout f → (a : IsRun f run_params observed reports)
+    → IsOfStream a.streams s stream → IsOfStream reports s report → CiteWithin run_params.layout (one s) stream.bytes → ¬ IsOfMemory report
+    → IsGroup f run_params (one s) a.streams reports
+run_alone law f run_params s observed reports stream report fits a at says cites memory =
+    closed_group law f run_params observed reports fits a (one s)
     (λ t other member there.
     let here = subst (λ n. IsOfStream a.streams n other) (only s t member) there in
-    subst (λ (x : Stream). CiteWithin terms.layout (one s) x.bytes) (same_at a.streams s stream other at here) cites)
+    subst (λ (x : Stream). CiteWithin run_params.layout (one s) x.bytes) (same_at a.streams s stream other at here) cites)
     (alone_fine s reports report says memory)
 
 reading_within : BeginningsWithin → (p : LayoutValue) (set : ℕ → Bool) (its : Option StreamEnd) (bytes whole : List ℕ) (end : StreamEnd)
@@ -134,17 +139,18 @@ reading_within law p set (Some its) bytes whole end is cites = subst (CiteWithin
 reading_within law p set None bytes whole end is cites = law p set bytes is.0 (subst (CiteWithin p set) is.1 cites)
 
 pub same_reading_agrees : BeginningsWithin → ClosedIsGroup → AloneHasOneReport → SameReadingAgrees
-same_reading_agrees within group alone f terms s whole end told other_told reports other_reports stream other report other_report
+same_reading_agrees within group alone f run_params s whole end observed other_observed reports other_reports stream other report
+    other_report
     fits cites a b at there reads also says too memory none =
-    let p = terms.layout in
-    alone f terms s whole end a.streams b.streams reports other_reports stream other report other_report
-    (run_alone group f terms s told reports stream report fits a at says
+    let p = run_params.layout in
+    alone f run_params s whole end a.streams b.streams reports other_reports stream other report other_report
+    (run_alone group f run_params s observed reports stream report fits a at says
     (reading_within within p (one s) stream.end stream.bytes whole end reads cites) memory)
-    (run_alone group f terms s other_told other_reports other other_report fits b there too
+    (run_alone group f run_params s other_observed other_reports other other_report fits b there too
     (reading_within within p (one s) other.end other.bytes whole end also cites) none)
     at there reads also says too
 
-pub judged_to : DecidedBeforeFailure → (c : Setting) (its : Option StreamEnd) (bytes unneeded whole : List ℕ) (left : Option (List ℕ))
+pub judged_to : DecidedBeforeFailure → (c : StreamParams) (its : Option StreamEnd) (bytes unneeded whole : List ℕ) (left : Option (List ℕ))
     (has_failed : Bool) (blocks : List History) (report : Report)
     → Consumes (Some whole) left (bytes ++ unneeded) → EndsWith its left has_failed → (IsSome its → unneeded ≡ []) → ¬ IsOfFailure report
     → ((end : StreamEnd) → IfSome its (λ e. e ≡ end) → JudgesBlocks c bytes end blocks report)
@@ -162,27 +168,29 @@ judged_to law c None bytes unneeded whole (Some left) has_failed blocks report t
     (law c bytes (unneeded ++ left) stream_ends.Ended blocks report machine (j stream_ends.Failed tt))
 
 -- a legal history judges all these bytes so
-pub record IsJudgedWhole (f : Cnf) (terms : TermsValue) (s : ℕ) (whole : List ℕ) (report : Report) : Type 0 where
+pub record IsJudgedWhole (f : Cnf) (run_params : RunParamsValue) (s : ℕ) (whole : List ℕ) (report : Report) : Type 0 where
   pub history : History
-  pub legal : IsLegal f terms.layout history
-  pub judges : Judges (setting_of terms s) whole stream_ends.Ended history report
+  pub legal : IsLegal f run_params.layout history
+  pub judges : Judges (stream_params run_params s) whole stream_ends.Ended history report
 
 pub whole_judged : BeginningsWithin → ClosedIsGroup → DecidedBeforeFailure
-    → (f : Cnf) (terms : TermsValue) (s : ℕ) (whole : List ℕ) (told : List Telling) (telling : Telling) (reports : List Report)
+    → (f : Cnf) (run_params : RunParamsValue) (s : ℕ) (whole : List ℕ) (observed : List InputObservation) (observation : InputObservation)
+    (reports : List Report)
     (report : Report)
-    → Fits terms.layout f → CiteWithin terms.layout (one s) whole → IsRun f terms told reports
-    → IsOfStream told s telling → telling.entry ≡ Some whole → IsOfStream reports s report → ¬ IsOfMemory report → ¬ IsOfFailure report
-    → IsJudgedWhole f terms s whole report
-whole_judged within group decided f terms s whole told telling reports report fits cites a here entry says memory machine =
-    let many = judged_count terms (λ t. true) a.history 1 a.streams reports a.judged in
+    → Fits run_params.layout f → CiteWithin run_params.layout (one s) whole → IsRun f run_params observed reports
+    → IsOfStream observed s observation → observation.entry ≡ Some whole → IsOfStream reports s report → ¬ IsOfMemory report
+    → ¬ IsOfFailure report
+    → IsJudgedWhole f run_params s whole report
+whole_judged within group decided f run_params s whole observed observation reports report fits cites a here entry says memory machine =
+    let many = judged_count run_params (λ t. true) a.history 1 a.streams reports a.judged in
     let last = slice_get_within reports (s - 1) report says.1 in
     let first = says.0 in
     let place = has_place a.streams s first (omega (arith, last, many, first)) in
     let stream = place.0 in
-    let is = told_at told a.streams s telling stream a.are_told here place.1 in
-    let g = run_alone group f terms s told reports stream report fits a place.1 says
-    (told_within within terms.layout (one s) telling whole stream is entry cites) memory in
-    let j = judged_at terms (one s) g.history a.streams reports g.judged s stream report (me s) place.1 says in
+    let is = observed_at observed a.streams s observation stream a.match_inputs here place.1 in
+    let g = run_alone group f run_params s observed reports stream report fits a place.1 says
+    (observed_within within run_params.layout (one s) observation whole stream is entry cites) memory in
+    let j = judged_at run_params (one s) g.history a.streams reports g.judged s stream report (me s) place.1 says in
     record {
       history = g.history;
       legal = g.legal;
@@ -190,18 +198,23 @@ whole_judged within group decided f terms s whole told telling reports report fi
         blocks = j.0;
         events = sym (own-one s g.history g.members) ∙ j.1;
         judges =
-            judged_to decided (setting_of terms s) stream.end stream.bytes stream.unneeded whole telling.left telling.has_failed j.0 report
-            (subst (λ (e : Option (List ℕ)). Consumes e telling.left (stream.bytes ++ stream.unneeded)) entry is.consumes) is.ends
+            judged_to decided (stream_params run_params s) stream.end stream.bytes stream.unneeded whole observation.left
+            observation.has_failed j.0 report
+            (subst (λ (e : Option (List ℕ)). Consumes e observation.left (stream.bytes ++ stream.unneeded)) entry is.consumes) is.ends
             is.needed machine j.2;
       };
     }
 
 pub same_bytes_agree : BeginningsWithin → ClosedIsGroup → AloneDecides → DecidedBeforeFailure → SameBytesAgree
-same_bytes_agree within group decides decided f terms s whole told other_told telling other_telling reports other_reports
+same_bytes_agree within group decides decided f run_params s whole observed other_observed observation other_observation reports
+    other_reports
     report other_report
     fits cites a b here entry there known says too memory failure none never =
-    let mine = whole_judged within group decided f terms s whole told telling reports report fits cites a here entry says memory failure in
-    let theirs = whole_judged within group decided f terms s whole other_told other_telling other_reports other_report fits cites b there
+    let mine = whole_judged within group decided f run_params s whole observed observation reports report fits cites a here entry says
+    memory failure in
+    let theirs = whole_judged within group decided f run_params s whole other_observed other_observation other_reports other_report fits
+    cites b there
     known too none never in
-    (decides f terms.layout (setting_of terms s) whole stream_ends.Ended mine.history theirs.history report other_report mine.legal
+    (decides f run_params.layout (stream_params run_params s) whole stream_ends.Ended mine.history theirs.history report
+    other_report mine.legal
     theirs.legal mine.judges theirs.judges memory none).1

@@ -15,12 +15,12 @@ use Rattle.lrup_text.specs.Lines.{StreamLine}
 use Rattle.lrup_text.specs.Laws.{EveryCut}
 use Rattle.lrup_text.specs.declared.device.StreamEnd.{StreamEnd}
 use Rattle.stream_check.specs.declared.report.Report.{Report}
-use Rattle.stream_check.specs.Setting.{Setting}
+use Rattle.stream_check.specs.StreamParams.{StreamParams}
 use Rattle.stream_check.specs.Judging.{joined, JudgesBlocks}
 use Rattle.stream_check.specs.Reducing.{reduced}
 use Rattle.stream_check.specs.Laws.{cited_by, FetchesOnly, CitedFetched, ReducedStream}
-use Rattle.runs.specs.Streams.{Stream, JudgesStream, Block, blocks_of, IsBlockWithin, AreJudged, TermsValue, setting_of}
-use Rattle.runs.specs.Headline.{AreJudgedIn}
+use Rattle.runs.specs.Streams.{Stream, JudgesStream, Block, blocks_of, IsBlockWithin, AreJudged, RunParamsValue, stream_params}
+use Rattle.runs.specs.SequentialConsistency.{AreJudgedIn}
 use Rattle.runs.specs.Closed.{IsOfStream, IsOwnedWithin, CiteWithin}
 use Rattle.runs.specs.Each.{Each}
 use Rattle.runs.specs.lemmas.EachLemmas.{each_at, each_count, each_more, each_within}
@@ -32,16 +32,16 @@ use Rattle.run_laws.proofs.Places.{has_place}
 
 -- One stream's blocks
 
-reduced_judged : ReducedStream → (c : Setting) (stream : Stream) (blocks : List History) (report : Report)
+reduced_judged : ReducedStream → (c : StreamParams) (stream : Stream) (blocks : List History) (report : Report)
     → JudgesStream c stream blocks report → JudgesStream c stream (map reduced blocks) report
 reduced_judged law c stream blocks report judged = λ end its. law c stream.bytes end blocks report (judged end its)
 
-module _ (terms : TermsValue) (set : ℕ → Bool) (h : History) where
+module _ (run_params : RunParamsValue) (set : ℕ → Bool) (h : History) where
   -- if the stream is of the set, these blocks are its own events, and it is judged by them
   abbrev IsJudgedWith : ℕ → Stream → Report → List History → Type 0
-  IsJudgedWith s stream report bs = IsTrue (set s) → (own h s ≡ joined bs) × JudgesStream (setting_of terms s) stream bs report
+  IsJudgedWith s stream report bs = IsTrue (set s) → (own h s ≡ joined bs) × JudgesStream (stream_params run_params s) stream bs report
 
-  chosen : (s : ℕ) (stream : Stream) (report : Report) → (IsTrue (set s) → IsJudgedBy (setting_of terms s) stream (own h s) report)
+  chosen : (s : ℕ) (stream : Stream) (report : Report) → (IsTrue (set s) → IsJudgedBy (stream_params run_params s) stream (own h s) report)
       → (bs : List History) × IsJudgedWith s stream report bs
   chosen s stream report judged =
       elim (cases_Bool (set s)) [
@@ -59,7 +59,7 @@ module _ (terms : TermsValue) (set : ℕ → Bool) (h : History) where
       each_within (s + length streams) s streams reports (omega arith) judged
       (λ t stream report from to j. subst (IsJudgedWith t stream report) (same t from) j)
 
-  gathered : (s : ℕ) (streams : List Stream) (reports : List Report) → AreJudgedIn terms set h s streams reports
+  gathered : (s : ℕ) (streams : List Stream) (reports : List Report) → AreJudgedIn run_params set h s streams reports
       → (blocks : ℕ → List History) × AreJudgedWith blocks s streams reports
   gathered s [] [] judged = ((λ t. []), tt)
   gathered s [] (report ∷ reports) judged = absurd judged
@@ -82,7 +82,7 @@ module _ (terms : TermsValue) (set : ℕ → Bool) (h : History) where
     report : Report
     at : slice_get streams k ≡ Some stream
     own_events : own h s ≡ joined (blocks s)
-    judges : JudgesStream (setting_of terms s) stream (blocks s) report
+    judges : JudgesStream (stream_params run_params s) stream (blocks s) report
 
   judged_at : (blocks : ℕ → List History) (streams : List Stream) (reports : List Report) → AreJudgedWith blocks 1 streams reports
       → (s : ℕ) → 0 < s → s ≤ length streams → IsTrue (set s) → IsJudgedAt blocks streams (s - 1) s
@@ -95,38 +95,38 @@ module _ (terms : TermsValue) (set : ℕ → Bool) (h : History) where
 
   -- in an order of these lines, reduced, each stream is judged the same
   are_judged : ReducedStream → (blocks : ℕ → List History) (order : List Block) (s : ℕ) (streams : List Stream) (reports : List Report)
-      → ((t : ℕ) → IsStream terms.layout t → IsTrue (set t) → blocks_of t order ≡ map reduced (blocks t))
-      → 0 < s → s + length streams ≤ terms.layout.streams + 1
-      → AreJudgedWith blocks s streams reports → AreJudged terms set (λ t events. events ≡ blocks_of t order) s streams reports
+      → ((t : ℕ) → IsStream run_params.layout t → IsTrue (set t) → blocks_of t order ≡ map reduced (blocks t))
+      → 0 < s → s + length streams ≤ run_params.layout.streams + 1
+      → AreJudgedWith blocks s streams reports → AreJudged run_params set (λ t events. events ≡ blocks_of t order) s streams reports
   are_judged law blocks order s streams reports lines first last judged =
-      each_within terms.layout.streams s streams reports last judged (λ t stream report from to j member. (
+      each_within run_params.layout.streams s streams reports last judged (λ t stream report from to j member. (
         map reduced (blocks t),
         sym (lines t (omega (arith, first, from), to) member),
-        reduced_judged law (setting_of terms t) stream (blocks t) report (j member).1,
+        reduced_judged law (stream_params run_params t) stream (blocks t) report (j member).1,
       ))
 
 -- Each stream of a set, and its own events
 
 -- what is known of a stream of the set that one history judges
-pub record IsJudgedStream (terms : TermsValue) (h : History) (streams : List Stream) (s : ℕ) : Type 0 where
+pub record IsJudgedStream (run_params : RunParamsValue) (h : History) (streams : List Stream) (s : ℕ) : Type 0 where
   pub stream : Stream
   pub report : Report
   pub end : StreamEnd
   pub blocks : List History
   pub at : IsOfStream streams s stream
   pub own_events : own h s ≡ joined blocks
-  pub judges : JudgesBlocks (setting_of terms s) stream.bytes end blocks report
+  pub judges : JudgesBlocks (stream_params run_params s) stream.bytes end blocks report
 
-pub judged_stream : (terms : TermsValue) (set : ℕ → Bool) (h : History) (streams : List Stream) (reports : List Report)
-    → length streams ≡ terms.layout.streams → AreJudgedIn terms set h 1 streams reports
-    → (s : ℕ) → IsStream terms.layout s → IsTrue (set s) → IsJudgedStream terms h streams s
-judged_stream terms set h streams reports count judged s is member =
-    let all : (blocks : ℕ → List History) × AreJudgedWith terms set h blocks 1 streams reports
-    = gathered terms set h 1 streams reports judged in
-    let found : IsJudgedAt terms set h all.0 streams (s - 1) s
-    = judged_at terms set h all.0 streams reports all.1 s is.0 (omega (arith, is.1, count)) member in
-    let way : (end : StreamEnd) × JudgesBlocks (setting_of terms s) found.stream.bytes end (all.0 s) found.report
-    = some_end (setting_of terms s) found.stream (all.0 s) found.report found.judges in
+pub judged_stream : (run_params : RunParamsValue) (set : ℕ → Bool) (h : History) (streams : List Stream) (reports : List Report)
+    → length streams ≡ run_params.layout.streams → AreJudgedIn run_params set h 1 streams reports
+    → (s : ℕ) → IsStream run_params.layout s → IsTrue (set s) → IsJudgedStream run_params h streams s
+judged_stream run_params set h streams reports count judged s is member =
+    let all : (blocks : ℕ → List History) × AreJudgedWith run_params set h blocks 1 streams reports
+    = gathered run_params set h 1 streams reports judged in
+    let found : IsJudgedAt run_params set h all.0 streams (s - 1) s
+    = judged_at run_params set h all.0 streams reports all.1 s is.0 (omega (arith, is.1, count)) member in
+    let way : (end : StreamEnd) × JudgesBlocks (stream_params run_params s) found.stream.bytes end (all.0 s) found.report
+    = some_end (stream_params run_params s) found.stream (all.0 s) found.report found.judges in
     record {
       stream = found.stream;
       report = found.report;
@@ -172,13 +172,13 @@ lines_inside p set [] all = tt
 lines_inside p set (line ∷ lines) all = (ids_inside p set (cited_by line) all.0, lines_inside p set lines all.1)
 
 -- a stream of a closed set fetches no identity of a stream outside it
-pub fetched_inside : CitedFetched → (terms : TermsValue) (set : ℕ → Bool) (h : History) (streams : List Stream) (s : ℕ)
-    → (judged : IsJudgedStream terms h streams s) → CiteWithin terms.layout set judged.stream.bytes
-    → AllByRecursion (FetchesOnly (is_inside terms.layout set)) (own h s)
-fetched_inside law terms set h streams s judged closed =
-    subst (AllByRecursion (FetchesOnly (is_inside terms.layout set))) (sym judged.own_events)
-    (law (setting_of terms s) judged.stream.bytes judged.end judged.blocks judged.report closed.lines closed.rest
-    (is_inside terms.layout set) judged.judges closed.cut (lines_inside terms.layout set closed.lines closed.within))
+pub fetched_inside : CitedFetched → (run_params : RunParamsValue) (set : ℕ → Bool) (h : History) (streams : List Stream) (s : ℕ)
+    → (judged : IsJudgedStream run_params h streams s) → CiteWithin run_params.layout set judged.stream.bytes
+    → AllByRecursion (FetchesOnly (is_inside run_params.layout set)) (own h s)
+fetched_inside law run_params set h streams s judged closed =
+    subst (AllByRecursion (FetchesOnly (is_inside run_params.layout set))) (sym judged.own_events)
+    (law (stream_params run_params s) judged.stream.bytes judged.end judged.blocks judged.report closed.lines closed.rest
+    (is_inside run_params.layout set) judged.judges closed.cut (lines_inside run_params.layout set closed.lines closed.within))
 
 finds_within : (p : LayoutValue) (set : ℕ → Bool) (h : History)
     → AllByRecursion (λ e. IsTrue (streams_in p set (stream_of e)) → FetchesOnly (is_inside p set) e) h
@@ -203,32 +203,33 @@ blocks_within p set (block ∷ order) all =
     ((all.0.0, (streams_are p set block.stream all.0.1).0, all.0.2), blocks_within p set order all.1)
 
 pub closed_ordered : LinesOrdered → JudgedBlocks → CitedFetched → ReducedStream → ClosedOrdered
-closed_ordered lines_ordered judged_blocks cited_fetched reduced_stream f terms set h streams reports fits count legal judged closed stays =
-    let p : LayoutValue = terms.layout in
+closed_ordered lines_ordered judged_blocks cited_fetched reduced_stream f run_params set h streams reports fits count legal judged
+    closed stays =
+    let p : LayoutValue = run_params.layout in
     let inside : ℕ → Bool = streams_in p set in
-    let all : (blocks : ℕ → List History) × AreJudgedWith terms set h blocks 1 streams reports
-    = gathered terms set h 1 streams reports judged in
-    let found : (s : ℕ) → IsStream p s → IsTrue (set s) → IsJudgedAt terms set h all.0 streams (s - 1) s
-    = λ s is member. judged_at terms set h all.0 streams reports all.1 s is.0 (omega (arith, is.1, count)) member in
+    let all : (blocks : ℕ → List History) × AreJudgedWith run_params set h blocks 1 streams reports
+    = gathered run_params set h 1 streams reports judged in
+    let found : (s : ℕ) → IsStream p s → IsTrue (set s) → IsJudgedAt run_params set h all.0 streams (s - 1) s
+    = λ s is member. judged_at run_params set h all.0 streams reports all.1 s is.0 (omega (arith, is.1, count)) member in
     let finds : AllByRecursion (FindsWithin p inside) h
     = finds_within p set h (own_each (FetchesOnly (is_inside p set)) inside h (λ s member.
     let is : IsTrue (set s) × IsStream p s = streams_are p set s member in
-    let one : IsJudgedStream terms h streams s = judged_stream terms set h streams reports count judged s is.1 is.0 in
-    fetched_inside cited_fetched terms set h streams s one (closed s one.stream is.0 one.at))) in
+    let one : IsJudgedStream run_params h streams s = judged_stream run_params set h streams reports count judged s is.1 is.0 in
+    fetched_inside cited_fetched run_params set h streams s one (closed s one.stream is.0 one.at))) in
     let made : (order : List Block) × IsOrder f p inside all.0 order
     = lines_ordered f p inside h all.0 fits legal finds
     (λ s is member. (found s is (streams_are p set s member).0).own_events)
     (λ s is member.
-    let one : IsJudgedAt terms set h all.0 streams (s - 1) s = found s is (streams_are p set s member).0 in
-    let way : (end : StreamEnd) × JudgesBlocks (setting_of terms s) one.stream.bytes end (all.0 s) one.report
-    = some_end (setting_of terms s) one.stream (all.0 s) one.report one.judges in
-    judged_blocks (setting_of terms s) one.stream.bytes way.0 (all.0 s) one.report way.1)
+    let one : IsJudgedAt run_params set h all.0 streams (s - 1) s = found s is (streams_are p set s member).0 in
+    let way : (end : StreamEnd) × JudgesBlocks (stream_params run_params s) one.stream.bytes end (all.0 s) one.report
+    = some_end (stream_params run_params s) one.stream (all.0 s) one.report one.judges in
+    judged_blocks (stream_params run_params s) one.stream.bytes way.0 (all.0 s) one.report way.1)
     (λ s is member. stays s is (streams_are p set s member).0) in
     record {
       blocks = made.0;
       within = blocks_within p set made.0 made.1.within;
       legal = made.1.legal;
-      judged = are_judged terms set h reduced_stream all.0 made.0 1 streams reports
+      judged = are_judged run_params set h reduced_stream all.0 made.0 1 streams reports
           (λ s is member. made.1.lines s is (are_streams p set s member is)) (omega arith) (omega (arith, count)) all.1;
     }
 
@@ -251,13 +252,13 @@ all_closed every_cut p streams s stream member at =
 -- Runs
 
 -- streams that are all judged so are judged so where they are of a set
-judged_members : (terms : TermsValue) (set : ℕ → Bool) (h : History) (s : ℕ) (streams : List Stream) (reports : List Report)
-    → AreJudgedIn terms (λ t. true) h s streams reports → AreJudgedIn terms set h s streams reports
-judged_members terms set h s streams reports judged = each_more s streams reports judged (λ t stream report j member. j refl)
+judged_members : (run_params : RunParamsValue) (set : ℕ → Bool) (h : History) (s : ℕ) (streams : List Stream) (reports : List Report)
+    → AreJudgedIn run_params (λ t. true) h s streams reports → AreJudgedIn run_params set h s streams reports
+judged_members run_params set h s streams reports judged = each_more s streams reports judged (λ t stream report j member. j refl)
 
 pub run_serializable : ClosedOrdered → AllOrdered → RunSerializable
-run_serializable closed_ordered all_ordered f terms told reports fits run = (
-  (λ set closed stays. closed_ordered f terms set run.history run.streams reports fits run.count run.legal
-      (judged_members terms set run.history 1 run.streams reports run.judged) closed stays),
-  (λ stays. all_ordered f terms run.history run.streams reports fits run.count run.legal run.judged stays),
+run_serializable closed_ordered all_ordered f run_params observed reports fits run = (
+  (λ set closed stays. closed_ordered f run_params set run.history run.streams reports fits run.count run.legal
+      (judged_members run_params set run.history 1 run.streams reports run.judged) closed stays),
+  (λ stays. all_ordered f run_params run.history run.streams reports fits run.count run.legal run.judged stays),
 )

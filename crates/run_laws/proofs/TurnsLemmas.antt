@@ -11,15 +11,15 @@ use Rattle.stream_check.specs.declared.report.Report.{Report}
 use Rattle.stream_check.specs.Judging.{joined}
 use Rattle.stream_check.specs.Laws.{BlocksGoAlike, DecidedBeforeFailure, LegalNeverFork, OneReport, OverStays}
 use Rattle.runs.specs.Closed.{IsOfStream}
-use Rattle.runs.specs.Streams.{Stream, JudgesStream, blocks_of, AreJudged, TermsValue, setting_of}
+use Rattle.runs.specs.Streams.{Stream, JudgesStream, blocks_of, AreJudged, RunParamsValue, stream_params}
 use Rattle.runs.specs.lemmas.EachLemmas.{each_at, each_count}
-use Rattle.runs.specs.lemmas.StreamLemmas.{told_count}
+use Rattle.runs.specs.lemmas.StreamLemmas.{observed_count}
 use Rattle.runs.specs.Turns.{IsOrderedByTurns}
 use Rattle.run_laws.specs.TurnsLaws.{BytesDecide, TurnsDecide}
 use Rattle.run_laws.proofs.AloneLemmas.{judged_whole}
 use Rattle.run_laws.proofs.OneOrder.{JudgedTwice, same_order}
 use Rattle.run_laws.proofs.Places.{has_place}
-use Rattle.run_laws.proofs.RunLemmas.{judged_to, told_at}
+use Rattle.run_laws.proofs.RunLemmas.{judged_to, observed_at}
 
 -- Lists
 
@@ -44,23 +44,24 @@ same_for_each {X} xs ys count same = same_at_each xs ys count (λ k x y at there
 
 -- Streams judged by their own blocks of an order
 
-pub own_at : (terms : TermsValue) (own : ℕ → List History) (s : ℕ) (streams : List Stream) (reports : List Report) (stream : Stream)
-    (report : Report) → AreJudged terms (λ t. true) (λ t blocks. blocks ≡ own t) 1 streams reports
-    → IsOfStream streams s stream → IsOfStream reports s report → JudgesStream (setting_of terms s) stream (own s) report
-own_at terms own s streams reports stream report judged at says =
+pub own_at : (run_params : RunParamsValue) (own : ℕ → List History) (s : ℕ) (streams : List Stream) (reports : List Report)
+    (stream : Stream)
+    (report : Report) → AreJudged run_params (λ t. true) (λ t blocks. blocks ≡ own t) 1 streams reports
+    → IsOfStream streams s stream → IsOfStream reports s report → JudgesStream (stream_params run_params s) stream (own s) report
+own_at run_params own s streams reports stream report judged at says =
     let j = each_at _ streams reports judged s stream report at says refl in
-    subst (λ (bs : List History). JudgesStream (setting_of terms s) stream bs report) j.1 j.2
+    subst (λ (bs : List History). JudgesStream (stream_params run_params s) stream bs report) j.1 j.2
 
 -- Two runs
 
 -- whatever is said twice of each stream, by its own blocks of two orders, the orders and the reports are the same
-module _ (alike : BlocksGoAlike) (forks : LegalNeverFork) (one : OneReport) (f : Cnf) (terms : TermsValue)
+module _ (alike : BlocksGoAlike) (forks : LegalNeverFork) (one : OneReport) (f : Cnf) (run_params : RunParamsValue)
     (streams others : List Stream) (reports other_reports : List Report)
-    (a : IsOrderedByTurns f terms streams reports) (b : IsOrderedByTurns f terms others other_reports)
-    (count : length streams ≡ terms.layout.streams) (other_count : length others ≡ terms.layout.streams)
+    (a : IsOrderedByTurns f run_params streams reports) (b : IsOrderedByTurns f run_params others other_reports)
+    (count : length streams ≡ run_params.layout.streams) (other_count : length others ≡ run_params.layout.streams)
     (both : (s : ℕ) (stream other : Stream) (report other_report : Report)
     → IsOfStream streams s stream → IsOfStream others s other → IsOfStream reports s report → IsOfStream other_reports s other_report
-    → (j : JudgedTwice (setting_of terms s) (blocks_of s a.order.blocks) (blocks_of s b.order.blocks)) × (j.report ≡ report)
+    → (j : JudgedTwice (stream_params run_params s) (blocks_of s a.order.blocks) (blocks_of s b.order.blocks)) × (j.report ≡ report)
     × (j.other ≡ other_report)) where
   many : length reports ≡ length streams
   many = each_count _ 1 streams reports a.order.judged
@@ -69,7 +70,7 @@ module _ (alike : BlocksGoAlike) (forks : LegalNeverFork) (one : OneReport) (f :
   other_many = each_count _ 1 others other_reports b.order.judged
 
   orders_same : a.order.blocks ≡ b.order.blocks
-  orders_same = same_order alike forks f terms a.order.blocks b.order.blocks
+  orders_same = same_order alike forks f run_params a.order.blocks b.order.blocks
       (λ s stream.
       let at = has_place streams s stream.0 (omega (arith, stream.1, count)) in
       let there = has_place others s stream.0 (omega (arith, stream.1, other_count)) in
@@ -87,18 +88,18 @@ module _ (alike : BlocksGoAlike) (forks : LegalNeverFork) (one : OneReport) (f :
       let there = has_place others s first (omega (arith, within, many, count, other_count, first)) in
       let twice = both s at.0 there.0 report other_report at.1 there.1 says also in
       let j = twice.0 in
-      let same = one (setting_of terms s) j.bytes j.end (blocks_of s a.order.blocks) (blocks_of s b.order.blocks) j.report j.other
+      let same = one (stream_params run_params s) j.bytes j.end (blocks_of s a.order.blocks) (blocks_of s b.order.blocks) j.report j.other
       (ap (λ bs. joined (blocks_of s bs)) orders_same) j.first j.second j.memory j.none in
       sym twice.1 ∙ same.1 ∙ twice.2)
 
 pub turns_decide : OverStays → OneReport → LegalNeverFork → BlocksGoAlike → TurnsDecide
-turns_decide stays one forks alike f terms streams others reports other_reports count other_count readings a b memory none =
+turns_decide stays one forks alike f run_params streams others reports other_reports count other_count readings a b memory none =
     let both : (s : ℕ) (stream other : Stream) (report other_report : Report)
     → IsOfStream streams s stream → IsOfStream others s other → IsOfStream reports s report → IsOfStream other_reports s other_report
-    → (j : JudgedTwice (setting_of terms s) (blocks_of s a.order.blocks) (blocks_of s b.order.blocks)) × (j.report ≡ report)
+    → (j : JudgedTwice (stream_params run_params s) (blocks_of s a.order.blocks) (blocks_of s b.order.blocks)) × (j.report ≡ report)
     × (j.other ≡ other_report) =
     λ s stream other report other_report at there says also.
-    let c = setting_of terms s in
+    let c = stream_params run_params s in
     let reading = readings s stream other at there in (
       record {
         bytes = reading.0;
@@ -106,37 +107,38 @@ turns_decide stays one forks alike f terms streams others reports other_reports 
         report = report;
         other = other_report;
         first = judged_whole stays c stream.end stream.bytes reading.0 reading.1 (blocks_of s a.order.blocks) report reading.2
-            (own_at terms (λ t. blocks_of t a.order.blocks) s streams reports stream report a.order.judged at says);
+            (own_at run_params (λ t. blocks_of t a.order.blocks) s streams reports stream report a.order.judged at says);
         second = judged_whole stays c other.end other.bytes reading.0 reading.1 (blocks_of s b.order.blocks) other_report reading.3
-            (own_at terms (λ t. blocks_of t b.order.blocks) s others other_reports other other_report b.order.judged there also);
+            (own_at run_params (λ t. blocks_of t b.order.blocks) s others other_reports other other_report b.order.judged there also);
         memory = memory s report refl says;
         none = none s other_report refl also;
       },
       refl,
       refl,
     ) in (
-      orders_same alike forks one f terms streams others reports other_reports a b count other_count both,
-      reports_same alike forks one f terms streams others reports other_reports a b count other_count both,
+      orders_same alike forks one f run_params streams others reports other_reports a b count other_count both,
+      reports_same alike forks one f run_params streams others reports other_reports a b count other_count both,
     )
 
 pub bytes_decide : DecidedBeforeFailure → OneReport → LegalNeverFork → BlocksGoAlike → BytesDecide
-bytes_decide decided one forks alike f terms told other_told reports other_reports same x y a b fine good =
+bytes_decide decided one forks alike f run_params observed other_observed reports other_reports same x y a b fine good =
     let streams = x.streams in
     let others = y.streams in
-    let many : length streams ≡ terms.layout.streams = x.count in
-    let other_many : length others ≡ terms.layout.streams = y.count in
-    let count : length told ≡ terms.layout.streams = sym (told_count told streams x.are_told) ∙ many in
-    let other_count : length other_told ≡ terms.layout.streams = sym (told_count other_told others y.are_told) ∙ other_many in
-    reports_same alike forks one f terms streams others reports other_reports a b many other_many
+    let many : length streams ≡ run_params.layout.streams = x.count in
+    let other_many : length others ≡ run_params.layout.streams = y.count in
+    let count : length observed ≡ run_params.layout.streams = sym (observed_count observed streams x.match_inputs) ∙ many in
+    let other_count : length other_observed
+    ≡ run_params.layout.streams = sym (observed_count other_observed others y.match_inputs) ∙ other_many in
+    reports_same alike forks one f run_params streams others reports other_reports a b many other_many
     (λ s stream other report other_report at there says also.
     let first = at.0 in
-    let c = setting_of terms s in
+    let c = stream_params run_params s in
     let within = slice_get_within streams (s - 1) stream at.1 in
-    let here = has_place told s first (omega (arith, within, many, count, first)) in
-    let near = has_place other_told s first (omega (arith, within, many, other_count, first)) in
+    let here = has_place observed s first (omega (arith, within, many, count, first)) in
+    let near = has_place other_observed s first (omega (arith, within, many, other_count, first)) in
     let bytes = same s here.0 near.0 here.1 near.1 in
-    let is = told_at told streams s here.0 stream x.are_told here.1 at in
-    let was = told_at other_told others s near.0 other y.are_told near.1 there in
+    let is = observed_at observed streams s here.0 stream x.match_inputs here.1 at in
+    let was = observed_at other_observed others s near.0 other y.match_inputs near.1 there in
     let mine = fine s report says in
     let theirs = good s other_report also in (
       record {
@@ -148,12 +150,12 @@ bytes_decide decided one forks alike f terms told other_told reports other_repor
             (blocks_of s a.order.blocks) report
             (subst (λ (e : Option (List ℕ)). Consumes e here.0.left (stream.bytes ++ stream.unneeded)) bytes.1 is.consumes) is.ends
             is.needed mine.1
-            (own_at terms (λ t. blocks_of t a.order.blocks) s streams reports stream report a.order.judged at says);
+            (own_at run_params (λ t. blocks_of t a.order.blocks) s streams reports stream report a.order.judged at says);
         second = judged_to decided c other.end other.bytes other.unneeded bytes.0 near.0.left near.0.has_failed
             (blocks_of s b.order.blocks) other_report
             (subst (λ (e : Option (List ℕ)). Consumes e near.0.left (other.bytes ++ other.unneeded)) bytes.2 was.consumes) was.ends
             was.needed theirs.1
-            (own_at terms (λ t. blocks_of t b.order.blocks) s others other_reports other other_report b.order.judged there also);
+            (own_at run_params (λ t. blocks_of t b.order.blocks) s others other_reports other other_report b.order.judged there also);
         memory = mine.0;
         none = theirs.0;
       },

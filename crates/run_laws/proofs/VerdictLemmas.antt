@@ -18,14 +18,14 @@ use Rattle.lrup_text.specs.Lines.{StreamLine, Addition, Deletion, Import}
 use Rattle.lrup_text.specs.declared.device.StreamEnd.{StreamEnd}
 use Rattle.stream_check.specs.declared.fault.Fault.{Fault}
 use Rattle.stream_check.specs.declared.report.Report.{Report}
-use Rattle.stream_check.specs.Setting.{Setting}
-use Rattle.stream_check.specs.Standing.{Standing, standing_of, additions_of, is_within}
+use Rattle.stream_check.specs.StreamParams.{StreamParams}
+use Rattle.stream_check.specs.StreamContext.{StreamContext, context_of, additions_of, is_within}
 use Rattle.stream_check.specs.Verdicts.{Good, Bad}
 use Rattle.stream_check.specs.Additions.{published_by}
 use Rattle.stream_check.specs.lemmas.EventLemmas.{addition_all, import_all}
 use Rattle.stream_check.specs.Judging.{JudgesLine, AreGood, EndsAfter, at_bad_line, at_bad_text, at_memory, at_end, joined, JudgesBlocks}
 use Rattle.stream_check.specs.lemmas.ReportLemmas.{additions-append, said_empty, said_within, joined-append}
-use Rattle.runs.specs.Streams.{Stream, JudgesStream, Block, blocks_of, events_in, IsBlockWithin, AreJudged, TermsValue, setting_of}
+use Rattle.runs.specs.Streams.{Stream, JudgesStream, Block, blocks_of, events_in, IsBlockWithin, AreJudged, RunParamsValue, stream_params}
 use Rattle.runs.specs.Streams.{IsOrdered}
 use Rattle.runs.specs.lemmas.StreamLemmas.{blocks-same, blocks-other, some_end}
 use Rattle.run_laws.specs.lemmas.PublishLemmas.{publishes_empty, publishes_within, published_some}
@@ -47,7 +47,7 @@ both_ways false false to back = refl
 
 -- A test of events, one of additions and one of reports that tell of the same: no fetch and no retire passes, the publish of an addition
 -- passes exactly if the addition does, and a report passes exactly if a good addition does.
-record Tells (c : Setting) (passes : Event → Bool) (adds : ℕ × Clause → Bool) (says : Report → Bool) : Type 0 where
+record CallerStep (c : StreamParams) (passes : Event → Bool) (adds : ℕ × Clause → Bool) (says : Report → Bool) : Type 0 where
   fetches_none : (id : ℕ) (r : Reply) → passes (events.fetch c.stream id r) ≡ false
   retires_none : (id : ℕ) (r : Retired) → passes (events.retire c.stream id r) ≡ false
   publishes_added : (id : ℕ) (lits : List ℤ) → passes (published_by c id lits) ≡ adds (id, distinct lits)
@@ -63,7 +63,7 @@ abbrev adds_within : CubeValue → ℕ × Clause → Bool
 adds_within cube a = is_within cube a.1
 
 -- of the empty clause
-empty_tells : (c : Setting) → Tells c publishes_empty adds_empty (λ report. report.empty)
+empty_tells : (c : StreamParams) → CallerStep c publishes_empty adds_empty (λ report. report.empty)
 empty_tells c = record {
   fetches_none = λ id r. refl;
   retires_none = λ id r. refl;
@@ -72,7 +72,7 @@ empty_tells c = record {
 }
 
 -- and of a clause within the cube
-within_tells : (c : Setting) → Tells c (publishes_within c.cube) (adds_within c.cube) (λ report. report.within)
+within_tells : (c : StreamParams) → CallerStep c (publishes_within c.cube) (adds_within c.cube) (λ report. report.within)
 within_tells c = record {
   fetches_none = λ id r. refl;
   retires_none = λ id r. refl;
@@ -91,14 +91,14 @@ module _ (passes : Event → Bool) where
   quiet_none [] all = refl
   quiet_none (e ∷ es) all = or_none (passes e) (list_any passes es) all.0 (quiet_none es all.1)
 
-module _ (c : Setting) (passes : Event → Bool) (adds : ℕ × Clause → Bool) (says : Report → Bool)
-    (tells : Tells c passes adds says) where
+module _ (c : StreamParams) (passes : Event → Bool) (adds : ℕ × Clause → Bool) (says : Report → Bool)
+    (tells : CallerStep c passes adds says) where
   quiet_retires : (ids : List ℕ) → AllByRecursion (λ id. (r : Retired) → IsQuiet passes (events.retire c.stream id r)) ids
   quiet_retires [] = tt
   quiet_retires (id ∷ ids) = (tells.retires_none id, quiet_retires ids)
 
   -- a good line publishes what passes exactly if it adds what does
-  good_line : (st : Standing) (line : StreamLine) (es : History) → JudgesLine c st line es Good
+  good_line : (st : StreamContext) (line : StreamLine) (es : History) → JudgesLine c st line es Good
       → list_any passes es ≡ list_any adds (additions_of (line ∷ []))
   good_line st (Addition id lits hints) es judged =
       elim (cases_Bool (adds (id, distinct lits))) [
@@ -120,7 +120,7 @@ module _ (c : Setting) (passes : Event → Bool) (adds : ℕ × Clause → Bool)
       quiet_none passes es (identities_all c (IsQuiet passes) st.gone [] ids es Good (quiet_retires ids) judged)
 
   -- a bad line doesn't
-  bad_line : (st : Standing) (line : StreamLine) (es : History) (deleted : ℕ) (fault : Fault)
+  bad_line : (st : StreamContext) (line : StreamLine) (es : History) (deleted : ℕ) (fault : Fault)
       → JudgesLine c st line es (Bad deleted fault) → list_any passes es ≡ false
   bad_line st (Addition id lits hints) es deleted fault judged =
       quiet_none passes es
@@ -139,7 +139,7 @@ module _ (c : Setting) (passes : Event → Bool) (adds : ℕ × Clause → Bool)
   good_lines before (line ∷ lines) [] good = absurd good
   good_lines before (line ∷ lines) (block ∷ blocks) good =
       list_any-append passes block (joined blocks)
-      ∙ ap (λ (b : Bool). b || list_any passes (joined blocks)) (good_line (standing_of c before) line block good.0)
+      ∙ ap (λ (b : Bool). b || list_any passes (joined blocks)) (good_line (context_of c before) line block good.0)
       ∙ ap (λ (b : Bool). list_any adds (additions_of (line ∷ [])) || b) (good_lines (before ++ line ∷ []) lines blocks good.1)
       ∙ sym (ap (list_any adds) (additions-append (line ∷ []) lines) ∙ list_any-append adds (additions_of (line ∷ [])) (additions_of lines))
 
@@ -155,13 +155,13 @@ module _ (c : Setting) (passes : Event → Bool) (adds : ℕ × Clause → Bool)
   -- what ends a stream publishes nothing that passes
   ends_quiet : (lines : List StreamLine) (rest : List ℕ) (end : StreamEnd) (back : List History) (report : Report)
       → EndsAfter c lines rest end back report → list_any passes (joined back) ≡ false
-  ends_quiet lines rest end back report (at_bad_line line more text fits block one_block deleted fault bad told) =
-      one_quiet block back one_block (bad_line (standing_of c lines) line block deleted fault bad)
-  ends_quiet lines rest end back report (at_bad_text fault text no_block told) = no_quiet back no_block
-  ends_quiet lines rest end back report (at_memory lead ids more text fits block one_block earlier stops told) =
+  ends_quiet lines rest end back report (at_bad_line line more text fits block one_block deleted fault bad observed) =
+      one_quiet block back one_block (bad_line (context_of c lines) line block deleted fault bad)
+  ends_quiet lines rest end back report (at_bad_text fault text no_block observed) = no_quiet back no_block
+  ends_quiet lines rest end back report (at_memory lead ids more text fits block one_block earlier stops observed) =
       one_quiet block back one_block (quiet_none passes block
-      (identities_all c (IsQuiet passes) (standing_of c lines).gone [] earlier block Good (quiet_retires earlier) stops.before))
-  ends_quiet lines rest end back report (at_end pending no_block told) = no_quiet back no_block
+      (identities_all c (IsQuiet passes) (context_of c lines).gone [] earlier block Good (quiet_retires earlier) stops.before))
+  ends_quiet lines rest end back report (at_end pending no_block observed) = no_quiet back no_block
 
   -- a stream publishes what passes exactly if its report passes
   stream_tells : (bytes : List ℕ) (end : StreamEnd) (blocks : List History) (report : Report)
@@ -227,32 +227,32 @@ module _ (passes : Event → Bool) where
 
 -- Reports
 
-module _ (terms : TermsValue) (order : List Block) (passes : Event → Bool) (adds : ℕ × Clause → Bool)
+module _ (run_params : RunParamsValue) (order : List Block) (passes : Event → Bool) (adds : ℕ × Clause → Bool)
     (says : Report → Bool)
-    (tells : (s : ℕ) → Tells (setting_of terms s) passes adds says) where
-  told_by : (s : ℕ) (stream : Stream) (report : Report)
-      → (events : List History) × (events ≡ blocks_of s order) × JudgesStream (setting_of terms s) stream events report
+    (tells : (s : ℕ) → CallerStep (stream_params run_params s) passes adds says) where
+  observed_by : (s : ℕ) (stream : Stream) (report : Report)
+      → (events : List History) × (events ≡ blocks_of s order) × JudgesStream (stream_params run_params s) stream events report
       → list_any passes (joined (blocks_of s order)) ≡ says report
-  told_by s stream report judged =
-      let way : (end : StreamEnd) × JudgesBlocks (setting_of terms s) stream.bytes end (blocks_of s order) report
-      = some_end (setting_of terms s) stream (blocks_of s order) report
-      (subst (λ (bs : List History). JudgesStream (setting_of terms s) stream bs report) judged.1 judged.2) in
-      stream_tells (setting_of terms s) passes adds says (tells s) stream.bytes way.0 (blocks_of s order) report way.1
+  observed_by s stream report judged =
+      let way : (end : StreamEnd) × JudgesBlocks (stream_params run_params s) stream.bytes end (blocks_of s order) report
+      = some_end (stream_params run_params s) stream (blocks_of s order) report
+      (subst (λ (bs : List History). JudgesStream (stream_params run_params s) stream bs report) judged.1 judged.2) in
+      stream_tells (stream_params run_params s) passes adds says (tells s) stream.bytes way.0 (blocks_of s order) report way.1
 
   said_published : (s : ℕ) (streams : List Stream) (reports : List Report)
-      → AreJudged terms (λ t. true) (λ t events. events ≡ blocks_of t order) s streams reports
+      → AreJudged run_params (λ t. true) (λ t events. events ≡ blocks_of t order) s streams reports
       → list_any says reports ≡ true → list_any passes (events_in order) ≡ true
   said_published s [] [] judged is = absurd (true≢false (sym is))
   said_published s [] (report ∷ reports) judged is = absurd judged
   said_published s (stream ∷ streams) [] judged is = absurd judged
   said_published s (stream ∷ streams) (report ∷ reports) judged is =
       elim (or_cases (says report) (list_any says reports) is) [
-        | inl here ↦ in_order passes s order (told_by s stream report (judged.0 refl) ∙ here)
+        | inl here ↦ in_order passes s order (observed_by s stream report (judged.0 refl) ∙ here)
         | inr later ↦ said_published (s + 1) streams reports judged.1 later
       ]
 
   published_said : (s : ℕ) (streams : List Stream) (reports : List Report)
-      → AreJudged terms (λ t. true) (λ t events. events ≡ blocks_of t order) s streams reports
+      → AreJudged run_params (λ t. true) (λ t events. events ≡ blocks_of t order) s streams reports
       → (k : ℕ) → k < length streams → list_any passes (joined (blocks_of (s + k) order)) ≡ true
       → list_any says reports ≡ true
   published_said s [] [] judged k below is = absurd (omega (arith, below))
@@ -261,7 +261,7 @@ module _ (terms : TermsValue) (order : List Block) (passes : Event → Bool) (ad
   published_said s (stream ∷ streams) (report ∷ reports) judged zero below is =
       let here : s + 0 ≡ s = omega arith in
       or_left (says report) (list_any says reports)
-      (sym (told_by s stream report (judged.0 refl)) ∙ subst (λ (t : ℕ). list_any passes (joined (blocks_of t order)) ≡ true) here is)
+      (sym (observed_by s stream report (judged.0 refl)) ∙ subst (λ (t : ℕ). list_any passes (joined (blocks_of t order)) ≡ true) here is)
   published_said s (stream ∷ streams) (report ∷ reports) judged (suc k) below is =
       let next : s + suc k ≡ s + 1 + k = omega arith in
       or_right (says report) (list_any says reports)
@@ -269,36 +269,38 @@ module _ (terms : TermsValue) (order : List Block) (passes : Event → Bool) (ad
       (subst (λ (t : ℕ). list_any passes (joined (blocks_of t order)) ≡ true) next is))
 
   -- some report passes exactly if the order publishes what does
-  reports_tell : (streams : List Stream) (reports : List Report) → length streams ≡ terms.layout.streams
-      → AllByRecursion (IsBlockWithin terms.layout (λ s. true)) order
-      → AreJudged terms (λ s. true) (λ s events. events ≡ blocks_of s order) 1 streams reports
+  reports_tell : (streams : List Stream) (reports : List Report) → length streams ≡ run_params.layout.streams
+      → AllByRecursion (IsBlockWithin run_params.layout (λ s. true)) order
+      → AreJudged run_params (λ s. true) (λ s events. events ≡ blocks_of s order) 1 streams reports
       → list_any says reports ≡ list_any passes (events_in order)
   reports_tell streams reports count within judged =
       both_ways (list_any says reports) (list_any passes (events_in order))
       (said_published 1 streams reports judged)
       (λ is.
-      let found : (s : ℕ) × IsStream terms.layout s × (list_any passes (joined (blocks_of s order)) ≡ true)
-      = by_stream passes terms.layout (λ s. true) order within is in
+      let found : (s : ℕ) × IsStream run_params.layout s × (list_any passes (joined (blocks_of s order)) ≡ true)
+      = by_stream passes run_params.layout (λ s. true) order within is in
       let s : ℕ = found.0 in
       let first : 0 < s = found.1.0 in
-      let last : s ≤ terms.layout.streams = found.1.1 in
+      let last : s ≤ run_params.layout.streams = found.1.1 in
       let here : s ≡ 1 + (s - 1) = omega (arith, first) in
       published_said 1 streams reports judged (s - 1) (omega (arith, first, last, count))
       (subst (λ (t : ℕ). list_any passes (joined (blocks_of t order)) ≡ true) here found.2))
 
 pub all_ordered : ClosedOrdered → AllClosed → AllOrdered
-all_ordered closed_ordered all_closed f terms h streams reports fits count legal judged stays =
-    let order : IsOrdered f terms (λ s. true) streams reports
-    = closed_ordered f terms (λ s. true) h streams reports fits count legal judged (all_closed terms.layout streams) stays in (
+all_ordered closed_ordered all_closed f run_params h streams reports fits count legal judged stays =
+    let order : IsOrdered f run_params (λ s. true) streams reports
+    = closed_ordered f run_params (λ s. true) h streams reports fits count legal judged (all_closed run_params.layout streams) stays in (
       order,
       record {
         empty =
-            reports_tell terms order.blocks publishes_empty adds_empty (λ report. report.empty) (λ s. empty_tells (setting_of terms s))
+            reports_tell run_params order.blocks publishes_empty adds_empty (λ report. report.empty)
+            (λ s. empty_tells (stream_params run_params s))
             streams reports count order.within order.judged
             ∙ published_some (λ c. length c == 0) (events_in order.blocks);
-        within = reports_tell terms order.blocks (publishes_within terms.cube) (adds_within terms.cube) (λ report. report.within)
-            (λ s. within_tells (setting_of terms s))
+        within = reports_tell run_params order.blocks (publishes_within run_params.cube) (adds_within run_params.cube)
+            (λ report. report.within)
+            (λ s. within_tells (stream_params run_params s))
             streams reports count order.within order.judged
-            ∙ published_some (is_within terms.cube) (events_in order.blocks);
+            ∙ published_some (is_within run_params.cube) (events_in order.blocks);
       },
     )

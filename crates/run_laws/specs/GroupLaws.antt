@@ -10,9 +10,9 @@ use Rattle.lrup_text.specs.declared.device.StreamEnd.{StreamEnd}
 use Rattle.lrup_text.specs.declared.device.StreamEnd.TheVariants as stream_ends
 use Rattle.stream_check.specs.Laws.{IsOfMemory, IsOfFailure}
 use Rattle.stream_check.specs.declared.report.Ending.TheVariants as endings
-use Rattle.stream_check.specs.Setting.{Setting}
-use Rattle.runs.specs.Streams.{Stream, Telling, TermsValue, IsTold, JudgesStream, IsOrdered}
-use Rattle.runs.specs.Headline.{AreJudgedIn}
+use Rattle.stream_check.specs.StreamParams.{StreamParams}
+use Rattle.runs.specs.Streams.{Stream, InputObservation, RunParamsValue, MatchesInput, JudgesStream, IsOrdered}
+use Rattle.runs.specs.SequentialConsistency.{AreJudgedIn}
 use Rattle.runs.specs.Closed.{IsOfStream, CiteWithin, IsClosed}
 use Rattle.run_laws.specs.Groups.{one, AreClosedReaders, NoneOutOfMemory, IsGroup, AreIsolated, empty_stream, empty_report, with_others, IsRun, IsReadingOf}
 
@@ -25,52 +25,58 @@ BeginningsWithin = (p : LayoutValue) (set : ℕ → Bool) (bytes more : List ℕ
 
 -- so a set is closed where all bytes that its readers have left at first cite within it
 abbrev pub ReadersClosed : Type 0
-ReadersClosed = (p : LayoutValue) (set : ℕ → Bool) (told : List Telling) (streams : List Stream)
-    → AllZip IsTold told streams → AreClosedReaders p set told → IsClosed p set streams
+ReadersClosed =
+    (p : LayoutValue) (set : ℕ → Bool) (observed : List InputObservation) (streams : List Stream)
+    → AllZip MatchesInput observed streams → AreClosedReaders p set observed
+    → IsClosed p set streams
 
 -- Groups
 
 -- a closed set of streams that one legal history judges is a group
 abbrev pub ClosedIsGroup : Type 0
-ClosedIsGroup = (f : Cnf) (terms : TermsValue) (set : ℕ → Bool) (h : History)
+ClosedIsGroup = (f : Cnf) (run_params : RunParamsValue) (set : ℕ → Bool) (h : History)
     (streams : List Stream) (reports : List Report)
-    → Fits terms.layout f → length streams ≡ terms.layout.streams
-    → IsLegal f terms.layout h → AreJudgedIn terms set h 1 streams reports
-    → IsClosed terms.layout set streams → NoneOutOfMemory set reports
-    → IsGroup f terms set streams reports
+    → Fits run_params.layout f → length streams ≡ run_params.layout.streams
+    → IsLegal f run_params.layout h → AreJudgedIn run_params set h 1 streams reports
+    → IsClosed run_params.layout set streams → NoneOutOfMemory set reports
+    → IsGroup f run_params set streams reports
 
 -- so is a closed set of streams whose lines have an order, with others or not
 abbrev pub OrderedIsGroup : Type 0
-OrderedIsGroup = (f : Cnf) (terms : TermsValue) (all set : ℕ → Bool) (streams : List Stream)
+OrderedIsGroup =
+    (f : Cnf) (run_params : RunParamsValue) (all set : ℕ → Bool) (streams : List Stream)
     (reports : List Report)
-    → Fits terms.layout f → length streams ≡ terms.layout.streams
-    → ((s : ℕ) → IsTrue (set s) → IsTrue (all s)) → IsOrdered f terms all streams reports
-    → IsClosed terms.layout set streams → NoneOutOfMemory set reports
-    → IsGroup f terms set streams reports
+    → Fits run_params.layout f → length streams ≡ run_params.layout.streams
+    → ((s : ℕ) → IsTrue (set s) → IsTrue (all s)) → IsOrdered f run_params all streams reports
+    → IsClosed run_params.layout set streams → NoneOutOfMemory set reports
+    → IsGroup f run_params set streams reports
 
 -- and the lines of the set have an order by themselves
 abbrev pub OrderedRestricts : Type 0
-OrderedRestricts = (f : Cnf) (terms : TermsValue) (all set : ℕ → Bool) (streams : List Stream)
+OrderedRestricts =
+    (f : Cnf) (run_params : RunParamsValue) (all set : ℕ → Bool) (streams : List Stream)
     (reports : List Report)
-    → Fits terms.layout f → length streams ≡ terms.layout.streams
-    → ((s : ℕ) → IsTrue (set s) → IsTrue (all s)) → IsOrdered f terms all streams reports
-    → IsClosed terms.layout set streams → IsOrdered f terms set streams reports
+    → Fits run_params.layout f → length streams ≡ run_params.layout.streams
+    → ((s : ℕ) → IsTrue (set s) → IsTrue (all s)) → IsOrdered f run_params all streams reports
+    → IsClosed run_params.layout set streams → IsOrdered f run_params set streams reports
 
 -- A group is judged as in a run in which all other streams are empty.
 abbrev pub OthersEmpty : Type 0
-OthersEmpty = (f : Cnf) (terms : TermsValue) (set : ℕ → Bool) (streams : List Stream)
+OthersEmpty = (f : Cnf) (run_params : RunParamsValue) (set : ℕ → Bool) (streams : List Stream)
     (reports : List Report)
-    → IsGroup f terms set streams reports
-    → (h : History) × IsLegal f terms.layout h
-    × AreJudgedIn terms (λ s. true) h 1 (with_others set empty_stream 1 streams)
+    → IsGroup f run_params set streams reports
+    → (h : History) × IsLegal f run_params.layout h
+    × AreJudgedIn run_params (λ s. true) h 1 (with_others set empty_stream 1 streams)
     (with_others set empty_report 1 reports)
 
 -- at most one report fits a stream that is alone, however much of it was read
 abbrev pub AloneHasOneReport : Type 0
-AloneHasOneReport = (f : Cnf) (terms : TermsValue) (s : ℕ) (whole : List ℕ) (end : StreamEnd)
+AloneHasOneReport =
+    (f : Cnf) (run_params : RunParamsValue) (s : ℕ) (whole : List ℕ) (end : StreamEnd)
     (streams others : List Stream) (reports other_reports : List Report) (stream other : Stream)
     (report other_report : Report)
-    → IsGroup f terms (one s) streams reports → IsGroup f terms (one s) others other_reports
+    → IsGroup f run_params (one s) streams reports
+    → IsGroup f run_params (one s) others other_reports
     → IsOfStream streams s stream → IsOfStream others s other → IsReadingOf whole end stream
     → IsReadingOf whole end other
     → IsOfStream reports s report → IsOfStream other_reports s other_report → report ≡ other_report
@@ -79,39 +85,48 @@ AloneHasOneReport = (f : Cnf) (terms : TermsValue) (s : ℕ) (whole : List ℕ) 
 
 -- the reports of every run are isolated
 abbrev pub RunIsolated : Type 0
-RunIsolated = (f : Cnf) (terms : TermsValue) (told : List Telling) (reports : List Report)
-    → Fits terms.layout f → AreIsolated f terms told reports
+RunIsolated = (f : Cnf) (run_params : RunParamsValue) (observed : List InputObservation)
+    (reports : List Report)
+    → Fits run_params.layout f → AreIsolated f run_params observed reports
 
 -- of a stream that was stopped early the report tells of a bad line, or that memory ran out: no other ending is right for both ends
 abbrev pub EarlyIsDecided : Type 0
-EarlyIsDecided = (c : Setting) (stream : Stream) (blocks : List History) (report : Report)
+EarlyIsDecided = (c : StreamParams) (stream : Stream) (blocks : List History) (report : Report)
     → stream.end ≡ None → JudgesStream c stream blocks report
     → (report.ending ≢ endings.Ended) × ¬ IsOfFailure report
 
 -- a reader that hasn't failed told a reading of the bytes that it had left at first, which end
-abbrev pub ToldIsReading : Type 0
-ToldIsReading = (told : List Telling) (streams : List Stream) (s : ℕ) (telling : Telling)
+abbrev pub MatchIsReading : Type 0
+MatchIsReading = (observed : List InputObservation) (streams : List Stream) (s : ℕ)
+    (observation : InputObservation)
     (stream : Stream) (whole : List ℕ)
-    → AllZip IsTold told streams → IsOfStream told s telling → IsOfStream streams s stream
-    → telling.entry ≡ Some whole → telling.has_failed ≡ false
+    → AllZip MatchesInput observed streams → IsOfStream observed s observation
+    → IsOfStream streams s stream
+    → observation.entry ≡ Some whole → observation.has_failed ≡ false
     → IsReadingOf whole stream_ends.Ended stream
 
 -- a reader that failed told all bytes before those that it has left then
 abbrev pub FailedIsReading : Type 0
-FailedIsReading = (told : List Telling) (streams : List Stream) (s : ℕ) (telling : Telling)
+FailedIsReading = (observed : List InputObservation) (streams : List Stream) (s : ℕ)
+    (observation : InputObservation)
     (stream : Stream) (whole left : List ℕ)
-    → AllZip IsTold told streams → IsOfStream told s telling → IsOfStream streams s stream
-    → telling.entry ≡ Some (whole ++ left) → telling.left ≡ Some left → telling.has_failed ≡ true
+    → AllZip MatchesInput observed streams → IsOfStream observed s observation
+    → IsOfStream streams s stream
+    → observation.entry ≡ Some (whole ++ left) → observation.left ≡ Some left
+    → observation.has_failed ≡ true
     → IsReadingOf whole stream_ends.Failed stream
 
--- In two runs of one formula, by the same terms, a stream that cites within itself has one report where the readers told the
+-- In two runs of one formula, by the same parameters, a stream that cites within itself has one report where the readers told the
 -- same bytes and end of it, unless memory ran out: whatever the other streams are, and whichever runs have threads.
 abbrev pub SameReadingAgrees : Type 0
-SameReadingAgrees = (f : Cnf) (terms : TermsValue) (s : ℕ) (whole : List ℕ) (end : StreamEnd)
-    (told other_told : List Telling) (reports other_reports : List Report) (stream other : Stream)
+SameReadingAgrees =
+    (f : Cnf) (run_params : RunParamsValue) (s : ℕ) (whole : List ℕ) (end : StreamEnd)
+    (observed other_observed : List InputObservation) (reports other_reports : List Report)
+    (stream other : Stream)
     (report other_report : Report)
-    → Fits terms.layout f → CiteWithin terms.layout (one s) whole
-    → (a : IsRun f terms told reports) (b : IsRun f terms other_told other_reports)
+    → Fits run_params.layout f → CiteWithin run_params.layout (one s) whole
+    → (a : IsRun f run_params observed reports)
+    (b : IsRun f run_params other_observed other_reports)
     → IsOfStream a.streams s stream → IsOfStream b.streams s other → IsReadingOf whole end stream
     → IsReadingOf whole end other
     → IsOfStream reports s report → IsOfStream other_reports s other_report
@@ -119,14 +134,15 @@ SameReadingAgrees = (f : Cnf) (terms : TermsValue) (s : ℕ) (whole : List ℕ) 
 
 -- Where both readers have the same bytes left at first it has one report, unless memory ran out or a read failed.
 abbrev pub SameBytesAgree : Type 0
-SameBytesAgree = (f : Cnf) (terms : TermsValue) (s : ℕ) (whole : List ℕ)
-    (told other_told : List Telling) (telling other_telling : Telling)
+SameBytesAgree = (f : Cnf) (run_params : RunParamsValue) (s : ℕ) (whole : List ℕ)
+    (observed other_observed : List InputObservation)
+    (observation other_observation : InputObservation)
     (reports other_reports : List Report)
     (report other_report : Report)
-    → Fits terms.layout f → CiteWithin terms.layout (one s) whole
-    → IsRun f terms told reports → IsRun f terms other_told other_reports
-    → IsOfStream told s telling → telling.entry ≡ Some whole
-    → IsOfStream other_told s other_telling → other_telling.entry ≡ Some whole
+    → Fits run_params.layout f → CiteWithin run_params.layout (one s) whole
+    → IsRun f run_params observed reports → IsRun f run_params other_observed other_reports
+    → IsOfStream observed s observation → observation.entry ≡ Some whole
+    → IsOfStream other_observed s other_observation → other_observation.entry ≡ Some whole
     → IsOfStream reports s report → IsOfStream other_reports s other_report
     → ¬ IsOfMemory report → ¬ IsOfFailure report → ¬ IsOfMemory other_report
     → ¬ IsOfFailure other_report

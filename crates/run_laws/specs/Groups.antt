@@ -11,26 +11,27 @@ use Rattle.lrup_text.specs.declared.device.StreamEnd.{StreamEnd}
 use Rattle.lrup_text.specs.declared.device.StreamEnd.TheVariants as stream_ends
 use Rattle.stream_check.specs.Laws.{IsOfMemory}
 use Rattle.runs.specs.Closed.{IsOfStream, CiteWithin, IsClosed}
-use Rattle.runs.specs.Streams.{Stream, Telling, TermsValue, IsTold}
-use Rattle.runs.specs.Headline.{AreJudgedIn}
+use Rattle.runs.specs.Streams.{Stream, InputObservation, RunParamsValue, MatchesInput}
+use Rattle.runs.specs.SequentialConsistency.{AreJudgedIn}
 
 -- Runs
 
 -- A run, as far as its first streams go, so many: the readers told streams, and one legal history judges each by its own events, as
 -- its report says.
-pub record IsRunOfFirst (many : ℕ) (formula : Cnf) (terms : TermsValue) (told : List Telling)
+pub record IsRunOfFirst (many : ℕ) (formula : Cnf) (run_params : RunParamsValue)
+    (observed : List InputObservation)
     (reports : List Report) : Type 0 where
   pub streams : List Stream
-  pub are_told : AllZip IsTold told streams
+  pub match_inputs : AllZip MatchesInput observed streams
   pub count : length streams ≡ many
   pub history : History
-  pub legal : IsLegal formula terms.layout history
-  pub judged : AreJudgedIn terms (λ s. true) history 1 streams reports
+  pub legal : IsLegal formula run_params.layout history
+  pub judged : AreJudgedIn run_params (λ s. true) history 1 streams reports
 
 -- What a run is: so it is with all streams of the layout.
-abbrev pub IsRun : Cnf → TermsValue → List Telling → List Report → Type 0
-IsRun formula terms told reports =
-    IsRunOfFirst terms.layout.streams formula terms told reports
+abbrev pub IsRun : Cnf → RunParamsValue → List InputObservation → List Report → Type 0
+IsRun formula run_params observed reports =
+    IsRunOfFirst run_params.layout.streams formula run_params observed reports
 
 -- one stream, as a set
 abbrev pub one : ℕ → ℕ → Bool
@@ -39,10 +40,10 @@ one s = λ t. t == s
 -- Closed sets
 
 -- each reader of the set's streams has known bytes left at first, and all of them cite within the set
-abbrev pub AreClosedReaders : LayoutValue → (ℕ → Bool) → List Telling → Type 0
-AreClosedReaders layout set told =
-    (s : ℕ) (telling : Telling) → IsTrue (set s) → IsOfStream told s telling
-    → (bytes : List ℕ) × (telling.entry ≡ Some bytes) × CiteWithin layout set bytes
+abbrev pub AreClosedReaders : LayoutValue → (ℕ → Bool) → List InputObservation → Type 0
+AreClosedReaders layout set observed =
+    (s : ℕ) (observation : InputObservation) → IsTrue (set s) → IsOfStream observed s observation
+    → (bytes : List ℕ) × (observation.entry ≡ Some bytes) × CiteWithin layout set bytes
 
 -- Readings
 
@@ -61,21 +62,22 @@ NoneOutOfMemory set reports =
 
 -- The reports of a set of streams are those of the set alone: a legal history, with events of its streams and of no others,
 -- judges each of them so, and none tells that memory ran out.
-pub record IsGroup (formula : Cnf) (terms : TermsValue) (set : ℕ → Bool) (streams : List Stream)
+pub record IsGroup (formula : Cnf) (run_params : RunParamsValue) (set : ℕ → Bool)
+    (streams : List Stream)
     (reports : List Report) : Type 0 where
   pub history : History
   pub members : AllByRecursion (λ event. IsTrue (set (stream_of event))) history
-  pub legal : IsLegal formula terms.layout history
-  pub judged : AreJudgedIn terms set history 1 streams reports
+  pub legal : IsLegal formula run_params.layout history
+  pub judged : AreJudgedIn run_params set history 1 streams reports
   pub memory : NoneOutOfMemory set reports
 
 -- a report that stream s may have alone, as a group of this one stream, where these are its bytes and its end
-pub record IsReportAlone (formula : Cnf) (terms : TermsValue) (s : ℕ) (whole : List ℕ)
+pub record IsReportAlone (formula : Cnf) (run_params : RunParamsValue) (s : ℕ) (whole : List ℕ)
     (end : StreamEnd) (report : Report) : Type 0 where
   pub streams : List Stream
   pub reports : List Report
   pub stream : Stream
-  pub alone : IsGroup formula terms (one s) streams reports
+  pub alone : IsGroup formula run_params (one s) streams reports
   pub at : IsOfStream streams s stream
   pub reads : IsReadingOf whole end stream
   pub says : IsOfStream reports s report
@@ -83,16 +85,18 @@ pub record IsReportAlone (formula : Cnf) (terms : TermsValue) (s : ℕ) (whole :
 -- The reports are isolated. In every run that has them each closed set of streams, none of whose reports tells that memory ran out,
 -- has such reports as it may have alone. And a stream that is a closed set by itself, and whose report doesn't tell that memory ran
 -- out, has no other report than it may have alone, with all bytes and any end of which the stream is a reading.
-pub record AreIsolated (formula : Cnf) (terms : TermsValue) (told : List Telling)
+pub record AreIsolated (formula : Cnf) (run_params : RunParamsValue)
+    (observed : List InputObservation)
     (reports : List Report) : Type 0 where
-  pub groups : (run : IsRun formula terms told reports) (set : ℕ → Bool)
-      → IsClosed terms.layout set run.streams → NoneOutOfMemory set reports
-      → IsGroup formula terms set run.streams reports
-  pub alone : (run : IsRun formula terms told reports) (s : ℕ) (stream : Stream) (report : Report)
+  pub groups : (run : IsRun formula run_params observed reports) (set : ℕ → Bool)
+      → IsClosed run_params.layout set run.streams → NoneOutOfMemory set reports
+      → IsGroup formula run_params set run.streams reports
+  pub alone : (run : IsRun formula run_params observed reports) (s : ℕ) (stream : Stream)
+      (report : Report)
       → IsOfStream run.streams s stream → IsOfStream reports s report
-      → IsClosed terms.layout (one s) run.streams → ¬ IsOfMemory report
+      → IsClosed run_params.layout (one s) run.streams → ¬ IsOfMemory report
       → (whole : List ℕ) (end : StreamEnd) → IsReadingOf whole end stream
-      → (other : Report) → IsReportAlone formula terms s whole end other → other ≡ report
+      → (other : Report) → IsReportAlone formula run_params s whole end other → other ≡ report
 
 -- A run in which the other streams are empty
 

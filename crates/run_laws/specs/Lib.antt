@@ -2,11 +2,11 @@ pub mod Groups
 pub mod Lines
 pub mod Premises
 pub mod Serializable
-pub mod Right
-pub mod Blame
+pub mod Valid
+pub mod AnyRun
 pub mod Together
 pub mod GroupLaws
 pub mod OrderLaws
-pub mod RightLaws
+pub mod ValidLaws
 pub mod TurnsLaws
 pub mod lemmas

@@ -11,11 +11,11 @@ use Rattle.lrup_model.specs.Laws.{FindsWithin}
 use Rattle.lrup_text.specs.Lines.{StreamLine, Cut}
 use Rattle.lrup_text.specs.declared.device.StreamEnd.{StreamEnd}
 use Rattle.stream_check.specs.declared.report.Report.{Report}
-use Rattle.stream_check.specs.Setting.{Setting}
-use Rattle.stream_check.specs.Standing.{deleted_by}
+use Rattle.stream_check.specs.StreamParams.{StreamParams}
+use Rattle.stream_check.specs.StreamContext.{deleted_by}
 use Rattle.stream_check.specs.Judging.{joined, JudgesBlocks}
-use Rattle.runs.specs.Streams.{Stream, Block, events_in, Telling, TermsValue, IsTold, IsOrdered}
-use Rattle.runs.specs.Headline.{AreJudgedIn}
+use Rattle.runs.specs.Streams.{Stream, Block, events_in, InputObservation, RunParamsValue, MatchesInput, IsOrdered}
+use Rattle.runs.specs.SequentialConsistency.{AreJudgedIn}
 use Rattle.runs.specs.Closed.{IsClosed}
 use Rattle.run_laws.specs.Lines.{IsLineBlock, IsOrder}
 use Rattle.run_laws.specs.Premises.{FindsKept, FoundStays, FindsUnretired, OwnersAloneMeetRetired, Cites, SomeLineDeletes, KeepShared, ReadersKeepShared}
@@ -25,7 +25,7 @@ use Rattle.run_laws.specs.Serializable.{ComeToVerdict, IsSerializable}
 
 -- the blocks by which a stream is judged are like those of lines
 abbrev pub JudgedBlocks : Type 0
-JudgedBlocks = (c : Setting) (bytes : List ℕ) (end : StreamEnd) (blocks : List History)
+JudgedBlocks = (c : StreamParams) (bytes : List ℕ) (end : StreamEnd) (blocks : List History)
     (report : Report)
     → JudgesBlocks c bytes end blocks report → AllByRecursion IsLineBlock blocks
 
@@ -37,7 +37,7 @@ RetiresOnly p (events.retire s id r) = IsTrue (p id)
 
 -- A stream retires no identity that its lines don't delete: where all that they delete pass a test, so does what it retires.
 abbrev pub DeletedRetired : Type 0
-DeletedRetired = (c : Setting) (bytes : List ℕ) (end : StreamEnd) (blocks : List History)
+DeletedRetired = (c : StreamParams) (bytes : List ℕ) (end : StreamEnd) (blocks : List History)
     (report : Report)
     (all : List StreamLine) (rest : List ℕ) (p : ℕ → Bool)
     → JudgesBlocks c bytes end blocks report → Cut bytes all rest
@@ -60,12 +60,12 @@ LinesOrdered = (f : Cnf) (p : LayoutValue) (set : ℕ → Bool) (h : History) (b
 -- The reports of a closed set of streams that one legal history judges have an order of lines, where what the streams found live
 -- of one another isn't left retired.
 abbrev pub ClosedOrdered : Type 0
-ClosedOrdered = (f : Cnf) (terms : TermsValue) (set : ℕ → Bool) (h : History)
+ClosedOrdered = (f : Cnf) (run_params : RunParamsValue) (set : ℕ → Bool) (h : History)
     (streams : List Stream) (reports : List Report)
-    → Fits terms.layout f → length streams ≡ terms.layout.streams
-    → IsLegal f terms.layout h → AreJudgedIn terms set h 1 streams reports
-    → IsClosed terms.layout set streams → FoundStays f terms.layout set h
-    → IsOrdered f terms set streams reports
+    → Fits run_params.layout f → length streams ≡ run_params.layout.streams
+    → IsLegal f run_params.layout h → AreJudgedIn run_params set h 1 streams reports
+    → IsClosed run_params.layout set streams → FoundStays f run_params.layout set h
+    → IsOrdered f run_params set streams reports
 
 -- all streams together are a closed set
 abbrev pub AllClosed : Type 0
@@ -74,13 +74,13 @@ AllClosed = (p : LayoutValue) (streams : List Stream) → IsClosed p (λ s. true
 -- The reports of all streams have an order of lines, and the verdict that these lines come to is that of the reports: a stream
 -- said that it added the empty clause exactly if the order publishes it, and one within the cube exactly if the order publishes one.
 abbrev pub AllOrdered : Type 0
-AllOrdered = (f : Cnf) (terms : TermsValue) (h : History)
+AllOrdered = (f : Cnf) (run_params : RunParamsValue) (h : History)
     (streams : List Stream) (reports : List Report)
-    → Fits terms.layout f → length streams ≡ terms.layout.streams
-    → IsLegal f terms.layout h → AreJudgedIn terms (λ s. true) h 1 streams reports
-    → FoundStays f terms.layout (λ s. true) h
-    → (order : IsOrdered f terms (λ s. true) streams reports)
-    × ComeToVerdict terms.cube (events_in order.blocks) reports
+    → Fits run_params.layout f → length streams ≡ run_params.layout.streams
+    → IsLegal f run_params.layout h → AreJudgedIn run_params (λ s. true) h 1 streams reports
+    → FoundStays f run_params.layout (λ s. true) h
+    → (order : IsOrdered f run_params (λ s. true) streams reports)
+    × ComeToVerdict run_params.cube (events_in order.blocks) reports
 
 -- The premise
 
@@ -96,12 +96,13 @@ OwnersAloneSuffices = (f : Cnf) (p : LayoutValue) (set : ℕ → Bool) (h : Hist
 
 -- a closed set of streams that retire nothing of their own that another cites leaves what they found of one another
 abbrev pub SharedStays : Type 0
-SharedStays = (f : Cnf) (terms : TermsValue) (set : ℕ → Bool) (h : History) (streams : List Stream)
+SharedStays =
+    (f : Cnf) (run_params : RunParamsValue) (set : ℕ → Bool) (h : History) (streams : List Stream)
     (reports : List Report)
-    → Fits terms.layout f → length streams ≡ terms.layout.streams
-    → IsLegal f terms.layout h → AreJudgedIn terms set h 1 streams reports
-    → IsClosed terms.layout set streams → KeepShared terms.layout set streams
-    → FoundStays f terms.layout set h
+    → Fits run_params.layout f → length streams ≡ run_params.layout.streams
+    → IsLegal f run_params.layout h → AreJudgedIn run_params set h 1 streams reports
+    → IsClosed run_params.layout set streams → KeepShared run_params.layout set streams
+    → FoundStays f run_params.layout set h
 
 -- what the lines of some bytes cite or delete, those of all bytes that begin with them do
 abbrev pub BeginningsCite : Type 0
@@ -112,12 +113,15 @@ BeginningsCite = (bytes more : List ℕ) (id : ℕ)
 -- So where the streams keep what they share in all bytes that their readers have left at first, they keep it in those that were
 -- needed.
 abbrev pub ReadersShare : Type 0
-ReadersShare = (p : LayoutValue) (set : ℕ → Bool) (told : List Telling) (streams : List Stream)
-    → AllZip IsTold told streams → ReadersKeepShared p set told → KeepShared p set streams
+ReadersShare =
+    (p : LayoutValue) (set : ℕ → Bool) (observed : List InputObservation) (streams : List Stream)
+    → AllZip MatchesInput observed streams → ReadersKeepShared p set observed
+    → KeepShared p set streams
 
 -- Runs
 
 -- The lines of every run are serializable.
 abbrev pub RunSerializable : Type 0
-RunSerializable = (f : Cnf) (terms : TermsValue) (told : List Telling) (reports : List Report)
-    → Fits terms.layout f → IsSerializable f terms told reports
+RunSerializable = (f : Cnf) (run_params : RunParamsValue) (observed : List InputObservation)
+    (reports : List Report)
+    → Fits run_params.layout f → IsSerializable f run_params observed reports

@@ -9,9 +9,9 @@ use Rattle.lrup_model.specs.State.{State, IsRetired, state}
 use Rattle.lrup_model.specs.Laws.{IsFound}
 use Rattle.lrup_model.specs.declared.clause_map.Retired.TheVariants as retiring
 use Rattle.lrup_text.specs.Lines.{StreamLine, Cut}
-use Rattle.stream_check.specs.Standing.{is_among, deleted_by}
+use Rattle.stream_check.specs.StreamContext.{is_among, deleted_by}
 use Rattle.stream_check.specs.Laws.{cited_by}
-use Rattle.runs.specs.Streams.{Stream, Telling}
+use Rattle.runs.specs.Streams.{Stream, InputObservation}
 use Rattle.runs.specs.Closed.{IsOfStream}
 
 -- By what the history leaves
@@ -89,10 +89,10 @@ KeepShared layout set streams =
     → Cites citing.bytes id → ¬ SomeLineDeletes deleting.bytes id
 
 -- So it is in all bytes that the readers of the set's streams have left at first, which are known.
-abbrev pub ReadersKeepShared : LayoutValue → (ℕ → Bool) → List Telling → Type 0
-ReadersKeepShared layout set told =
-    (s t id : ℕ) (citing deleting : Telling) → s ≢ t → IsTrue (set s) → IsTrue (set t)
-    → IsOfStream told s citing → IsOfStream told t deleting → Owns layout t id
+abbrev pub ReadersKeepShared : LayoutValue → (ℕ → Bool) → List InputObservation → Type 0
+ReadersKeepShared layout set observed =
+    (s t id : ℕ) (citing deleting : InputObservation) → s ≢ t → IsTrue (set s) → IsTrue (set t)
+    → IsOfStream observed s citing → IsOfStream observed t deleting → Owns layout t id
     → (bytes : List ℕ) × (others : List ℕ)
     × (citing.entry ≡ Some bytes) × (deleting.entry ≡ Some others)
     × (Cites bytes id → ¬ SomeLineDeletes others id)

@@ -5,8 +5,8 @@ use Rattle.lrup_model.specs.Cube.{CubeValue}
 use Rattle.lrup_model.specs.Formula.{Cnf}
 use Rattle.lrup_model.specs.Event.{History, published}
 use Rattle.stream_check.specs.declared.report.Report.{Report}
-use Rattle.stream_check.specs.Standing.{is_within}
-use Rattle.runs.specs.Streams.{Telling, TermsValue, IsOrdered, events_in}
+use Rattle.stream_check.specs.StreamContext.{is_within}
+use Rattle.runs.specs.Streams.{InputObservation, RunParamsValue, IsOrdered, events_in}
 use Rattle.runs.specs.Closed.{IsClosed}
 use Rattle.run_laws.specs.Groups.{IsRun}
 use Rattle.run_laws.specs.Premises.{FoundStays}
@@ -24,11 +24,12 @@ pub record ComeToVerdict (cube : CubeValue) (history : History)
 -- identity of another stream live that the run's history leaves retired, the set's lines have one order in which a checker of one
 -- thread gives the same reports; and where this holds of all streams together, they have one that comes to the verdict of the
 -- reports besides.
-abbrev pub IsSerializable : Cnf → TermsValue → List Telling → List Report → Type 0
-IsSerializable formula terms told reports = (run : IsRun formula terms told reports)
-    → ((set : ℕ → Bool) → IsClosed terms.layout set run.streams
-    → FoundStays formula terms.layout set run.history
-    → IsOrdered formula terms set run.streams reports)
-    × (FoundStays formula terms.layout (λ s. true) run.history
-    → (order : IsOrdered formula terms (λ s. true) run.streams reports)
-    × ComeToVerdict terms.cube (events_in order.blocks) reports)
+abbrev pub IsSerializable : Cnf → RunParamsValue → List InputObservation → List Report → Type 0
+IsSerializable formula run_params observed reports =
+    (run : IsRun formula run_params observed reports)
+    → ((set : ℕ → Bool) → IsClosed run_params.layout set run.streams
+    → FoundStays formula run_params.layout set run.history
+    → IsOrdered formula run_params set run.streams reports)
+    × (FoundStays formula run_params.layout (λ s. true) run.history
+    → (order : IsOrdered formula run_params (λ s. true) run.streams reports)
+    × ComeToVerdict run_params.cube (events_in order.blocks) reports)

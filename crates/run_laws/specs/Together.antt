@@ -1,6 +1,6 @@
--- Right streams that cite one another: lines of several streams, in some order, each of which is right by what the lines before it
+-- Valid proofs that cite one another: lines of several streams, in some order, each of which is valid by what the lines before it
 -- leave to its stream; and the law that they aren't blamed (this project's own). Some good lines have no such order: a checker
--- also takes the deletion of another stream's clause that its owner has deleted already (the law `NoFalseBlame` speaks of those).
+-- also takes the deletion of another stream's clause that its owner has deleted already (the law `ValidInAnyRun` speaks of those).
 use Rattle.std.specs.Prelude.{◌≡◌, ◌⊎◌, ◌==◌, ◌&&◌, ◌++◌, ℕ, Bool, false, IsTrue, List, [], ◌∷◌, length, None, Some, if◌then◌else◌}
 use Rattle.std.specs.List.{AllByRecursion, flat_map}
 use Rattle.lrup_model.specs.Distinct.{distinct}
@@ -10,12 +10,12 @@ use Rattle.lrup_model.specs.declared.layout.Owner.TheVariants as owners
 use Rattle.lrup_text.specs.Lines.{StreamLine, Addition, Deletion, Import, IsWithinLimits, line_text}
 use Rattle.stream_check.specs.declared.report.Report.{Report}
 use Rattle.stream_check.specs.Laws.{IsOfMemory, IsOfFailure}
-use Rattle.stream_check.specs.Standing.{is_among}
+use Rattle.stream_check.specs.StreamContext.{is_among}
 use Rattle.runs.specs.Closed.{IsOfStream}
-use Rattle.runs.specs.Streams.{Telling, TermsValue, setting_of}
-use Rattle.run_laws.specs.Blame.{LacksOfAnother, LacksOfAnotherIn}
+use Rattle.runs.specs.Streams.{InputObservation, RunParamsValue, stream_params}
+use Rattle.run_laws.specs.AnyRun.{LacksOfAnother, LacksOfAnotherIn}
 use Rattle.run_laws.specs.Groups.{IsRun}
-use Rattle.run_laws.specs.Right.{Database, first_database, after_line, IsRightLine, right_report, IsCutOffIn, TellsAtLeast}
+use Rattle.run_laws.specs.Valid.{Database, first_database, after_line, IsValidLine, valid_report, IsCutOffIn, TellsAtLeast}
 
 -- a line, and the stream, from 1 on, whose line it is
 pub record Step : Type 0 where
@@ -52,12 +52,12 @@ after_step layout step bases t =
     if t == step.stream then after_line (bases t) step.line
     else beside_line layout step.stream (bases t) step.line
 
--- each line is right, after those before it
-abbrev pub AreRightTogether : LayoutValue → (ℕ → Database) → List Step → Type 0
-AreRightTogether layout bases [] = Unit {0}
-AreRightTogether layout bases (step ∷ steps) =
-    IsRightLine layout step.stream (bases step.stream) step.line
-    × AreRightTogether layout (after_step layout step bases) steps
+-- each line is valid, after those before it
+abbrev pub AreValidTogether : LayoutValue → (ℕ → Database) → List Step → Type 0
+AreValidTogether layout bases [] = Unit {0}
+AreValidTogether layout bases (step ∷ steps) =
+    IsValidLine layout step.stream (bases step.stream) step.line
+    × AreValidTogether layout (after_step layout step bases) steps
 
 -- the lines of one stream, in order
 abbrev pub lines_by : ℕ → List Step → List StreamLine
@@ -65,43 +65,44 @@ lines_by s [] = []
 lines_by s (step ∷ steps) =
     if step.stream == s then step.line ∷ lines_by s steps else lines_by s steps
 
--- This order of lines shows that its streams are right together: each line has a text within the limits, and is right.
-pub record IsRightOrder (formula : Cnf) (layout : LayoutValue) (steps : List Step) : Type 0 where
+-- This order of lines shows that its streams are valid together: each line has a text within the limits, and is valid.
+pub record IsValidOrder (formula : Cnf) (layout : LayoutValue) (steps : List Step) : Type 0 where
   pub streams : AllByRecursion (λ step. IsStream layout step.stream) steps
   pub fits : AllByRecursion (λ step. IsWithinLimits step.line) steps
-  pub right : AreRightTogether layout (λ t. first_database formula layout) steps
+  pub valid : AreValidTogether layout (λ t. first_database formula layout) steps
 
 -- the readers of the set have the texts of its streams' lines left at first, and maybe more behind them
-abbrev pub HaveTexts : (ℕ → Bool) → List Step → List Telling → Type 0
-HaveTexts set steps told =
-    (t : ℕ) (telling : Telling) → IsTrue (set t) → IsOfStream told t telling
+abbrev pub HaveTexts : (ℕ → Bool) → List Step → List InputObservation → Type 0
+HaveTexts set steps observed =
+    (t : ℕ) (observation : InputObservation) → IsTrue (set t) → IsOfStream observed t observation
     → (more : List ℕ)
-    × (telling.entry ≡ Some (flat_map line_text (lines_by t steps) ++ more))
+    × (observation.entry ≡ Some (flat_map line_text (lines_by t steps) ++ more))
 
--- Where lines of a set of streams have a right order, then in every run of these streams the report of each tells at least what its
+-- Where lines of a set of streams have a valid order, then in every run of these streams the report of each tells at least what its
 -- lines do; or memory ran out, or a read failed, in these lines; or one of them cites a clause of another stream that wasn't there,
 -- or wasn't any more. That is so whatever the streams outside the set are, and whatever comes behind the lines.
 abbrev pub TogetherBegins : Type 0
-TogetherBegins = (formula : Cnf) (terms : TermsValue) (set : ℕ → Bool) (steps : List Step)
-    (told : List Telling) (reports : List Report) (s : ℕ) (report : Report)
-    → IsCnf formula → Fits terms.layout formula → IsRightOrder formula terms.layout steps
+TogetherBegins = (formula : Cnf) (run_params : RunParamsValue) (set : ℕ → Bool) (steps : List Step)
+    (observed : List InputObservation) (reports : List Report) (s : ℕ) (report : Report)
+    → IsCnf formula → Fits run_params.layout formula → IsValidOrder formula run_params.layout steps
     → AllByRecursion (λ step. IsTrue (set step.stream)) steps
-    → IsRun formula terms told reports → HaveTexts set steps told
+    → IsRun formula run_params observed reports → HaveTexts set steps observed
     → IsTrue (set s) → IsOfStream reports s report
-    → TellsAtLeast report (right_report terms s (lines_by s steps))
+    → TellsAtLeast report (valid_report run_params s (lines_by s steps))
     ⊎ (IsCutOffIn (length (lines_by s steps)) report
-    ⊎ LacksOfAnotherIn (setting_of terms s) (length (lines_by s steps)) report)
+    ⊎ LacksOfAnotherIn (stream_params run_params s) (length (lines_by s steps)) report)
 
--- Where nothing comes behind a stream's lines, it ended, as its right report says; or memory ran out, or a read failed; or a line of
+-- Where nothing comes behind a stream's lines, it ended, as its valid report says; or memory ran out, or a read failed; or a line of
 -- it cites a clause of another stream that wasn't there, or wasn't any more.
-abbrev pub RightTogether : Type 0
-RightTogether = (formula : Cnf) (terms : TermsValue) (set : ℕ → Bool) (steps : List Step)
-    (told : List Telling) (reports : List Report) (s : ℕ) (telling : Telling) (report : Report)
-    → IsCnf formula → Fits terms.layout formula → IsRightOrder formula terms.layout steps
+abbrev pub ValidTogether : Type 0
+ValidTogether = (formula : Cnf) (run_params : RunParamsValue) (set : ℕ → Bool) (steps : List Step)
+    (observed : List InputObservation) (reports : List Report) (s : ℕ)
+    (observation : InputObservation) (report : Report)
+    → IsCnf formula → Fits run_params.layout formula → IsValidOrder formula run_params.layout steps
     → AllByRecursion (λ step. IsTrue (set step.stream)) steps
-    → IsRun formula terms told reports → HaveTexts set steps told
-    → IsTrue (set s) → IsOfStream told s telling
-    → telling.entry ≡ Some (flat_map line_text (lines_by s steps))
+    → IsRun formula run_params observed reports → HaveTexts set steps observed
+    → IsTrue (set s) → IsOfStream observed s observation
+    → observation.entry ≡ Some (flat_map line_text (lines_by s steps))
     → IsOfStream reports s report → ¬ IsOfMemory report → ¬ IsOfFailure report
-    → (report ≡ right_report terms s (lines_by s steps))
-    ⊎ LacksOfAnother (setting_of terms s) report
+    → (report ≡ valid_report run_params s (lines_by s steps))
+    ⊎ LacksOfAnother (stream_params run_params s) report

@@ -1,5 +1,5 @@
 //! Laws of groups. Each function does nothing; its contract is the law, which holds of every formula, layout, set and run.
-ghost use Rattle.run_laws.specs.GroupLaws.{BeginningsWithin, ReadersClosed, ClosedIsGroup, OrderedIsGroup, OrderedRestricts, OthersEmpty, AloneHasOneReport, RunIsolated, EarlyIsDecided, ToldIsReading, FailedIsReading, SameReadingAgrees, SameBytesAgree};
+ghost use Rattle.run_laws.specs.GroupLaws.{BeginningsWithin, ReadersClosed, ClosedIsGroup, OrderedIsGroup, OrderedRestricts, OthersEmpty, AloneHasOneReport, RunIsolated, EarlyIsDecided, MatchIsReading, FailedIsReading, SameReadingAgrees, SameBytesAgree};
 
 use lrup_text::laws::{a_beginning_is_cut_alike, every_stream_is_cut};
 use stream_check::laws::{
@@ -72,8 +72,8 @@ pub fn early_is_decided()
 {}
 
 /// A reader that hasn't failed told a reading of the bytes that it had left at first.
-pub fn told_is_reading()
-    ensures { ToldIsReading }
+pub fn match_is_reading()
+    ensures { MatchIsReading }
 {}
 
 /// A reader that failed told all bytes before those that it has left then.

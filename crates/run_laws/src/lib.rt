@@ -5,5 +5,5 @@
 
 pub mod groups;
 pub mod orders;
-pub mod right;
 pub mod turns;
+pub mod valid;

@@ -1,5 +1,5 @@
 //! Laws of runs on one thread. Each function does nothing; its contract is the law, which holds of every formula and run.
-ghost use Rattle.run_laws.specs.TurnsLaws.{BytesDecide, RightByTurns, TurnsDecide};
+ghost use Rattle.run_laws.specs.TurnsLaws.{BytesDecide, ValidByTurns, TurnsDecide};
 
 use lrup_text::laws::{a_stream_is_cut_in_one_way, no_bytes_have_no_lines};
 use stream_check::laws::{
@@ -27,10 +27,10 @@ pub fn bytes_decide()
     blocks_go_alike();
 }
 
-/// Where the lines of streams have a right order that is by turns, a run on one thread says of each what is right, unless memory
+/// Where the lines of streams have a valid order that is by turns, a run on one thread gives each its valid report, unless memory
 /// ran out or a read failed.
-pub fn right_by_turns()
-    ensures { RightByTurns }
+pub fn valid_by_turns()
+    ensures { ValidByTurns }
 {
     good_line_taken();
     fresh_left();

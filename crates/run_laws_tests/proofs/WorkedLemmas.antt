@@ -9,8 +9,8 @@ use Rattle.lrup_model.specs.Formula.{IsCnf}
 use Rattle.lrup_model.specs.Propagation.{Accepts, IsConflict, IsUnit}
 use Rattle.lrup_text.specs.Laws.{EmptyPending, OneFirstLine}
 use Rattle.lrup_text.specs.Lines.{StreamLine, Addition, IsWithinLimits, line_text}
-use Rattle.run_laws.specs.Right.{AddsEmpty, IsRightBeginning, IsRightImport, IsRightRefutation, IsRightStream}
-use Rattle.run_laws.specs.Together.{IsRightOrder}
+use Rattle.run_laws.specs.Valid.{AddsEmpty, IsValidPrefix, IsValidImport, IsValidRefutation, IsValidProof}
+use Rattle.run_laws.specs.Together.{IsValidOrder}
 use Rattle.lrup_model.specs.Layout.{Owns}
 use Rattle.lrup_model.specs.declared.layout.Owner.TheVariants as owners
 use Rattle.run_laws_tests.specs.Worked.{at_first, one_stream, two_streams, refutation, shared}
@@ -71,7 +71,7 @@ negated_is_proper t = elim t.1 [
 pub negated_is_shown : Accepts (negsuc 1 ∷ []) (third ∷ fourth ∷ [])
 negated_is_shown = (negated_is_proper, (pos 1, third_is_unit, fourth_is_conflict))
 
--- Lines that aren't right
+-- Lines that aren't valid
 
 pub one_is_no_conflict : (ds : List Clause) → AllZip (λ h d. at_first.clauses h ≡ Some d) (1 ∷ []) ds → Accepts unit ds → ⊥
 one_is_no_conflict [] named shown = named
@@ -81,21 +81,21 @@ one_is_no_conflict (d ∷ []) named shown =
     elim has [ inl e ↦ two_not_one e | inr none ↦ none ]
 one_is_no_conflict (d ∷ e ∷ ds) named shown = named.1
 
-pub unit_differs : IsRightImport one_stream 1 at_first 1 unit → ⊥
-unit_differs right =
-    let same : first ≡ right.clause = let is : Some first ≡ Some right.clause = right.there in cc in
-    let has : Has unit (pos 1) = (right.same (pos 1)).0 (subst (λ (x : Clause). Has x (pos 1)) same (inl refl)) in
+pub unit_differs : IsValidImport one_stream 1 at_first 1 unit → ⊥
+unit_differs valid =
+    let same : first ≡ valid.clause = let is : Some first ≡ Some valid.clause = valid.there in cc in
+    let has : Has unit (pos 1) = (valid.same (pos 1)).0 (subst (λ (x : Clause). Has x (pos 1)) same (inl refl)) in
     elim has [ inl e ↦ two_not_one e | inr none ↦ none ]
 
 -- 1 is the formula's, and no stream's own
 pub one_is_the_formulas : Owns one_stream 1 1 → ⊥
 one_is_the_formulas owns = let no : owners.Formula ≡ owners.Stream 1 = owns in cc
 
-pub no_minus_one : IsRightImport one_stream 1 at_first 1 (pos 1 ∷ pos 2 ∷ negsuc 0 ∷ []) → ⊥
-no_minus_one right =
-    let same : first ≡ right.clause = let is : Some first ≡ Some right.clause = right.there in cc in
+pub no_minus_one : IsValidImport one_stream 1 at_first 1 (pos 1 ∷ pos 2 ∷ negsuc 0 ∷ []) → ⊥
+no_minus_one valid =
+    let same : first ≡ valid.clause = let is : Some first ≡ Some valid.clause = valid.there in cc in
     let has : Has first (negsuc 0) =
-    subst (λ (x : Clause). Has x (negsuc 0)) (sym same) ((right.same (negsuc 0)).1 (inr (inr (inl refl)))) in
+    subst (λ (x : Clause). Has x (negsuc 0)) (sym same) ((valid.same (negsuc 0)).1 (inr (inr (inl refl)))) in
     elim has [ inl e ↦ signs 1 0 e | inr more ↦ elim more [ inl e ↦ signs 2 0 e | inr none ↦ none ] ]
 
 -- the first line of the refutation adds a literal
@@ -149,9 +149,9 @@ four_is_cnf = record {
   );
 }
 
-pub refutation_is_right : IsRightStream four one_stream 1 (codes "5 2 0 1 2 0\n6 0 5 3 4 0\n") refutation
+pub refutation_is_valid : IsValidProof four one_stream 1 (codes "5 2 0 1 2 0\n6 0 5 3 4 0\n") refutation
 unfolding digits
-refutation_is_right = record {
+refutation_is_valid = record {
   text = refl;
   fits = (
     (
@@ -168,7 +168,7 @@ refutation_is_right = record {
       tt,
     ),
   );
-  right = (
+  valid = (
     record {
       owns = refl;
       above = omega arith;
@@ -194,18 +194,18 @@ refutation_is_right = record {
 }
 
 -- whatever comes behind it
-pub refutation_begins : (more : List ℕ) → IsRightBeginning four one_stream 1 (codes "5 2 0 1 2 0\n6 0 5 3 4 0\n" ++ more) refutation
+pub refutation_begins : (more : List ℕ) → IsValidPrefix four one_stream 1 (codes "5 2 0 1 2 0\n6 0 5 3 4 0\n" ++ more) refutation
 refutation_begins more = record {
   more = more;
-  text = ap (λ (bytes : List ℕ). bytes ++ more) refutation_is_right.text;
-  fits = refutation_is_right.fits;
-  right = refutation_is_right.right;
+  text = ap (λ (bytes : List ℕ). bytes ++ more) refutation_is_valid.text;
+  fits = refutation_is_valid.fits;
+  valid = refutation_is_valid.valid;
 }
 
-pub begins_and_refutes : (more : List ℕ) → IsRightRefutation four one_stream 1 (codes "5 2 0 1 2 0\n6 0 5 3 4 0\n" ++ more)
+pub begins_and_refutes : (more : List ℕ) → IsValidRefutation four one_stream 1 (codes "5 2 0 1 2 0\n6 0 5 3 4 0\n" ++ more)
 begins_and_refutes more = record {
   lines = refutation;
-  right = refutation_begins more;
+  valid = refutation_begins more;
   empty = (1, Addition 6 [] (5 ∷ 3 ∷ 4 ∷ []), omega arith, refl, refl);
 }
 
@@ -237,8 +237,8 @@ no_empty_begins first empty (line ∷ other ∷ lines) more fits is some =
 five_is_the_first_stream's : Owns two_streams 2 5 → ⊥
 five_is_the_first_stream's owns = let no : owners.Stream 1 ≡ owners.Stream 2 = owns in cc
 
-pub shared_is_right : IsRightOrder four two_streams shared
-shared_is_right = record {
+pub shared_is_valid : IsValidOrder four two_streams shared
+shared_is_valid = record {
   streams = ((omega arith, omega arith), ((omega arith, omega arith), ((omega arith, omega arith), ((omega arith, omega arith), tt))));
   fits = (
     (
@@ -261,7 +261,7 @@ shared_is_right = record {
       ),
     ),
   );
-  right = (
+  valid = (
     record {
       owns = refl;
       above = omega arith;

@@ -8,10 +8,10 @@ use Rattle.stream_check.specs.declared.report.Ending.TheVariants as endings
 use Rattle.stream_check.specs.declared.report.Report.{Report}
 use Rattle.stream_check.specs.Laws.{IsOfMemory, IsOfFailure}
 use Rattle.runs.specs.Closed.{IsOfStream}
-use Rattle.runs.specs.Streams.{Telling, TermsValue, setting_of}
-use Rattle.run_laws.specs.Blame.{LacksOfAnother}
+use Rattle.runs.specs.Streams.{InputObservation, RunParamsValue, stream_params}
+use Rattle.run_laws.specs.AnyRun.{LacksOfAnother}
 use Rattle.run_laws.specs.Groups.{IsRun}
-use Rattle.run_laws.specs.Right.{Database, IsCutOffIn, first_database, after_line}
+use Rattle.run_laws.specs.Valid.{Database, IsCutOffIn, first_database, after_line}
 use Rattle.run_laws.specs.Together.{Step, HaveTexts}
 use Rattle.test_support.specs.Worked.{four, unit}
 
@@ -88,8 +88,8 @@ one_added = record {
 }
 
 -- any cube and number of tries, with this layout
-abbrev pub terms_at : LayoutValue → CubeValue → ℕ → TermsValue
-terms_at p cube tries = record { layout = p; cube = cube; tries = tries }
+abbrev pub run_params_at : LayoutValue → CubeValue → ℕ → RunParamsValue
+run_params_at p cube tries = record { layout = p; cube = cube; tries = tries }
 
 -- the report tells that the stream ended, and counts these
 pub record Counts (report : Report) (additions deletions : ℕ) : Type 0 where
@@ -101,29 +101,36 @@ pub record Counts (report : Report) (additions deletions : ℕ) : Type 0 where
 -- A run in which the reader of stream 1 has the bytes of the refutation left at first tells two additions, unless memory ran out or
 -- a read failed.
 abbrev pub RefutationCounted : Type 0
-RefutationCounted = (cube : CubeValue) (tries : ℕ) (told : List Telling) (telling : Telling)
+RefutationCounted = (cube : CubeValue) (tries : ℕ) (observed : List InputObservation)
+    (observation : InputObservation)
     (reports : List Report) (report : Report)
-    → IsRun four (terms_at one_stream cube tries) told reports → IsOfStream told 1 telling
-    → telling.entry ≡ Some (codes "5 2 0 1 2 0\n6 0 5 3 4 0\n") → IsOfStream reports 1 report
+    → IsRun four (run_params_at one_stream cube tries) observed reports
+    → IsOfStream observed 1 observation
+    → observation.entry ≡ Some (codes "5 2 0 1 2 0\n6 0 5 3 4 0\n") → IsOfStream reports 1 report
     → ¬ IsOfMemory report → ¬ IsOfFailure report → Counts report 2 0
 
 -- Whatever comes behind the refutation, such a run tells two additions at least, one of them the empty clause, unless memory ran out,
 -- or a read failed, in these two lines.
 abbrev pub BeginningCounted : Type 0
-BeginningCounted = (cube : CubeValue) (tries : ℕ) (told : List Telling) (telling : Telling)
+BeginningCounted = (cube : CubeValue) (tries : ℕ) (observed : List InputObservation)
+    (observation : InputObservation)
     (reports : List Report) (report : Report) (more : List ℕ)
-    → IsRun four (terms_at one_stream cube tries) told reports → IsOfStream told 1 telling
-    → telling.entry ≡ Some (codes "5 2 0 1 2 0\n6 0 5 3 4 0\n" ++ more)
+    → IsRun four (run_params_at one_stream cube tries) observed reports
+    → IsOfStream observed 1 observation
+    → observation.entry ≡ Some (codes "5 2 0 1 2 0\n6 0 5 3 4 0\n" ++ more)
     → IsOfStream reports 1 report
     → ((2 ≤ report.added) × (report.empty ≡ true)) ⊎ IsCutOffIn 2 report
 
 -- A run whose readers begin with the texts of the shared lines, and where nothing is behind those of stream 2, tells of that stream an
 -- addition and a deletion, or that the clause of stream 1 wasn't there.
 abbrev pub SharedCounted : Type 0
-SharedCounted = (cube : CubeValue) (tries : ℕ) (told : List Telling) (telling : Telling)
+SharedCounted = (cube : CubeValue) (tries : ℕ) (observed : List InputObservation)
+    (observation : InputObservation)
     (reports : List Report) (report : Report)
-    → IsRun four (terms_at two_streams cube tries) told reports → HaveTexts (λ s. true) shared told
-    → IsOfStream told 2 telling
-    → telling.entry ≡ Some (codes "5 i 2 0\n6 0 5 3 4 0\n6 d 5 0\n")
+    → IsRun four (run_params_at two_streams cube tries) observed reports
+    → HaveTexts (λ s. true) shared observed
+    → IsOfStream observed 2 observation
+    → observation.entry ≡ Some (codes "5 i 2 0\n6 0 5 3 4 0\n6 d 5 0\n")
     → IsOfStream reports 2 report → ¬ IsOfMemory report → ¬ IsOfFailure report
-    → Counts report 1 1 ⊎ LacksOfAnother (setting_of (terms_at two_streams cube tries) 2) report
+    → Counts report 1 1
+    ⊎ LacksOfAnother (stream_params (run_params_at two_streams cube tries) 2) report

@@ -1,120 +1,120 @@
-//! Lines of one stream, right and not, by the definitions alone.
+//! Lines of one stream, valid and not, by the definitions alone.
 ghost use Rattle.std.specs.Prelude.{◌≡◌, ◌++◌, ℕ, true, List, [], ◌∷◌, pos, negsuc, Some, codes};
 ghost use Rattle.lrup_text.specs.Lines.{Addition, Deletion, Import};
 ghost use Rattle.stream_check.specs.declared.report.Ending.TheVariants as endings;
 ghost use Rattle.runs.specs.Turns.{IsByTurns};
-ghost use Rattle.run_laws.specs.Right.{IsCutOffIn, IsRightLine, IsRightRefutation, IsRightStream, TellsAtLeast, first_database};
-ghost use Rattle.run_laws.specs.Together.{IsRightOrder};
+ghost use Rattle.run_laws.specs.Valid.{IsCutOffIn, IsValidLine, IsValidRefutation, IsValidProof, TellsAtLeast, first_database};
+ghost use Rattle.run_laws.specs.Together.{IsValidOrder};
 ghost use Rattle.run_laws_tests.specs.Worked.{at_first, at_roomy, crossed, one_added, one_stream, retired_first, roomy, shared, two_streams, with_five, with_repeat, without_five, without_one, BeginningCounted, RefutationCounted, SharedCounted};
 ghost use Rattle.test_support.specs.Worked.{four, unit};
 
 use lrup_text::laws::{bytes_begin_with_one_line, no_bytes_may_become_a_line};
-use run_laws::right::{right_begins, right_reported, right_together};
+use run_laws::valid::{valid_begins, valid_reported, valid_together};
 
-/// The worked stream is a right refutation, also where a torn line comes behind it, or whatever else.
-fn the_stream_is_right()
-    ensures whole { IsRightRefutation four one_stream 1 (codes "5 2 0 1 2 0\n6 0 5 3 4 0\n") }
-    ensures torn { IsRightRefutation four one_stream 1
+/// The worked stream is a valid refutation, also where a torn line comes behind it, or whatever else.
+fn the_stream_is_valid()
+    ensures whole { IsValidRefutation four one_stream 1 (codes "5 2 0 1 2 0\n6 0 5 3 4 0\n") }
+    ensures torn { IsValidRefutation four one_stream 1
         (codes "5 2 0 1 2 0\n6 0 5 3 4 0\n7 0 5") }
     ensures any_more { (more : List ℕ)
-        → IsRightRefutation four one_stream 1 (codes "5 2 0 1 2 0\n6 0 5 3 4 0\n" ++ more) }
+        → IsValidRefutation four one_stream 1 (codes "5 2 0 1 2 0\n6 0 5 3 4 0\n" ++ more) }
 {}
 
 /// Its first line alone is none: it adds no empty clause.
 fn the_first_line_is_no_refutation()
-    ensures { ¬ IsRightRefutation four one_stream 1 (codes "5 2 0 1 2 0\n") }
+    ensures { ¬ IsValidRefutation four one_stream 1 (codes "5 2 0 1 2 0\n") }
 {
     bytes_begin_with_one_line();
     no_bytes_may_become_a_line();
 }
 
 /// Bytes after the lines, and a line that breaks a limit of streams.
-fn streams_are_not_right()
-    ensures rest { ¬ IsRightStream four one_stream 1 (codes "5 d 0\n5") (Deletion 5 [] ∷ []) }
-    ensures limits { ¬ IsRightStream four one_stream 1 (codes "0 d 0\n") (Deletion 0 [] ∷ []) }
+fn streams_are_not_valid()
+    ensures rest { ¬ IsValidProof four one_stream 1 (codes "5 d 0\n5") (Deletion 5 [] ∷ []) }
+    ensures limits { ¬ IsValidProof four one_stream 1 (codes "0 d 0\n") (Deletion 0 [] ∷ []) }
 {}
 
 /// Hints may stand in either order here, identities may have gaps, and imports may say a clause in their own way. A deletion takes
 /// clauses of the formula and of the stream.
-fn lines_are_right()
-    ensures swapped { IsRightLine one_stream 1 at_first (Addition 5 unit (2 ∷ 1 ∷ [])) }
-    ensures repeated { IsRightLine one_stream 1 at_first
+fn lines_are_valid()
+    ensures swapped { IsValidLine one_stream 1 at_first (Addition 5 unit (2 ∷ 1 ∷ [])) }
+    ensures repeated { IsValidLine one_stream 1 at_first
         (Addition 5 (pos 2 ∷ pos 2 ∷ []) (1 ∷ 2 ∷ [])) }
-    ensures gap { IsRightLine two_streams 1 (first_database four two_streams)
+    ensures gap { IsValidLine two_streams 1 (first_database four two_streams)
         (Addition 7 unit (1 ∷ 2 ∷ [])) }
-    ensures deleted { IsRightLine one_stream 1 with_five (Deletion 5 (1 ∷ 5 ∷ [])) }
-    ensures imported { IsRightLine one_stream 1 at_first
+    ensures deleted { IsValidLine one_stream 1 with_five (Deletion 5 (1 ∷ 5 ∷ [])) }
+    ensures imported { IsValidLine one_stream 1 at_first
         (Import 1 (pos 2 ∷ pos 1 ∷ pos 2 ∷ [])) }
 {}
 
 /// A literal that is written twice stands once in the clause, and takes room once.
 fn repeats_are_left_out()
     ensures clause { with_repeat.clauses 5 ≡ Some unit }
-    ensures room { IsRightLine roomy 1 with_repeat (Addition 6 unit (5 ∷ [])) }
+    ensures room { IsValidLine roomy 1 with_repeat (Addition 6 unit (5 ∷ [])) }
 {}
 
 /// The identity of an addition is another stream's, or was added before; its clause has a variable that there isn't, or takes more
 /// room than there is, or is a tautology.
-fn additions_are_not_right()
-    ensures foreign { ¬ IsRightLine two_streams 1 (first_database four two_streams)
+fn additions_are_not_valid()
+    ensures foreign { ¬ IsValidLine two_streams 1 (first_database four two_streams)
         (Addition 6 unit (1 ∷ 2 ∷ [])) }
-    ensures again { ¬ IsRightLine one_stream 1 with_five (Addition 5 unit (1 ∷ 2 ∷ [])) }
-    ensures variable { ¬ IsRightLine one_stream 1 at_first (Addition 5 (pos 3 ∷ []) (1 ∷ [])) }
-    ensures room { ¬ IsRightLine one_stream 1 at_first
+    ensures again { ¬ IsValidLine one_stream 1 with_five (Addition 5 unit (1 ∷ 2 ∷ [])) }
+    ensures variable { ¬ IsValidLine one_stream 1 at_first (Addition 5 (pos 3 ∷ []) (1 ∷ [])) }
+    ensures room { ¬ IsValidLine one_stream 1 at_first
         (Addition 5 (pos 1 ∷ pos 2 ∷ []) (1 ∷ [])) }
-    ensures tautology { ¬ IsRightLine one_stream 1 at_first
+    ensures tautology { ¬ IsValidLine one_stream 1 at_first
         (Addition 5 (pos 1 ∷ negsuc 0 ∷ []) (1 ∷ 2 ∷ [])) }
 {}
 
 /// So it is where nothing else is wrong; and what is deleted gives no room back.
 fn nothing_else_is_wrong()
-    ensures again { ¬ IsRightLine one_stream 1 with_five (Addition 5 [] (5 ∷ 3 ∷ 4 ∷ [])) }
-    ensures variable { ¬ IsRightLine roomy 1 with_repeat
+    ensures again { ¬ IsValidLine one_stream 1 with_five (Addition 5 [] (5 ∷ 3 ∷ 4 ∷ [])) }
+    ensures variable { ¬ IsValidLine roomy 1 with_repeat
         (Addition 6 (pos 3 ∷ []) (5 ∷ 3 ∷ 4 ∷ [])) }
-    ensures tautology { ¬ IsRightLine roomy 1 at_roomy
+    ensures tautology { ¬ IsValidLine roomy 1 at_roomy
         (Addition 5 (pos 1 ∷ negsuc 0 ∷ []) (1 ∷ 3 ∷ [])) }
-    ensures room { ¬ IsRightLine one_stream 1 without_five (Addition 6 unit (1 ∷ 2 ∷ [])) }
+    ensures room { ¬ IsValidLine one_stream 1 without_five (Addition 6 unit (1 ∷ 2 ∷ [])) }
 {}
 
 /// There is no hint; a hint is missing, or deleted; or the clauses before the last are no conflict, or it comes too early.
-fn hints_are_not_right()
-    ensures none { ¬ IsRightLine one_stream 1 at_first (Addition 5 unit []) }
-    ensures missing { ¬ IsRightLine one_stream 1 at_first (Addition 5 unit (1 ∷ 6 ∷ [])) }
-    ensures deleted { ¬ IsRightLine one_stream 1 without_one (Addition 5 unit (1 ∷ 2 ∷ [])) }
-    ensures no_conflict { ¬ IsRightLine one_stream 1 at_first (Addition 5 unit (1 ∷ [])) }
-    ensures excess { ¬ IsRightLine one_stream 1 at_first (Addition 5 unit (1 ∷ 2 ∷ 3 ∷ [])) }
+fn hints_are_not_valid()
+    ensures none { ¬ IsValidLine one_stream 1 at_first (Addition 5 unit []) }
+    ensures missing { ¬ IsValidLine one_stream 1 at_first (Addition 5 unit (1 ∷ 6 ∷ [])) }
+    ensures deleted { ¬ IsValidLine one_stream 1 without_one (Addition 5 unit (1 ∷ 2 ∷ [])) }
+    ensures no_conflict { ¬ IsValidLine one_stream 1 at_first (Addition 5 unit (1 ∷ [])) }
+    ensures excess { ¬ IsValidLine one_stream 1 at_first (Addition 5 unit (1 ∷ 2 ∷ 3 ∷ [])) }
 {}
 
 /// A clause is deleted twice, in one line or in two, or isn't there; an import is of the stream's own, or of a clause that was deleted,
 /// or has other literals.
-fn other_lines_are_not_right()
-    ensures twice { ¬ IsRightLine one_stream 1 with_five (Deletion 5 (5 ∷ 5 ∷ [])) }
-    ensures again { ¬ IsRightLine one_stream 1 without_one (Deletion 5 (1 ∷ [])) }
-    ensures nothing { ¬ IsRightLine one_stream 1 at_first (Deletion 5 (5 ∷ [])) }
-    ensures own { ¬ IsRightLine one_stream 1 with_five (Import 5 unit) }
-    ensures gone { ¬ IsRightLine one_stream 1 without_one (Import 1 (pos 1 ∷ pos 2 ∷ [])) }
-    ensures differs { ¬ IsRightLine one_stream 1 at_first (Import 1 unit) }
-    ensures more { ¬ IsRightLine one_stream 1 at_first
+fn other_lines_are_not_valid()
+    ensures twice { ¬ IsValidLine one_stream 1 with_five (Deletion 5 (5 ∷ 5 ∷ [])) }
+    ensures again { ¬ IsValidLine one_stream 1 without_one (Deletion 5 (1 ∷ [])) }
+    ensures nothing { ¬ IsValidLine one_stream 1 at_first (Deletion 5 (5 ∷ [])) }
+    ensures own { ¬ IsValidLine one_stream 1 with_five (Import 5 unit) }
+    ensures gone { ¬ IsValidLine one_stream 1 without_one (Import 1 (pos 1 ∷ pos 2 ∷ [])) }
+    ensures differs { ¬ IsValidLine one_stream 1 at_first (Import 1 unit) }
+    ensures more { ¬ IsValidLine one_stream 1 at_first
         (Import 1 (pos 1 ∷ pos 2 ∷ negsuc 0 ∷ [])) }
-    ensures nought { ¬ IsRightLine one_stream 1 at_first (Deletion 5 (0 ∷ [])) }
+    ensures nought { ¬ IsValidLine one_stream 1 at_first (Deletion 5 (0 ∷ [])) }
 {}
 
-/// Two streams are right together: the first derives the unit clause, and the second imports it, cites it and drops it.
-fn streams_are_right_together()
-    ensures { IsRightOrder four two_streams shared }
+/// Two streams are valid together: the first derives the unit clause, and the second imports it, cites it and drops it.
+fn streams_are_valid_together()
+    ensures { IsValidOrder four two_streams shared }
 {}
 
 /// A stream's additions leave another's last identity and room alone, and what a stream drops, another may still cite.
 fn streams_leave_one_another_alone()
-    ensures { IsRightOrder four two_streams crossed }
+    ensures { IsValidOrder four two_streams crossed }
 {}
 
 /// What its owner deleted, no other stream may import; a line breaks a limit of streams; there is no such stream.
-fn orders_are_not_right()
-    ensures retired { ¬ IsRightOrder four two_streams retired_first }
-    ensures limits { ¬ IsRightOrder four two_streams
+fn orders_are_not_valid()
+    ensures retired { ¬ IsValidOrder four two_streams retired_first }
+    ensures limits { ¬ IsValidOrder four two_streams
         (record { stream = 1; line = Deletion 0 [] } ∷ []) }
-    ensures stream { ¬ IsRightOrder four two_streams
+    ensures stream { ¬ IsValidOrder four two_streams
         (record { stream = 3; line = Deletion 5 [] } ∷ []) }
 {}
 
@@ -129,25 +129,25 @@ fn reports_tell_less()
     ensures read { ¬ IsCutOffIn 2 (record one_added { ending = endings.ReadFailed 3 }) }
 {}
 
-/// By the law of right streams, every run tells so of the worked stream.
+/// By the law of valid proofs, every run tells so of the worked stream.
 fn the_refutation_is_counted()
     ensures { RefutationCounted }
 {
-    right_reported();
+    valid_reported();
 }
 
-/// By the law of right beginnings, so it does whatever comes behind the refutation.
+/// By the law of valid beginnings, so it does whatever comes behind the refutation.
 fn the_beginning_is_counted()
     ensures { BeginningCounted }
 {
-    right_begins();
+    valid_begins();
 }
 
-/// By the law of right orders, every run tells so of the second stream.
+/// By the law of valid orders, every run tells so of the second stream.
 fn shared_lines_are_counted()
     ensures { SharedCounted }
 {
-    right_together();
+    valid_together();
 }
 
 /// Stream 1 comes first, then stream 2, and so on round; a stream that has no line left drops out. Stream 1 doesn't come later, or take

@@ -2,6 +2,6 @@ pub mod Each
 pub mod Streams
 pub mod Readings
 pub mod Closed
-pub mod Headline
+pub mod SequentialConsistency
 pub mod Turns
 pub mod lemmas

@@ -3,7 +3,7 @@ use Rattle.std.specs.Prelude.{◌++◌, List, [], ◌∷◌, MatchOption}
 use Rattle.lrup_text.specs.declared.device.Source as Source
 use Rattle.lrup_text.specs.ReadOut.{ReadOut, SourceView, source_view}
 use Rattle.lrup_text.specs.Reads.{Gave, ReadsOf}
-use Rattle.runs.specs.Streams.{Stream, IsTold, telling_of}
+use Rattle.runs.specs.Streams.{Stream, MatchesInput, observation_of}
 
 -- what is known of readers, as their type says it
 abbrev pub readers_view : {R : Type 0} → Source.Ghosts R → SourceView R
@@ -16,10 +16,10 @@ IsRead S reads first after stream =
     MatchOption stream.end (Gave S reads first (stream.bytes ++ stream.unneeded) after)
     (λ end. ReadOut S reads end first stream.bytes after)
 
--- the stream is what a reader told, and what its reads gave
+-- the stream matches what is observed of a reader, and what its reads gave
 abbrev pub IsStreamOf : {S : Type 0} → SourceView S → S → S → Stream → Type 0
 IsStreamOf {S} view first last stream =
-    IsTold (telling_of view first last) stream × IsRead S view.reads first last stream
+    MatchesInput (observation_of view first last) stream × IsRead S view.reads first last stream
 
 -- each stream is what reads of its reader gave: the readers before their first reads, and after their last
 abbrev pub AreRead : (S : Type 0) → ReadsOf S → List S → List S → List Stream → Type 0

@@ -1,4 +1,4 @@
--- What a run's streams told, and in which order of lines their reports hold (this project's own).
+-- What is observed of a run's streams, and in which order of lines their reports hold (this project's own).
 use Rattle.std.specs.Prelude.{◌≡◌, ◌++◌, ◌==◌, ℕ, Bool, false, IsTrue, List, [], ◌∷◌, Option, IsSome, IfSome, MatchOption, if◌then◌else◌}
 use Rattle.std.specs.Io.KnownBytes.{Consumes}
 use Rattle.std.specs.List.{AllByRecursion, flat_map}
@@ -10,7 +10,7 @@ use Rattle.lrup_model.specs.History.{IsLegal}
 use Rattle.lrup_text.specs.ReadOut.{EndsSo, SourceView}
 use Rattle.lrup_text.specs.declared.device.StreamEnd.{StreamEnd}
 use Rattle.stream_check.specs.declared.report.Report.{Report}
-use Rattle.stream_check.specs.Setting.{Setting}
+use Rattle.stream_check.specs.StreamParams.{StreamParams}
 use Rattle.stream_check.specs.Judging.{JudgesBlocks}
 use Rattle.runs.specs.Each.{Each}
 
@@ -21,42 +21,42 @@ pub record Stream : Type 0 where
   pub unneeded : List ℕ
   pub end : Option StreamEnd
 
--- What a reader tells: which bytes it has left at first and which in the end, where the device tells them, and whether it has
+-- What is observed of a reader: which bytes it has left at first and which in the end, if the device tells them, and whether it has
 -- failed then.
-pub record Telling : Type 0 where
+pub record InputObservation : Type 0 where
   pub entry : Option (List ℕ)
   pub left : Option (List ℕ)
   pub has_failed : Bool
 
--- what a reader tells: `first` is the reader before any read, `last` at the end
-abbrev pub telling_of : {S : Type 0} → SourceView S → S → S → Telling
-telling_of view first last = record {
+-- what is observed of a reader: `first` is the reader before any read, `last` at the end
+abbrev pub observation_of : {S : Type 0} → SourceView S → S → S → InputObservation
+observation_of view first last = record {
   entry = view.left first;
   left = view.left last;
   has_failed = view.has_failed last;
 }
 
--- what each of some readers tells
-abbrev pub tellings : {S : Type 0} → SourceView S → List S → List S → List Telling
-tellings view [] lasts = []
-tellings view (first ∷ firsts) [] = []
-tellings view (first ∷ firsts) (last ∷ lasts) =
-    telling_of view first last ∷ tellings view firsts lasts
+-- what is observed of each of some readers
+abbrev pub observations : {S : Type 0} → SourceView S → List S → List S → List InputObservation
+observations view [] lasts = []
+observations view (first ∷ firsts) [] = []
+observations view (first ∷ firsts) (last ∷ lasts) =
+    observation_of view first last ∷ observations view firsts lasts
 
--- The stream is what a reader told: the bytes read are a beginning of those left at first. Where the stream has an end, the reader is
--- as that end says, and it is judged by all that was read; else the reader hasn't failed. Where the reader doesn't tell what it has
--- left, any bytes will do.
-pub record IsTold (telling : Telling) (stream : Stream) : Type 0 where
-  pub consumes : Consumes telling.entry telling.left (stream.bytes ++ stream.unneeded)
-  pub ends : MatchOption stream.end (telling.has_failed ≡ false)
-      (λ end. EndsSo end telling.left telling.has_failed)
+-- The stream matches what is observed of a reader: the bytes read are a beginning of those left at first. Where the stream has an end, the
+-- reader is as that end says, and it is judged by all that was read; else the reader hasn't failed. Where the reader doesn't tell what it
+-- has left, any bytes will do.
+pub record MatchesInput (observation : InputObservation) (stream : Stream) : Type 0 where
+  pub consumes : Consumes observation.entry observation.left (stream.bytes ++ stream.unneeded)
+  pub ends : MatchOption stream.end (observation.has_failed ≡ false)
+      (λ end. EndsSo end observation.left observation.has_failed)
   pub needed : IsSome stream.end → stream.unneeded ≡ []
 
 -- The stream is judged by these blocks of events; one without an end is judged so whatever its end would have been.
-abbrev pub JudgesStream : Setting → Stream → List History → Report → Type 0
-JudgesStream setting stream blocks report =
+abbrev pub JudgesStream : StreamParams → Stream → List History → Report → Type 0
+JudgesStream params stream blocks report =
     (end : StreamEnd) → IfSome stream.end (λ known. known ≡ end)
-    → JudgesBlocks setting stream.bytes end blocks report
+    → JudgesBlocks params stream.bytes end blocks report
 
 -- An order of lines
 
@@ -82,30 +82,36 @@ IsBlockWithin layout set block =
     × AllByRecursion (λ event. stream_of event ≡ block.stream) block.events
 
 -- What the streams of a run are all checked by: the layout, the cube, and how often an identity of another stream is fetched again.
-pub record TermsValue : Type 0 where
+pub record RunParamsValue : Type 0 where
   pub layout : LayoutValue
   pub cube : CubeValue
   pub tries : ℕ
 
--- the setting of stream s under these terms
-abbrev pub setting_of : TermsValue → ℕ → Setting
-setting_of terms s =
-    record { layout = terms.layout; cube = terms.cube; stream = s; tries = terms.tries }
+-- stream s's parameters in this run
+abbrev pub stream_params : RunParamsValue → ℕ → StreamParams
+stream_params run_params s =
+    record {
+      layout = run_params.layout;
+      cube = run_params.cube;
+      stream = s;
+      tries = run_params.tries;
+    }
 
 -- Each stream of the set, counted on from s, is judged, as its report says, by blocks of events of which `AreOwn` holds; and there are
 -- as many reports as streams.
-abbrev pub AreJudged : TermsValue → (ℕ → Bool) → (ℕ → List History → Type 0) → ℕ → List Stream
+abbrev pub AreJudged : RunParamsValue → (ℕ → Bool) → (ℕ → List History → Type 0) → ℕ → List Stream
     → List Report → Type 0
-AreJudged terms set AreOwn s streams reports =
+AreJudged run_params set AreOwn s streams reports =
     Each (λ t stream report. IsTrue (set t) → (blocks : List History) × AreOwn t blocks
-    × JudgesStream (setting_of terms t) stream blocks report) s streams reports
+    × JudgesStream (stream_params run_params t) stream blocks report) s streams reports
 
 -- The reports of a set of streams have an order of lines: a legal history of whole lines of these streams, each stream's in
 -- its order, by which each stream is judged so.
-pub record IsOrdered (formula : Cnf) (terms : TermsValue) (set : ℕ → Bool) (streams : List Stream)
+pub record IsOrdered (formula : Cnf) (run_params : RunParamsValue) (set : ℕ → Bool)
+    (streams : List Stream)
     (reports : List Report) : Type 0 where
   pub blocks : List Block
-  pub within : AllByRecursion (IsBlockWithin terms.layout set) blocks
-  pub legal : IsLegal formula terms.layout (events_in blocks)
-  pub judged : AreJudged terms set (λ t own_blocks. own_blocks ≡ blocks_of t blocks) 1
+  pub within : AllByRecursion (IsBlockWithin run_params.layout set) blocks
+  pub legal : IsLegal formula run_params.layout (events_in blocks)
+  pub judged : AreJudged run_params set (λ t own_blocks. own_blocks ≡ blocks_of t blocks) 1
       streams reports

@@ -2,7 +2,7 @@
 use Rattle.std.specs.Prelude.{◌==◌, ◌+◌, ◌++◌, ◌<◌, ◌≤◌, ℕ, true, List, [], ◌∷◌, map, count_by}
 use Rattle.lrup_model.specs.Formula.{Cnf}
 use Rattle.stream_check.specs.declared.report.Report.{Report}
-use Rattle.runs.specs.Streams.{Stream, Block, IsOrdered, TermsValue}
+use Rattle.runs.specs.Streams.{Stream, Block, IsOrdered, RunParamsValue}
 
 -- An order of lines is given here by their streams, from 1 on. So many of them are stream s's.
 abbrev pub line_count : ℕ → List ℕ → ℕ
@@ -27,7 +27,7 @@ abbrev pub streams_of : List Block → List ℕ
 streams_of blocks = map (λ block. block.stream) blocks
 
 -- The reports of all streams have an order of lines, and it is by turns.
-pub record IsOrderedByTurns (formula : Cnf) (terms : TermsValue) (streams : List Stream)
+pub record IsOrderedByTurns (formula : Cnf) (run_params : RunParamsValue) (streams : List Stream)
     (reports : List Report) : Type 0 where
-  pub order : IsOrdered formula terms (λ s. true) streams reports
+  pub order : IsOrdered formula run_params (λ s. true) streams reports
   pub turns : IsByTurns (streams_of order.blocks)

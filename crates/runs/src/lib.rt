@@ -1,7 +1,7 @@
 //! What a run over several streams has read and judged: the definitions, for the crates that promise runs and for laws of runs;
-//! and the terms by which all its streams are checked.
+//! and the parameters by which all its streams are checked.
 #![tactic(auto)]
 
-mod terms;
+mod run_params;
 
-pub use terms::Terms;
+pub use run_params::RunParams;

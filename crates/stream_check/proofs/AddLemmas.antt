@@ -11,7 +11,7 @@ use Rattle.lrup_model.specs.Event as events
 use Rattle.lrup_model.specs.Event.{Event, History, own, published, spent, stream_of}
 use Rattle.lrup_model.specs.State.{State, absent}
 use Rattle.lrup_model.specs.History.{IsPublishable, max_line_literals}
-use Rattle.lrup_model.specs.Place.{Caller, Place, Tells, IsVacantAbove}
+use Rattle.lrup_model.specs.CallerView.{Caller, CallerView, CallerStep, IsVacantAbove}
 use Rattle.lrup_model.specs.declared.clause_map.Published.{Published}
 use Rattle.lrup_model.specs.declared.clause_map.Published.TheVariants as publishing
 use Rattle.lrup_model.specs.Distinct.{distinct}
@@ -19,11 +19,11 @@ use Rattle.lrup_model.specs.lemmas.DistinctLemmas.{IsTautology-in_distinct, leng
 use Rattle.lrup_model.specs.lemmas.EntailmentLemmas.{propagation_sound}
 use Rattle.propagate.specs.Marks.{Propagation}
 use Rattle.stream_check.specs.declared.fault.Fault.{Fault}
-use Rattle.stream_check.specs.Setting.{Setting}
-use Rattle.stream_check.specs.Standing.{Standing}
+use Rattle.stream_check.specs.StreamParams.{StreamParams}
+use Rattle.stream_check.specs.StreamContext.{StreamContext}
 use Rattle.stream_check.specs.lemmas.AdditionLemmas.{run-fetches, before_maps}
-use Rattle.stream_check.specs.Additions.{context_of, IsValidAddition, BeforeHints, published_by}
-use Rattle.stream_check.specs.Checker.{IsPlaceOf}
+use Rattle.stream_check.specs.Additions.{addition_context, IsValidAddition, BeforeHints, published_by}
+use Rattle.stream_check.specs.Checker.{IsViewOf}
 use Rattle.stream_check.specs.internal.Checking.{IsFetch, KeepsClause, Shows}
 use Rattle.stream_check.specs.internal.CheckerInside.{Admits}
 
@@ -41,24 +41,26 @@ spent-fetches s (events.fetch t id r ∷ es) h = spent-skips (events.fetch t id 
 spent-fetches s (events.publish t id c r ∷ es) h = absurd h.0
 spent-fetches s (events.retire t id r ∷ es) h = absurd h.0
 
-pub room_stays : (p q : Place) (es : History) → Tells p q es → AllByRecursion IsFetch es → q.room ≡ p.room
-room_stays p q es tells quiet = omega (arith, tells.room, spent-fetches p.caller.stream es quiet)
+pub room_stays : (p q : CallerView) (es : History) → CallerStep p q es → AllByRecursion IsFetch es → q.room ≡ p.room
+room_stays p q es step quiet = omega (arith, step.room, spent-fetches p.caller.stream es quiet)
 
--- an owned identity, as a place of the setting sees it
-pub owns_at : (c : Setting) (p : Place) (id : ℕ) → IsPlaceOf c p → Owns c.layout c.stream id → Owns p.caller.layout p.caller.stream id
+-- an owned identity, as a view of the stream has it
+pub owns_at : (c : StreamParams) (p : CallerView) (id : ℕ) → IsViewOf c p → Owns c.layout c.stream id
+    → Owns p.caller.layout p.caller.stream id
 owns_at c p id at owns =
     subst (λ (l : LayoutValue). Owns l p.caller.stream id) (sym at.layout) (subst (λ (s : ℕ). Owns c.layout s id) (sym at.stream) owns)
 
 -- the same the other way
-pub owned_by : (c : Setting) (p : Place) (id : ℕ) → IsPlaceOf c p → Owns p.caller.layout p.caller.stream id → Owns c.layout c.stream id
+pub owned_by : (c : StreamParams) (p : CallerView) (id : ℕ) → IsViewOf c p → Owns p.caller.layout p.caller.stream id
+    → Owns c.layout c.stream id
 owned_by c p id at owns =
     subst (λ (l : LayoutValue). Owns l c.stream id) at.layout (subst (λ (s : ℕ). Owns p.caller.layout s id) at.stream owns)
 
--- the place stays one of the setting
-pub still_at : (c : Setting) (p q : Place) (es : History) → IsPlaceOf c p → Tells p q es → IsPlaceOf c q
-still_at c p q es at tells = record {
-  layout = ap (λ (r : Caller). r.layout) tells.caller ∙ at.layout;
-  stream = ap (λ (r : Caller). r.stream) tells.caller ∙ at.stream;
+-- the view stays the stream's
+pub still_at : (c : StreamParams) (p q : CallerView) (es : History) → IsViewOf c p → CallerStep p q es → IsViewOf c q
+still_at c p q es at step = record {
+  layout = ap (λ (r : Caller). r.layout) step.caller ∙ at.layout;
+  stream = ap (λ (r : Caller). r.stream) step.caller ∙ at.stream;
 }
 
 -- The literals of a line, which are none of them 0
@@ -70,53 +72,60 @@ variables_within vars (l ∷ ls) all = (all.0.1, variables_within vars ls all.1)
 -- The conditions of the publish
 
 -- the clause of the marks, after the hints, is the addition's
-pub clause_is : (c : Setting) (st : Standing) (id : ℕ) (lits : List ℤ) (old new : Propagation) (clause : Clause) → Admits c st id lits old
+pub clause_is : (c : StreamParams) (st : StreamContext) (id : ℕ) (lits : List ℤ) (old new : Propagation) (clause : Clause)
+    → Admits c st id lits old
     → KeepsClause old new → clause ≡ new.clause → clause ≡ distinct lits
 clause_is c st id lits old new clause admits kept is = is ∙ kept.1 ∙ ap (λ (m : Propagation). m.clause) admits.marks_are
 
 -- the hints show the addition's clause
-pub shown_is : (c : Setting) (st : Standing) (gone : ℕ → Bool) (f : Cnf) (id : ℕ) (lits : List ℤ) (hints : List ℕ) (marks : Propagation)
+pub shown_is : (c : StreamParams) (st : StreamContext) (gone : ℕ → Bool) (f : Cnf) (id : ℕ) (lits : List ℤ) (hints : List ℕ)
+    (marks : Propagation)
     (es : History) → Admits c st id lits marks
     → Shows c gone f marks.falses hints es (Ok tt) → Shows c gone f (distinct lits) hints es (Ok tt)
 shown_is c st gone f id lits hints marks es admits shown =
     subst (λ (d : Clause). Shows c gone f d hints es (Ok tt)) (ap (λ (m : Propagation). m.falses) admits.marks_are) shown
 
-pub publishable : (c : Setting) (p q : Place) (st : Standing) (gone : ℕ → Bool) (es : History) (id : ℕ) (lits : List ℤ) (hints : List ℕ)
-    (marks : Propagation) → Tells p q es
+pub publishable : (c : StreamParams) (p q : CallerView) (st : StreamContext) (gone : ℕ → Bool) (es : History) (id : ℕ) (lits : List ℤ)
+    (hints : List ℕ)
+    (marks : Propagation) → CallerStep p q es
     → Admits c st id lits marks → length lits ≤ max_line_literals → Shows c gone p.caller.formula (distinct lits) hints es (Ok tt)
     → IsPublishable q.caller.formula (distinct lits)
-publishable c p q st gone es id lits hints marks tells admits few shown =
-    subst (λ (f : Cnf). IsPublishable f (distinct lits)) (sym (ap (λ (r : Caller). r.formula) tells.caller))
+publishable c p q st gone es id lits hints marks step admits few shown =
+    subst (λ (f : Cnf). IsPublishable f (distinct lits)) (sym (ap (λ (r : Caller). r.formula) step.caller))
     (record {
       clause = subst (λ (v : ℕ). IsClause v (distinct lits)) (sym shown.3) admits.clause;
       length = omega (arith, length-distinct lits);
       follows = propagation_sound p.caller.formula (distinct lits) shown.0 shown.1 shown.2;
     })
 
-pub still_vacant : (c : Setting) (p q : Place) (es : History) (last id : ℕ) → IsPlaceOf c p → Tells p q es → AllByRecursion IsFetch es
+pub still_vacant : (c : StreamParams) (p q : CallerView) (es : History) (last id : ℕ) → IsViewOf c p → CallerStep p q es
+    → AllByRecursion IsFetch es
     → IsVacantAbove p last → Owns c.layout c.stream id → last < id → q.own id ≡ absent
-still_vacant c p q es last id at tells quiet vacant owns newer =
+still_vacant c p q es last id at step quiet vacant owns newer =
     let mine = owns_at c p id at owns in
-    tells.own id mine ∙ ap (λ (m : State). m id) (run-fetches p.own es quiet) ∙ vacant id mine newer
+    step.own id mine ∙ ap (λ (m : State). m id) (run-fetches p.own es quiet) ∙ vacant id mine newer
 
 -- the event of the publish
-pub published_is : (c : Setting) (p q : Place) (es : History) (id : ℕ) (clause : Clause) (lits : List ℤ) (r : Published) → IsPlaceOf c p
-    → Tells p q es → clause ≡ distinct lits → r ≡ publishing.Done
+pub published_is : (c : StreamParams) (p q : CallerView) (es : History) (id : ℕ) (clause : Clause) (lits : List ℤ) (r : Published)
+    → IsViewOf c p
+    → CallerStep p q es → clause ≡ distinct lits → r ≡ publishing.Done
     → ◌≡◌ {A = History} (events.publish q.caller.stream id clause r ∷ []) (published_by c id lits ∷ [])
-published_is c p q es id clause lits r at tells is done =
-    ap (λ (s : ℕ). events.publish s id clause r ∷ []) (ap (λ (x : Caller). x.stream) tells.caller ∙ at.stream)
+published_is c p q es id clause lits r at step is done =
+    ap (λ (s : ℕ). events.publish s id clause r ∷ []) (ap (λ (x : Caller). x.stream) step.caller ∙ at.stream)
     ∙ ap (λ (d : Clause). events.publish c.stream id d r ∷ []) is
     ∙ ap (λ (x : Published). events.publish c.stream id (distinct lits) x ∷ []) done
 
 -- What the addition comes to
 
 -- a condition before those of the hints is violated
-pub fails_before : (c : Setting) (st : Standing) (id : ℕ) (lits : List ℤ) (fault : Fault) (A : Type 0) → BeforeHints c st id lits [] fault ⊥
+pub fails_before : (c : StreamParams) (st : StreamContext) (id : ℕ) (lits : List ℤ) (fault : Fault) (A : Type 0)
+    → BeforeHints c st id lits [] fault ⊥
     → BeforeHints c st id lits [] fault A
 fails_before c st id lits fault A fails = before_maps c st id lits [] [] fault ⊥ A (λ e. e) (λ no. absurd no) fails
 
 -- the hints decide
-pub fails_behind : (c : Setting) (st : Standing) (id : ℕ) (lits : List ℤ) (es : History) (fault : Fault) (A : Type 0) (marks : Propagation)
+pub fails_behind : (c : StreamParams) (st : StreamContext) (id : ℕ) (lits : List ℤ) (es : History) (fault : Fault) (A : Type 0)
+    (marks : Propagation)
     → Admits c st id lits marks → A → BeforeHints c st id lits es fault A
 fails_behind c st id lits es fault A marks admits next =
     inr (
@@ -131,9 +140,10 @@ fails_behind c st id lits es fault A marks admits next =
     )
 
 -- the addition is valid
-pub valid_is : (c : Setting) (st : Standing) (f : Cnf) (id : ℕ) (lits : List ℤ) (hints : List ℕ) (es : History) (marks : Propagation)
+pub valid_is : (c : StreamParams) (st : StreamContext) (f : Cnf) (id : ℕ) (lits : List ℤ) (hints : List ℕ) (es : History)
+    (marks : Propagation)
     → Admits c st id lits marks → Shows c st.gone f (distinct lits) hints es (Ok tt)
-    → IsValidAddition c.layout c.stream (context_of c st es) id lits hints
+    → IsValidAddition c.layout c.stream (addition_context c st es) id lits hints
 valid_is c st f id lits hints es marks admits shown = record {
   owns = admits.owns;
   above = admits.above;

@@ -13,12 +13,12 @@ use Rattle.lrup_model.specs.Distinct.{distinct}
 use Rattle.propagate.specs.lemmas.HintLemmas.{unit_is_unique, unit_is_no_conflict}
 use Rattle.stream_check.specs.declared.fault.Fault.{Fault}
 use Rattle.stream_check.specs.declared.fault.Fault.TheVariants as faults
-use Rattle.stream_check.specs.declared.setting.Side.{Side}
-use Rattle.stream_check.specs.declared.setting.Side.TheVariants as sides
-use Rattle.stream_check.specs.Setting.{Setting, side_of}
-use Rattle.stream_check.specs.Standing.{Standing}
+use Rattle.stream_check.specs.declared.params.Ownership.{Ownership}
+use Rattle.stream_check.specs.declared.params.Ownership.TheVariants as ownerships
+use Rattle.stream_check.specs.StreamParams.{StreamParams, ownership_of}
+use Rattle.stream_check.specs.StreamContext.{StreamContext}
 use Rattle.stream_check.specs.Verdicts.{LineVerdict, Good, Bad, Fails, Violates}
-use Rattle.stream_check.specs.Asking.{answer_of, LooksUp}
+use Rattle.stream_check.specs.Lookup.{answer_of, LooksUp}
 use Rattle.stream_check.specs.Additions.{AreFound, Misleads, FailsBy, FailsHints, published_by, JudgesAddition}
 use Rattle.stream_check.specs.lemmas.AdditionLemmas.{valid_passes, no_help, refutes_on}
 use Rattle.stream_check.specs.Deletions.{RetiresThen, DropsThen, DeletesAt, JudgesDeletion}
@@ -58,7 +58,7 @@ record LookedAlike (a : History) (x : Result Clause Fault) (b : History) (y : Re
   answer : x ≡ y
   behind : NeverFork q r
 
-looks_agree : (c : Setting) (gone : ℕ → Bool) (h : ℕ) (a b q r : History) (x y : Result Clause Fault) → LooksUp c gone h a x
+looks_agree : (c : StreamParams) (gone : ℕ → Bool) (h : ℕ) (a b q r : History) (x y : Result Clause Fault) → LooksUp c gone h a x
     → LooksUp c gone h b y → NeverFork (a ++ q) (b ++ r) → (a ≡ b) × (x ≡ y)
 looks_agree c gone h a b q r x y (inl one) (inl two) never = (one.1 ∙ sym two.1, one.2 ∙ sym two.2)
 looks_agree c gone h a b q r x y (inl one) (inr two) never = absurd (true≢false (sym one.0 ∙ two.0))
@@ -66,7 +66,7 @@ looks_agree c gone h a b q r x y (inr one) (inl two) never = absurd (true≢fals
 looks_agree c gone h a b q r x y (inr one) (inr two) never =
     let same = same_asked c h a b q r one.1 two.1 one.2 two.2 never in (same.0, one.3 ∙ ap (answer_of h) same.1 ∙ sym two.3)
 
-after_looks : (c : Setting) (gone : ℕ → Bool) (h : ℕ) (es a rest fs b left q r : History) (x y : Result Clause Fault)
+after_looks : (c : StreamParams) (gone : ℕ → Bool) (h : ℕ) (es a rest fs b left q r : History) (x y : Result Clause Fault)
     → es ≡ a ++ rest → fs ≡ b ++ left → LooksUp c gone h a x → LooksUp c gone h b y → NeverFork (es ++ q) (fs ++ r)
     → LookedAlike a x b y (rest ++ q) (left ++ r)
 after_looks c gone h es a rest fs b left q r x y one two first second never =
@@ -83,7 +83,7 @@ after_looks c gone h es a rest fs b left q r x y one two first second never =
 -- Hints
 
 -- found both times
-found_agree : (c : Setting) (gone : ℕ → Bool) (hints : List ℕ) (ds es : List Clause) (a b q r : History) → AreFound c gone hints ds a
+found_agree : (c : StreamParams) (gone : ℕ → Bool) (hints : List ℕ) (ds es : List Clause) (a b q r : History) → AreFound c gone hints ds a
     → AreFound c gone hints es b → NeverFork (a ++ q) (b ++ r) → a ≡ b
 found_agree c gone [] [] [] a b q r one two never = one ∙ sym two
 found_agree c gone [] (d ∷ ds) es a b q r one two never = absurd one
@@ -96,7 +96,7 @@ found_agree c gone (h ∷ hints) (d ∷ ds) (e ∷ es) a b q r one two never =
     ∙ ap (λ x. two.0 ++ x) (found_agree c gone hints ds es one.1 two.1 q r one.4 two.4 same.behind) ∙ sym two.2
 
 -- found, where they refute, and failed
-never_both : (c : Setting) (gone : ℕ → Bool) (n : List ℤ) (hints : List ℕ) (ds : List Clause) (a b q r : History) (fault : Fault)
+never_both : (c : StreamParams) (gone : ℕ → Bool) (n : List ℤ) (hints : List ℕ) (ds : List Clause) (a b q r : History) (fault : Fault)
     → AreFound c gone hints ds a → Refutes n ds → FailsHints c gone n hints b fault → NeverFork (a ++ q) (b ++ r) → ⊥
 never_both c gone n [] [] a b q r fault found refutes fails never = refutes
 never_both c gone n [] (d ∷ ds) a b q r fault found refutes fails never = found
@@ -134,7 +134,7 @@ by_agree (Ok d) n h hints es fs v w A B next (inr one) (inr two) =
     (one.0 ∙ sym two.0, misleads_agree n d h hints v w one.1 two.1)
 
 -- failed both times
-hints_agree : (c : Setting) (gone : ℕ → Bool) (n : List ℤ) (hints : List ℕ) (es fs q r : History) (v w : Fault)
+hints_agree : (c : StreamParams) (gone : ℕ → Bool) (n : List ℤ) (hints : List ℕ) (es fs q r : History) (v w : Fault)
     → FailsHints c gone n hints es v → FailsHints c gone n hints fs w → NeverFork (es ++ q) (fs ++ r) → SameFault es v fs w
 hints_agree c gone n [] es fs q r v w a b never = (a.0 ∙ sym b.0, a.1 ∙ sym b.1)
 hints_agree c gone n (h ∷ hints) es fs q r v w a b never =
@@ -147,7 +147,8 @@ hints_agree c gone n (h ∷ hints) es fs q r v w a b never =
 -- Additions
 
 -- where one is good, the other isn't bad
-good_agrees : (c : Setting) (st : Standing) (id : ℕ) (lits : List ℤ) (hints : List ℕ) (es fs q r : History) (deleted : ℕ) (fault : Fault)
+good_agrees : (c : StreamParams) (st : StreamContext) (id : ℕ) (lits : List ℤ) (hints : List ℕ) (es fs q r : History) (deleted : ℕ)
+    (fault : Fault)
     → JudgesAddition c st id lits hints es Good → JudgesAddition c st id lits hints fs (Bad deleted fault) → NeverFork (es ++ q) (fs ++ r)
     → ⊥
 good_agrees c st id lits hints es fs q r deleted fault a b never =
@@ -155,7 +156,8 @@ good_agrees c st id lits hints es fs q r deleted fault a b never =
     (valid_passes c st a.0 id lits hints fs fault _ a.1 b.1)
     (subst (λ e. NeverFork e (fs ++ r)) (ap (λ e. e ++ q) a.2 ∙ append_assoc a.0 (published_by c id lits ∷ []) q) never)
 
-addition_agrees : (c : Setting) (st : Standing) (id : ℕ) (lits : List ℤ) (hints : List ℕ) (es fs q r : History) (v w : LineVerdict)
+addition_agrees : (c : StreamParams) (st : StreamContext) (id : ℕ) (lits : List ℤ) (hints : List ℕ) (es fs q r : History)
+    (v w : LineVerdict)
     → JudgesAddition c st id lits hints es v → JudgesAddition c st id lits hints fs w → NeverFork (es ++ q) (fs ++ r) → Agree es v fs w
 addition_agrees c st id lits hints es fs q r Good Good a b never =
     let last = published_by c id lits ∷ [] in
@@ -182,7 +184,7 @@ drops_agree gone earlier id es fs v w A B next a b = elim a [
   | inr one ↦ elim b [ inl two ↦ absurd (let d = one.0 in let e = two.0 in cc) | inr two ↦ next one.1 two.1 ]
 ]
 
-retires_agree : (c : Setting) (earlier : List ℕ) (id : ℕ) (es fs q r : History) (v w : LineVerdict) (A B : History → Type 0)
+retires_agree : (c : StreamParams) (earlier : List ℕ) (id : ℕ) (es fs q r : History) (v w : LineVerdict) (A B : History → Type 0)
     → ((rest left : History) → NeverFork (rest ++ q) (left ++ r) → A rest → B left → Agree rest v left w)
     → RetiresThen c earlier id es v A → RetiresThen c earlier id fs w B → NeverFork (es ++ q) (fs ++ r) → Agree es v fs w
 retires_agree c earlier id es fs q r v w A B next a b never =
@@ -209,20 +211,25 @@ retires_agree c earlier id es fs q r v w A B next a b never =
       ]
     ]
 
-at_agree : (side : Side) (c : Setting) (gone : ℕ → Bool) (earlier : List ℕ) (id : ℕ) (es fs q r : History) (v w : LineVerdict)
+at_agree : (ownership : Ownership) (c : StreamParams) (gone : ℕ → Bool) (earlier : List ℕ) (id : ℕ) (es fs q r : History)
+    (v w : LineVerdict)
     (A B : History → Type 0)
     → ((rest left : History) → NeverFork (rest ++ q) (left ++ r) → A rest → B left → Agree rest v left w)
-    → DeletesAt side c gone earlier id es v A → DeletesAt side c gone earlier id fs w B → NeverFork (es ++ q) (fs ++ r) → Agree es v fs w
-at_agree sides.Formula c gone earlier id es fs q r v w A B next a b never = drops_agree gone earlier id es fs v w A B (next es fs never) a b
-at_agree sides.Own c gone earlier id es fs q r v w A B next a b never = retires_agree c earlier id es fs q r v w A B next a b never
-at_agree sides.Foreign c gone earlier id es fs q r v w A B next a b never = drops_agree gone earlier id es fs v w A B (next es fs never) a b
-at_agree sides.Outside c gone earlier id es fs q r v w A B next a b never = fails_agree (length earlier) (faults.NotLive id) es fs v w a b
+    → DeletesAt ownership c gone earlier id es v A → DeletesAt ownership c gone earlier id fs w B → NeverFork (es ++ q) (fs ++ r)
+    → Agree es v fs w
+at_agree ownerships.Formula c gone earlier id es fs q r v w A B next a b never =
+    drops_agree gone earlier id es fs v w A B (next es fs never) a b
+at_agree ownerships.Own c gone earlier id es fs q r v w A B next a b never = retires_agree c earlier id es fs q r v w A B next a b never
+at_agree ownerships.Foreign c gone earlier id es fs q r v w A B next a b never =
+    drops_agree gone earlier id es fs v w A B (next es fs never) a b
+at_agree ownerships.Outside c gone earlier id es fs q r v w A B next a b never =
+    fails_agree (length earlier) (faults.NotLive id) es fs v w a b
 
-identities_agree : (c : Setting) (gone : ℕ → Bool) (earlier ids : List ℕ) (es fs q r : History) (v w : LineVerdict)
+identities_agree : (c : StreamParams) (gone : ℕ → Bool) (earlier ids : List ℕ) (es fs q r : History) (v w : LineVerdict)
     → JudgesDeletion c gone earlier ids es v → JudgesDeletion c gone earlier ids fs w → NeverFork (es ++ q) (fs ++ r) → Agree es v fs w
 identities_agree c gone earlier [] es fs q r v w a b never = record { events = a.0 ∙ sym b.0; verdict = a.1 ∙ sym b.1 }
 identities_agree c gone earlier (id ∷ ids) es fs q r v w a b never =
-    at_agree (side_of c id) c gone earlier id es fs q r v w
+    at_agree (ownership_of c id) c gone earlier id es fs q r v w
     (λ rest. JudgesDeletion c gone (earlier ++ id ∷ []) ids rest v) (λ rest. JudgesDeletion c gone (earlier ++ id ∷ []) ids rest w)
     (λ rest left behind one two. identities_agree c gone (earlier ++ id ∷ []) ids rest left q r v w one two behind)
     a b never
@@ -230,7 +237,7 @@ identities_agree c gone earlier (id ∷ ids) es fs q r v w a b never =
 -- Imports
 
 -- where one is good, the other isn't bad
-import_good : (c : Setting) (st : Standing) (id : ℕ) (lits : List ℤ) (es fs q r : History) (deleted : ℕ) (fault : Fault)
+import_good : (c : StreamParams) (st : StreamContext) (id : ℕ) (lits : List ℤ) (es fs q r : History) (deleted : ℕ) (fault : Fault)
     → JudgesImport c st id lits es Good → JudgesImport c st id lits fs (Bad deleted fault) → NeverFork (es ++ q) (fs ++ r) → ⊥
 import_good c st id lits es fs q r deleted fault a (none, inl bad) never = bad.0 a.shared
 import_good c st id lits es fs q r deleted fault a (none, inr (shared, inl bad)) never = bad.0 a.literals
@@ -243,7 +250,7 @@ import_good c st id lits es fs q r deleted fault a (none, inr (shared, inr (with
     let clause : a.clause ≡ differs.0 = cc in
     differs.2 (subst (λ (d : Clause). (l : ℤ) → Has d l ↔ Has lits l) clause a.same)
 
-import_agrees : (c : Setting) (st : Standing) (id : ℕ) (lits : List ℤ) (es fs q r : History) (v w : LineVerdict)
+import_agrees : (c : StreamParams) (st : StreamContext) (id : ℕ) (lits : List ℤ) (es fs q r : History) (v w : LineVerdict)
     → JudgesImport c st id lits es v → JudgesImport c st id lits fs w → NeverFork (es ++ q) (fs ++ r) → Agree es v fs w
 import_agrees c st id lits es fs q r Good Good a b never =
     record { events = (looks_agree c st.gone id es fs q r (Ok a.clause) (Ok b.clause) a.found b.found never).0; verdict = refl }
@@ -267,7 +274,7 @@ import_agrees c st id lits es fs q r (Bad m v) (Bad n w) a b never =
     ]) a b) a.1 b.1)
 
 -- one line, after the same lines, whatever events come after
-pub line_agrees : (c : Setting) (st : Standing) (line : StreamLine) (es fs q r : History) (v w : LineVerdict)
+pub line_agrees : (c : StreamParams) (st : StreamContext) (line : StreamLine) (es fs q r : History) (v w : LineVerdict)
     → JudgesLine c st line es v → JudgesLine c st line fs w → NeverFork (es ++ q) (fs ++ r) → Agree es v fs w
 line_agrees c st (Addition id lits hints) es fs q r v w a b never = addition_agrees c st id lits hints es fs q r v w a b never
 line_agrees c st (Deletion lead ids) es fs q r v w a b never = identities_agree c st.gone [] ids es fs q r v w a b never

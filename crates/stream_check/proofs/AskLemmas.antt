@@ -9,16 +9,16 @@ use Rattle.lrup_model.specs.Layout.{LayoutValue, IsIdentity, last_identity, owne
 use Rattle.lrup_model.specs.declared.layout.Owner.{Owner}
 use Rattle.lrup_model.specs.declared.layout.Owner.TheVariants as owners
 use Rattle.lrup_model.specs.Event.{Event, History, Reply, vacant, fetch}
-use Rattle.lrup_model.specs.Place.{Place, AllFollow}
+use Rattle.lrup_model.specs.CallerView.{CallerView, AllFollow}
 use Rattle.lrup_model.specs.declared.clause_map.Fetched.{Fetched}
 use Rattle.lrup_model.specs.declared.clause_map.Fetched.TheVariants as answers
 use Rattle.lrup_model.specs.Replies.{reply_of, IsFetched}
 use Rattle.stream_check.specs.internal.Checking.{Gives}
-use Rattle.stream_check.specs.declared.setting.Side.{Side}
-use Rattle.stream_check.specs.declared.setting.Side.TheVariants as sides
-use Rattle.stream_check.specs.Setting.{Setting, side_of}
+use Rattle.stream_check.specs.declared.params.Ownership.{Ownership}
+use Rattle.stream_check.specs.declared.params.Ownership.TheVariants as ownerships
+use Rattle.stream_check.specs.StreamParams.{StreamParams, ownership_of}
 use Rattle.stream_check.specs.internal.CheckerInside.{tries_on}
-use Rattle.stream_check.specs.Asking.{FetchesUpTo, AsksAt, Asks}
+use Rattle.stream_check.specs.Lookup.{FetchesUpTo, AsksAt, Asks}
 use Rattle.stream_check.proofs.TryLemmas.{replicate-more}
 
 -- Fetches after a first one that was vacant
@@ -48,28 +48,30 @@ once s h es r fetches =
     let none : fetches.0 ≡ 0 = omega (arith, fetches.1) in
     fetches.3 ∙ ap (λ (k : ℕ). replicate k (fetch s h vacant) ++ fetch s h r ∷ []) none
 
-asks_at : (side : Side) (c : Setting) (h : ℕ) (es : History) (r : Reply) → (side ≡ sides.Outside → ⊥)
-    → FetchesUpTo (tries_on side c.tries) c.stream h es r → AsksAt side c h es r
-asks_at sides.Formula c h es r inside fetches = once c.stream h es r fetches
-asks_at sides.Own c h es r inside fetches = once c.stream h es r fetches
-asks_at sides.Foreign c h es r inside fetches = fetches
-asks_at sides.Outside c h es r inside fetches = absurd (inside refl)
+asks_at : (ownership : Ownership) (c : StreamParams) (h : ℕ) (es : History) (r : Reply) → (ownership ≡ ownerships.Outside → ⊥)
+    → FetchesUpTo (tries_on ownership c.tries) c.stream h es r → AsksAt ownership c h es r
+asks_at ownerships.Formula c h es r inside fetches = once c.stream h es r fetches
+asks_at ownerships.Own c h es r inside fetches = once c.stream h es r fetches
+asks_at ownerships.Foreign c h es r inside fetches = fetches
+asks_at ownerships.Outside c h es r inside fetches = absurd (inside refl)
 
 -- whose an identity of this owner is, as stream s sees it
-abbrev pub side_for : ℕ → Owner → Side
-side_for s o =
+abbrev pub ownership_for : ℕ → Owner → Ownership
+ownership_for s o =
     elim o [
-      | owners.Formula ↦ sides.Formula
-      | owners.Stream t ↦ if t == s then sides.Own else sides.Foreign
-      | owners.Outside ↦ sides.Outside
+      | owners.Formula ↦ ownerships.Formula
+      | owners.Stream t ↦ if t == s then ownerships.Own else ownerships.Foreign
+      | owners.Outside ↦ ownerships.Outside
     ]
 
-inside_side : (s : ℕ) (o : Owner) → (o ≡ owners.Outside → ⊥) → side_for s o ≡ sides.Outside → ⊥
+inside_side : (s : ℕ) (o : Owner) → (o ≡ owners.Outside → ⊥) → ownership_for s o ≡ ownerships.Outside → ⊥
 inside_side s owners.Formula inside e = absurd (cc)
 inside_side s (owners.Stream t) inside e = elim (cases_Bool (t == s)) [
-  | inl same ↦ absurd (let f : sides.Own ≡ sides.Outside = sym (ap (λ (b : Bool). if b then sides.Own else sides.Foreign) same) ∙ e in cc)
+  | inl same ↦ absurd (let f : ownerships.Own
+      ≡ ownerships.Outside = sym (ap (λ (b : Bool). if b then ownerships.Own else ownerships.Foreign) same) ∙ e in cc)
   | inr other ↦
-      absurd (let f : sides.Foreign ≡ sides.Outside = sym (ap (λ (b : Bool). if b then sides.Own else sides.Foreign) other) ∙ e in cc)
+      absurd (let f : ownerships.Foreign
+      ≡ ownerships.Outside = sym (ap (λ (b : Bool). if b then ownerships.Own else ownerships.Foreign) other) ∙ e in cc)
 ]
 inside_side s owners.Outside inside e = inside refl
 
@@ -89,18 +91,19 @@ inside_owner p id is e = elim (eqb_tells id 0) [
 ]
 
 -- a first fetch that was vacant, and those after it, are what asking for an identity makes
-pub asks_again : (c : Setting) (h s most : ℕ) (es : History) (r : Reply) → IsIdentity c.layout h → s ≡ c.stream
-    → most ≡ tries_on (side_of c h) c.tries → FetchesUpTo most s h es r → Asks c h es r
+pub asks_again : (c : StreamParams) (h s most : ℕ) (es : History) (r : Reply) → IsIdentity c.layout h → s ≡ c.stream
+    → most ≡ tries_on (ownership_of c h) c.tries → FetchesUpTo most s h es r → Asks c h es r
 asks_again c h s most es r is stream tries fetches =
-    asks_at (side_of c h) c h es r (inside_side c.stream (owner c.layout h) (inside_owner c.layout h is))
-    (subst (λ (t : ℕ). FetchesUpTo (tries_on (side_of c h) c.tries) t h es r) stream
+    asks_at (ownership_of c h) c h es r (inside_side c.stream (owner c.layout h) (inside_owner c.layout h is))
+    (subst (λ (t : ℕ). FetchesUpTo (tries_on (ownership_of c h) c.tries) t h es r) stream
     (subst (λ (n : ℕ). FetchesUpTo n s h es r) tries fetches))
 
 -- one fetch, where its reply isn't vacant
-pub asks_once : (c : Setting) (h s : ℕ) (r : Reply) → IsIdentity c.layout h → s ≡ c.stream → (r ≡ vacant → ⊥)
+pub asks_once : (c : StreamParams) (h s : ℕ) (r : Reply) → IsIdentity c.layout h → s ≡ c.stream → (r ≡ vacant → ⊥)
     → Asks c h (fetch s h r ∷ []) r
 asks_once c h s r is stream other =
-    asks_again c h s (tries_on (side_of c h) c.tries) (fetch s h r ∷ []) r is stream refl (0, omega arith, (λ e. absurd (other e)), refl)
+    asks_again c h s (tries_on (ownership_of c h) c.tries) (fetch s h r ∷ []) r is stream refl
+    (0, omega arith, (λ e. absurd (other e)), refl)
 
 outside_owner : (p : LayoutValue) (id : ℕ) → (IsIdentity p id → ⊥) → owner p id ≡ owners.Outside
 outside_owner p id never = elim (eqb_tells id 0) [
@@ -116,18 +119,19 @@ outside_owner p id never = elim (eqb_tells id 0) [
 ]
 
 -- no event for what is no identity
-pub asks_nothing : (c : Setting) (h : ℕ) → (IsIdentity c.layout h → ⊥) → Asks c h [] vacant
+pub asks_nothing : (c : StreamParams) (h : ℕ) → (IsIdentity c.layout h → ⊥) → Asks c h [] vacant
 asks_nothing c h never =
-    subst (λ (side : Side). AsksAt side c h [] vacant) (sym (ap (side_for c.stream) (outside_owner c.layout h never))) (refl, refl)
+    subst (λ (ownership : Ownership). AsksAt ownership c h [] vacant) (sym (ap (ownership_for c.stream) (outside_owner c.layout h never)))
+    (refl, refl)
 
 -- What a fetch answered
 
-pub not_vacant : (p : Place) (r : Fetched) → (r ≡ answers.Vacant → ⊥) → reply_of p r ≡ vacant → ⊥
+pub not_vacant : (p : CallerView) (r : Fetched) → (r ≡ answers.Vacant → ⊥) → reply_of p r ≡ vacant → ⊥
 not_vacant p answers.Vacant other e = other refl
 not_vacant p (answers.Live clip) other e = absurd (cc)
 not_vacant p answers.Retired other e = absurd (cc)
 
-pub gives_of : (p : Place) (id : ℕ) (r : Fetched) → IsFetched p id r → AllFollow p
+pub gives_of : (p : CallerView) (id : ℕ) (r : Fetched) → IsFetched p id r → AllFollow p
     → p.caller.formula.vars ≡ p.caller.layout.vars → Gives p r
 gives_of p id answers.Vacant fetched follow variables = tt
 gives_of p id (answers.Live clip) fetched follow variables = (fetched.1, follow, variables)

@@ -4,7 +4,7 @@ use Rattle.std.specs.List.{list_any}
 use Rattle.std.proofs.lemmas.List.Folds.{Any-from_list_any, list_any-from_Any}
 use Rattle.lrup_model.specs.Clause.{Clause}
 use Rattle.lrup_model.specs.Cube.{CubeValue}
-use Rattle.stream_check.specs.Standing.{additions_of, is_within}
+use Rattle.stream_check.specs.StreamContext.{additions_of, is_within}
 use Rattle.stream_check.specs.lemmas.CubeLemmas.{is_within-decides}
 use Rattle.stream_check.specs.Laws.{WithinReported, EmptyCubeReported}
 use Rattle.stream_check.specs.lemmas.ReportLemmas.{said_within, said_empty, all_only_empty}

@@ -6,8 +6,8 @@ use Rattle.lrup_model.specs.lemmas.ListLemmas.{All-append}
 use Rattle.lrup_text.specs.Lines.{StreamLine, Deletion, IsWithinLimits, line_text, HasNoLine}
 use Rattle.lrup_text.specs.declared.device.StreamEnd.{StreamEnd}
 use Rattle.stream_check.specs.declared.report.Report.{Report}
-use Rattle.stream_check.specs.Setting.{Setting}
-use Rattle.stream_check.specs.Standing.{standing_of}
+use Rattle.stream_check.specs.StreamParams.{StreamParams}
+use Rattle.stream_check.specs.StreamContext.{context_of}
 use Rattle.stream_check.specs.Verdicts.{Good, Bad}
 use Rattle.stream_check.specs.Judging.{AreGood, joined, EndsAfter, at_bad_line, at_bad_text, at_memory, at_end}
 use Rattle.stream_check.specs.Laws.{cited_by, FetchesOnly, JudgedLinesCut, CitedFetched}
@@ -49,14 +49,14 @@ lines_append : (P : StreamLine → Type 0) (a b : List StreamLine) → AllByRecu
 lines_append P [] b all = (tt, all)
 lines_append P (l ∷ a) b all = let rest = lines_append P a b all.1 in ((all.0, rest.0), rest.1)
 
-good_fetch : (c : Setting) (p : ℕ → Bool) (before lines : List StreamLine) (blocks : List History) → AllByRecursion (CitedPass p) lines
+good_fetch : (c : StreamParams) (p : ℕ → Bool) (before lines : List StreamLine) (blocks : List History) → AllByRecursion (CitedPass p) lines
     → AreGood c before lines blocks → AllByRecursion (FetchesOnly p) (joined blocks)
 unfolding CitedPass
 good_fetch c p before [] [] all good = tt
 good_fetch c p before [] (block ∷ blocks) all good = absurd good
 good_fetch c p before (line ∷ lines) [] all good = absurd good
 good_fetch c p before (line ∷ lines) (block ∷ blocks) all good =
-    All-append (FetchesOnly p) block (joined blocks) (line_fetches c p (standing_of c before) line block Good all.0 good.0)
+    All-append (FetchesOnly p) block (joined blocks) (line_fetches c p (context_of c before) line block Good all.0 good.0)
     (good_fetch c p (before ++ line ∷ []) lines blocks all.1 good.1)
 
 one_fetches : (p : ℕ → Bool) (block : History) (back : List History) → back ≡ block ∷ [] → AllByRecursion (FetchesOnly p) block
@@ -72,7 +72,7 @@ first_passes : (p : ℕ → Bool) (line : StreamLine) (lines others : List Strea
     → AllByRecursion (CitedPass p) lines → CitedPass p line
 first_passes p line lines others e all = (subst (AllByRecursion (CitedPass p)) e all).0
 
-ends_fetch : TextLaws → (c : Setting) (p : ℕ → Bool) (lines more : List StreamLine) (left rest : List ℕ) (end : StreamEnd)
+ends_fetch : TextLaws → (c : StreamParams) (p : ℕ → Bool) (lines more : List StreamLine) (left rest : List ℕ) (end : StreamEnd)
     (back : List History) (report : Report)
     → left ≡ flat_map line_text more ++ rest → AllByRecursion IsWithinLimits more → HasNoLine rest → AllByRecursion (CitedPass p) more
     → EndsAfter c lines left end back report → AllByRecursion (FetchesOnly p) (joined back)
@@ -81,12 +81,12 @@ ends_fetch laws c p lines more left rest end back report is fits none all
     (at_bad_line line after text fit block one_block deleted fault bad says) =
     let first = line_begins laws line more after left rest fit fits none text is in
     one_fetches p block back one_block
-    (line_fetches c p (standing_of c lines) line block (Bad deleted fault) (first_passes p line more first.0 first.1 all) bad)
+    (line_fetches c p (context_of c lines) line block (Bad deleted fault) (first_passes p line more first.0 first.1 all) bad)
 ends_fetch laws c p lines more left rest end back report is fits none all (at_bad_text fault text no_block says) =
     none_fetch p back no_block
 ends_fetch laws c p lines more left rest end back report is fits none all
     (at_memory lead ids after text fit block one_block earlier stops says) =
-    one_fetches p block back one_block (line_fetches c p (standing_of c lines) (Deletion lead earlier) block Good tt stops.before)
+    one_fetches p block back one_block (line_fetches c p (context_of c lines) (Deletion lead earlier) block Good tt stops.before)
 ends_fetch laws c p lines more left rest end back report is fits none all (at_end pending no_block says) = none_fetch p back no_block
 
 pub cited_fetched : TextLaws → CitedFetched

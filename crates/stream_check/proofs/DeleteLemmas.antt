@@ -9,13 +9,13 @@ use Rattle.stream_check.specs.declared.fault.Fault.{Fault}
 use Rattle.stream_check.specs.declared.fault.Fault.TheVariants as faults
 use Rattle.stream_check.specs.declared.line_stop.LineStop.{LineStop}
 use Rattle.stream_check.specs.declared.line_stop.LineStop.TheVariants as stops
-use Rattle.stream_check.specs.declared.setting.Side.{Side}
-use Rattle.stream_check.specs.declared.setting.Side.TheVariants as sides
-use Rattle.stream_check.specs.Setting.{Setting, side_of, is_shared}
-use Rattle.stream_check.specs.Standing.{is_among}
+use Rattle.stream_check.specs.declared.params.Ownership.{Ownership}
+use Rattle.stream_check.specs.declared.params.Ownership.TheVariants as ownerships
+use Rattle.stream_check.specs.StreamParams.{StreamParams, ownership_of, is_shared}
+use Rattle.stream_check.specs.StreamContext.{is_among}
 use Rattle.stream_check.specs.Verdicts.{LineVerdict, Good, Bad}
 use Rattle.stream_check.specs.Deletions.{DeletesAt, JudgesDeletion}
-use Rattle.stream_check.specs.internal.Checking.{DeletesSide, DeletesOne, AreDropped, Deletes}
+use Rattle.stream_check.specs.internal.Checking.{DeletesByOwnership, DeletesOne, AreDropped, Deletes}
 
 -- The dropped ones
 
@@ -35,122 +35,130 @@ own_bool false true false false h = refl
 own_bool false false e b h = refl
 
 -- what is dropped after one identity more, which is a shared one or an own one
-dropped_shared : (c : Setting) (first earlier old new : List ℕ) (id : ℕ) → is_shared (side_of c id) ≡ true → AreDropped c first earlier old
+dropped_shared : (c : StreamParams) (first earlier old new : List ℕ) (id : ℕ) → is_shared (ownership_of c id) ≡ true
+    → AreDropped c first earlier old
     → ((j : ℕ) → is_among new j ≡ (is_among old j || id == j)) → AreDropped c first (earlier ++ id ∷ []) new
 dropped_shared c first earlier old new id shared before added j =
     added j ∙ ap (λ (b : Bool). b || id == j) (before j)
-    ∙ drop_bool (is_among first j) (is_shared (side_of c j)) (is_among earlier j) (id == j)
-    (λ same. ap (λ k. is_shared (side_of c k)) (sym (eqb-true id j same)) ∙ shared)
-    ∙ sym (ap (λ (b : Bool). is_among first j || is_shared (side_of c j) && b) (list_any-append (λ k. k == j) earlier (id ∷ [])))
+    ∙ drop_bool (is_among first j) (is_shared (ownership_of c j)) (is_among earlier j) (id == j)
+    (λ same. ap (λ k. is_shared (ownership_of c k)) (sym (eqb-true id j same)) ∙ shared)
+    ∙ sym (ap (λ (b : Bool). is_among first j || is_shared (ownership_of c j) && b) (list_any-append (λ k. k == j) earlier (id ∷ [])))
 
-dropped_own : (c : Setting) (first earlier old new : List ℕ) (id : ℕ) → is_shared (side_of c id) ≡ false → AreDropped c first earlier old
+dropped_own : (c : StreamParams) (first earlier old new : List ℕ) (id : ℕ) → is_shared (ownership_of c id) ≡ false
+    → AreDropped c first earlier old
     → new ≡ old → AreDropped c first (earlier ++ id ∷ []) new
 dropped_own c first earlier old new id mine before same j =
     ap (λ (ids : List ℕ). is_among ids j) same ∙ before j
-    ∙ own_bool (is_among first j) (is_shared (side_of c j)) (is_among earlier j) (id == j)
-    (λ is. ap (λ k. is_shared (side_of c k)) (sym (eqb-true id j is)) ∙ mine)
-    ∙ sym (ap (λ (b : Bool). is_among first j || is_shared (side_of c j) && b) (list_any-append (λ k. k == j) earlier (id ∷ [])))
+    ∙ own_bool (is_among first j) (is_shared (ownership_of c j)) (is_among earlier j) (id == j)
+    (λ is. ap (λ k. is_shared (ownership_of c k)) (sym (eqb-true id j is)) ∙ mine)
+    ∙ sym (ap (λ (b : Bool). is_among first j || is_shared (ownership_of c j) && b) (list_any-append (λ k. k == j) earlier (id ∷ [])))
 
-dropped_at : (side : Side) (c : Setting) (first earlier old new : List ℕ) (id : ℕ) (es : History) → side_of c id ≡ side
-    → AreDropped c first earlier old → DeletesSide side c id old new es (Ok tt) → AreDropped c first (earlier ++ id ∷ []) new
-dropped_at sides.Formula c first earlier old new id es is before deletes =
+dropped_at : (ownership : Ownership) (c : StreamParams) (first earlier old new : List ℕ) (id : ℕ) (es : History)
+    → ownership_of c id ≡ ownership
+    → AreDropped c first earlier old → DeletesByOwnership ownership c id old new es (Ok tt) → AreDropped c first (earlier ++ id ∷ []) new
+dropped_at ownerships.Formula c first earlier old new id es is before deletes =
     dropped_shared c first earlier old new id (ap is_shared is) before deletes.1.1
-dropped_at sides.Own c first earlier old new id es is before deletes =
+dropped_at ownerships.Own c first earlier old new id es is before deletes =
     dropped_own c first earlier old new id (ap is_shared is) before deletes.1
-dropped_at sides.Foreign c first earlier old new id es is before deletes =
+dropped_at ownerships.Foreign c first earlier old new id es is before deletes =
     dropped_shared c first earlier old new id (ap is_shared is) before deletes.1.1
-dropped_at sides.Outside c first earlier old new id es is before deletes =
+dropped_at ownerships.Outside c first earlier old new id es is before deletes =
     absurd (let e : Ok tt ≡ Err (stops.Bad (faults.NotLive id)) = deletes.1 in cc)
 
-pub dropped_more : (c : Setting) (first earlier old new : List ℕ) (id : ℕ) (es : History) → AreDropped c first earlier old
+pub dropped_more : (c : StreamParams) (first earlier old new : List ℕ) (id : ℕ) (es : History) → AreDropped c first earlier old
     → DeletesOne c id old new es (Ok tt) → AreDropped c first (earlier ++ id ∷ []) new
-dropped_more c first earlier old new id es before deletes = dropped_at (side_of c id) c first earlier old new id es refl before deletes
+dropped_more c first earlier old new id es before deletes = dropped_at (ownership_of c id) c first earlier old new id es refl before deletes
 
 -- a shared identity is dropped exactly if it is among those that are kept
-dropped_shared_is : (c : Setting) (first earlier old : List ℕ) (id : ℕ) (b : Bool) → is_shared (side_of c id) ≡ true
+dropped_shared_is : (c : StreamParams) (first earlier old : List ℕ) (id : ℕ) (b : Bool) → is_shared (ownership_of c id) ≡ true
     → AreDropped c first earlier old → is_among old id ≡ b → (is_among first id || is_among earlier id) ≡ b
 dropped_shared_is c first earlier old id b shared before among =
     sym (ap (λ (s : Bool). is_among first id || s && is_among earlier id) shared) ∙ sym (before id) ∙ among
 
 -- One identity
 
-done_at : (side : Side) (c : Setting) (first earlier old new : List ℕ) (id : ℕ) (es rest : History) (v : LineVerdict) (Next : History
-    → Type 0) → side_of c id ≡ side → AreDropped c first earlier old
-    → DeletesSide side c id old new es (Ok tt) → Next rest → DeletesAt side c (is_among first) earlier id (es ++ rest) v Next
-done_at sides.Formula c first earlier old new id es rest v Next is before deletes next =
+done_at : (ownership : Ownership) (c : StreamParams) (first earlier old new : List ℕ) (id : ℕ) (es rest : History) (v : LineVerdict)
+    (Next : History
+    → Type 0) → ownership_of c id ≡ ownership → AreDropped c first earlier old
+    → DeletesByOwnership ownership c id old new es (Ok tt) → Next rest
+    → DeletesAt ownership c (is_among first) earlier id (es ++ rest) v Next
+done_at ownerships.Formula c first earlier old new id es rest v Next is before deletes next =
     inr (
       dropped_shared_is c first earlier old id false (ap is_shared is) before deletes.1.0,
       subst Next (sym (ap (λ (x : History). x ++ rest) deletes.0)) next,
     )
-done_at sides.Own c first earlier old new id es rest v Next is before deletes next =
+done_at ownerships.Own c first earlier old new id es rest v Next is before deletes next =
     record { rest = rest; decided = inl (ap (λ (x : History). x ++ rest) deletes.0, next) }
-done_at sides.Foreign c first earlier old new id es rest v Next is before deletes next =
+done_at ownerships.Foreign c first earlier old new id es rest v Next is before deletes next =
     inr (
       dropped_shared_is c first earlier old id false (ap is_shared is) before deletes.1.0,
       subst Next (sym (ap (λ (x : History). x ++ rest) deletes.0)) next,
     )
-done_at sides.Outside c first earlier old new id es rest v Next is before deletes next =
+done_at ownerships.Outside c first earlier old new id es rest v Next is before deletes next =
     absurd (let e : Ok tt ≡ Err (stops.Bad (faults.NotLive id)) = deletes.1 in cc)
 
-bad_at : (side : Side) (c : Setting) (first earlier old new : List ℕ) (id : ℕ) (es : History) (fault : Fault) (Next : History → Type 0)
-    → side_of c id ≡ side → AreDropped c first earlier old
-    → DeletesSide side c id old new es (Err (stops.Bad fault))
-    → DeletesAt side c (is_among first) earlier id es (Bad (length earlier) fault) Next
-bad_at sides.Formula c first earlier old new id es fault Next is before deletes = inl (
+bad_at : (ownership : Ownership) (c : StreamParams) (first earlier old new : List ℕ) (id : ℕ) (es : History) (fault : Fault)
+    (Next : History → Type 0)
+    → ownership_of c id ≡ ownership → AreDropped c first earlier old
+    → DeletesByOwnership ownership c id old new es (Err (stops.Bad fault))
+    → DeletesAt ownership c (is_among first) earlier id es (Bad (length earlier) fault) Next
+bad_at ownerships.Formula c first earlier old new id es fault Next is before deletes = inl (
   dropped_shared_is c first earlier old id true (ap is_shared is) before deletes.1.0,
   (deletes.0, ap (λ f. Bad (length earlier) f) deletes.1.1),
 )
-bad_at sides.Own c first earlier old new id es fault Next is before deletes = record {
+bad_at ownerships.Own c first earlier old new id es fault Next is before deletes = record {
   rest = [];
   decided = inr (deletes.0, (refl, ap (λ f. Bad (length earlier) f) deletes.1));
 }
-bad_at sides.Foreign c first earlier old new id es fault Next is before deletes = inl (
+bad_at ownerships.Foreign c first earlier old new id es fault Next is before deletes = inl (
   dropped_shared_is c first earlier old id true (ap is_shared is) before deletes.1.0,
   (deletes.0, ap (λ f. Bad (length earlier) f) deletes.1.1),
 )
-bad_at sides.Outside c first earlier old new id es fault Next is before deletes =
+bad_at ownerships.Outside c first earlier old new id es fault Next is before deletes =
     (deletes.0, ap (λ f. Bad (length earlier) f) (let e : Err (stops.Bad fault) ≡ Err (stops.Bad (faults.NotLive id)) = deletes.1 in cc))
 
-no_memory_at : (side : Side) (c : Setting) (first earlier old new : List ℕ) (id : ℕ) (es : History) → side_of c id ≡ side
+no_memory_at : (ownership : Ownership) (c : StreamParams) (first earlier old new : List ℕ) (id : ℕ) (es : History)
+    → ownership_of c id ≡ ownership
     → AreDropped c first earlier old
-    → DeletesSide side c id old new es (Err stops.Memory)
-    → (es ≡ []) × (is_shared (side_of c id) ≡ true) × ((is_among first id || is_among earlier id) ≡ false)
-no_memory_at sides.Formula c first earlier old new id es is before deletes =
+    → DeletesByOwnership ownership c id old new es (Err stops.Memory)
+    → (es ≡ []) × (is_shared (ownership_of c id) ≡ true) × ((is_among first id || is_among earlier id) ≡ false)
+no_memory_at ownerships.Formula c first earlier old new id es is before deletes =
     (deletes.0, ap is_shared is, dropped_shared_is c first earlier old id false (ap is_shared is) before deletes.1.0)
-no_memory_at sides.Own c first earlier old new id es is before deletes = absurd deletes
-no_memory_at sides.Foreign c first earlier old new id es is before deletes =
+no_memory_at ownerships.Own c first earlier old new id es is before deletes = absurd deletes
+no_memory_at ownerships.Foreign c first earlier old new id es is before deletes =
     (deletes.0, ap is_shared is, dropped_shared_is c first earlier old id false (ap is_shared is) before deletes.1.0)
-no_memory_at sides.Outside c first earlier old new id es is before deletes =
+no_memory_at ownerships.Outside c first earlier old new id es is before deletes =
     absurd (let e : Err stops.Memory ≡ Err (stops.Bad (faults.NotLive id)) = deletes.1 in cc)
 
 -- what stopped the deletion drops nothing itself
-kept_at : (side : Side) (c : Setting) (old new : List ℕ) (id : ℕ) (es : History) (stop : LineStop)
-    → DeletesSide side c id old new es (Err stop) → new ≡ old
-kept_at sides.Formula c old new id es (stops.Bad fault) deletes = deletes.1.2
-kept_at sides.Formula c old new id es stops.Memory deletes = deletes.1.1
-kept_at sides.Own c old new id es (stops.Bad fault) deletes = deletes.2
-kept_at sides.Own c old new id es stops.Memory deletes = absurd deletes
-kept_at sides.Foreign c old new id es (stops.Bad fault) deletes = deletes.1.2
-kept_at sides.Foreign c old new id es stops.Memory deletes = deletes.1.1
-kept_at sides.Outside c old new id es stop deletes = deletes.2
+kept_at : (ownership : Ownership) (c : StreamParams) (old new : List ℕ) (id : ℕ) (es : History) (stop : LineStop)
+    → DeletesByOwnership ownership c id old new es (Err stop) → new ≡ old
+kept_at ownerships.Formula c old new id es (stops.Bad fault) deletes = deletes.1.2
+kept_at ownerships.Formula c old new id es stops.Memory deletes = deletes.1.1
+kept_at ownerships.Own c old new id es (stops.Bad fault) deletes = deletes.2
+kept_at ownerships.Own c old new id es stops.Memory deletes = absurd deletes
+kept_at ownerships.Foreign c old new id es (stops.Bad fault) deletes = deletes.1.2
+kept_at ownerships.Foreign c old new id es stops.Memory deletes = deletes.1.1
+kept_at ownerships.Outside c old new id es stop deletes = deletes.2
 
-dropped_until : (c : Setting) (first earlier old new : List ℕ) (id : ℕ) (es : History) (stop : LineStop) → AreDropped c first earlier old
+dropped_until : (c : StreamParams) (first earlier old new : List ℕ) (id : ℕ) (es : History) (stop : LineStop)
+    → AreDropped c first earlier old
     → DeletesOne c id old new es (Err stop) → AreDropped c first earlier new
 dropped_until c first earlier old new id es stop before deletes =
-    subst (AreDropped c first earlier) (sym (kept_at (side_of c id) c old new id es stop deletes)) before
+    subst (AreDropped c first earlier) (sym (kept_at (ownership_of c id) c old new id es stop deletes)) before
 
 -- One after the other
 
 -- what the identities that are left are judged to be gives what all are
-abbrev pub GoesOn : Setting → List ℕ → List ℕ → History → Type 0
+abbrev pub GoesOn : StreamParams → List ℕ → List ℕ → History → Type 0
 GoesOn c first earlier es = (more : List ℕ) (rest : History) (v : LineVerdict)
     → JudgesDeletion c (is_among first) earlier more rest v → JudgesDeletion c (is_among first) [] (earlier ++ more) (es ++ rest) v
 
-pub goes_on : (c : Setting) (first earlier old new : List ℕ) (id : ℕ) (es fs : History) → GoesOn c first earlier es
+pub goes_on : (c : StreamParams) (first earlier old new : List ℕ) (id : ℕ) (es fs : History) → GoesOn c first earlier es
     → AreDropped c first earlier old → DeletesOne c id old new fs (Ok tt) → GoesOn c first (earlier ++ id ∷ []) (es ++ fs)
 goes_on c first earlier old new id es fs before dropped deletes more rest v judged =
     let here : JudgesDeletion c (is_among first) earlier (id ∷ more) (fs ++ rest) v =
-    done_at (side_of c id) c first earlier old new id fs rest v
+    done_at (ownership_of c id) c first earlier old new id fs rest v
     (λ x. JudgesDeletion c (is_among first) (earlier ++ id ∷ []) more x v) refl dropped deletes judged in
     subst (λ (x : History). JudgesDeletion c (is_among first) [] ((earlier ++ id ∷ []) ++ more) x v) (sym (append_assoc es fs rest))
     (subst (λ (ids : List ℕ). JudgesDeletion c (is_among first) [] ids (es ++ (fs ++ rest)) v) (sym (append_assoc earlier (id ∷ []) more))
@@ -161,20 +169,20 @@ pub among_ids : (ids : List ℕ) (i : ℕ) → i < length ids → ids ≡ take i
 among_ids ids i lt = sym (take-append-drop i ids) ∙ ap (λ (js : List ℕ). take i ids ++ js) (rw (add-one, drop-cons ids i 0) refl)
 
 -- those before it are good
-good_front : (c : Setting) (first earlier : List ℕ) (es : History) → GoesOn c first earlier es
+good_front : (c : StreamParams) (first earlier : List ℕ) (es : History) → GoesOn c first earlier es
     → JudgesDeletion c (is_among first) [] earlier es Good
 good_front c first earlier es before =
     subst (λ (ids : List ℕ). JudgesDeletion c (is_among first) [] ids es Good) (append-nil earlier)
     (subst (λ (x : History). JudgesDeletion c (is_among first) [] (earlier ++ []) x Good) (append-nil es) (before [] [] Good (refl, refl)))
 
 -- it stops the deletion: it is bad, or there is no memory for it
-pub stopped_deletion : (c : Setting) (first earlier old new : List ℕ) (id : ℕ) (later ids : List ℕ) (es fs : History) (stop : LineStop)
+pub stopped_deletion : (c : StreamParams) (first earlier old new : List ℕ) (id : ℕ) (later ids : List ℕ) (es fs : History) (stop : LineStop)
     → ids ≡ earlier ++ id ∷ later → GoesOn c first earlier es → AreDropped c first earlier old
     → DeletesOne c id old new fs (Err stop) → Deletes c first new ids (es ++ fs) (length earlier) (Err stop)
 stopped_deletion c first earlier old new id later ids es fs (stops.Bad fault) is before dropped deletes =
     let v : LineVerdict = Bad (length earlier) fault in
     let here : JudgesDeletion c (is_among first) earlier (id ∷ later) fs v =
-    bad_at (side_of c id) c first earlier old new id fs fault
+    bad_at (ownership_of c id) c first earlier old new id fs fault
     (λ x. JudgesDeletion c (is_among first) (earlier ++ id ∷ []) later x v) refl dropped deletes in (
       earlier,
       id ∷ later,
@@ -184,7 +192,7 @@ stopped_deletion c first earlier old new id later ids es fs (stops.Bad fault) is
       dropped_until c first earlier old new id fs (stops.Bad fault) dropped deletes,
     )
 stopped_deletion c first earlier old new id later ids es fs stops.Memory is before dropped deletes =
-    let at = no_memory_at (side_of c id) c first earlier old new id fs refl dropped deletes in (
+    let at = no_memory_at (ownership_of c id) c first earlier old new id fs refl dropped deletes in (
       earlier,
       refl,
       record {
@@ -200,7 +208,7 @@ stopped_deletion c first earlier old new id later ids es fs stops.Memory is befo
     )
 
 -- all are deleted
-pub good_deletion : (c : Setting) (first earlier ids : List ℕ) (es : History) → earlier ≡ ids → GoesOn c first earlier es
+pub good_deletion : (c : StreamParams) (first earlier ids : List ℕ) (es : History) → earlier ≡ ids → GoesOn c first earlier es
     → JudgesDeletion c (is_among first) [] ids es Good
 good_deletion c first earlier ids es is before =
     subst (λ (js : List ℕ). JudgesDeletion c (is_among first) [] js es Good) is (good_front c first earlier es before)

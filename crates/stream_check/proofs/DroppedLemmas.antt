@@ -3,7 +3,7 @@ use Rattle.std.proofs.Common.{◌≡◌, ℕ, Bool, true, false, cond, List, [],
 use Rattle.std.specs.Prelude.{◌||◌, ◌==◌}
 use Rattle.std.specs.List.{list_any}
 use Rattle.std.proofs.lemmas.Bool.{cases_Bool, eqb-true, eq-eqb, eqb-false}
-use Rattle.stream_check.specs.Standing.{is_among}
+use Rattle.stream_check.specs.StreamContext.{is_among}
 
 pub same_test : (a b : ℕ) → (a == b) ≡ (b == a)
 same_test a b =

@@ -8,12 +8,12 @@ use Rattle.lrup_model.specs.declared.clause_map.Published.{Published}
 use Rattle.lrup_model.specs.declared.clause_map.Retired.TheVariants as retiring
 use Rattle.lrup_text.specs.Lines.{StreamLine, Addition, Deletion, Import}
 use Rattle.lrup_model.specs.Distinct.{distinct}
-use Rattle.stream_check.specs.declared.setting.Side.{Side}
-use Rattle.stream_check.specs.declared.setting.Side.TheVariants as sides
-use Rattle.stream_check.specs.Setting.{Setting, side_of}
-use Rattle.stream_check.specs.Standing.{Standing}
+use Rattle.stream_check.specs.declared.params.Ownership.{Ownership}
+use Rattle.stream_check.specs.declared.params.Ownership.TheVariants as ownerships
+use Rattle.stream_check.specs.StreamParams.{StreamParams, ownership_of}
+use Rattle.stream_check.specs.StreamContext.{StreamContext}
 use Rattle.stream_check.specs.Verdicts.{LineVerdict}
-use Rattle.stream_check.specs.Asking.{AsksAt, Asks}
+use Rattle.stream_check.specs.Lookup.{AsksAt, Asks}
 use Rattle.stream_check.specs.lemmas.EventLemmas.{addition_holds, import_holds, identities_hold, IsAny, all_any, asked_are, asked_more}
 use Rattle.stream_check.specs.Judging.{JudgesLine}
 use Rattle.stream_check.specs.Reducing.{IsEarly, StartsWithFetchOf, TriesAgain}
@@ -22,7 +22,7 @@ use Rattle.stream_check.specs.Laws.{LineCalls, EarlyEvents, VacantTriesAgain, ci
 -- Something that holds of the events of a line, from the last one on
 
 -- the list is empty; or it is the publish; or a retire is before it; or the events of a hint are
-pub record Holds (c : Setting) (IsHint : ℕ → Type 0) (P : History → Type 0) : Type 0 where
+pub record Holds (c : StreamParams) (IsHint : ℕ → Type 0) (P : History → Type 0) : Type 0 where
   pub none : P []
   pub published : (id : ℕ) (d : Clause) (r : Published) → P (events.publish c.stream id d r ∷ [])
   pub asked : (h : ℕ) (asked rest : History) (r : Reply) → IsHint h → Asks c h asked r → (r ≡ events.vacant → rest ≡ []) → P rest
@@ -30,8 +30,8 @@ pub record Holds (c : Setting) (IsHint : ℕ → Type 0) (P : History → Type 0
   pub retired : (id : ℕ) (rest : History) → P rest → P (events.retire c.stream id retiring.Done ∷ rest)
   pub refused : (id : ℕ) → P (events.retire c.stream id retiring.NotLive ∷ [])
 
-module _ (c : Setting) (IsHint : ℕ → Type 0) (P : History → Type 0) (holds : Holds c IsHint P) where
-  pub line_holds : (st : Standing) (line : StreamLine) (es : History) (v : LineVerdict) → AllByRecursion IsHint (cited_by line)
+module _ (c : StreamParams) (IsHint : ℕ → Type 0) (P : History → Type 0) (holds : Holds c IsHint P) where
+  pub line_holds : (st : StreamContext) (line : StreamLine) (es : History) (v : LineVerdict) → AllByRecursion IsHint (cited_by line)
       → JudgesLine c st line es v → P es
   line_holds st (Addition id lits hints) es v all judged =
       addition_holds c P holds.none IsHint holds.asked st id lits hints es v (λ good. holds.published id (distinct lits) _) all judged
@@ -101,31 +101,31 @@ tries_vacants s id zero r rest ends tries = tries_last s id r rest ends tries
 tries_vacants s id (suc zero) r rest ends tries = (refl, tries_last s id r rest ends tries)
 tries_vacants s id (suc (suc k)) r rest ends tries = (refl, tries_vacants s id (suc k) r rest ends tries)
 
-tries_asked : (side : Side) (c : Setting) (h : ℕ) (asked rest : History) (r : Reply) → AsksAt side c h asked r
+tries_asked : (ownership : Ownership) (c : StreamParams) (h : ℕ) (asked rest : History) (r : Reply) → AsksAt ownership c h asked r
     → (r ≡ events.vacant → rest ≡ []) → TriesAgain rest → TriesAgain (asked ++ rest)
-tries_asked sides.Formula c h asked rest r asks ends tries =
+tries_asked ownerships.Formula c h asked rest r asks ends tries =
     subst (λ a. TriesAgain (a ++ rest)) (sym asks) (tries_last c.stream h r rest ends tries)
-tries_asked sides.Own c h asked rest r asks ends tries =
+tries_asked ownerships.Own c h asked rest r asks ends tries =
     subst (λ a. TriesAgain (a ++ rest)) (sym asks) (tries_last c.stream h r rest ends tries)
-tries_asked sides.Foreign c h asked rest r asks ends tries =
+tries_asked ownerships.Foreign c h asked rest r asks ends tries =
     subst (λ a. TriesAgain (a ++ rest)) (sym asks.3)
     (subst TriesAgain (sym (append_assoc (replicate asks.0 (events.fetch c.stream h events.vacant)) (events.fetch c.stream h r ∷ []) rest))
     (tries_vacants c.stream h asks.0 r rest ends tries))
-tries_asked sides.Outside c h asked rest r asks ends tries = subst (λ a. TriesAgain (a ++ rest)) (sym asks.0) tries
+tries_asked ownerships.Outside c h asked rest r asks ends tries = subst (λ a. TriesAgain (a ++ rest)) (sym asks.0) tries
 
 pub vacant_tries_again : VacantTriesAgain
 vacant_tries_again c st line es v judged =
     line_holds c IsAny TriesAgain (record {
       none = tt;
       published = λ id d r. tt;
-      asked = λ h asked rest r any asks ends tries. tries_asked (side_of c h) c h asked rest r asks ends tries;
+      asked = λ h asked rest r any asks ends tries. tries_asked (ownership_of c h) c h asked rest r asks ends tries;
       retired = λ id rest tries. tries;
       refused = λ id. tt;
     }) st line es v (all_any (cited_by line)) judged
 
 -- Cited identities that pass a test
 
-pub line_fetches : (c : Setting) (p : ℕ → Bool) (st : Standing) (line : StreamLine) (es : History) (v : LineVerdict)
+pub line_fetches : (c : StreamParams) (p : ℕ → Bool) (st : StreamContext) (line : StreamLine) (es : History) (v : LineVerdict)
     → AllByRecursion (λ h. IsTrue (p h)) (cited_by line) → JudgesLine c st line es v → AllByRecursion (FetchesOnly p) es
 line_fetches c p st line es v all judged =
     line_holds c (λ h. IsTrue (p h)) (AllByRecursion (FetchesOnly p)) (record {

@@ -8,7 +8,7 @@ use Rattle.std.proofs.lemmas.List.{take_all}
 use Rattle.lrup_model.specs.Cube.{CubeValue}
 use Rattle.lrup_model.specs.Layout.{LayoutValue}
 use Rattle.lrup_model.specs.Event.{History}
-use Rattle.lrup_model.specs.Place.{Place}
+use Rattle.lrup_model.specs.CallerView.{CallerView}
 use Rattle.lrup_text.specs.Writing.{space}
 use Rattle.lrup_text.specs.internal.ByteNames.{letter_d, letter_i}
 use Rattle.lrup_text.specs.Grammar.{clause_text, list_text}
@@ -26,17 +26,17 @@ use Rattle.stream_check.specs.declared.report.Ending.TheVariants as endings
 use Rattle.stream_check.specs.declared.report.Ending.{Ending}
 use Rattle.stream_check.specs.declared.report.Report.{Report}
 use Rattle.stream_check.specs.declared.stream_state.StreamState.{StreamState}
-use Rattle.stream_check.specs.Setting.{Setting, side_of, is_shared}
-use Rattle.stream_check.specs.Standing.{is_among}
+use Rattle.stream_check.specs.StreamParams.{StreamParams, ownership_of, is_shared}
+use Rattle.stream_check.specs.StreamContext.{is_among}
 use Rattle.stream_check.specs.Judging.{ending_at, JudgesBlocks}
-use Rattle.stream_check.specs.Leaving.{Going, Over, JudgesBothEnds, Leaves, IsFresh}
+use Rattle.stream_check.specs.Reaching.{Going, Over, JudgesBothEnds, ReachesState, IsFresh}
 use Rattle.stream_check.specs.CheckerValue.{Tally, report_of_tally, CheckerValue}
 use Rattle.stream_check.specs.internal.CheckerInside.{read_of, value_of, tally_at, IsSound}
-use Rattle.stream_check.specs.Checker.{checker_state, state_by, holding_of, IsReadyAt, LeavesOn, IsNew, EndsBy, Ends, ReportsEnd}
+use Rattle.stream_check.specs.Checker.{checker_state, state_by, going_of, IsReadyAt, Extends, IsNew, EndsBy, Ends, ReportsEnd}
 use Rattle.stream_check.specs.internal.Taking.{IsReady, hold}
-use Rattle.stream_check.proofs.LeavingLemmas.{end_judged, line_grows, all_snoc}
-use Rattle.stream_check.specs.lemmas.StandingLemmas.{same_tally}
-use Rattle.stream_check.proofs.TakeLemmas.{leaves_front}
+use Rattle.stream_check.proofs.ReachingLemmas.{end_judged, line_grows, all_snoc}
+use Rattle.stream_check.specs.lemmas.ContextLemmas.{same_tally}
+use Rattle.stream_check.proofs.TakeLemmas.{reaches_front}
 
 pub some_of : (o : Option Ending) → is_some o ≡ true → (ending : Ending) × (o ≡ Some ending)
 some_of None some = absurd (cc)
@@ -53,26 +53,26 @@ not_over old ending none some = absurd (let e : None ≡ Some ending = sym none 
 -- a line is taken
 pub feeds_line : (h n : StreamState) (read : List ℕ) (r : ReaderState) (used : List ℕ) (blocks : List History) (free left : ℕ)
     (ending : Option Ending) → ending ≡ None → r ≡ Ok []
-    → LeavesOn h.setting (Going (hold h read free)) used blocks (Going (hold n [] left))
-    → LeavesOn h.setting (checker_state (value_of h read ending) free) used blocks (checker_state (value_of n (read_of r) ending) left)
-feeds_line h n read r used blocks free left ending none reads leaves =
-    subst (λ (o : Option Ending). LeavesOn h.setting (checker_state (value_of h read o) free) used blocks
+    → Extends h.params (Going (hold h read free)) used blocks (Going (hold n [] left))
+    → Extends h.params (checker_state (value_of h read ending) free) used blocks (checker_state (value_of n (read_of r) ending) left)
+feeds_line h n read r used blocks free left ending none reads reaches =
+    subst (λ (o : Option Ending). Extends h.params (checker_state (value_of h read o) free) used blocks
     (checker_state (value_of n (read_of r) o) left)) (sym none)
-    (subst (λ (text : List ℕ). LeavesOn h.setting (Going (hold h read free)) used blocks (Going (hold n text left)))
-    (sym (ap read_of reads)) leaves)
+    (subst (λ (text : List ℕ). Extends h.params (Going (hold h read free)) used blocks (Going (hold n text left)))
+    (sym (ap read_of reads)) reaches)
 
 -- the front of a line is taken
 pub feeds_more : (h : StreamState) (read : List ℕ) (r : ReaderState) (piece : List ℕ) (used free : ℕ) (ending : Option Ending)
     → ending ≡ None → r ≡ Ok (read ++ piece) → used ≡ length piece → IsPending (read ++ piece)
-    → LeavesOn h.setting (checker_state (value_of h read ending) free) (take used piece) []
+    → Extends h.params (checker_state (value_of h read ending) free) (take used piece) []
     (checker_state (value_of h (read_of r) ending) free)
 feeds_more h read r piece used free ending none reads all pending =
-    subst (λ (o : Option Ending). LeavesOn h.setting (checker_state (value_of h read o) free) (take used piece) []
+    subst (λ (o : Option Ending). Extends h.params (checker_state (value_of h read o) free) (take used piece) []
     (checker_state (value_of h (read_of r) o) free)) (sym none)
-    (subst (λ (text : List ℕ). LeavesOn h.setting (Going (hold h read free)) (take used piece) [] (Going (hold h text free)))
+    (subst (λ (text : List ℕ). Extends h.params (Going (hold h read free)) (take used piece) [] (Going (hold h text free)))
     (sym (ap read_of reads))
-    (subst (λ (b : List ℕ). LeavesOn h.setting (Going (hold h read free)) b [] (Going (hold h (read ++ piece) free)))
-    (sym (take_all used piece (omega (arith, all)))) (leaves_front h free read piece pending)))
+    (subst (λ (b : List ℕ). Extends h.params (Going (hold h read free)) b [] (Going (hold h (read ++ piece) free)))
+    (sym (take_all used piece (omega (arith, all)))) (reaches_front h free read piece pending)))
 
 -- and the lines are cut as before
 pub front_cut : (bytes pending piece : List ℕ) (lines : List StreamLine) → IsPending (pending ++ piece) → Cut bytes lines pending
@@ -105,18 +105,19 @@ line_cut bytes pending used lines line text cut = record {
 
 -- What a checker asks of its parts, call after call
 
-pub ready_inside : (h : StreamState) (read : List ℕ) (ending : Option Ending) (v : CheckerValue) (p : Place) → value_of h read ending ≡ v
+pub ready_inside : (h : StreamState) (read : List ℕ) (ending : Option Ending) (v : CheckerValue) (p : CallerView)
+    → value_of h read ending ≡ v
     → IsReadyAt v p → IsReady h p
 ready_inside h read ending v p is ready =
     let same = subst (λ (w : CheckerValue). IsReadyAt w p) (sym is) ready in
     record { at = same.at; vacant = same.vacant }
 
-pub sound_on : (c d : Setting) (v w : ℕ) (old new : ReaderState) (o p : Option Ending) → IsSound c v old o → d ≡ c → w ≡ v
+pub sound_on : (c d : StreamParams) (v w : ℕ) (old new : ReaderState) (o p : Option Ending) → IsSound c v old o → d ≡ c → w ≡ v
     → (p ≡ None → new ≡ Ok (read_of new)) → IsSound d w new p
-sound_on c d v w old new o p sound setting variables reads = record {
+sound_on c d v w old new o p sound params variables reads = record {
   reads = reads;
-  variables = ap (λ (s : Setting). s.layout.vars) setting ∙ sound.variables ∙ sym variables;
-  tries = subst (λ (s : Setting). s.tries < 2 ^ 63) (sym setting) sound.tries;
+  variables = ap (λ (s : StreamParams). s.layout.vars) params ∙ sound.variables ∙ sym variables;
+  tries = subst (λ (s : StreamParams). s.tries < 2 ^ 63) (sym params) sound.tries;
 }
 
 pub reads_on : (r : ReaderState) (read : List ℕ) → r ≡ Ok read → r ≡ Ok (read_of r)
@@ -125,15 +126,15 @@ reads_on r read e = e ∙ ap (λ (b : List ℕ). Ok b) (sym (ap read_of e))
 -- the reading ends
 pub feeds_over : (h : StreamState) (read used : List ℕ) (blocks : List History) (free : ℕ) (ending : Option Ending) (report : Report)
     (gone : ℕ → Bool) → ending ≡ None
-    → LeavesOn h.setting (Going (hold h read free)) used blocks (Over report gone)
-    → LeavesOn h.setting (checker_state (value_of h read ending) free) used blocks (Over report gone)
-feeds_over h read used blocks free ending report gone none leaves =
-    subst (λ (o : Option Ending). LeavesOn h.setting (checker_state (value_of h read o) free) used blocks (Over report gone)) (sym none)
-    leaves
+    → Extends h.params (Going (hold h read free)) used blocks (Over report gone)
+    → Extends h.params (checker_state (value_of h read ending) free) used blocks (Over report gone)
+feeds_over h read used blocks free ending report gone none reaches =
+    subst (λ (o : Option Ending). Extends h.params (checker_state (value_of h read o) free) used blocks (Over report gone)) (sym none)
+    reaches
 
 -- The end of the stream, or a failed read
 
-either_report : (c : Setting) (bytes : List ℕ) (blocks : List History) (end : StreamEnd) (report : Report)
+either_report : (c : StreamParams) (bytes : List ℕ) (blocks : List History) (end : StreamEnd) (report : Report)
     → JudgesBothEnds c bytes blocks report → JudgesBlocks c bytes end blocks report
 either_report c bytes blocks stream_ends.Ended report over = over.0
 either_report c bytes blocks stream_ends.Failed report over = over.1
@@ -143,29 +144,29 @@ pub ends_over : (end : StreamEnd) (v : CheckerValue) (ending : Ending) → v.end
 ends_over end v ending over = subst (λ (o : Option Ending). EndsBy o end v v) (sym over) refl
 
 pub reports_over : (end : StreamEnd) (v : CheckerValue) (ending : Ending) → v.ending ≡ Some ending → ReportsEnd end v v
-reports_over end v ending over bytes blocks free leaves = (
+reports_over end v ending over bytes blocks free reaches = (
   ending,
   over,
-  either_report v.setting bytes blocks end (report_of_tally v.tally ending)
-      (subst (λ (o : Option Ending). Leaves v.setting bytes blocks (state_by v free o)) over leaves).0,
+  either_report v.params bytes blocks end (report_of_tally v.tally ending)
+      (subst (λ (o : Option Ending). ReachesState v.params bytes blocks (state_by v free o)) over reaches).0,
 )
 
 -- one that isn't over has this ending then
-pub ends_now : (end : StreamEnd) (old new : CheckerValue) → old.ending ≡ None → new.setting ≡ old.setting → new.tally ≡ old.tally
+pub ends_now : (end : StreamEnd) (old new : CheckerValue) → old.ending ≡ None → new.params ≡ old.params → new.tally ≡ old.tally
     → new.ending ≡ Some (ending_at end old.pending old.line) → new.last ≡ old.last → new.dropped ≡ old.dropped → Ends end old new
-ends_now end old new none setting tally ending last dropped =
-    subst (λ (o : Option Ending). EndsBy o end old new) (sym none) (setting, tally, ending, last, dropped)
+ends_now end old new none params tally ending last dropped =
+    subst (λ (o : Option Ending). EndsBy o end old new) (sym none) (params, tally, ending, last, dropped)
 
 pub reports_now : (end : StreamEnd) (old new : CheckerValue) → old.ending ≡ None → new.tally ≡ old.tally
     → new.ending ≡ Some (ending_at end old.pending old.line) → ReportsEnd end old new
-reports_now end old new none tally ending bytes blocks free leaves =
+reports_now end old new none tally ending bytes blocks free reaches =
     let said : Ending = ending_at end old.pending old.line in
-    let going : Leaves old.setting bytes blocks (Going (holding_of old free)) =
-    subst (λ (o : Option Ending). Leaves old.setting bytes blocks (state_by old free o)) none leaves in (
+    let going : ReachesState old.params bytes blocks (Going (going_of old free)) =
+    subst (λ (o : Option Ending). ReachesState old.params bytes blocks (state_by old free o)) none reaches in (
       said,
       ending,
-      subst (JudgesBlocks old.setting bytes end blocks) (ap (λ (t : Tally). report_of_tally t said) (sym tally))
-          (end_judged old.setting bytes blocks (holding_of old free) end going),
+      subst (JudgesBlocks old.params bytes end blocks) (ap (λ (t : Tally). report_of_tally t said) (sym tally))
+          (end_judged old.params bytes blocks (going_of old free) end going),
     )
 
 -- the end of the lines, where a line is open and where none is
@@ -191,21 +192,21 @@ none_gone true = refl
 none_gone false = refl
 
 pub new_left : FreshLeft → (layout : LayoutValue) (cube : CubeValue) (stream tries : ℕ) (h : StreamState) (r : ReaderState)
-    → h.setting ≡ record { layout = layout; cube = cube; stream = stream; tries = tries } → h.last ≡ layout.clauses → h.dropped.ids ≡ []
+    → h.params ≡ record { layout = layout; cube = cube; stream = stream; tries = tries } → h.last ≡ layout.clauses → h.dropped.ids ≡ []
     → h.retired ≡ 0 → h.added ≡ 0
     → h.empty ≡ false → h.within ≡ false → h.line ≡ 1 → r ≡ Ok [] → IsNew layout cube stream tries (value_of h (read_of r) None)
-new_left law layout cube stream tries h r setting last dropped retired added empty within line reads =
-    let c : Setting = h.setting in
-    let same : c.layout ≡ layout = ap (λ (s : Setting). s.layout) setting in
+new_left law layout cube stream tries h r params last dropped retired added empty within line reads =
+    let c : StreamParams = h.params in
+    let same : c.layout ≡ layout = ap (λ (s : StreamParams). s.layout) params in
     let fresh : IsFresh c (hold h (read_of r) layout.room) = record {
       tally = same_tally (tally_at h) (record { added = 0; deleted = 0; empty = false; within = false }) added
           (omega (arith, retired, ap (λ (ids : List ℕ). length ids) dropped)) empty within;
-      standing = record {
+      context = record {
         last = last ∙ sym (ap (λ (l : LayoutValue). l.clauses) same);
         free = omega (arith, ap (λ (l : LayoutValue). l.room) same);
-        gone = λ id. ap (λ (ids : List ℕ). is_among ids id) dropped ∙ none_gone (is_shared (side_of c id));
+        gone = λ id. ap (λ (ids : List ℕ). is_among ids id) dropped ∙ none_gone (is_shared (ownership_of c id));
       };
       pending = ap read_of reads;
       line = line;
     } in
-    record { setting = setting; last = last; retired = retired; ending = refl; left = law c (hold h (read_of r) layout.room) fresh }
+    record { params = params; last = last; retired = retired; ending = refl; left = law c (hold h (read_of r) layout.room) fresh }

@@ -1,10 +1,10 @@
 -- Lists of events that never fork.
 use Rattle.std.proofs.Common.{◌≡◌, ◌+◌, ◌≤◌, ℕ, zero, suc, [], ◌∷◌, ◌++◌, replicate, refl, sym, ap, subst, ◌∙◌, arith}
 use Rattle.lrup_model.specs.Event.{Event, History, Reply, vacant, fetch, publish, retire}
-use Rattle.stream_check.specs.declared.setting.Side.{Side}
-use Rattle.stream_check.specs.declared.setting.Side.TheVariants as sides
-use Rattle.stream_check.specs.Setting.{Setting, side_of}
-use Rattle.stream_check.specs.Asking.{AsksAt, Asks}
+use Rattle.stream_check.specs.declared.params.Ownership.{Ownership}
+use Rattle.stream_check.specs.declared.params.Ownership.TheVariants as ownerships
+use Rattle.stream_check.specs.StreamParams.{StreamParams, ownership_of}
+use Rattle.stream_check.specs.Lookup.{AsksAt, Asks}
 use Rattle.stream_check.specs.Forks.{IsSameCall, NeverFork}
 
 same_call_turned : (d e : Event) → IsSameCall d e → IsSameCall e d
@@ -52,25 +52,26 @@ same_fetches s id most done (suc k) (suc j) x y q r a b last other never =
     (λ is. let full = last is in omega arith) (λ is. let full = other is in omega arith) (never.1 refl) in
     (ap suc rest.0, rest.1)
 
-same_at : (side : Side) (c : Setting) (h : ℕ) (a b q r : History) (x y : Reply) → AsksAt side c h a x → AsksAt side c h b y
+same_at : (ownership : Ownership) (c : StreamParams) (h : ℕ) (a b q r : History) (x y : Reply) → AsksAt ownership c h a x
+    → AsksAt ownership c h b y
     → NeverFork (a ++ q) (b ++ r) → (a ≡ b) × (x ≡ y)
-same_at sides.Formula c h a b q r x y one two never =
+same_at ownerships.Formula c h a b q r x y one two never =
     let here = subst (λ e. NeverFork (e ++ q) ((fetch c.stream h y ∷ []) ++ r)) one (subst (λ e. NeverFork (a ++ q) (e ++ r)) two never) in
     let e = here.0 (refl, refl) in
     let is : x ≡ y = cc in (one ∙ ap (λ z. fetch c.stream h z ∷ []) is ∙ sym two, is)
-same_at sides.Own c h a b q r x y one two never =
+same_at ownerships.Own c h a b q r x y one two never =
     let here = subst (λ e. NeverFork (e ++ q) ((fetch c.stream h y ∷ []) ++ r)) one (subst (λ e. NeverFork (a ++ q) (e ++ r)) two never) in
     let e = here.0 (refl, refl) in
     let is : x ≡ y = cc in (one ∙ ap (λ z. fetch c.stream h z ∷ []) is ∙ sym two, is)
-same_at sides.Foreign c h a b q r x y one two never =
+same_at ownerships.Foreign c h a b q r x y one two never =
     let here =
     subst (λ e. NeverFork (e ++ q) (fetches c.stream h two.0 y ++ r)) one.3 (subst (λ e. NeverFork (a ++ q) (e ++ r)) two.3 never) in
     let same = same_fetches c.stream h c.tries 0 one.0 two.0 x y q r (omega (arith, one.1)) (omega (arith, two.1))
     (λ is. let full = one.2 is in omega arith) (λ is. let full = two.2 is in omega arith) here in
     (one.3 ∙ ap (λ k. fetches c.stream h k x) same.0 ∙ ap (λ z. fetches c.stream h two.0 z) same.1 ∙ sym two.3, same.1)
-same_at sides.Outside c h a b q r x y one two never = (one.0 ∙ sym two.0, one.1 ∙ sym two.1)
+same_at ownerships.Outside c h a b q r x y one two never = (one.0 ∙ sym two.0, one.1 ∙ sym two.1)
 
 -- the events of one hint, where they never fork
-pub same_asked : (c : Setting) (h : ℕ) (a b q r : History) (x y : Reply) → Asks c h a x → Asks c h b y → NeverFork (a ++ q) (b ++ r)
+pub same_asked : (c : StreamParams) (h : ℕ) (a b q r : History) (x y : Reply) → Asks c h a x → Asks c h b y → NeverFork (a ++ q) (b ++ r)
     → (a ≡ b) × (x ≡ y)
-same_asked c h a b q r x y one two never = same_at (side_of c h) c h a b q r x y one two never
+same_asked c h a b q r x y one two never = same_at (ownership_of c h) c h a b q r x y one two never

@@ -6,13 +6,13 @@ use Rattle.lrup_model.specs.Clause.{Clause, Has}
 use Rattle.lrup_model.specs.Event.{History}
 use Rattle.stream_check.specs.declared.fault.Fault.{Fault}
 use Rattle.stream_check.specs.declared.fault.Fault.TheVariants as faults
-use Rattle.stream_check.specs.Setting.{Setting, side_of, is_shared}
-use Rattle.stream_check.specs.Standing.{Standing}
+use Rattle.stream_check.specs.StreamParams.{StreamParams, ownership_of, is_shared}
+use Rattle.stream_check.specs.StreamContext.{StreamContext}
 use Rattle.stream_check.specs.Verdicts.{Good, Bad}
-use Rattle.stream_check.specs.Asking.{LooksUp}
+use Rattle.stream_check.specs.Lookup.{LooksUp}
 use Rattle.stream_check.specs.Imports.{JudgesImport}
 
-module _ (c : Setting) (st : Standing) (id : ℕ) (lits : List ℤ) (shared : is_shared (side_of c id) ≡ true) where
+module _ (c : StreamParams) (st : StreamContext) (id : ℕ) (lits : List ℤ) (shared : is_shared (ownership_of c id) ≡ true) where
   pub bad_literal : (AllByRecursion (λ l. nat_abs l ≤ c.layout.vars) lits → ⊥) → JudgesImport c st id lits [] (Bad 0 faults.Literal)
   bad_literal outside = (refl, inr (shared, inl (outside, refl, refl)))
 

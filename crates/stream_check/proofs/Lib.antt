@@ -1,4 +1,4 @@
-pub mod LeavingLemmas
+pub mod ReachingLemmas
 pub mod StoppedLemmas
 pub mod TryLemmas
 pub mod AskLemmas

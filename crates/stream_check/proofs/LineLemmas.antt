@@ -1,4 +1,4 @@
--- What one line leaves of what is held, and of the place.
+-- What one line leaves of what is held, and of the view.
 use Rattle.std.proofs.Common.{◌≡◌, ◌<◌, ◌+◌, ◌-◌, ℕ, ℤ, Bool, true, false, List, [], ◌∷◌, ◌++◌, length, Ok, Err, refl, sym, ap, subst, ◌∙◌}
 use Rattle.std.proofs.Common.{inl, inr, arith}
 use Rattle.std.specs.Prelude.{◌||◌, ◌&&◌, ◌==◌, min, ◌^◌}
@@ -9,7 +9,7 @@ use Rattle.lrup_model.specs.Layout.{Owns}
 use Rattle.lrup_model.specs.Event as events
 use Rattle.lrup_model.specs.Event.{Event, History, stream_of, own, spent}
 use Rattle.lrup_model.specs.State.{State, Slot, absent, live, retire_slot, run}
-use Rattle.lrup_model.specs.Place.{Caller, Place, Tells, IsVacantAbove}
+use Rattle.lrup_model.specs.CallerView.{Caller, CallerView, CallerStep, IsVacantAbove}
 use Rattle.lrup_model.specs.lemmas.RunningLemmas.{run-append, spent-append}
 use Rattle.lrup_model.specs.lemmas.HistoryLemmas.{put, put-same, put-other, spent_one}
 use Rattle.lrup_model.specs.declared.clause_map.Retired.TheVariants as retiring
@@ -19,43 +19,44 @@ use Rattle.stream_check.specs.declared.fault.Fault.{Fault}
 use Rattle.stream_check.specs.declared.stream_state.StreamState.{StreamState}
 use Rattle.stream_check.specs.declared.line_stop.LineStop.{LineStop}
 use Rattle.stream_check.specs.declared.line_stop.LineStop.TheVariants as stops
-use Rattle.stream_check.specs.Setting.{Setting, side_of, is_shared}
-use Rattle.stream_check.specs.Standing.{capped, is_among, is_within}
+use Rattle.stream_check.specs.StreamParams.{StreamParams, ownership_of, is_shared}
+use Rattle.stream_check.specs.StreamContext.{capped, is_among, is_within}
 use Rattle.stream_check.specs.Verdicts.{Good, Bad}
 use Rattle.stream_check.specs.lemmas.EventLemmas.{found_all}
 use Rattle.stream_check.specs.Additions.{published_by, JudgesAddition}
 use Rattle.stream_check.specs.Imports.{JudgesImport}
-use Rattle.stream_check.specs.Leaving.{tally_after}
+use Rattle.stream_check.specs.Reaching.{tally_after}
 use Rattle.stream_check.specs.DroppedValue.{DroppedValue}
-use Rattle.stream_check.specs.Checker.{IsPlaceOf}
+use Rattle.stream_check.specs.Checker.{IsViewOf}
 use Rattle.stream_check.specs.internal.Checking.{IsFetch, AreDropped, Deletes}
 use Rattle.stream_check.specs.Deletions.{IsRetire}
-use Rattle.stream_check.specs.internal.CheckerInside.{standing_at, tally_at, deleted_at, KeepsLines}
+use Rattle.stream_check.specs.internal.CheckerInside.{context_at, tally_at, deleted_at, KeepsLines}
 use Rattle.stream_check.specs.internal.Taking.{IsReady, DeletesMore, TakesBy}
 use Rattle.stream_check.proofs.AddLemmas.{spent-skips, spent-fetches, still_at}
 use Rattle.stream_check.specs.lemmas.AdditionLemmas.{run-fetches}
-use Rattle.stream_check.specs.lemmas.StandingLemmas.{same_tally}
+use Rattle.stream_check.specs.lemmas.ContextLemmas.{same_tally}
 use Rattle.stream_check.specs.lemmas.StoppingLemmas.{drops_none}
 
--- The place after fetches alone
+-- The view after fetches alone
 
--- what the place before has at an own identity
-own_before : (p q : Place) (es : History) (j : ℕ) → Tells p q es → Owns q.caller.layout q.caller.stream j
+-- what the view before has at an own identity
+own_before : (p q : CallerView) (es : History) (j : ℕ) → CallerStep p q es → Owns q.caller.layout q.caller.stream j
     → Owns p.caller.layout p.caller.stream j
-own_before p q es j tells theirs = subst (λ (r : Caller). Owns r.layout r.stream j) tells.caller theirs
+own_before p q es j step theirs = subst (λ (r : Caller). Owns r.layout r.stream j) step.caller theirs
 
-vacant_on : (p q : Place) (es : History) (last : ℕ) → Tells p q es → ((j : ℕ) → p.own j ≡ absent → run p.own es j ≡ absent)
+vacant_on : (p q : CallerView) (es : History) (last : ℕ) → CallerStep p q es → ((j : ℕ) → p.own j ≡ absent → run p.own es j ≡ absent)
     → IsVacantAbove p last → IsVacantAbove q last
-vacant_on p q es last tells stays vacant j theirs above =
-    let mine = own_before p q es j tells theirs in tells.own j mine ∙ stays j (vacant j mine above)
+vacant_on p q es last step stays vacant j theirs above =
+    let mine = own_before p q es j step theirs in step.own j mine ∙ stays j (vacant j mine above)
 
-pub ready_fetches : (h : StreamState) (p q : Place) (es : History) → Tells p q es → AllByRecursion IsFetch es → IsReady h p → IsReady h q
-ready_fetches h p q es tells quiet ready = record {
-  at = still_at h.setting p q es ready.at tells;
-  vacant = vacant_on p q es h.last tells (λ j none. ap (λ (m : State). m j) (run-fetches p.own es quiet) ∙ none) ready.vacant;
+pub ready_fetches : (h : StreamState) (p q : CallerView) (es : History) → CallerStep p q es → AllByRecursion IsFetch es → IsReady h p
+    → IsReady h q
+ready_fetches h p q es step quiet ready = record {
+  at = still_at h.params p q es ready.at step;
+  vacant = vacant_on p q es h.last step (λ j none. ap (λ (m : State). m j) (run-fetches p.own es quiet) ∙ none) ready.vacant;
 }
 
--- The place after retires alone
+-- The view after retires alone
 
 retired_absent : (slot : Slot) → slot ≡ absent → retire_slot slot ≡ absent
 retired_absent slot none = subst (λ (s : Slot). retire_slot s ≡ absent) (sym none) refl
@@ -78,58 +79,58 @@ spent-retires s (events.publish t id c r ∷ es) h = absurd h.0
 spent-retires s (events.retire t id r ∷ es) h = spent-skips (events.retire t id r) (own es s) (stream_of (events.retire t id r) == s) refl
     ∙ spent-retires s es h.1
 
-pub room_retires : (p q : Place) (es : History) → Tells p q es → AllByRecursion IsRetire es → q.room ≡ p.room
-room_retires p q es tells quiet = omega (arith, tells.room, spent-retires p.caller.stream es quiet)
+pub room_retires : (p q : CallerView) (es : History) → CallerStep p q es → AllByRecursion IsRetire es → q.room ≡ p.room
+room_retires p q es step quiet = omega (arith, step.room, spent-retires p.caller.stream es quiet)
 
 -- after the retires of a deletion
-pub ready_retires : (old new : StreamState) (p q : Place) (es : History) → Tells p q es → AllByRecursion IsRetire es
-    → new.setting ≡ old.setting → new.last ≡ old.last → IsReady old p → IsReady new q
-ready_retires old new p q es tells quiet setting last ready = record {
-  at = subst (λ (c : Setting). IsPlaceOf c q) (sym setting) (still_at old.setting p q es ready.at tells);
+pub ready_retires : (old new : StreamState) (p q : CallerView) (es : History) → CallerStep p q es → AllByRecursion IsRetire es
+    → new.params ≡ old.params → new.last ≡ old.last → IsReady old p → IsReady new q
+ready_retires old new p q es step quiet params last ready = record {
+  at = subst (λ (c : StreamParams). IsViewOf c q) (sym params) (still_at old.params p q es ready.at step);
   vacant = subst (IsVacantAbove q) (sym last)
-      (vacant_on p q es old.last tells (λ j none. run-retires-absent p.own es j quiet none) ready.vacant);
+      (vacant_on p q es old.last step (λ j none. run-retires-absent p.own es j quiet none) ready.vacant);
 }
 
--- The place after a publish
+-- The view after a publish
 
-published_run : (m : State) (fetches : History) (c : Setting) (id : ℕ) (lits : List ℤ) → AllByRecursion IsFetch fetches
+published_run : (m : State) (fetches : History) (c : StreamParams) (id : ℕ) (lits : List ℤ) → AllByRecursion IsFetch fetches
     → run m (fetches ++ published_by c id lits ∷ []) ≡ put m id (live (distinct lits))
 published_run m fetches c id lits quiet = run-append m fetches (published_by c id lits ∷ [])
     ∙ ap (λ (n : State). put n id (live (distinct lits))) (run-fetches m fetches quiet)
 
-pub ready_publish : (old new : StreamState) (p q : Place) (free : ℕ) (es : History) (id : ℕ) (lits : List ℤ) (hints : List ℕ)
-    → Tells p q es → JudgesAddition old.setting (standing_at old free) id lits hints es Good → new.setting ≡ old.setting → new.last ≡ id
+pub ready_publish : (old new : StreamState) (p q : CallerView) (free : ℕ) (es : History) (id : ℕ) (lits : List ℤ) (hints : List ℕ)
+    → CallerStep p q es → JudgesAddition old.params (context_at old free) id lits hints es Good → new.params ≡ old.params → new.last ≡ id
     → IsReady old p → IsReady new q
-ready_publish old new p q free es id lits hints tells (fetches, good, made) setting last ready =
-    let c = old.setting in
+ready_publish old new p q free es id lits hints step (fetches, good, made) params last ready =
+    let c = old.params in
     let there : run p.own es ≡ put p.own id (live (distinct lits)) = ap (run p.own) made
     ∙ published_run p.own fetches c id lits (found_all c IsFetch (λ h r. tt) _ hints good.clauses fetches good.named) in
     let owned : (j : ℕ) → Owns q.caller.layout q.caller.stream j → q.own j ≡ put p.own id (live (distinct lits)) j =
-    λ j theirs. tells.own j (own_before p q es j tells theirs) ∙ ap (λ (m : State). m j) there in
+    λ j theirs. step.own j (own_before p q es j step theirs) ∙ ap (λ (m : State). m j) there in
     record {
-      at = subst (λ (x : Setting). IsPlaceOf x q) (sym setting) (still_at c p q es ready.at tells);
+      at = subst (λ (x : StreamParams). IsViewOf x q) (sym params) (still_at c p q es ready.at step);
       vacant = λ j theirs higher.
           let over : id < j = omega (arith, higher, last) in
           let other : j ≡ id → ⊥ = λ same. omega (arith, over, same) in
           owned j theirs ∙ put-other p.own id (live (distinct lits)) j other
-          ∙ ready.vacant j (own_before p q es j tells theirs) (omega (arith, over, good.above));
+          ∙ ready.vacant j (own_before p q es j step theirs) (omega (arith, over, good.above));
     }
 
-pub room_publish : (old : StreamState) (p q : Place) (free : ℕ) (es : History) (id : ℕ) (lits : List ℤ) (hints : List ℕ)
-    → IsPlaceOf old.setting p → Tells p q es → JudgesAddition old.setting (standing_at old free) id lits hints es Good
+pub room_publish : (old : StreamState) (p q : CallerView) (free : ℕ) (es : History) (id : ℕ) (lits : List ℤ) (hints : List ℕ)
+    → IsViewOf old.params p → CallerStep p q es → JudgesAddition old.params (context_at old free) id lits hints es Good
     → q.room ≡ p.room - length (distinct lits)
-room_publish old p q free es id lits hints at tells (fetches, good, made) =
-    let e : Event = published_by old.setting id lits in
+room_publish old p q free es id lits hints at step (fetches, good, made) =
+    let e : Event = published_by old.params id lits in
     let one : spent p.caller.stream (e ∷ []) ≡ length (distinct lits) = spent_one p.caller.stream e (sym at.stream) in
     let all : spent p.caller.stream es ≡ length (distinct lits) =
     ap (spent p.caller.stream) made ∙ spent-append p.caller.stream fetches (e ∷ [])
     ∙ omega (
       arith,
-      spent-fetches p.caller.stream fetches (found_all old.setting IsFetch (λ h r. tt) _ hints good.clauses fetches
+      spent-fetches p.caller.stream fetches (found_all old.params IsFetch (λ h r. tt) _ hints good.clauses fetches
           good.named),
       one,
     ) in
-    omega (arith, tells.room, all)
+    omega (arith, step.room, all)
 
 -- What is held after a good line
 
@@ -159,22 +160,22 @@ pub record Adds (old new : StreamState) (id : ℕ) (is_empty within_cube : Bool)
 
 pub takes_addition : (old new : StreamState) (free left : ℕ) (id : ℕ) (lits : List ℤ) (hints : List ℕ) (es : History)
     (is_empty within_cube : Bool) → Adds old new id is_empty within_cube
-    → is_empty ≡ (length lits == 0) → within_cube ≡ is_within old.setting.cube (distinct lits) → left ≡ free - length (distinct lits)
-    → JudgesAddition old.setting (standing_at old free) id lits hints es Good
+    → is_empty ≡ (length lits == 0) → within_cube ≡ is_within old.params.cube (distinct lits) → left ≡ free - length (distinct lits)
+    → JudgesAddition old.params (context_at old free) id lits hints es Good
     → TakesBy old free new left (Addition id lits hints) es (Ok tt)
 takes_addition old new free left id lits hints es is_empty within_cube adds is within room judged =
     let line : StreamLine = Addition id lits hints in (
       judged,
       λ read. record {
-        tally = same_tally (tally_at new) (tally_after old.setting (tally_at old) line) (omega (arith, adds.added))
+        tally = same_tally (tally_at new) (tally_after old.params (tally_at old) line) (omega (arith, adds.added))
             (omega (arith, adds.retired, ap (λ (d : DroppedValue). length d.ids) adds.dropped))
             (adds.empty ∙ ap (λ (b : Bool). old.empty || b) (empty_is is_empty lits is))
-            (adds.within ∙ ap (λ (b : Bool). old.within || b) (within ∙ or_false (is_within old.setting.cube (distinct lits))));
-        standing = record {
+            (adds.within ∙ ap (λ (b : Bool). old.within || b) (within ∙ or_false (is_within old.params.cube (distinct lits))));
+        context = record {
           last = adds.last;
           free = omega (arith, room);
           gone = λ j. ap (λ (d : DroppedValue). is_among d.ids j) adds.dropped
-              ∙ none_gone (is_among old.dropped.ids j) (is_shared (side_of old.setting j));
+              ∙ none_gone (is_among old.dropped.ids j) (is_shared (ownership_of old.params j));
         };
         pending = refl;
         line = adds.line;
@@ -193,17 +194,17 @@ pub record Counts (mid new : StreamState) : Type 0 where
 
 pub takes_deletion : (old mid new : StreamState) (free left : ℕ) (lead : ℕ) (ids : List ℕ) (es : History) (count : ℕ) → KeepsLines old mid
     → Counts mid new → deleted_at mid ≡ capped (deleted_at old + count) → left ≡ free
-    → Deletes old.setting old.dropped.ids mid.dropped.ids ids es count (Ok tt) → TakesBy old free new left (Deletion lead ids) es (Ok tt)
+    → Deletes old.params old.dropped.ids mid.dropped.ids ids es count (Ok tt) → TakesBy old free new left (Deletion lead ids) es (Ok tt)
 takes_deletion old mid new free left lead ids es count kept counts more room deletes =
     let line : StreamLine = Deletion lead ids in (
       deletes.0,
       λ read. record {
-        tally = same_tally (tally_at new) (tally_after old.setting (tally_at old) line)
+        tally = same_tally (tally_at new) (tally_after old.params (tally_at old) line)
             (omega (arith, counts.added, kept.added))
             (omega (arith, counts.retired, ap (λ (d : DroppedValue). length d.ids) counts.dropped, more, deletes.1))
             (counts.empty ∙ kept.empty ∙ or_false old.empty)
             (counts.within ∙ kept.within ∙ or_false old.within);
-        standing = record {
+        context = record {
           last = counts.last ∙ kept.last;
           free = omega (arith, room);
           gone = λ j. ap (λ (d : DroppedValue). is_among d.ids j) counts.dropped ∙ deletes.2 j;
@@ -214,38 +215,38 @@ takes_deletion old mid new free left lead ids es count kept counts more room del
     )
 
 pub takes_import : (old new : StreamState) (free left : ℕ) (id : ℕ) (lits : List ℤ) (es : History) → Counts old new → left ≡ free
-    → JudgesImport old.setting (standing_at old free) id lits es Good → TakesBy old free new left (Import id lits) es (Ok tt)
+    → JudgesImport old.params (context_at old free) id lits es Good → TakesBy old free new left (Import id lits) es (Ok tt)
 takes_import old new free left id lits es counts room judged =
     let line : StreamLine = Import id lits in (
       judged,
       λ read. record {
-        tally = same_tally (tally_at new) (tally_after old.setting (tally_at old) line)
+        tally = same_tally (tally_at new) (tally_after old.params (tally_at old) line)
             (omega (arith, counts.added))
             (omega (arith, counts.retired, ap (λ (d : DroppedValue). length d.ids) counts.dropped))
             (counts.empty ∙ or_false old.empty)
             (counts.within ∙ or_false old.within);
-        standing = record {
+        context = record {
           last = counts.last;
           free = omega (arith, room);
           gone = λ j. ap (λ (d : DroppedValue). is_among d.ids j) counts.dropped
-              ∙ none_gone (is_among old.dropped.ids j) (is_shared (side_of old.setting j));
+              ∙ none_gone (is_among old.dropped.ids j) (is_shared (ownership_of old.params j));
         };
         pending = refl;
         line = counts.line;
       },
     )
 
--- the same place, for what is held with one line more
-pub still_ready : (mid new : StreamState) (q : Place) → new.setting ≡ mid.setting → new.last ≡ mid.last → IsReady mid q → IsReady new q
-still_ready mid new q setting last ready = record {
-  at = subst (λ (c : Setting). IsPlaceOf c q) (sym setting) ready.at;
+-- the same view, for what is held with one line more
+pub still_ready : (mid new : StreamState) (q : CallerView) → new.params ≡ mid.params → new.last ≡ mid.last → IsReady mid q → IsReady new q
+still_ready mid new q params last ready = record {
+  at = subst (λ (c : StreamParams). IsViewOf c q) (sym params) ready.at;
   vacant = subst (IsVacantAbove q) (sym last) ready.vacant;
 }
 
 -- What is held after a line that stopped
 
 pub deletes_more : (old mid : StreamState) (ids : List ℕ) → KeepsLines old mid → deleted_at mid ≡ capped (deleted_at old + length ids)
-    → AreDropped old.setting old.dropped.ids ids mid.dropped.ids → DeletesMore old mid ids
+    → AreDropped old.params old.dropped.ids ids mid.dropped.ids → DeletesMore old mid ids
 deletes_more old mid ids kept more dropped = record {
   added = kept.added;
   deleted = more;
@@ -257,7 +258,7 @@ deletes_more old mid ids kept more dropped = record {
 
 pub stops_deletion : (old mid : StreamState) (free left : ℕ) (lead : ℕ) (ids : List ℕ) (es : History) (count : ℕ) (stop : LineStop)
     → KeepsLines old mid → deleted_at mid ≡ capped (deleted_at old + count)
-    → Deletes old.setting old.dropped.ids mid.dropped.ids ids es count (Err stop)
+    → Deletes old.params old.dropped.ids mid.dropped.ids ids es count (Err stop)
     → TakesBy old free mid left (Deletion lead ids) es (Err stop)
 stops_deletion old mid free left lead ids es count (stops.Bad fault) kept more deletes =
     (deletes.0, deletes.1, deletes.3, deletes.4, deletes_more old mid deletes.0 kept (omega (arith, more, deletes.2)) deletes.5)
@@ -268,20 +269,20 @@ deletes_none : (old : StreamState) → DeletesMore old old []
 deletes_none old = record {
   added = refl;
   deleted = omega arith;
-  dropped = drops_none old.setting (is_among old.dropped.ids);
+  dropped = drops_none old.params (is_among old.dropped.ids);
   empty = refl;
   within = refl;
   line = refl;
 }
 
 pub stops_addition : (old : StreamState) (free left : ℕ) (id : ℕ) (lits : List ℤ) (hints : List ℕ) (es : History) (fault : Fault)
-    → JudgesAddition old.setting (standing_at old free) id lits hints es (Bad 0 fault)
+    → JudgesAddition old.params (context_at old free) id lits hints es (Bad 0 fault)
     → TakesBy old free old left (Addition id lits hints) es (Err (stops.Bad fault))
 stops_addition old free left id lits hints es fault judged =
     ([], [], refl, judged, deletes_none old)
 
 pub stops_import : (old : StreamState) (free left : ℕ) (id : ℕ) (lits : List ℤ) (es : History) (fault : Fault)
-    → JudgesImport old.setting (standing_at old free) id lits es (Bad 0 fault)
+    → JudgesImport old.params (context_at old free) id lits es (Bad 0 fault)
     → TakesBy old free old left (Import id lits) es (Err (stops.Bad fault))
 stops_import old free left id lits es fault judged =
     ([], [], refl, judged, deletes_none old)

@@ -5,8 +5,8 @@ use Rattle.lrup_model.specs.Event.{History}
 use Rattle.lrup_text.specs.Lines.{StreamLine, IsWithinLimits, line_text, HasNoLine}
 use Rattle.lrup_text.specs.declared.device.StreamEnd.{StreamEnd}
 use Rattle.stream_check.specs.declared.report.Report.{Report}
-use Rattle.stream_check.specs.Setting.{Setting}
-use Rattle.stream_check.specs.Standing.{Standing, standing_of}
+use Rattle.stream_check.specs.StreamParams.{StreamParams}
+use Rattle.stream_check.specs.StreamContext.{StreamContext, context_of}
 use Rattle.stream_check.specs.Verdicts.{LineVerdict, Good, Bad}
 use Rattle.stream_check.specs.Judging.{JudgesLine, AreGood, joined, at_bad_line, at_bad_text, at_memory, at_end}
 use Rattle.stream_check.specs.Forks.{NeverFork}
@@ -18,7 +18,7 @@ use Rattle.stream_check.proofs.StreamLemmas.{TextLaws, EndsWithout, same_first, 
 use Rattle.stream_check.proofs.StreamLemmas.{behind_one}
 
 -- the text begins with a line, of whose events the first block is
-record HasNext (c : Setting) (st : Standing) (text : List ℕ) (blocks : List History) : Type 0 where
+record HasNext (c : StreamParams) (st : StreamContext) (text : List ℕ) (blocks : List History) : Type 0 where
   line : StreamLine
   more : List ℕ
   fits : IsWithinLimits line
@@ -30,11 +30,12 @@ record HasNext (c : Setting) (st : Standing) (text : List ℕ) (blocks : List Hi
   judged : JudgesLine c st line block verdict
 
 -- or no line is whole in it, and there is no block
-abbrev Next : Setting → Standing → List ℕ → List History → Type 0
+abbrev Next : StreamParams → StreamContext → List ℕ → List History → Type 0
 Next c st text blocks = HasNext c st text blocks ⊎ ((blocks ≡ []) × HasNoLine text)
 
-next_at_end : TextLaws → (c : Setting) (lines : List StreamLine) (rest : List ℕ) (end : StreamEnd) (back : List History) (report : Report)
-    → EndsWithout c lines rest end back report → Next c (standing_of c lines) rest back
+next_at_end : TextLaws
+    → (c : StreamParams) (lines : List StreamLine) (rest : List ℕ) (end : StreamEnd) (back : List History) (report : Report)
+    → EndsWithout c lines rest end back report → Next c (context_of c lines) rest back
 next_at_end laws c lines rest end back report (at_memory _ _ _ _ _ _ _ earlier _ says, no_memory) =
     absurd (no_memory (out_of_memory c lines (length earlier) report says))
 next_at_end laws c lines rest end back report (at_bad_line line more text fits block one_block deleted fault bad says, no_memory) =
@@ -55,9 +56,10 @@ next_at_end laws c lines rest end back report (at_end pending no_block says, no_
 
 -- what comes after good lines
 next_of : TextLaws
-    → (c : Setting) (before lines all : List StreamLine) (rest : List ℕ) (end : StreamEnd) (front back : List History) (report : Report)
+    → (c : StreamParams) (before lines all : List StreamLine) (rest : List ℕ) (end : StreamEnd) (front back : List History)
+    (report : Report)
     → all ≡ before ++ lines → AllByRecursion IsWithinLimits lines → AreGood c before lines front → EndsWithout c all rest end back report
-    → Next c (standing_of c before) (flat_map line_text lines ++ rest) (front ++ back)
+    → Next c (context_of c before) (flat_map line_text lines ++ rest) (front ++ back)
 next_of laws c before [] all rest end [] back report is fits good ends =
     next_at_end laws c before rest end back report (subst (λ ls. EndsWithout c ls rest end back report) (is ∙ append-nil before) ends)
 next_of laws c before [] all rest end (b ∷ front) back report is fits good ends = absurd good
@@ -76,7 +78,7 @@ next_of laws c before (l ∷ lines) all rest end (b ∷ front) back report is fi
     })
 
 -- after the same text two such go on alike
-next_alike : TextLaws → (c : Setting) (st : Standing) (text : List ℕ) (xs ys : List History) → Next c st text xs
+next_alike : TextLaws → (c : StreamParams) (st : StreamContext) (text : List ℕ) (xs ys : List History) → Next c st text xs
     → Next c st text ys → GoAlike xs ys
 next_alike laws c st text xs ys (inl a) (inl b) =
     let same = same_first laws a.line b.line a.more b.more a.fits b.fits (sym a.is ∙ b.is) in
@@ -90,7 +92,8 @@ next_alike laws c st text xs ys (inr a) (inr b) =
 
 -- where no line is good any more there is one block at most
 none_behind : TextLaws
-    → (c : Setting) (lines : List StreamLine) (rest : List ℕ) (end : StreamEnd) (p : History) (back pre xs : List History) (report : Report)
+    → (c : StreamParams) (lines : List StreamLine) (rest : List ℕ) (end : StreamEnd) (p : History) (back pre xs : List History)
+    (report : Report)
     → EndsWithout c lines rest end back report → p ∷ (pre ++ xs) ≡ back → xs ≡ []
 none_behind laws c lines rest end p back pre xs report (at_memory _ _ _ _ _ _ _ earlier _ says, no_memory) is =
     absurd (no_memory (out_of_memory c lines (length earlier) report says))
@@ -106,16 +109,16 @@ none_behind laws c lines rest end p back pre xs report (at_end pending no_block 
     let e : p ∷ (pre ++ xs) ≡ [] = is ∙ no_block in absurd (cc)
 
 -- what ends the stream isn't a line that was good with the same block
-not_both : TextLaws → (c : Setting) (before all : List StreamLine) (rest : List ℕ) (end : StreamEnd) (p : History)
+not_both : TextLaws → (c : StreamParams) (before all : List StreamLine) (rest : List ℕ) (end : StreamEnd) (p : History)
     (back pre xs : List History) (report : Report) (o : StreamLine) (more : List ℕ)
     → all ≡ before ++ [] → EndsWithout c all rest end back report → p ∷ (pre ++ xs) ≡ back → IsWithinLimits o → rest ≡ line_text o ++ more
-    → JudgesLine c (standing_of c before) o p Good → ⊥
+    → JudgesLine c (context_of c before) o p Good → ⊥
 not_both laws c before all rest end p back pre xs report o more is ends split fits text good =
     let here = subst (λ ls. EndsWithout c ls rest end back report) (is ∙ append-nil before) ends in
     ends_not_good laws c before rest more end back report o p (joined (pre ++ xs)) here fits text good
     (subst (λ (bs : List History). NeverFork (joined bs) (p ++ joined (pre ++ xs))) split (never_fork_alone (p ++ joined (pre ++ xs))))
 
-go_alike : TextLaws → (c : Setting) (end : StreamEnd) (before lines others all both : List StreamLine) (rest left : List ℕ)
+go_alike : TextLaws → (c : StreamParams) (end : StreamEnd) (before lines others all both : List StreamLine) (rest left : List ℕ)
     (front back fore aft pre xs ys : List History) (report other : Report)
     → all ≡ before ++ lines → both ≡ before ++ others
     → flat_map line_text lines ++ rest ≡ flat_map line_text others ++ left
@@ -125,11 +128,11 @@ go_alike : TextLaws → (c : Setting) (end : StreamEnd) (before lines others all
     → pre ++ xs ≡ front ++ back → pre ++ ys ≡ fore ++ aft → GoAlike xs ys
 go_alike laws c end before lines others all both rest left front back fore aft [] xs ys report other is also text fit fits good fine ends
     stops split also_split =
-    next_alike laws c (standing_of c before) (flat_map line_text others ++ left) xs ys
-    (subst (λ (bs : List History). Next c (standing_of c before) (flat_map line_text others ++ left) bs) (sym split)
-    (subst (λ t. Next c (standing_of c before) t (front ++ back)) text
+    next_alike laws c (context_of c before) (flat_map line_text others ++ left) xs ys
+    (subst (λ (bs : List History). Next c (context_of c before) (flat_map line_text others ++ left) bs) (sym split)
+    (subst (λ t. Next c (context_of c before) t (front ++ back)) text
     (next_of laws c before lines all rest end front back report is fit good ends)))
-    (subst (λ (bs : List History). Next c (standing_of c before) (flat_map line_text others ++ left) bs) (sym also_split)
+    (subst (λ (bs : List History). Next c (context_of c before) (flat_map line_text others ++ left) bs) (sym also_split)
     (next_of laws c before others both left end fore aft other also fits fine stops))
 go_alike laws c end before [] [] all both rest left [] back [] aft
     (p ∷ pre) xs ys report other is also text fit fits good fine ends stops split also_split =
@@ -148,13 +151,13 @@ go_alike laws c end before [] (o ∷ others) all both rest left [] back (d ∷ f
     let same : d ≡ p = cc in
     absurd (not_both laws c before all rest end p back pre xs report o (flat_map line_text others ++ left) is ends split fits.0
     (text ∙ split_first o others left)
-    (subst (λ (x : History). JudgesLine c (standing_of c before) o x Good) same fine.0))
+    (subst (λ (x : History). JudgesLine c (context_of c before) o x Good) same fine.0))
 go_alike laws c end before (l ∷ lines) [] all both rest left (b ∷ front) back [] aft
     (p ∷ pre) xs ys report other is also text fit fits good fine ends stops split also_split =
     let same : b ≡ p = cc in
     absurd (not_both laws c before both left end p aft pre ys other l (flat_map line_text lines ++ rest) also stops also_split fit.0
     (sym text ∙ split_first l lines rest)
-    (subst (λ (x : History). JudgesLine c (standing_of c before) l x Good) same good.0))
+    (subst (λ (x : History). JudgesLine c (context_of c before) l x Good) same good.0))
 go_alike laws c end before (l ∷ lines) (o ∷ others) all both rest left (b ∷ front) back (d ∷ fore) aft
     (p ∷ pre) xs ys report other is also text fit fits good fine ends stops split also_split =
     let same = same_first laws l o (flat_map line_text lines ++ rest) (flat_map line_text others ++ left) fit.0 fits.0

@@ -3,18 +3,18 @@ use Rattle.std.proofs.Common.{ℕ, sym, ap, ap₂, subst, ◌∙◌}
 use Rattle.lrup_model.specs.Formula.{Cnf}
 use Rattle.lrup_model.specs.Layout.{LayoutValue, Owns}
 use Rattle.lrup_model.specs.State.{State}
-use Rattle.lrup_model.specs.Place.{Caller}
-use Rattle.lrup_model.specs.Plain.{plain_place}
+use Rattle.lrup_model.specs.CallerView.{Caller}
+use Rattle.lrup_model.specs.Plain.{plain_caller_view}
 use Rattle.lrup_model.specs.lemmas.HistoryLemmas.{opening-owned, vacant_above_stays}
 use Rattle.lrup_model.specs.lemmas.CallerLemmas.{calls_differ}
-use Rattle.stream_check.specs.Setting.{Setting}
+use Rattle.stream_check.specs.StreamParams.{StreamParams}
 use Rattle.stream_check.specs.Laws.{ReadyNew, ReadyStays, ReadyBeside}
 
 pub ready_new : ReadyNew
 ready_new f layout cube stream tries v p new fits caller own = record {
   at = record {
-    layout = ap (λ (c : Caller). c.layout) caller ∙ sym (ap (λ (c : Setting). c.layout) new.setting);
-    stream = ap (λ (c : Caller). c.stream) caller ∙ sym (ap (λ (c : Setting). c.stream) new.setting);
+    layout = ap (λ (c : Caller). c.layout) caller ∙ sym (ap (λ (c : StreamParams). c.layout) new.params);
+    stream = ap (λ (c : Caller). c.stream) caller ∙ sym (ap (λ (c : StreamParams). c.stream) new.params);
   };
   vacant = λ id owns above.
       let here = subst (λ (c : Caller). Owns c.layout c.stream id) caller owns in own id here ∙ opening-owned f layout stream id fits here;
@@ -36,7 +36,7 @@ ready_stays v p q es ready same legal others own =
 
 pub ready_beside : ReadyBeside
 ready_beside v old new t es ready moves other =
-    let s = v.setting.stream in
-    ready_stays v (plain_place old s) (plain_place new s) es ready
+    let s = v.params.stream in
+    ready_stays v (plain_caller_view old s) (plain_caller_view new s) es ready
     (ap₂ (λ (f : Cnf) (p : LayoutValue). record { formula = f; layout = p; stream = s }) moves.formula moves.layout)
     moves.answers (calls_differ s t es other moves.callers) (λ id owns. ap (λ (m : State). m id) moves.state)

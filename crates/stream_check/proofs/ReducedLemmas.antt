@@ -10,12 +10,12 @@ use Rattle.lrup_text.specs.Lines.{StreamLine, Deletion}
 use Rattle.lrup_text.specs.declared.device.StreamEnd.{StreamEnd}
 use Rattle.stream_check.specs.declared.fault.Fault.{Fault}
 use Rattle.stream_check.specs.declared.report.Report.{Report}
-use Rattle.stream_check.specs.declared.setting.Side.{Side}
-use Rattle.stream_check.specs.declared.setting.Side.TheVariants as sides
-use Rattle.stream_check.specs.Setting.{Setting, side_of}
-use Rattle.stream_check.specs.Standing.{standing_of}
+use Rattle.stream_check.specs.declared.params.Ownership.{Ownership}
+use Rattle.stream_check.specs.declared.params.Ownership.TheVariants as ownerships
+use Rattle.stream_check.specs.StreamParams.{StreamParams, ownership_of}
+use Rattle.stream_check.specs.StreamContext.{context_of}
 use Rattle.stream_check.specs.Verdicts.{Good, Bad}
-use Rattle.stream_check.specs.Asking.{AsksAt, Asks, answer_of, LooksUp}
+use Rattle.stream_check.specs.Lookup.{AsksAt, Asks, answer_of, LooksUp}
 use Rattle.stream_check.specs.Judging.{AreGood, EndsAfter, at_bad_line, at_bad_text, at_memory, at_end}
 use Rattle.stream_check.specs.lemmas.MappingLemmas.{LooksOn, line_maps}
 use Rattle.stream_check.specs.Reducing.{is_vacant, reduced}
@@ -47,20 +47,21 @@ is_no_vacant s id events.vacant found = absurd (found refl)
 is_no_vacant s id (events.live d) found = refl
 is_no_vacant s id events.retired found = refl
 
-found_at : (side : Side) (c : Setting) (h : ℕ) (asked rest : History) (r : Reply) → (r ≡ events.vacant → ⊥) → AsksAt side c h asked r
-    → (reduced (asked ++ rest) ≡ (events.fetch c.stream h r ∷ []) ++ reduced rest) × AsksAt side c h (events.fetch c.stream h r ∷ []) r
-found_at sides.Formula c h asked rest r found asks =
+found_at : (ownership : Ownership) (c : StreamParams) (h : ℕ) (asked rest : History) (r : Reply) → (r ≡ events.vacant → ⊥)
+    → AsksAt ownership c h asked r
+    → (reduced (asked ++ rest) ≡ (events.fetch c.stream h r ∷ []) ++ reduced rest) × AsksAt ownership c h (events.fetch c.stream h r ∷ []) r
+found_at ownerships.Formula c h asked rest r found asks =
     (ap (λ a. reduced (a ++ rest)) asks ∙ other_stays (events.fetch c.stream h r) rest (is_no_vacant c.stream h r found), refl)
-found_at sides.Own c h asked rest r found asks =
+found_at ownerships.Own c h asked rest r found asks =
     (ap (λ a. reduced (a ++ rest)) asks ∙ other_stays (events.fetch c.stream h r) rest (is_no_vacant c.stream h r found), refl)
-found_at sides.Foreign c h asked rest r found asks =
+found_at ownerships.Foreign c h asked rest r found asks =
     let vacants = replicate asks.0 (events.fetch c.stream h events.vacant) in (
       ap (λ a. reduced (a ++ rest)) asks.3
           ∙ ap reduced (append_assoc vacants (events.fetch c.stream h r ∷ []) rest)
           ∙ vacants_go c.stream h asks.0 (events.fetch c.stream h r) rest (is_no_vacant c.stream h r found),
       (0, omega arith, (λ vacant. absurd (found vacant)), refl),
     )
-found_at sides.Outside c h asked rest r found asks = absurd (found asks.1)
+found_at ownerships.Outside c h asked rest r found asks = absurd (found asks.1)
 
 vacants_all : (s id k : ℕ)
     → list_all is_vacant (replicate k (events.fetch s id events.vacant) ++ events.fetch s id events.vacant ∷ []) ≡ true
@@ -68,14 +69,15 @@ vacants_all s id zero = refl
 vacants_all s id (suc k) = vacants_all s id k
 
 -- a hint that wasn't found
-missing_at : (side : Side) (c : Setting) (h : ℕ) (asked : History) → AsksAt side c h asked events.vacant → list_all is_vacant asked ≡ true
-missing_at sides.Formula c h asked asks = ap (list_all is_vacant) asks
-missing_at sides.Own c h asked asks = ap (list_all is_vacant) asks
-missing_at sides.Foreign c h asked asks = ap (list_all is_vacant) asks.3 ∙ vacants_all c.stream h asks.0
-missing_at sides.Outside c h asked asks = ap (list_all is_vacant) asks.0
+missing_at : (ownership : Ownership) (c : StreamParams) (h : ℕ) (asked : History) → AsksAt ownership c h asked events.vacant
+    → list_all is_vacant asked ≡ true
+missing_at ownerships.Formula c h asked asks = ap (list_all is_vacant) asks
+missing_at ownerships.Own c h asked asks = ap (list_all is_vacant) asks
+missing_at ownerships.Foreign c h asked asks = ap (list_all is_vacant) asks.3 ∙ vacants_all c.stream h asks.0
+missing_at ownerships.Outside c h asked asks = ap (list_all is_vacant) asks.0
 
 -- a look-up without its vain fetches
-asks_reduced : (reply : Reply) (c : Setting) (gone : ℕ → Bool) (h : ℕ) (asked rest : History) (answer : Result Clause Fault)
+asks_reduced : (reply : Reply) (c : StreamParams) (gone : ℕ → Bool) (h : ℕ) (asked rest : History) (answer : Result Clause Fault)
     → gone h ≡ false → Asks c h asked reply → answer ≡ answer_of h reply → (answer ≡ answer_of h events.vacant → rest ≡ [])
     → LooksOn c reduced gone h asked rest answer
 asks_reduced events.vacant c gone h asked rest answer kept asks is ends =
@@ -83,22 +85,22 @@ asks_reduced events.vacant c gone h asked rest answer kept asks is ends =
     record {
       fewer = asked;
       events = ap (λ r. reduced (asked ++ r)) none ∙ ap reduced (append-nil asked)
-          ∙ all_vacant_stay asked (missing_at (side_of c h) c h asked asks) ∙ sym (append-nil asked)
+          ∙ all_vacant_stay asked (missing_at (ownership_of c h) c h asked asks) ∙ sym (append-nil asked)
           ∙ ap (λ r. asked ++ reduced r) (sym none);
       looks = inr (kept, events.vacant, asks, is);
     }
 asks_reduced (events.live d) c gone h asked rest answer kept asks is ends =
-    let found = found_at (side_of c h) c h asked rest (events.live d) (λ vacant. cc) asks in
+    let found = found_at (ownership_of c h) c h asked rest (events.live d) (λ vacant. cc) asks in
     record {
       fewer = events.fetch c.stream h (events.live d) ∷ [];
       events = found.0;
       looks = inr (kept, events.live d, found.1, is);
     }
 asks_reduced events.retired c gone h asked rest answer kept asks is ends =
-    let found = found_at (side_of c h) c h asked rest events.retired (λ vacant. cc) asks in
+    let found = found_at (ownership_of c h) c h asked rest events.retired (λ vacant. cc) asks in
     record { fewer = events.fetch c.stream h events.retired ∷ []; events = found.0; looks = inr (kept, events.retired, found.1, is) }
 
-looks_reduced : (c : Setting) (gone : ℕ → Bool) (h : ℕ) (asked rest : History) (answer : Result Clause Fault)
+looks_reduced : (c : StreamParams) (gone : ℕ → Bool) (h : ℕ) (asked rest : History) (answer : Result Clause Fault)
     → LooksUp c gone h asked answer → (answer ≡ answer_of h events.vacant → rest ≡ []) → LooksOn c reduced gone h asked rest answer
 looks_reduced c gone h asked rest answer (inl dropped) ends =
     record { fewer = []; events = ap (λ a. reduced (a ++ rest)) dropped.1; looks = inl (dropped.0, refl, dropped.2) }
@@ -109,19 +111,19 @@ pub reduced_line : ReducedLine
 reduced_line c st line es v judged =
     line_maps c c.cube reduced refl (λ id lits. refl) (λ id r rest. refl) (looks_reduced c) st line es v judged
 
-good_reduced : (c : Setting) (before lines : List StreamLine) (blocks : List History) → AreGood c before lines blocks
+good_reduced : (c : StreamParams) (before lines : List StreamLine) (blocks : List History) → AreGood c before lines blocks
     → AreGood c before lines (map reduced blocks)
 good_reduced c before [] [] good = tt
 good_reduced c before [] (block ∷ blocks) good = absurd good
 good_reduced c before (line ∷ lines) [] good = absurd good
 good_reduced c before (line ∷ lines) (block ∷ blocks) good =
-    (reduced_line c (standing_of c before) line block Good good.0, good_reduced c (before ++ line ∷ []) lines blocks good.1)
+    (reduced_line c (context_of c before) line block Good good.0, good_reduced c (before ++ line ∷ []) lines blocks good.1)
 
-ends_reduced : (c : Setting) (lines : List StreamLine) (rest : List ℕ) (end : StreamEnd) (back : List History) (report : Report)
+ends_reduced : (c : StreamParams) (lines : List StreamLine) (rest : List ℕ) (end : StreamEnd) (back : List History) (report : Report)
     → EndsAfter c lines rest end back report → EndsAfter c lines rest end (map reduced back) report
 ends_reduced c lines rest end back report (at_bad_line line more text fits block one_block deleted fault bad says) =
     at_bad_line line more text fits (reduced block) (ap (map reduced) one_block) deleted fault
-    (reduced_line c (standing_of c lines) line block (Bad deleted fault) bad) says
+    (reduced_line c (context_of c lines) line block (Bad deleted fault) bad) says
 ends_reduced c lines rest end back report (at_bad_text fault text no_block says) = at_bad_text fault text (ap (map reduced) no_block) says
 ends_reduced c lines rest end back report (at_memory lead ids more text fits block one_block earlier stops says) =
     at_memory lead ids more text fits (reduced block) (ap (map reduced) one_block) earlier
@@ -129,7 +131,7 @@ ends_reduced c lines rest end back report (at_memory lead ids more text fits blo
       id = stops.id;
       later = stops.later;
       identities = stops.identities;
-      before = reduced_line c (standing_of c lines) (Deletion lead earlier) block Good stops.before;
+      before = reduced_line c (context_of c lines) (Deletion lead earlier) block Good stops.before;
       shared = stops.shared;
       new = stops.new;
     })

@@ -8,8 +8,8 @@ use Rattle.stream_check.specs.declared.report.Ending.{Ending}
 use Rattle.stream_check.specs.declared.report.Ending.TheVariants as endings
 use Rattle.stream_check.specs.Laws.{DroppedOnce}
 use Rattle.stream_check.specs.lemmas.ReportLemmas.{split_first}
-use Rattle.stream_check.specs.Setting.{side_of, is_shared}
-use Rattle.stream_check.specs.Standing.{standing_of, is_among, deleted_by}
+use Rattle.stream_check.specs.StreamParams.{ownership_of, is_shared}
+use Rattle.stream_check.specs.StreamContext.{context_of, is_among, deleted_by}
 use Rattle.stream_check.specs.Stopping.{StopsAtLine, AreDeletedFirst}
 
 -- as many lines at the beginning of the same bytes are the same, and so is what follows them
@@ -63,6 +63,6 @@ dropped_once law c bytes report gone other line stops small few a b id =
     let count : length a.ids ≡ length b.ids = omega (arith, total, few, a.count, b.count) in
     let ids : a.ids ≡ b.ids = first_once law a.ids b.ids b.rest count (subst (AreDeletedFirst a.ids) same.1 a.are_first) b.are_first in
     a.drops id
-    ∙ ap (λ (lines : List StreamLine). (standing_of c lines).gone id || is_shared (side_of c id) && is_among a.ids id) same.0
-    ∙ ap (λ (x : List ℕ). (standing_of c b.lines).gone id || is_shared (side_of c id) && is_among x id) ids
+    ∙ ap (λ (lines : List StreamLine). (context_of c lines).gone id || is_shared (ownership_of c id) && is_among a.ids id) same.0
+    ∙ ap (λ (x : List ℕ). (context_of c b.lines).gone id || is_shared (ownership_of c id) && is_among x id) ids
     ∙ sym (b.drops id)

@@ -12,8 +12,8 @@ use Rattle.lrup_text.specs.declared.device.StreamEnd.{StreamEnd}
 use Rattle.stream_check.specs.declared.fault.Fault.TheVariants as faults
 use Rattle.stream_check.specs.declared.report.Ending.TheVariants as endings
 use Rattle.stream_check.specs.declared.report.Report.{Report}
-use Rattle.stream_check.specs.Setting.{Setting}
-use Rattle.stream_check.specs.Standing.{standing_of, capped}
+use Rattle.stream_check.specs.StreamParams.{StreamParams}
+use Rattle.stream_check.specs.StreamContext.{context_of, capped}
 use Rattle.stream_check.specs.Verdicts.{Good, Bad}
 use Rattle.stream_check.specs.Judging.{JudgesLine, AreGood, joined, report_of, EndsAfter, at_bad_line, at_bad_text, at_memory, at_end}
 use Rattle.stream_check.specs.Forks.{NeverFork}
@@ -86,15 +86,15 @@ faulty_has_no_line laws rest fault text line more fits e =
 -- After the same good lines
 
 -- what ends a stream while there is memory
-abbrev pub EndsWithout : Setting → List StreamLine → List ℕ → StreamEnd → List History → Report → Type 0
+abbrev pub EndsWithout : StreamParams → List StreamLine → List ℕ → StreamEnd → List History → Report → Type 0
 EndsWithout c lines rest end back report = EndsAfter c lines rest end back report × ¬ IsOfMemory report
 
-pub out_of_memory : (c : Setting) (lines : List StreamLine) (deleted : ℕ) (report : Report)
+pub out_of_memory : (c : StreamParams) (lines : List StreamLine) (deleted : ℕ) (report : Report)
     → report ≡ report_of c lines deleted (endings.Memory (capped (length lines + 1))) → IsOfMemory report
 out_of_memory c lines deleted report says = (capped (length lines + 1), ap (λ (r : Report). r.ending) says)
 
 ends_agree : TextLaws
-    → (c : Setting) (lines : List StreamLine) (rest : List ℕ) (end : StreamEnd) (back aft : List History) (report other : Report)
+    → (c : StreamParams) (lines : List StreamLine) (rest : List ℕ) (end : StreamEnd) (back aft : List History) (report other : Report)
     → EndsWithout c lines rest end back report → EndsWithout c lines rest end aft other → NeverFork (joined back) (joined aft)
     → (back ≡ aft) × (report ≡ other)
 ends_agree laws c lines rest end back aft report other (at_memory _ _ _ _ _ _ _ earlier _ says, no_memory) b never =
@@ -105,8 +105,8 @@ ends_agree laws c lines rest end back aft report other (at_bad_line line more te
     (at_bad_line like much words fit events all_one gone wrong fails told, none) never =
     let same = same_first laws line like more much fits fit (sym text ∙ words) in
     let here = subst (λ x. NeverFork (joined x) (events ++ [])) one_block (subst (λ x. NeverFork (joined back) (joined x)) all_one never) in
-    let judged = subst (λ l. JudgesLine c (standing_of c lines) l block (Bad deleted fault)) same.0 bad in
-    let agree = line_agrees c (standing_of c lines) like block events [] [] (Bad deleted fault) (Bad gone wrong) judged fails here in
+    let judged = subst (λ l. JudgesLine c (context_of c lines) l block (Bad deleted fault)) same.0 bad in
+    let agree = line_agrees c (context_of c lines) like block events [] [] (Bad deleted fault) (Bad gone wrong) judged fails here in
     let verdict = agree.verdict in
     let same_deleted : deleted ≡ gone = cc in
     let same_fault : fault ≡ wrong = cc in (
@@ -140,10 +140,10 @@ ends_agree laws c lines rest end back aft report other (at_end pending no_block 
     (no_block ∙ sym no_more, says ∙ sym told)
 
 -- a stream doesn't end at a line that is good
-pub ends_not_good : TextLaws → (c : Setting) (lines : List StreamLine) (rest more : List ℕ) (end : StreamEnd) (back : List History)
+pub ends_not_good : TextLaws → (c : StreamParams) (lines : List StreamLine) (rest more : List ℕ) (end : StreamEnd) (back : List History)
     (report : Report) (line : StreamLine) (block r : History)
     → EndsWithout c lines rest end back report → IsWithinLimits line → rest ≡ line_text line ++ more
-    → JudgesLine c (standing_of c lines) line block Good → NeverFork (joined back) (block ++ r) → ⊥
+    → JudgesLine c (context_of c lines) line block Good → NeverFork (joined back) (block ++ r) → ⊥
 ends_not_good laws c lines rest more end back report line block r (at_memory _ _ _ _ _ _ _ earlier _ says, no_memory) fits text good never =
     no_memory (out_of_memory c lines (length earlier) report says)
 ends_not_good laws c lines rest more end back report line block r (at_bad_text fault words no_block says, no_memory) fits text good never =
@@ -153,9 +153,9 @@ ends_not_good laws c lines rest more end back report line block r (at_end pendin
 ends_not_good laws c lines rest more end back report line block r
     (at_bad_line like much words fit events one_block deleted fault bad says, no_memory) fits text good never =
     let same = same_first laws like line much more fit fits (sym words ∙ text) in
-    let judged = subst (λ l. JudgesLine c (standing_of c lines) l events (Bad deleted fault)) same.0 bad in
+    let judged = subst (λ l. JudgesLine c (context_of c lines) l events (Bad deleted fault)) same.0 bad in
     let here = subst (λ x. NeverFork (joined x) (block ++ r)) one_block never in
-    let agree = line_agrees c (standing_of c lines) line events block [] r (Bad deleted fault) Good judged good here in
+    let agree = line_agrees c (context_of c lines) line events block [] r (Bad deleted fault) Good judged good here in
     let verdict = agree.verdict in cc
 
 -- one line moves from the lines to those before them
@@ -164,7 +164,7 @@ pub behind_one : (before : List StreamLine) (line : StreamLine) (lines all : Lis
 behind_one before line lines all e = e ∙ sym (append_assoc before (line ∷ []) lines)
 
 -- the good lines, their blocks, what comes after, and the report are the same
-streams_agree : TextLaws → (c : Setting) (end : StreamEnd) (before lines others all both : List StreamLine) (rest left : List ℕ)
+streams_agree : TextLaws → (c : StreamParams) (end : StreamEnd) (before lines others all both : List StreamLine) (rest left : List ℕ)
     (front back fore aft : List History) (report other : Report)
     → all ≡ before ++ lines → both ≡ before ++ others
     → flat_map line_text lines ++ rest ≡ flat_map line_text others ++ left
@@ -205,9 +205,9 @@ streams_agree laws c end before (l ∷ lines) (o ∷ others) all both rest left 
     (sym (split_first l lines rest) ∙ text ∙ split_first o others left) in
     let here = subst (λ e. NeverFork e (d ++ (joined fore ++ joined aft))) (append_assoc b (joined front) (joined back))
     (subst (λ e. NeverFork ((b ++ joined front) ++ joined back) e) (append_assoc d (joined fore) (joined aft)) never) in
-    let first = subst (λ x. JudgesLine c (standing_of c before) x b Good) same.0 good.0 in
+    let first = subst (λ x. JudgesLine c (context_of c before) x b Good) same.0 good.0 in
     let agree =
-    line_agrees c (standing_of c before) o b d (joined front ++ joined back) (joined fore ++ joined aft) Good Good first fine.0 here in
+    line_agrees c (context_of c before) o b d (joined front ++ joined back) (joined fore ++ joined aft) Good Good first fine.0 here in
     let later = never_fork_behind d (joined front ++ joined back) (joined fore ++ joined aft)
     (subst (λ e. NeverFork (e ++ (joined front ++ joined back)) (d ++ (joined fore ++ joined aft))) agree.events here) in
     let step = streams_agree laws c end (before ++ o ∷ []) lines others all both rest left front back fore aft report other

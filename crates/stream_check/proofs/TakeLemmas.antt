@@ -11,14 +11,14 @@ use Rattle.stream_check.specs.declared.report.Report.{Report}
 use Rattle.stream_check.specs.declared.stream_state.StreamState.{StreamState}
 use Rattle.stream_check.specs.declared.line_stop.LineStop.{LineStop}
 use Rattle.stream_check.specs.declared.line_stop.LineStop.TheVariants as stops
-use Rattle.stream_check.specs.Standing.{capped, is_among}
+use Rattle.stream_check.specs.StreamContext.{capped, is_among}
 use Rattle.stream_check.specs.CheckerValue.{report_of_tally}
-use Rattle.stream_check.specs.Leaving.{Going, Over, Leaves}
+use Rattle.stream_check.specs.Reaching.{Going, Over, ReachesState}
 use Rattle.stream_check.specs.internal.CheckerInside.{tally_at}
-use Rattle.stream_check.specs.Checker.{LeavesOn}
+use Rattle.stream_check.specs.Checker.{Extends}
 use Rattle.stream_check.specs.internal.Taking.{hold, DeletesMore, TakesBy, ending_of}
 use Rattle.stream_check.specs.Laws.{GoodLineTaken}
-use Rattle.stream_check.proofs.LeavingLemmas.{pending_grows, bad_line_taken, bad_text_read, memory_wanted}
+use Rattle.stream_check.proofs.ReachingLemmas.{pending_grows, bad_line_taken, bad_text_read, memory_wanted}
 
 -- the report after a line that stopped: what it deleted is counted already
 report_is : (old new : StreamState) (ids : List ℕ) (ending : ℕ → Ending) → DeletesMore old new ids
@@ -33,40 +33,40 @@ report_is old new ids ending more =
     ∙ ap (λ n. made new.added (tally_at new).deleted new.empty new.within (ending n)) (sym more.line)
 
 -- a good line
-pub leaves_good : GoodLineTaken → (old new : StreamState) (free left : ℕ) (read used : List ℕ) (line : StreamLine) (es : History)
+pub reaches_good : GoodLineTaken → (old new : StreamState) (free left : ℕ) (read used : List ℕ) (line : StreamLine) (es : History)
     → LineText line (read ++ used) → TakesBy old free new left line es (Ok tt)
-    → LeavesOn old.setting (Going (hold old read free)) used (es ∷ []) (Going (hold new [] left))
-leaves_good law old new free left read used line es text takes bytes before leaves =
-    law old.setting bytes used before es (hold old read free) (hold new [] left) line leaves text takes.0 (takes.1 read)
+    → Extends old.params (Going (hold old read free)) used (es ∷ []) (Going (hold new [] left))
+reaches_good law old new free left read used line es text takes bytes before reaches =
+    law old.params bytes used before es (hold old read free) (hold new [] left) line reaches text takes.0 (takes.1 read)
 
 -- a line that stopped
-pub leaves_stopped : (old new : StreamState) (free left : ℕ) (read used : List ℕ) (line : StreamLine) (es : History) (stop : LineStop)
+pub reaches_stopped : (old new : StreamState) (free left : ℕ) (read used : List ℕ) (line : StreamLine) (es : History) (stop : LineStop)
     → LineText line (read ++ used) → TakesBy old free new left line es (Err stop)
-    → LeavesOn old.setting (Going (hold old read free)) used (es ∷ [])
+    → Extends old.params (Going (hold old read free)) used (es ∷ [])
     (Over (report_of_tally (tally_at new) (ending_of new.line stop)) (is_among new.dropped.ids))
-leaves_stopped old new free left read used line es (stops.Bad fault) text takes bytes before leaves =
-    subst (λ (r : Report). Leaves old.setting (bytes ++ used) (before ++ es ∷ []) (Over r (is_among new.dropped.ids)))
+reaches_stopped old new free left read used line es (stops.Bad fault) text takes bytes before reaches =
+    subst (λ (r : Report). ReachesState old.params (bytes ++ used) (before ++ es ∷ []) (Over r (is_among new.dropped.ids)))
     (report_is old new takes.0 (λ n. endings.Bad n fault) takes.4)
-    (bad_line_taken old.setting bytes used before es (hold old read free) line takes.0 takes.1 fault (is_among new.dropped.ids) leaves text
+    (bad_line_taken old.params bytes used before es (hold old read free) line takes.0 takes.1 fault (is_among new.dropped.ids) reaches text
     takes.2 takes.3 takes.4.dropped)
-leaves_stopped old new free left read used line es stops.Memory text takes bytes before leaves =
-    subst (λ (r : Report). Leaves old.setting (bytes ++ used) (before ++ es ∷ []) (Over r (is_among new.dropped.ids)))
+reaches_stopped old new free left read used line es stops.Memory text takes bytes before reaches =
+    subst (λ (r : Report). ReachesState old.params (bytes ++ used) (before ++ es ∷ []) (Over r (is_among new.dropped.ids)))
     (report_is old new takes.2 (λ n. endings.Memory n) takes.5)
-    (memory_wanted old.setting bytes used before es (hold old read free) takes.0 takes.1 takes.2 (is_among new.dropped.ids) leaves
+    (memory_wanted old.params bytes used before es (hold old read free) takes.0 takes.1 takes.2 (is_among new.dropped.ids) reaches
     (subst (λ (l : StreamLine). LineText l (read ++ used)) takes.3 text) takes.4 takes.5.dropped)
 
 -- the front of a line
-pub leaves_front : (old : StreamState) (free : ℕ) (read piece : List ℕ) → IsPending (read ++ piece)
-    → LeavesOn old.setting (Going (hold old read free)) piece [] (Going (hold old (read ++ piece) free))
-leaves_front old free read piece pending bytes before leaves =
-    subst (λ (blocks : List History). Leaves old.setting (bytes ++ piece) blocks (Going (hold old (read ++ piece) free)))
-    (sym (append-nil before)) (pending_grows old.setting bytes piece before (hold old read free) leaves pending)
+pub reaches_front : (old : StreamState) (free : ℕ) (read piece : List ℕ) → IsPending (read ++ piece)
+    → Extends old.params (Going (hold old read free)) piece [] (Going (hold old (read ++ piece) free))
+reaches_front old free read piece pending bytes before reaches =
+    subst (λ (blocks : List History). ReachesState old.params (bytes ++ piece) blocks (Going (hold old (read ++ piece) free)))
+    (sym (append-nil before)) (pending_grows old.params bytes piece before (hold old read free) reaches pending)
 
 -- a text that begins no line
-pub leaves_refused : (old : StreamState) (free : ℕ) (read used : List ℕ) (fault : LineFault) → IsRefused (read ++ used) fault
-    → LeavesOn old.setting (Going (hold old read free)) used []
+pub reaches_refused : (old : StreamState) (free : ℕ) (read used : List ℕ) (fault : LineFault) → IsRefused (read ++ used) fault
+    → Extends old.params (Going (hold old read free)) used []
     (Over (report_of_tally (tally_at old) (endings.Bad old.line (faults.Text fault))) (is_among old.dropped.ids))
-leaves_refused old free read used fault refused bytes before leaves =
-    subst (λ (blocks : List History). Leaves old.setting (bytes ++ used) blocks
+reaches_refused old free read used fault refused bytes before reaches =
+    subst (λ (blocks : List History). ReachesState old.params (bytes ++ used) blocks
     (Over (report_of_tally (tally_at old) (endings.Bad old.line (faults.Text fault))) (is_among old.dropped.ids))) (sym (append-nil before))
-    (bad_text_read old.setting bytes used before (hold old read free) fault leaves refused)
+    (bad_text_read old.params bytes used before (hold old read free) fault reaches refused)

@@ -9,40 +9,40 @@ use Rattle.lrup_model.specs.Formula.{Cnf}
 use Rattle.lrup_model.specs.Entailment.{IsDerived}
 use Rattle.lrup_model.specs.Layout.{LayoutValue}
 use Rattle.lrup_model.specs.Event.{Event, History}
-use Rattle.lrup_model.specs.Place.{Caller, Place, Tells, ClipValue, IsKnown, AllFollow, clip_clause}
+use Rattle.lrup_model.specs.CallerView.{Caller, CallerView, CallerStep, ClipValue, IsKnown, AllFollow, clip_clause}
 use Rattle.lrup_model.specs.lemmas.PassLemmas.{known_follows}
 use Rattle.lrup_model.specs.Propagation.{IsConflict, IsUnit}
 use Rattle.propagate.specs.Hints.{Leads}
 use Rattle.propagate.specs.lemmas.HintLemmas.{leads_on, accepts_exactly}
 use Rattle.stream_check.specs.declared.fault.Fault.{Fault}
 use Rattle.stream_check.specs.declared.fault.Fault.TheVariants as faults
-use Rattle.stream_check.specs.Setting.{Setting}
-use Rattle.stream_check.specs.Asking.{LooksUp}
+use Rattle.stream_check.specs.StreamParams.{StreamParams}
+use Rattle.stream_check.specs.Lookup.{LooksUp}
 use Rattle.stream_check.specs.Additions.{AreFound, Misleads, FailsHints}
-use Rattle.stream_check.specs.Checker.{IsPlaceOf}
+use Rattle.stream_check.specs.Checker.{IsViewOf}
 use Rattle.stream_check.specs.internal.Checking.{Shows, excess_of}
 
 -- one more at the end
 pub replicate-more : (k : ℕ) (e : Event) → replicate k e ++ e ∷ [] ≡ replicate (k + 1) e
 replicate-more k e = replicate-append-replicate k 1 e
 
--- a clip that is known follows, as the place before sees it
-pub derived_before : (p q : Place) (es : History) (clip : ClipValue) → Tells p q es → IsKnown q clip → AllFollow q
+-- a clip that is known follows, as the view before has it
+pub derived_before : (p q : CallerView) (es : History) (clip : ClipValue) → CallerStep p q es → IsKnown q clip → AllFollow q
     → IsDerived p.caller.formula (clip_clause q clip)
-derived_before p q es clip tells known follow =
-    subst (λ (f : Cnf). IsDerived f (clip_clause q clip)) (ap (λ (r : Caller). r.formula) tells.caller) (known_follows q clip follow known)
+derived_before p q es clip step known follow =
+    subst (λ (f : Cnf). IsDerived f (clip_clause q clip)) (ap (λ (r : Caller). r.formula) step.caller) (known_follows q clip follow known)
 
--- the formula's variables are those of the setting's layout, as the place before sees it
-pub variables_before : (c : Setting) (p q : Place) (es : History) → IsPlaceOf c p → Tells p q es
+-- the formula's variables are those of the stream's layout, as the view before has it
+pub variables_before : (c : StreamParams) (p q : CallerView) (es : History) → IsViewOf c p → CallerStep p q es
     → q.caller.formula.vars ≡ q.caller.layout.vars → p.caller.formula.vars ≡ c.layout.vars
-variables_before c p q es at tells there = subst (λ (r : Caller). r.formula.vars ≡ r.layout.vars) tells.caller there
+variables_before c p q es at step there = subst (λ (r : Caller). r.formula.vars ≡ r.layout.vars) step.caller there
     ∙ ap (λ (l : LayoutValue). l.vars) at.layout
 
 -- so the marks have all of them
-pub variables_fit : (c : Setting) (p q : Place) (es : History) (vars : ℕ) → IsPlaceOf c p → Tells p q es
+pub variables_fit : (c : StreamParams) (p q : CallerView) (es : History) (vars : ℕ) → IsViewOf c p → CallerStep p q es
     → q.caller.formula.vars ≡ q.caller.layout.vars → c.layout.vars ≤ vars → q.caller.formula.vars ≤ vars
-variables_fit c p q es vars at tells there most =
-    omega (arith, ap (λ (r : Caller). r.formula.vars) tells.caller, variables_before c p q es at tells there, most)
+variables_fit c p q es vars at step there most =
+    omega (arith, ap (λ (r : Caller). r.formula.vars) step.caller, variables_before c p q es at step there, most)
 
 -- Hints one after the other
 
@@ -53,7 +53,7 @@ all_derived f (c ∷ cs) d h k = (h.0, all_derived f cs d h.1 k)
 
 -- The hints so far have these clauses, which are unit, one after the other, and follow; and what those that are left come to says what
 -- all come to.
-pub record HasLed (c : Setting) (gone : ℕ → Bool) (f : Cnf) (n : List ℤ) (hints : List ℕ) (m : List ℤ) (left : List ℕ)
+pub record HasLed (c : StreamParams) (gone : ℕ → Bool) (f : Cnf) (n : List ℤ) (hints : List ℕ) (m : List ℤ) (left : List ℕ)
     (es : History) : Type 0 where
   pub clauses : List Clause
   pub derived : AllByRecursion (IsDerived f) clauses
@@ -61,7 +61,7 @@ pub record HasLed (c : Setting) (gone : ℕ → Bool) (f : Cnf) (n : List ℤ) (
   pub found : (ds : List Clause) (rest : History) → AreFound c gone left ds rest → AreFound c gone hints (clauses ++ ds) (es ++ rest)
   pub fails : (rest : History) (fault : Fault) → FailsHints c gone m left rest fault → FailsHints c gone n hints (es ++ rest) fault
 
-module _ (c : Setting) (gone : ℕ → Bool) (f : Cnf) (n m : List ℤ) (hints : List ℕ) (h : ℕ) (left rest : List ℕ) (es fs : History)
+module _ (c : StreamParams) (gone : ℕ → Bool) (f : Cnf) (n m : List ℤ) (hints : List ℕ) (h : ℕ) (left rest : List ℕ) (es fs : History)
     (is : left ≡ h ∷ rest) (before : HasLed c gone f n hints m left es) where
   -- the next hint fails
   next_fails : (fault : Fault) → FailsHints c gone m (h ∷ rest) fs fault → FailsHints c gone n hints (es ++ fs) fault
@@ -116,7 +116,7 @@ module _ (c : Setting) (gone : ℕ → Bool) (f : Cnf) (n m : List ℤ) (hints :
         ] refl
 
 -- no hint is left
-pub shows_none : (c : Setting) (gone : ℕ → Bool) (f : Cnf) (n : List ℤ) (hints : List ℕ) (m : List ℤ) (left : List ℕ) (es : History)
+pub shows_none : (c : StreamParams) (gone : ℕ → Bool) (f : Cnf) (n : List ℤ) (hints : List ℕ) (m : List ℤ) (left : List ℕ) (es : History)
     → length left ≡ 0 → HasLed c gone f n hints m left es → Shows c gone f n hints es (Err faults.NoConflict)
 shows_none c gone f n hints m [] es none before =
     subst (λ (x : History). FailsHints c gone n hints x faults.NoConflict) (append-nil es) (before.fails [] faults.NoConflict (refl, refl))

@@ -11,21 +11,21 @@ use Rattle.lrup_model.specs.declared.clause_map.Published.TheVariants as publish
 use Rattle.lrup_model.specs.Distinct.{distinct}
 use Rattle.stream_check.specs.declared.fault.Fault.{Fault}
 use Rattle.stream_check.specs.declared.fault.Fault.TheVariants as faults
-use Rattle.stream_check.specs.Setting.{Setting}
-use Rattle.stream_check.specs.Standing.{Standing}
+use Rattle.stream_check.specs.StreamParams.{StreamParams}
+use Rattle.stream_check.specs.StreamContext.{StreamContext}
 use Rattle.stream_check.specs.Verdicts.{LineVerdict, Good, Bad, Violates}
-use Rattle.stream_check.specs.Asking.{LooksUp}
+use Rattle.stream_check.specs.Lookup.{LooksUp}
 
 -- What lines leave for an addition after them: the greatest identity that was added, or the formula's last one; the room that is left,
 -- in literals; and which clauses hints name.
-pub record Context : Type 1 where
+pub record AdditionContext : Type 1 where
   pub last : ℕ
   pub free : ℕ
   pub Names : List ℕ → List Clause → Type 0
 
 -- An addition is valid: its identity is the stream's own, and above the last; its literals are over the variables; there is room for
 -- its clause; and the clauses that its hints name show its clause, which is no tautology, by propagation.
-pub record IsValidAddition (layout : LayoutValue) (stream : ℕ) (context : Context) (id : ℕ)
+pub record IsValidAddition (layout : LayoutValue) (stream : ℕ) (context : AdditionContext) (id : ℕ)
     (lits : List ℤ) (hints : List ℕ) : Type 0 where
   pub owns : Owns layout stream id
   pub above : context.last < id
@@ -36,31 +36,32 @@ pub record IsValidAddition (layout : LayoutValue) (stream : ℕ) (context : Cont
   pub shown : Accepts (distinct lits) clauses
 
 -- the hints are looked up in their order, by these events, and come to these clauses
-abbrev pub AreFound : Setting → (ℕ → Bool) → List ℕ → List Clause → History → Type 0
-AreFound setting gone [] [] history = history ≡ []
-AreFound setting gone [] (clause ∷ clauses) history = ⊥
-AreFound setting gone (hint ∷ hints) [] history = ⊥
-AreFound setting gone (hint ∷ hints) (clause ∷ clauses) history =
-    (asked rest : History) × (history ≡ asked ++ rest) × LooksUp setting gone hint asked (Ok clause)
-    × AreFound setting gone hints clauses rest
+abbrev pub AreFound : StreamParams → (ℕ → Bool) → List ℕ → List Clause → History → Type 0
+AreFound params gone [] [] history = history ≡ []
+AreFound params gone [] (clause ∷ clauses) history = ⊥
+AreFound params gone (hint ∷ hints) [] history = ⊥
+AreFound params gone (hint ∷ hints) (clause ∷ clauses) history =
+    (asked rest : History) × (history ≡ asked ++ rest) × LooksUp params gone hint asked (Ok clause)
+    × AreFound params gone hints clauses rest
 
--- what the lines of this standing leave, where these events look hints up
-abbrev pub context_of : Setting → Standing → History → Context
-context_of setting standing history = record {
-  last = standing.last;
-  free = standing.free;
-  Names = λ hints clauses. AreFound setting standing.gone hints clauses history;
+-- what the lines of this context leave, where these events look hints up
+abbrev pub addition_context : StreamParams → StreamContext → History → AdditionContext
+addition_context params context history = record {
+  last = context.last;
+  free = context.free;
+  Names = λ hints clauses. AreFound params context.gone hints clauses history;
 }
 
 -- the conditions of an addition before those of its hints, in their order
-abbrev pub BeforeHints : Setting → Standing → ℕ → List ℤ → History → Fault → Type 0 → Type 0
-BeforeHints setting standing id lits history fault Next =
-    Violates (Owns setting.layout setting.stream id × (standing.last < id))
+abbrev pub BeforeHints : StreamParams → StreamContext → ℕ → List ℤ → History → Fault
+    → Type 0 → Type 0
+BeforeHints params context id lits history fault Next =
+    Violates (Owns params.layout params.stream id × (context.last < id))
     faults.Identity history fault
-    (Violates (AllByRecursion (λ l. nat_abs l ≤ setting.layout.vars) lits)
+    (Violates (AllByRecursion (λ l. nat_abs l ≤ params.layout.vars) lits)
     faults.Literal history fault
     (Violates (¬ IsTautology lits) faults.Tautology history fault
-    (Violates (length (distinct lits) ≤ standing.free) faults.NoRoom history fault Next)))
+    (Violates (length (distinct lits) ≤ context.free) faults.NoRoom history fault Next)))
 
 -- A hint's clause doesn't help: it is neither unit nor a conflict; or it is a conflict, and one more hint comes after it.
 abbrev pub Misleads : List ℤ → Clause → ℕ → List ℕ → Fault → Type 0
@@ -80,28 +81,29 @@ FailsBy (Ok clause) falses hint later history fault Next =
 FailsBy (Err its) falses hint later history fault Next = (history ≡ []) × (fault ≡ its)
 
 -- The hints fail, where these literals are false: the first one whose look-up or clause fails gives the fault, or none is a conflict.
-abbrev pub FailsHints : Setting → (ℕ → Bool) → List ℤ → List ℕ → History → Fault → Type 0
-FailsHints setting gone falses [] history fault = (history ≡ []) × (fault ≡ faults.NoConflict)
-FailsHints setting gone falses (hint ∷ hints) history fault =
+abbrev pub FailsHints : StreamParams → (ℕ → Bool) → List ℤ → List ℕ → History → Fault → Type 0
+FailsHints params gone falses [] history fault = (history ≡ []) × (fault ≡ faults.NoConflict)
+FailsHints params gone falses (hint ∷ hints) history fault =
     (asked rest : History) × (history ≡ asked ++ rest) × (answer : Result Clause Fault)
-    × LooksUp setting gone hint asked answer
+    × LooksUp params gone hint asked answer
     × FailsBy answer falses hint hints rest fault
-    (λ more_falses. FailsHints setting gone more_falses hints rest fault)
+    (λ more_falses. FailsHints params gone more_falses hints rest fault)
 
 -- the publish of an addition that is good
-abbrev pub published_by : Setting → ℕ → List ℤ → Event
-published_by setting id lits = events.publish setting.stream id (distinct lits) publishing.Done
+abbrev pub published_by : StreamParams → ℕ → List ℤ → Event
+published_by params id lits = events.publish params.stream id (distinct lits) publishing.Done
 
--- An addition's events and its verdict, after the lines that left this standing: it is valid by what its events find, and its last
+-- An addition's events and its verdict, after the lines that left this context: it is valid by what its events find, and its last
 -- event publishes its clause; or it violates a condition, and the first of these gives the fault.
-abbrev pub JudgesAddition : Setting → Standing → ℕ → List ℤ → List ℕ → History → LineVerdict
+abbrev pub JudgesAddition : StreamParams → StreamContext → ℕ → List ℤ → List ℕ → History
+    → LineVerdict
     → Type 0
-JudgesAddition setting standing id lits hints history Good =
+JudgesAddition params context id lits hints history Good =
     (fetches : History)
-    × IsValidAddition setting.layout setting.stream (context_of setting standing fetches) id lits
+    × IsValidAddition params.layout params.stream (addition_context params context fetches) id lits
     hints
-    × (history ≡ fetches ++ published_by setting id lits ∷ [])
-JudgesAddition setting standing id lits hints history (Bad deleted fault) =
+    × (history ≡ fetches ++ published_by params id lits ∷ [])
+JudgesAddition params context id lits hints history (Bad deleted fault) =
     (deleted ≡ 0)
-    × BeforeHints setting standing id lits history fault
-    (FailsHints setting standing.gone (distinct lits) hints history fault)
+    × BeforeHints params context id lits history fault
+    (FailsHints params context.gone (distinct lits) hints history fault)

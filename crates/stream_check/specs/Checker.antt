@@ -3,7 +3,7 @@ use Rattle.std.specs.Prelude.{◌≡◌, ◌⊎◌, ◌≤◌, ◌++◌, ℕ, Li
 use Rattle.lrup_model.specs.Cube.{CubeValue}
 use Rattle.lrup_model.specs.Event.{History}
 use Rattle.lrup_model.specs.Layout.{LayoutValue}
-use Rattle.lrup_model.specs.Place.{Place, IsVacantAbove}
+use Rattle.lrup_model.specs.CallerView.{CallerView, IsVacantAbove}
 use Rattle.lrup_text.specs.declared.LineFault.{LineFault}
 use Rattle.lrup_text.specs.Lines.{StreamLine, Cut, LineText}
 use Rattle.lrup_text.specs.Faults.{IsRefused}
@@ -13,22 +13,22 @@ use Rattle.stream_check.specs.declared.report.Ending.{Ending}
 use Rattle.stream_check.specs.declared.report.Ending.TheVariants as endings
 use Rattle.stream_check.specs.declared.progress.CheckTurn.{CheckTurn}
 use Rattle.stream_check.specs.declared.progress.CheckTurn.TheVariants as turns
-use Rattle.stream_check.specs.Setting.{Setting}
-use Rattle.stream_check.specs.Standing.{is_among}
+use Rattle.stream_check.specs.StreamParams.{StreamParams}
+use Rattle.stream_check.specs.StreamContext.{is_among}
 use Rattle.stream_check.specs.Judging.{ending_at, JudgesBlocks}
-use Rattle.stream_check.specs.Leaving.{Holding, CheckerState, Going, Over, Leaves}
+use Rattle.stream_check.specs.Reaching.{GoingState, CheckerState, Going, Over, ReachesState}
 use Rattle.stream_check.specs.CheckerValue.{report_of_tally, CheckerValue}
 
-abbrev pub holding_of : CheckerValue → ℕ → Holding
-holding_of checker free = record {
+abbrev pub going_of : CheckerValue → ℕ → GoingState
+going_of checker free = record {
   tally = checker.tally;
-  standing = record { last = checker.last; free = free; gone = is_among checker.dropped };
+  context = record { last = checker.last; free = free; gone = is_among checker.dropped };
   pending = checker.pending;
   line = checker.line;
 }
 
 abbrev pub state_by : CheckerValue → ℕ → Option Ending → CheckerState
-state_by checker free None = Going (holding_of checker free)
+state_by checker free None = Going (going_of checker free)
 state_by checker free (Some ending) =
     Over (report_of_tally checker.tally ending) (is_among checker.dropped)
 
@@ -36,20 +36,21 @@ state_by checker free (Some ending) =
 abbrev pub checker_state : CheckerValue → ℕ → CheckerState
 checker_state checker free = state_by checker free checker.ending
 
--- the place is this stream's, at this layout
-pub record IsPlaceOf (setting : Setting) (place : Place) : Type 0 where
-  pub layout : place.caller.layout ≡ setting.layout
-  pub stream : place.caller.stream ≡ setting.stream
+-- the view is this stream's, at this layout
+pub record IsViewOf (params : StreamParams) (place : CallerView) : Type 0 where
+  pub layout : place.caller.layout ≡ params.layout
+  pub stream : place.caller.stream ≡ params.stream
 
--- What a checker needs of a place: it is the checker's, and its own identities above the last one that was added are vacant.
-pub record IsReadyAt (checker : CheckerValue) (place : Place) : Type 0 where
-  pub at : IsPlaceOf checker.setting place
+-- What a checker needs of a view: it is of the checker's stream, and its own identities above the last one that was added are vacant.
+pub record IsReadyAt (checker : CheckerValue) (place : CallerView) : Type 0 where
+  pub at : IsViewOf checker.params place
   pub vacant : IsVacantAbove place checker.last
 
 -- Whatever bytes and blocks left the checker as it was, these bytes and blocks more leave it as it is.
-abbrev pub LeavesOn : Setting → CheckerState → List ℕ → List History → CheckerState → Type 0
-LeavesOn setting old used blocks new = (bytes : List ℕ) (before : List History)
-    → Leaves setting bytes before old → Leaves setting (bytes ++ used) (before ++ blocks) new
+abbrev pub Extends : StreamParams → CheckerState → List ℕ → List History → CheckerState → Type 0
+Extends params old used blocks new = (bytes : List ℕ) (before : List History)
+    → ReachesState params bytes before old
+    → ReachesState params (bytes ++ used) (before ++ blocks) new
 
 -- The blocks that a call comes to: that of the line that it ends, or none, or where the reading ends that of the last line, if there is one.
 abbrev pub AreBlocksOf : CheckTurn → List History → Type 0
@@ -85,16 +86,16 @@ StaysOver old new used = (ending : Ending) → old.ending ≡ Some ending → (n
 -- a checker before its first byte
 pub record IsNew (layout : LayoutValue) (cube : CubeValue) (stream tries : ℕ)
     (checker : CheckerValue) : Type 0 where
-  pub setting : checker.setting
+  pub params : checker.params
       ≡ record { layout = layout; cube = cube; stream = stream; tries = tries }
   pub last : checker.last ≡ layout.clauses
   pub retired : checker.retired ≡ 0
   pub ending : checker.ending ≡ None
-  pub left : Leaves checker.setting [] [] (checker_state checker layout.room)
+  pub left : ReachesState checker.params [] [] (checker_state checker layout.room)
 
 abbrev pub EndsBy : Option Ending → StreamEnd → CheckerValue → CheckerValue → Type 0
 EndsBy None end old new =
-    (new.setting ≡ old.setting) × (new.tally ≡ old.tally)
+    (new.params ≡ old.params) × (new.tally ≡ old.tally)
     × (new.ending ≡ Some (ending_at end old.pending old.line)) × (new.last ≡ old.last)
     × (new.dropped ≡ old.dropped)
 EndsBy (Some ending) end old new = new ≡ old
@@ -107,6 +108,6 @@ Ends end old new = EndsBy old.ending end old new
 abbrev pub ReportsEnd : StreamEnd → CheckerValue → CheckerValue → Type 0
 ReportsEnd end old new =
     (bytes : List ℕ) (blocks : List History) (free : ℕ)
-    → Leaves old.setting bytes blocks (checker_state old free)
+    → ReachesState old.params bytes blocks (checker_state old free)
     → (ending : Ending) × (new.ending ≡ Some ending)
-    × JudgesBlocks old.setting bytes end blocks (report_of_tally new.tally ending)
+    × JudgesBlocks old.params bytes end blocks (report_of_tally new.tally ending)

@@ -1,7 +1,7 @@
 -- What contracts see of a checker (this project's own).
 use Rattle.std.specs.Prelude.{ℕ, Bool, List, Option}
 use Rattle.stream_check.specs.declared.report.Ending.{Ending}
-use Rattle.stream_check.specs.Setting.{Setting}
+use Rattle.stream_check.specs.StreamParams.{StreamParams}
 use Rattle.stream_check.specs.declared.report.Report.{Report}
 
 -- how many additions and deleted identities were good, whether an added clause is empty, and whether one is within the cube
@@ -25,7 +25,7 @@ report_of_tally tally ending =
 -- Whose lines it checks; the counts, the last identity and the dropped ones, and how many were retired; the text read of the
 -- next line and that line's number; and how the stream ended, if it did.
 pub record CheckerValue : Type 0 where
-  pub setting : Setting
+  pub params : StreamParams
   pub tally : Tally
   pub last : ℕ
   pub dropped : List ℕ

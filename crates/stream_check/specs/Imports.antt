@@ -4,30 +4,30 @@ use Rattle.std.specs.List.{AllByRecursion}
 use Rattle.lrup_model.specs.Clause.{Clause, Has}
 use Rattle.lrup_model.specs.Event.{History}
 use Rattle.stream_check.specs.declared.fault.Fault.TheVariants as faults
-use Rattle.stream_check.specs.Setting.{Setting, side_of, is_shared}
-use Rattle.stream_check.specs.Standing.{Standing}
+use Rattle.stream_check.specs.StreamParams.{StreamParams, ownership_of, is_shared}
+use Rattle.stream_check.specs.StreamContext.{StreamContext}
 use Rattle.stream_check.specs.Verdicts.{LineVerdict, Good, Bad, Violates}
-use Rattle.stream_check.specs.Asking.{LooksUp}
+use Rattle.stream_check.specs.Lookup.{LooksUp}
 
 -- An import is good: it is of the formula or of another stream, its literals are over the variables, and the clause that is found has
 -- its literals, in whatever order and however often each is written.
-pub record IsGoodImport (setting : Setting) (standing : Standing) (id : ℕ) (lits : List ℤ)
+pub record IsGoodImport (params : StreamParams) (context : StreamContext) (id : ℕ) (lits : List ℤ)
     (history : History) : Type 0 where
-  pub shared : is_shared (side_of setting id) ≡ true
-  pub literals : AllByRecursion (λ l. nat_abs l ≤ setting.layout.vars) lits
+  pub shared : is_shared (ownership_of params id) ≡ true
+  pub literals : AllByRecursion (λ l. nat_abs l ≤ params.layout.vars) lits
   pub clause : Clause
-  pub found : LooksUp setting standing.gone id history (Ok clause)
+  pub found : LooksUp params context.gone id history (Ok clause)
   pub same : (l : ℤ) → Has clause l ↔ Has lits l
 
--- an import's events and its verdict, after the lines that left this standing: of the conditions the first that it violates gives the
+-- an import's events and its verdict, after the lines that left this context: of the conditions the first that it violates gives the
 -- fault
-abbrev pub JudgesImport : Setting → Standing → ℕ → List ℤ → History → LineVerdict → Type 0
-JudgesImport setting standing id lits history Good = IsGoodImport setting standing id lits history
-JudgesImport setting standing id lits history (Bad deleted fault) =
+abbrev pub JudgesImport : StreamParams → StreamContext → ℕ → List ℤ → History → LineVerdict → Type 0
+JudgesImport params context id lits history Good = IsGoodImport params context id lits history
+JudgesImport params context id lits history (Bad deleted fault) =
     (deleted ≡ 0)
-    × Violates (is_shared (side_of setting id) ≡ true) faults.Identity history fault
-    (Violates (AllByRecursion (λ l. nat_abs l ≤ setting.layout.vars) lits)
+    × Violates (is_shared (ownership_of params id) ≡ true) faults.Identity history fault
+    (Violates (AllByRecursion (λ l. nat_abs l ≤ params.layout.vars) lits)
     faults.Literal history fault
-    (LooksUp setting standing.gone id history (Err fault)
-    ⊎ ((clause : Clause) × LooksUp setting standing.gone id history (Ok clause)
+    (LooksUp params context.gone id history (Err fault)
+    ⊎ ((clause : Clause) × LooksUp params context.gone id history (Ok clause)
     × (¬ ((l : ℤ) → Has clause l ↔ Has lits l)) × (fault ≡ faults.Differs id))))

@@ -13,43 +13,43 @@ use Rattle.stream_check.specs.declared.fault.Fault.TheVariants as faults
 use Rattle.stream_check.specs.declared.report.Ending.{Ending}
 use Rattle.stream_check.specs.declared.report.Ending.TheVariants as endings
 use Rattle.stream_check.specs.declared.report.Report.{Report}
-use Rattle.stream_check.specs.Setting.{Setting}
-use Rattle.stream_check.specs.Standing.{Standing, additions_of, deleted_by, standing_of, capped, is_within}
+use Rattle.stream_check.specs.StreamParams.{StreamParams}
+use Rattle.stream_check.specs.StreamContext.{StreamContext, additions_of, deleted_by, context_of, capped, is_within}
 use Rattle.stream_check.specs.Verdicts.{LineVerdict, Good, Bad}
 use Rattle.stream_check.specs.Additions.{JudgesAddition}
 use Rattle.stream_check.specs.Deletions.{JudgesDeletion, StopsDeletion}
 use Rattle.stream_check.specs.Imports.{JudgesImport}
 
--- a line's events and its verdict, after the lines that left this standing
-abbrev pub JudgesLine : Setting → Standing → StreamLine → History → LineVerdict → Type 0
-JudgesLine setting standing (Addition id lits hints) history verdict =
-    JudgesAddition setting standing id lits hints history verdict
-JudgesLine setting standing (Deletion lead ids) history verdict =
-    JudgesDeletion setting standing.gone [] ids history verdict
-JudgesLine setting standing (Import id lits) history verdict =
-    JudgesImport setting standing id lits history verdict
+-- a line's events and its verdict, after the lines that left this context
+abbrev pub JudgesLine : StreamParams → StreamContext → StreamLine → History → LineVerdict → Type 0
+JudgesLine params context (Addition id lits hints) history verdict =
+    JudgesAddition params context id lits hints history verdict
+JudgesLine params context (Deletion lead ids) history verdict =
+    JudgesDeletion params context.gone [] ids history verdict
+JudgesLine params context (Import id lits) history verdict =
+    JudgesImport params context id lits history verdict
 
 -- each line is good after the good lines before it, and has one block of events
-abbrev pub AreGood : Setting → List StreamLine → List StreamLine → List History → Type 0
-AreGood setting before [] [] = Unit {0}
-AreGood setting before [] (block ∷ blocks) = ⊥
-AreGood setting before (line ∷ lines) [] = ⊥
-AreGood setting before (line ∷ lines) (block ∷ blocks) =
-    JudgesLine setting (standing_of setting before) line block Good
-    × AreGood setting (before ++ line ∷ []) lines blocks
+abbrev pub AreGood : StreamParams → List StreamLine → List StreamLine → List History → Type 0
+AreGood params before [] [] = Unit {0}
+AreGood params before [] (block ∷ blocks) = ⊥
+AreGood params before (line ∷ lines) [] = ⊥
+AreGood params before (line ∷ lines) (block ∷ blocks) =
+    JudgesLine params (context_of params before) line block Good
+    × AreGood params (before ++ line ∷ []) lines blocks
 
 -- the events of the blocks, in order
 abbrev pub joined : List History → History
 joined blocks = flat_map (λ block. block) blocks
 
 -- the report of these good lines, some more deleted identities, and this ending
-abbrev pub report_of : Setting → List StreamLine → ℕ → Ending → Report
-report_of setting lines deleted ending =
+abbrev pub report_of : StreamParams → List StreamLine → ℕ → Ending → Report
+report_of params lines deleted ending =
     record {
       added = length (additions_of lines);
       deleted = capped (sum_by (λ line. length (deleted_by line)) lines + deleted);
       empty = list_any (λ addition. length addition.1 == 0) (additions_of lines);
-      within = list_any (λ addition. is_within setting.cube addition.1) (additions_of lines);
+      within = list_any (λ addition. is_within params.cube addition.1) (additions_of lines);
       ending = ending;
     }
 
@@ -61,40 +61,41 @@ ending_at stream_ends.Failed rest number = endings.ReadFailed number
 
 -- After good lines one of four things ends the stream, with the line number after theirs. Where the
 -- rest begins with a deletion, good or bad, memory may run out in it.
-pub data EndsAfter (setting : Setting) (lines : List StreamLine) (rest : List ℕ) (end : StreamEnd)
+pub data EndsAfter (params : StreamParams) (lines : List StreamLine) (rest : List ℕ)
+    (end : StreamEnd)
     (blocks : List History) (report : Report) : Type 0 where
   -- a line that is bad, whatever follows it
   at_bad_line :
       (line : StreamLine) (more : List ℕ) (text : rest ≡ line_text line ++ more)
       (fits : IsWithinLimits line) (block : History) (one_block : blocks ≡ block ∷ [])
       (deleted : ℕ) (fault : Fault)
-      (bad : JudgesLine setting (standing_of setting lines) line block (Bad deleted fault))
+      (bad : JudgesLine params (context_of params lines) line block (Bad deleted fault))
       (says : report
-      ≡ report_of setting lines deleted (endings.Bad (capped (length lines + 1)) fault))
-      → EndsAfter setting lines rest end blocks report
+      ≡ report_of params lines deleted (endings.Bad (capped (length lines + 1)) fault))
+      → EndsAfter params lines rest end blocks report
   -- a text that begins no line, whatever follows it
   at_bad_text :
       (fault : LineFault) (text : HasTextFault rest fault) (no_block : blocks ≡ [])
       (says : report
-      ≡ report_of setting lines 0 (endings.Bad (capped (length lines + 1)) (faults.Text fault)))
-      → EndsAfter setting lines rest end blocks report
+      ≡ report_of params lines 0 (endings.Bad (capped (length lines + 1)) (faults.Text fault)))
+      → EndsAfter params lines rest end blocks report
   -- a deletion that ran out of memory, whatever follows it
   at_memory :
       (lead : ℕ) (ids more : List ℕ) (text : rest ≡ line_text (Deletion lead ids) ++ more)
       (fits : IsWithinLimits (Deletion lead ids)) (block : History)
       (one_block : blocks ≡ block ∷ []) (earlier : List ℕ)
-      (stops : StopsDeletion setting (standing_of setting lines).gone ids block earlier)
+      (stops : StopsDeletion params (context_of params lines).gone ids block earlier)
       (says : report
-      ≡ report_of setting lines (length earlier) (endings.Memory (capped (length lines + 1))))
-      → EndsAfter setting lines rest end blocks report
+      ≡ report_of params lines (length earlier) (endings.Memory (capped (length lines + 1))))
+      → EndsAfter params lines rest end blocks report
   -- the end of the stream, with a rest that may still become a line
   at_end :
       (pending : IsPending rest) (no_block : blocks ≡ [])
-      (says : report ≡ report_of setting lines 0 (ending_at end rest (capped (length lines + 1))))
-      → EndsAfter setting lines rest end blocks report
+      (says : report ≡ report_of params lines 0 (ending_at end rest (capped (length lines + 1))))
+      → EndsAfter params lines rest end blocks report
 
 -- The stream of these bytes and this end, whose lines have these blocks of events, is judged so: its good lines come first, and then what ended it.
-pub record JudgesBlocks (setting : Setting) (bytes : List ℕ) (end : StreamEnd)
+pub record JudgesBlocks (params : StreamParams) (bytes : List ℕ) (end : StreamEnd)
     (blocks : List History) (report : Report) : Type 0 where
   pub lines : List StreamLine
   pub rest : List ℕ
@@ -103,12 +104,12 @@ pub record JudgesBlocks (setting : Setting) (bytes : List ℕ) (end : StreamEnd)
   pub split : blocks ≡ front ++ back
   pub text : bytes ≡ flat_map line_text lines ++ rest
   pub fits : AllByRecursion IsWithinLimits lines
-  pub good : AreGood setting [] lines front
-  pub ends : EndsAfter setting lines rest end back report
+  pub good : AreGood params [] lines front
+  pub ends : EndsAfter params lines rest end back report
 
 -- the stream of these bytes, this end and these events is judged so
-pub record Judges (setting : Setting) (bytes : List ℕ) (end : StreamEnd) (history : History)
+pub record Judges (params : StreamParams) (bytes : List ℕ) (end : StreamEnd) (history : History)
     (report : Report) : Type 0 where
   pub blocks : List History
   pub events : history ≡ joined blocks
-  pub judges : JudgesBlocks setting bytes end blocks report
+  pub judges : JudgesBlocks params bytes end blocks report

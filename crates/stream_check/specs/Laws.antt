@@ -9,8 +9,8 @@ use Rattle.lrup_model.specs.State.{State, opening, run}
 use Rattle.lrup_model.specs.History.{LegalFrom, IsLegal}
 use Rattle.lrup_model.specs.Event as events
 use Rattle.lrup_model.specs.Event.{Event, History, stream_of, own}
-use Rattle.lrup_model.specs.Place.{Place}
-use Rattle.lrup_model.specs.Plain.{Plain, plain_place, PlainMoves}
+use Rattle.lrup_model.specs.CallerView.{CallerView}
+use Rattle.lrup_model.specs.Plain.{Plain, plain_caller_view, PlainMoves}
 use Rattle.lrup_text.specs.declared.LineFault.{LineFault}
 use Rattle.lrup_text.specs.declared.LineFault.TheVariants as texts
 use Rattle.lrup_text.specs.Lines.{StreamLine, Addition, Deletion, Import, Cut, LineText, IsPending}
@@ -22,18 +22,18 @@ use Rattle.stream_check.specs.declared.fault.Fault.TheVariants as faults
 use Rattle.stream_check.specs.declared.report.Ending.{Ending}
 use Rattle.stream_check.specs.declared.report.Ending.TheVariants as endings
 use Rattle.stream_check.specs.declared.report.Report.{Report}
-use Rattle.stream_check.specs.Setting.{Setting}
+use Rattle.stream_check.specs.StreamParams.{StreamParams}
 use Rattle.stream_check.specs.Deletions.{StopsDeletion}
 use Rattle.stream_check.specs.Judging.{JudgesLine, joined, ending_at, JudgesBlocks, Judges}
 use Rattle.stream_check.specs.Forks.{NeverFork}
 use Rattle.lrup_model.specs.Distinct.{distinct}
-use Rattle.stream_check.specs.Standing.{Standing, additions_of, deleted_by, capped}
+use Rattle.stream_check.specs.StreamContext.{StreamContext, additions_of, deleted_by, capped}
 use Rattle.stream_check.specs.Stopping.{StopsAtLine, DropsMore, DropsUntilStop}
 use Rattle.stream_check.specs.Additions.{JudgesAddition}
 use Rattle.stream_check.specs.Reducing.{reduced, IsEarly, TriesAgain}
 use Rattle.stream_check.specs.Finding.{FindsSound}
 use Rattle.stream_check.specs.Verdicts.{LineVerdict, Good, Bad}
-use Rattle.stream_check.specs.Leaving.{Holding, Going, Over, JudgesBothEnds, Leaves, IsFresh, TakesLine}
+use Rattle.stream_check.specs.Reaching.{GoingState, Going, Over, JudgesBothEnds, ReachesState, IsFresh, TakesLine}
 use Rattle.stream_check.specs.CheckerValue.{report_of_tally, CheckerValue}
 use Rattle.stream_check.specs.Checker.{IsNew, IsReadyAt}
 
@@ -41,64 +41,65 @@ use Rattle.stream_check.specs.Checker.{IsNew, IsReadyAt}
 
 -- no bytes and no blocks
 abbrev pub FreshLeft : Type 0
-FreshLeft = (c : Setting) (now : Holding) → IsFresh c now → Leaves c [] [] (Going now)
+FreshLeft = (c : StreamParams) (now : GoingState) → IsFresh c now → ReachesState c [] [] (Going now)
 
 -- more bytes of a line
 abbrev pub PendingGrows : Type 0
-PendingGrows = (c : Setting) (bytes piece : List ℕ) (blocks : List History) (old : Holding)
-    → Leaves c bytes blocks (Going old) → IsPending (old.pending ++ piece)
-    → Leaves c (bytes ++ piece) blocks (Going (record old { pending = old.pending ++ piece }))
+PendingGrows = (c : StreamParams) (bytes piece : List ℕ) (blocks : List History) (old : GoingState)
+    → ReachesState c bytes blocks (Going old) → IsPending (old.pending ++ piece)
+    → ReachesState c (bytes ++ piece) blocks (Going (record old { pending = old.pending ++ piece }))
 
 -- one good line more
 abbrev pub GoodLineTaken : Type 0
-GoodLineTaken = (c : Setting) (bytes piece : List ℕ) (blocks : List History) (block : History)
-    (old new : Holding) (line : StreamLine)
-    → Leaves c bytes blocks (Going old) → LineText line (old.pending ++ piece)
-    → JudgesLine c old.standing line block Good → TakesLine c old line new
-    → Leaves c (bytes ++ piece) (blocks ++ block ∷ []) (Going new)
+GoodLineTaken = (c : StreamParams) (bytes piece : List ℕ) (blocks : List History) (block : History)
+    (old new : GoingState) (line : StreamLine)
+    → ReachesState c bytes blocks (Going old) → LineText line (old.pending ++ piece)
+    → JudgesLine c old.context line block Good → TakesLine c old line new
+    → ReachesState c (bytes ++ piece) (blocks ++ block ∷ []) (Going new)
 
 -- a bad line, which deleted these identities before its fault
 abbrev pub BadLineTaken : Type 0
-BadLineTaken = (c : Setting) (bytes piece : List ℕ) (blocks : List History) (block : History)
-    (old : Holding) (line : StreamLine) (ids later : List ℕ) (fault : Fault) (gone : ℕ → Bool)
-    → Leaves c bytes blocks (Going old) → LineText line (old.pending ++ piece)
+BadLineTaken = (c : StreamParams) (bytes piece : List ℕ) (blocks : List History) (block : History)
+    (old : GoingState) (line : StreamLine) (ids later : List ℕ) (fault : Fault) (gone : ℕ → Bool)
+    → ReachesState c bytes blocks (Going old) → LineText line (old.pending ++ piece)
     → deleted_by line ≡ ids ++ later
-    → JudgesLine c old.standing line block (Bad (length ids) fault)
-    → DropsMore c old.standing.gone ids gone
-    → Leaves c (bytes ++ piece) (blocks ++ block ∷ [])
+    → JudgesLine c old.context line block (Bad (length ids) fault)
+    → DropsMore c old.context.gone ids gone
+    → ReachesState c (bytes ++ piece) (blocks ++ block ∷ [])
     (Over (report_of_tally (record old.tally { deleted = capped (old.tally.deleted + length ids) })
     (endings.Bad old.line fault)) gone)
 
 -- a text that begins no line
 abbrev pub BadTextRead : Type 0
-BadTextRead = (c : Setting) (bytes piece : List ℕ) (blocks : List History) (old : Holding)
+BadTextRead = (c : StreamParams) (bytes piece : List ℕ) (blocks : List History) (old : GoingState)
     (fault : LineFault)
-    → Leaves c bytes blocks (Going old) → IsRefused (old.pending ++ piece) fault
-    → Leaves c (bytes ++ piece) blocks
-    (Over (report_of_tally old.tally (endings.Bad old.line (faults.Text fault))) old.standing.gone)
+    → ReachesState c bytes blocks (Going old) → IsRefused (old.pending ++ piece) fault
+    → ReachesState c (bytes ++ piece) blocks
+    (Over (report_of_tally old.tally (endings.Bad old.line (faults.Text fault))) old.context.gone)
 
 -- a deletion that ran out of memory, after these identities
 abbrev pub MemoryWanted : Type 0
-MemoryWanted = (c : Setting) (bytes piece : List ℕ) (blocks : List History) (block : History)
-    (old : Holding) (lead : ℕ) (ids earlier : List ℕ) (gone : ℕ → Bool)
-    → Leaves c bytes blocks (Going old) → LineText (Deletion lead ids) (old.pending ++ piece)
-    → StopsDeletion c old.standing.gone ids block earlier
-    → DropsMore c old.standing.gone earlier gone
-    → Leaves c (bytes ++ piece) (blocks ++ block ∷ [])
+MemoryWanted = (c : StreamParams) (bytes piece : List ℕ) (blocks : List History) (block : History)
+    (old : GoingState) (lead : ℕ) (ids earlier : List ℕ) (gone : ℕ → Bool)
+    → ReachesState c bytes blocks (Going old) → LineText (Deletion lead ids) (old.pending ++ piece)
+    → StopsDeletion c old.context.gone ids block earlier
+    → DropsMore c old.context.gone earlier gone
+    → ReachesState c (bytes ++ piece) (blocks ++ block ∷ [])
     (Over (report_of_tally
     (record old.tally { deleted = capped (old.tally.deleted + length earlier) })
     (endings.Memory old.line)) gone)
 
 -- the end of the stream, or a failed read
 abbrev pub EndJudged : Type 0
-EndJudged = (c : Setting) (bytes : List ℕ) (blocks : List History) (old : Holding) (end : StreamEnd)
-    → Leaves c bytes blocks (Going old)
+EndJudged = (c : StreamParams) (bytes : List ℕ) (blocks : List History) (old : GoingState)
+    (end : StreamEnd)
+    → ReachesState c bytes blocks (Going old)
     → JudgesBlocks c bytes end blocks
     (report_of_tally old.tally (ending_at end old.pending old.line))
 
 -- a report that is right for both ends stays so, whatever follows
 abbrev pub OverStays : Type 0
-OverStays = (c : Setting) (bytes more : List ℕ) (blocks : List History) (report : Report)
+OverStays = (c : StreamParams) (bytes more : List ℕ) (blocks : List History) (report : Report)
     → JudgesBothEnds c bytes blocks report → JudgesBothEnds c (bytes ++ more) blocks report
 
 -- the ending doesn't depend on how the stream ended, nor on what followed: a bad line or text, or memory that ran out
@@ -110,7 +111,7 @@ IsDecided (endings.Memory line) = Unit {0}
 
 -- so a report with such an ending is right for either end, and whatever follows
 abbrev pub EitherEnd : Type 0
-EitherEnd = (c : Setting) (bytes more : List ℕ) (end other : StreamEnd) (blocks : List History)
+EitherEnd = (c : StreamParams) (bytes more : List ℕ) (end other : StreamEnd) (blocks : List History)
     (report : Report)
     → IsDecided report.ending → JudgesBlocks c bytes end blocks report
     → JudgesBlocks c (bytes ++ more) other blocks report
@@ -121,24 +122,26 @@ IsOfFailure report = (line : ℕ) × (report.ending ≡ endings.ReadFailed line)
 
 -- where the read failed and the report doesn't tell so, it was decided before: it is right for either end, and whatever follows
 abbrev pub DecidedBeforeFailure : Type 0
-DecidedBeforeFailure = (c : Setting) (bytes more : List ℕ) (end : StreamEnd) (blocks : List History)
+DecidedBeforeFailure =
+    (c : StreamParams) (bytes more : List ℕ) (end : StreamEnd) (blocks : List History)
     (report : Report)
     → ¬ IsOfFailure report → JudgesBlocks c bytes stream_ends.Failed blocks report
     → JudgesBlocks c (bytes ++ more) end blocks report
 
 -- where its numbers are below 2^64 - 1, a report decides what a stream dropped that a line stopped
 abbrev pub DroppedOnce : Type 0
-DroppedOnce = (c : Setting) (bytes : List ℕ) (report : Report) (gone other : ℕ → Bool) (line : ℕ)
+DroppedOnce =
+    (c : StreamParams) (bytes : List ℕ) (report : Report) (gone other : ℕ → Bool) (line : ℕ)
     → StopsAtLine report.ending line → line < 2 ^ 64 - 1 → report.deleted < 2 ^ 64 - 1
     → DropsUntilStop c bytes report gone → DropsUntilStop c bytes report other
     → (id : ℕ) → gone id ≡ other id
 
 -- Where a checker may be fed
 
--- a new checker, at a place of its stream at the opening of a run
+-- a new checker, with a view of its stream at the opening of a run
 abbrev pub ReadyNew : Type 0
 ReadyNew = (f : Cnf) (layout : LayoutValue) (cube : CubeValue) (stream tries : ℕ) (v : CheckerValue)
-    (p : Place)
+    (p : CallerView)
     → IsNew layout cube stream tries v → Fits layout f
     → p.caller ≡ record { formula = f; layout = layout; stream = stream }
     → ((id : ℕ) → Owns layout stream id → p.own id ≡ opening f id)
@@ -146,7 +149,7 @@ ReadyNew = (f : Cnf) (layout : LayoutValue) (cube : CubeValue) (stream tries : �
 
 -- after legal events of other streams, where the stream's own identities have what these leave
 abbrev pub ReadyStays : Type 0
-ReadyStays = (v : CheckerValue) (p q : Place) (es : History)
+ReadyStays = (v : CheckerValue) (p q : CallerView) (es : History)
     → IsReadyAt v p → q.caller ≡ p.caller
     → LegalFrom p.caller.formula p.caller.layout p.own es
     → AllByRecursion (λ e. stream_of e ≢ p.caller.stream) es
@@ -156,9 +159,9 @@ ReadyStays = (v : CheckerValue) (p q : Place) (es : History)
 -- so at the map of one thread, after the calls of another stream
 abbrev pub ReadyBeside : Type 0
 ReadyBeside = (v : CheckerValue) (old new : Plain) (t : ℕ) (es : History)
-    → IsReadyAt v (plain_place old v.setting.stream) → PlainMoves old new t es
-    → t ≢ v.setting.stream
-    → IsReadyAt v (plain_place new v.setting.stream)
+    → IsReadyAt v (plain_caller_view old v.params.stream) → PlainMoves old new t es
+    → t ≢ v.params.stream
+    → IsReadyAt v (plain_caller_view new v.params.stream)
 
 -- One report
 
@@ -168,7 +171,7 @@ IsOfMemory report = (line : ℕ) × (report.ending ≡ endings.Memory line)
 
 -- a stream's bytes, end and events have one report at most, and one list of blocks, unless memory ran out
 abbrev pub OneReport : Type 0
-OneReport = (c : Setting) (bytes : List ℕ) (end : StreamEnd) (blocks others : List History)
+OneReport = (c : StreamParams) (bytes : List ℕ) (end : StreamEnd) (blocks others : List History)
     (report other : Report)
     → joined blocks ≡ joined others
     → JudgesBlocks c bytes end blocks report → JudgesBlocks c bytes end others other
@@ -177,7 +180,7 @@ OneReport = (c : Setting) (bytes : List ℕ) (end : StreamEnd) (blocks others : 
 
 -- replies decide: events that never fork are judged alike
 abbrev pub RepliesDecide : Type 0
-RepliesDecide = (c : Setting) (bytes : List ℕ) (end : StreamEnd) (blocks others : List History)
+RepliesDecide = (c : StreamParams) (bytes : List ℕ) (end : StreamEnd) (blocks others : List History)
     (report other : Report)
     → NeverFork (joined blocks) (joined others)
     → JudgesBlocks c bytes end blocks report → JudgesBlocks c bytes end others other
@@ -196,7 +199,7 @@ GoAlike (block ∷ blocks) (other ∷ others) =
 
 -- where a stream is judged twice, and its blocks begin alike, they go on alike
 abbrev pub BlocksGoAlike : Type 0
-BlocksGoAlike = (c : Setting) (bytes : List ℕ) (end : StreamEnd)
+BlocksGoAlike = (c : StreamParams) (bytes : List ℕ) (end : StreamEnd)
     (before blocks others : List History) (report other : Report)
     → JudgesBlocks c bytes end (before ++ blocks) report
     → JudgesBlocks c bytes end (before ++ others) other
@@ -210,7 +213,7 @@ LegalNeverFork = (f : Cnf) (p : LayoutValue) (m : State) (g h : History) → Leg
 
 -- so one stream alone has one report, whatever legal history it has
 abbrev pub AloneDecides : Type 0
-AloneDecides = (f : Cnf) (p : LayoutValue) (c : Setting) (bytes : List ℕ) (end : StreamEnd)
+AloneDecides = (f : Cnf) (p : LayoutValue) (c : StreamParams) (bytes : List ℕ) (end : StreamEnd)
     (g h : History) (report other : Report)
     → IsLegal f p g → IsLegal f p h
     → Judges c bytes end g report → Judges c bytes end h other
@@ -221,7 +224,8 @@ AloneDecides = (f : Cnf) (p : LayoutValue) (c : Setting) (bytes : List ℕ) (end
 
 -- the clause of a good addition follows from the formula where the clauses found do
 abbrev pub GoodFollows : Type 0
-GoodFollows = (f : Cnf) (c : Setting) (st : Standing) (id : ℕ) (lits : List ℤ) (hints : List ℕ)
+GoodFollows =
+    (f : Cnf) (c : StreamParams) (st : StreamContext) (id : ℕ) (lits : List ℤ) (hints : List ℕ)
     (es : History)
     → JudgesAddition c st id lits hints es Good → AllByRecursion (FindsSound f) es
     → Follows f (distinct lits)
@@ -230,28 +234,31 @@ GoodFollows = (f : Cnf) (c : Setting) (st : Standing) (id : ℕ) (lits : List �
 
 -- all events of a line are calls of its stream
 abbrev pub LineCalls : Type 0
-LineCalls = (c : Setting) (st : Standing) (line : StreamLine) (es : History) (v : LineVerdict)
+LineCalls = (c : StreamParams) (st : StreamContext) (line : StreamLine) (es : History)
+    (v : LineVerdict)
     → JudgesLine c st line es v → AllByRecursion (λ e. stream_of e ≡ c.stream) es
 
 -- before a line's last event there are only fetches, and retires with Done
 abbrev pub EarlyEvents : Type 0
-EarlyEvents = (c : Setting) (st : Standing) (line : StreamLine) (es front : History) (last : Event)
+EarlyEvents =
+    (c : StreamParams) (st : StreamContext) (line : StreamLine) (es front : History) (last : Event)
     (v : LineVerdict)
     → JudgesLine c st line es v → es ≡ front ++ last ∷ [] → AllByRecursion IsEarly front
 
 -- in a line a vacant fetch is the last event, or the same identity is fetched again
 abbrev pub VacantTriesAgain : Type 0
-VacantTriesAgain = (c : Setting) (st : Standing) (line : StreamLine) (es : History)
+VacantTriesAgain = (c : StreamParams) (st : StreamContext) (line : StreamLine) (es : History)
     (v : LineVerdict) → JudgesLine c st line es v → TriesAgain es
 
 -- a line without the vacant fetches of the hints that it found is judged alike
 abbrev pub ReducedLine : Type 0
-ReducedLine = (c : Setting) (st : Standing) (line : StreamLine) (es : History) (v : LineVerdict)
+ReducedLine =
+    (c : StreamParams) (st : StreamContext) (line : StreamLine) (es : History) (v : LineVerdict)
     → JudgesLine c st line es v → JudgesLine c st line (reduced es) v
 
 -- and so is a stream
 abbrev pub ReducedStream : Type 0
-ReducedStream = (c : Setting) (bytes : List ℕ) (end : StreamEnd) (blocks : List History)
+ReducedStream = (c : StreamParams) (bytes : List ℕ) (end : StreamEnd) (blocks : List History)
     (report : Report)
     → JudgesBlocks c bytes end blocks report → JudgesBlocks c bytes end (map reduced blocks) report
 
@@ -271,14 +278,14 @@ FetchesOnly p (events.retire s id r) = Unit {0}
 
 -- the lines that a stream is judged by are the first of those that its bytes are cut into
 abbrev pub JudgedLinesCut : Type 0
-JudgedLinesCut = (c : Setting) (bytes : List ℕ) (end : StreamEnd) (blocks : List History)
+JudgedLinesCut = (c : StreamParams) (bytes : List ℕ) (end : StreamEnd) (blocks : List History)
     (report : Report) (all : List StreamLine) (rest : List ℕ)
     → (j : JudgesBlocks c bytes end blocks report) → Cut bytes all rest → (more : List StreamLine)
     × (all ≡ j.lines ++ more)
 
 -- a stream fetches no identity that its lines don't cite: where all that they cite pass a test, so does what it fetches
 abbrev pub CitedFetched : Type 0
-CitedFetched = (c : Setting) (bytes : List ℕ) (end : StreamEnd) (blocks : List History)
+CitedFetched = (c : StreamParams) (bytes : List ℕ) (end : StreamEnd) (blocks : List History)
     (report : Report) (all : List StreamLine) (rest : List ℕ) (p : ℕ → Bool)
     → JudgesBlocks c bytes end blocks report → Cut bytes all rest
     → AllByRecursion (λ line. AllByRecursion (λ h. IsTrue (p h)) (cited_by line)) all
@@ -288,14 +295,14 @@ CitedFetched = (c : Setting) (bytes : List ℕ) (end : StreamEnd) (blocks : List
 
 -- the report says 'within' exactly if a good addition's clause is within the cube
 abbrev pub WithinReported : Type 0
-WithinReported = (c : Setting) (bytes : List ℕ) (end : StreamEnd) (blocks : List History)
+WithinReported = (c : StreamParams) (bytes : List ℕ) (end : StreamEnd) (blocks : List History)
     (report : Report)
     → (j : JudgesBlocks c bytes end blocks report) → IsTrue report.within
     ↔ Any (λ addition. Within addition.1 c.cube) (additions_of j.lines)
 
 -- with the empty cube it says 'within' exactly if it says 'empty'
 abbrev pub EmptyCubeReported : Type 0
-EmptyCubeReported = (c : Setting) (bytes : List ℕ) (end : StreamEnd) (blocks : List History)
+EmptyCubeReported = (c : StreamParams) (bytes : List ℕ) (end : StreamEnd) (blocks : List History)
     (report : Report)
     → c.cube ≡ [] → JudgesBlocks c bytes end blocks report → report.within ≡ report.empty
 
@@ -303,7 +310,7 @@ EmptyCubeReported = (c : Setting) (bytes : List ℕ) (end : StreamEnd) (blocks :
 
 -- In a legal history a stream adds and deletes no more than there are identities.
 abbrev pub CountsWithin : Type 0
-CountsWithin = (f : Cnf) (c : Setting) (h : History) (bytes : List ℕ) (end : StreamEnd)
+CountsWithin = (f : Cnf) (c : StreamParams) (h : History) (bytes : List ℕ) (end : StreamEnd)
     (blocks : List History) (report : Report)
     → IsLegal f c.layout h → own h c.stream ≡ joined blocks
     → JudgesBlocks c bytes end blocks report

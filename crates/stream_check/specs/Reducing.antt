@@ -1,4 +1,4 @@
--- A line's events without the vain fetches of the hints that it found (this project's own).
+-- The history of a line without unsuccessful retries (this project's own).
 use Rattle.std.specs.Prelude.{◌≡◌, ◌&&◌, Bool, true, false, not, ℕ, [], ◌∷◌, if◌then◌else◌}
 use Rattle.std.specs.List.{list_all}
 use Rattle.lrup_model.specs.Event as events

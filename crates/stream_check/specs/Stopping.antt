@@ -5,8 +5,8 @@ use Rattle.lrup_text.specs.Lines.{StreamLine, IsWithinLimits, line_text}
 use Rattle.stream_check.specs.declared.report.Ending.{Ending}
 use Rattle.stream_check.specs.declared.report.Ending.TheVariants as endings
 use Rattle.stream_check.specs.declared.report.Report.{Report}
-use Rattle.stream_check.specs.Setting.{Setting, side_of, is_shared}
-use Rattle.stream_check.specs.Standing.{standing_of, is_among, deleted_by, capped}
+use Rattle.stream_check.specs.StreamParams.{StreamParams, ownership_of, is_shared}
+use Rattle.stream_check.specs.StreamContext.{context_of, is_among, deleted_by, capped}
 
 -- the line of this number is bad, or memory ran out in it
 abbrev pub StopsAtLine : Ending → ℕ → Type 0
@@ -16,9 +16,9 @@ StopsAtLine (endings.ReadFailed line) number = ⊥
 StopsAtLine (endings.Memory line) number = line ≡ number
 
 -- of these identities those of the formula and of other streams were dropped, too
-abbrev pub DropsMore : Setting → (ℕ → Bool) → List ℕ → (ℕ → Bool) → Type 0
-DropsMore setting old ids new =
-    (id : ℕ) → new id ≡ (old id || is_shared (side_of setting id) && is_among ids id)
+abbrev pub DropsMore : StreamParams → (ℕ → Bool) → List ℕ → (ℕ → Bool) → Type 0
+DropsMore params old ids new =
+    (id : ℕ) → new id ≡ (old id || is_shared (ownership_of params id) && is_among ids id)
 
 -- They are none, or the first ones that a line deletes with which the bytes begin.
 abbrev pub AreDeletedFirst : List ℕ → List ℕ → Type 0
@@ -31,7 +31,7 @@ AreDeletedFirst ids bytes =
 -- delete, and of the first ones that it deletes itself, those of the formula and of other streams. The report tells both, up to
 -- 2^64 - 1: by its number how many lines are before it, and by its count how many of the identities that the line names come before the
 -- one at which it stopped. Where no line begins there, or one that deletes nothing, these are none.
-pub record DropsUntilStop (setting : Setting) (bytes : List ℕ) (report : Report)
+pub record DropsUntilStop (params : StreamParams) (bytes : List ℕ) (report : Report)
     (gone : ℕ → Bool) : Type 0 where
   pub lines : List StreamLine
   pub rest : List ℕ
@@ -42,4 +42,4 @@ pub record DropsUntilStop (setting : Setting) (bytes : List ℕ) (report : Repor
   pub are_first : AreDeletedFirst ids rest
   pub count : report.deleted
       ≡ capped (sum_by (λ line. length (deleted_by line)) lines + length ids)
-  pub drops : DropsMore setting (standing_of setting lines).gone ids gone
+  pub drops : DropsMore params (context_of params lines).gone ids gone

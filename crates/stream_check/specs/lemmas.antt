@@ -4,6 +4,6 @@ pub mod AdditionLemmas
 pub mod EventLemmas
 pub mod MappingLemmas
 pub mod ReportLemmas
-pub mod StandingLemmas
+pub mod ContextLemmas
 pub mod StoppingLemmas
 pub mod ReducingLemmas

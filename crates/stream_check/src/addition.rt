@@ -5,13 +5,13 @@ ghost use Rattle.std.specs.List.{AllByRecursion};
 ghost use Rattle.lrup_model.specs.Literal.{IsLiteral, max_variable};
 ghost use Rattle.lrup_model.specs.Event.{History};
 ghost use Rattle.lrup_model.specs.History.{max_line_literals};
-ghost use Rattle.lrup_model.specs.Place.{IsVacantAbove};
+ghost use Rattle.lrup_model.specs.CallerView.{IsVacantAbove};
 ghost use Rattle.lrup_text.specs.Lines.{IsStreamLiteral};
 ghost use Rattle.lrup_model.specs.Distinct.{distinct};
 ghost use Rattle.stream_check.specs.Additions.{JudgesAddition};
-ghost use Rattle.stream_check.specs.Checker.{IsPlaceOf};
+ghost use Rattle.stream_check.specs.Checker.{IsViewOf};
 ghost use Rattle.stream_check.specs.internal.Checking.{line_verdict};
-ghost use Rattle.stream_check.specs.internal.CheckerInside.{standing_at, AdmitsBy};
+ghost use Rattle.stream_check.specs.internal.CheckerInside.{context_at, AdmitsBy};
 
 use crate::fault::Fault;
 use crate::gate::Gate;
@@ -24,7 +24,7 @@ use std::alloc::{AllocError, Global};
 
 /// The buffers of a stream's additions and imports. They are made once, and no line takes memory.
 #[derive(Drop)]
-pub struct Buffers {
+pub struct LineScratch {
     pub marks: Marks,
     pub literals: Vec<Lit>,
     pub vars: u32,
@@ -33,13 +33,13 @@ pub struct Buffers {
     ghost reserved: { max_line_literals ≤ vec_capacity literals },
 }
 
-impl Buffers {
+impl LineScratch {
     /// The buffers for lines over the variables 1 to `vars`, at most 16,777,215.
-    pub fn new(alloc: Global, vars: u32) -> Result<Buffers, AllocError>
+    pub fn new(alloc: Global, vars: u32) -> Result<LineScratch, AllocError>
         requires { vars ≤ max_variable }
-        ensures { IfOk result (λ buffers. buffers.vars ≡ vars) }
+        ensures { IfOk result (λ scratch. scratch.vars ≡ vars) }
     {
-        Ok(Buffers {
+        Ok(LineScratch {
             marks: Marks::new(alloc, vars)?,
             literals: Vec::with_capacity(alloc, MAX_LITERALS)?,
             vars,
@@ -54,13 +54,13 @@ impl Buffers {
         id: Id,
         lits: &[i64],
     ) -> Result<(), Fault>
-        requires at { IsPlaceOf state.now.setting (M.place map.now) }
-        requires variables { state.now.setting.layout.vars ≡ self.old.vars }
+        requires at { IsViewOf state.now.params (M.caller_view map.now) }
+        requires variables { state.now.params.layout.vars ≡ self.old.vars }
         requires count { length lits.now ≤ max_line_literals }
         requires nonzero { AllByRecursion IsStreamLiteral lits.now }
         ensures vars { self.new.vars ≡ self.old.vars }
-        ensures admitted { let standing = standing_at state.now (M.place map.now).room in
-            AdmitsBy state.now.setting standing id lits.now self.new.marks result }
+        ensures admitted { let context = context_at state.now (M.caller_view map.now).room in
+            AdmitsBy state.now.params context id lits.now self.new.marks result }
     {
         if !map.owns(id) || id <= state.last() {
             return Err(Fault::Identity);
@@ -94,17 +94,17 @@ impl Buffers {
         lits: &[i64],
         hints: &[Id],
     ) -> Result<(), Fault>
-        requires at { IsPlaceOf state.now.setting (M.place map.old) }
-        requires variables { state.now.setting.layout.vars ≡ self.old.vars }
-        requires tries { state.now.setting.tries < 2 ^ 63 }
-        requires vacant { IsVacantAbove (M.place map.old) state.now.last }
+        requires at { IsViewOf state.now.params (M.caller_view map.old) }
+        requires variables { state.now.params.layout.vars ≡ self.old.vars }
+        requires tries { state.now.params.tries < 2 ^ 63 }
+        requires vacant { IsVacantAbove (M.caller_view map.old) state.now.last }
         requires count { length lits.now ≤ max_line_literals }
         requires nonzero { AllByRecursion IsStreamLiteral lits.now }
         ensures vars { self.new.vars ≡ self.old.vars }
         ensures clause { OnOk result (self.new.marks.clause ≡ distinct lits.now) }
-        ensures judged { let standing = standing_at state.now (M.place map.old).room in
+        ensures judged { let context = context_at state.now (M.caller_view map.old).room in
             (es : History) × M.moves map.old map.new es
-            × JudgesAddition state.now.setting standing id lits.now hints.now es
+            × JudgesAddition state.now.params context id lits.now hints.now es
             (line_verdict result) }
     {
         self.admit(state, map, id, lits)?;

@@ -2,21 +2,21 @@
 ghost use Rattle.std.specs.Prelude.{◌≡◌, ◌↔◌, ◌≤◌, ◌<◌, IsTrue, IsSome, IfSome, IfOk, List, take, length};
 ghost use Rattle.lrup_model.specs.Event.{History};
 ghost use Rattle.lrup_model.specs.Layout.{IsStream};
-ghost use Rattle.stream_check.specs.Setting.{max_tries};
+ghost use Rattle.stream_check.specs.StreamParams.{max_tries};
 ghost use Rattle.lrup_text.specs.declared.device.StreamEnd.TheVariants as stream_ends;
 ghost use Rattle.stream_check.specs.Judging.{joined};
 ghost use Rattle.stream_check.specs.CheckerValue.{report_of_tally};
-ghost use Rattle.stream_check.specs.Checker.{checker_state, IsReadyAt, LeavesOn, AreBlocksOf, Turns, StaysOver, IsNew, Ends, ReportsEnd};
+ghost use Rattle.stream_check.specs.Checker.{checker_state, IsReadyAt, Extends, AreBlocksOf, Turns, StaysOver, IsNew, Ends, ReportsEnd};
 
-use crate::addition::Buffers;
+use crate::addition::LineScratch;
 use crate::dropped::Dropped;
 use crate::fault::Fault;
 use crate::gate::Gate;
 use crate::laws::{fresh_left, good_line_taken};
 use crate::line::take_line;
+use crate::params::StreamParams;
 use crate::progress::{CheckTurn, Progress};
 use crate::report::{Ending, Report};
-use crate::setting::Setting;
 use crate::stream_state::StreamState;
 use lrup_model::{ClauseMap, Cube, Layout};
 use lrup_text::{End, LineReader, ReaderTurn};
@@ -29,7 +29,7 @@ use std::marker::Model;
 #[derive(Drop)]
 pub struct Checker {
     state: StreamState,
-    buffers: Buffers,
+    scratch: LineScratch,
     reader: LineReader,
     ending: Option<Ending>,
 }
@@ -43,7 +43,7 @@ impl Model for Checker {
 
     ghost view = { λ c. value_of c.state (read_of c.reader) c.ending };
 
-    ghost invariant = { λ c. IsSound c.state.setting c.buffers.vars c.reader c.ending };
+    ghost invariant = { λ c. IsSound c.state.params c.scratch.vars c.reader c.ending };
 }
 
 impl Checker {
@@ -65,10 +65,10 @@ impl Checker {
         ensures { IfOk result (IsNew layout.now cube.now stream tries) }
     {
         fresh_left();
-        let setting = Setting::new(layout, cube.try_clone()?, stream, tries);
+        let params = StreamParams::new(layout, cube.try_clone()?, stream, tries);
         Ok(Checker {
-            state: StreamState::new(alloc, setting),
-            buffers: Buffers::new(alloc, layout.vars())?,
+            state: StreamState::new(alloc, params),
+            scratch: LineScratch::new(alloc, layout.vars())?,
             reader: LineReader::new(alloc)?,
             ending: None,
         })
@@ -81,20 +81,20 @@ impl Checker {
         gate: &mut G,
         piece: &[u8],
     ) -> Progress
-        requires { IsReadyAt self.old (M.place map.old) }
+        requires { IsReadyAt self.old (M.caller_view map.old) }
         // Whatever bytes and blocks came before, the bytes used and the blocks of the call's events
         // leave the checker as it is now.
-        ensures left { let old = checker_state self.old (M.place map.old).room in
-            let new = checker_state self.new (M.place map.new).room in
+        ensures left { let old = checker_state self.old (M.caller_view map.old).room in
+            let new = checker_state self.new (M.caller_view map.new).room in
             (blocks : List History) × M.moves map.old map.new (joined blocks)
             × AreBlocksOf result.turn blocks
-            × LeavesOn self.old.setting old (take result.used piece.now) blocks new }
+            × Extends self.old.params old (take result.used piece.now) blocks new }
         ensures turn { Turns result.turn self.old self.new piece.now (take result.used piece.now) }
         ensures used { result.used ≤ length piece.now }
         ensures moves_on { result.turn ≡ CheckTurn.Line → 0 < result.used }
         ensures over { StaysOver self.old self.new (take result.used piece.now) }
-        ensures ready { IsReadyAt self.new (M.place map.new) }
-        ensures setting { self.new.setting ≡ self.old.setting }
+        ensures ready { IsReadyAt self.new (M.caller_view map.new) }
+        ensures params { self.new.params ≡ self.old.params }
     {
         if self.ending.is_some() {
             return Progress {
@@ -111,7 +111,7 @@ impl Checker {
                 turn: CheckTurn::More,
             },
             ReaderTurn::Line(line) => {
-                match take_line(&mut self.state, &mut self.buffers, map, gate, line) {
+                match take_line(&mut self.state, &mut self.scratch, map, gate, line) {
                     Ok(()) => Progress {
                         used,
                         turn: CheckTurn::Line,
@@ -171,9 +171,9 @@ impl Checker {
 
     /// The stream whose lines are checked, from 1 on.
     pub fn stream(&self) -> u64
-        ensures { result ≡ self.now.setting.stream }
+        ensures { result ≡ self.now.params.stream }
     {
-        self.state.setting.stream()
+        self.state.params.stream()
     }
 
     /// Whether nothing more is taken.

@@ -3,24 +3,24 @@ ghost use Rattle.std.specs.Prelude.{◌≡◌, ◌+◌, ℕ, IsErrOf};
 ghost use Rattle.std.specs.List.{AllByRecursion};
 ghost use Rattle.lrup_model.specs.Event.{History};
 ghost use Rattle.lrup_model.specs.Layout.{Owns};
-ghost use Rattle.stream_check.specs.Checker.{IsPlaceOf};
+ghost use Rattle.stream_check.specs.Checker.{IsViewOf};
 ghost use Rattle.stream_check.specs.internal.Checking.{DeletesOwn, DeletesOne, Deletes, counted};
 ghost use Rattle.stream_check.specs.Deletions.{IsRetire};
-ghost use Rattle.stream_check.specs.Standing.{capped};
+ghost use Rattle.stream_check.specs.StreamContext.{capped};
 ghost use Rattle.stream_check.specs.internal.CheckerInside.{KeepsLines, deleted_at};
 
 use crate::fault::Fault;
 use crate::line_stop::LineStop;
-use crate::setting::Side;
+use crate::params::Ownership;
 use crate::stream_state::StreamState;
 use lrup_model::{ClauseMap, Id, Retired};
 
 /// Retires an identity of the stream's own.
 fn retire_own<M: ClauseMap>(state: &mut StreamState, map: &mut M, id: Id) -> Result<(), LineStop>
-    requires at { IsPlaceOf state.old.setting (M.place map.old) }
-    requires owns { Owns state.old.setting.layout state.old.setting.stream id }
+    requires at { IsViewOf state.old.params (M.caller_view map.old) }
+    requires owns { Owns state.old.params.layout state.old.params.stream id }
     ensures deletes { (es : History) × M.moves map.old map.new es × AllByRecursion IsRetire es
-        × DeletesOwn state.old.setting id state.old.dropped.ids state.new.dropped.ids es result }
+        × DeletesOwn state.old.params id state.old.dropped.ids state.new.dropped.ids es result }
     ensures count { deleted_at state.new ≡ capped (deleted_at state.old + counted result) }
     ensures dropped { state.new.dropped ≡ state.old.dropped }
     ensures kept { KeepsLines state.old state.new }
@@ -36,18 +36,18 @@ fn retire_own<M: ClauseMap>(state: &mut StreamState, map: &mut M, id: Id) -> Res
 
 /// Deletes one identity.
 fn delete_one<M: ClauseMap>(state: &mut StreamState, map: &mut M, id: Id) -> Result<(), LineStop>
-    requires at { IsPlaceOf state.old.setting (M.place map.old) }
+    requires at { IsViewOf state.old.params (M.caller_view map.old) }
     ensures deletes { (es : History) × M.moves map.old map.new es × AllByRecursion IsRetire es
-        × DeletesOne state.old.setting id state.old.dropped.ids state.new.dropped.ids es result }
+        × DeletesOne state.old.params id state.old.dropped.ids state.new.dropped.ids es result }
     ensures spare { IsErrOf result LineStop.Memory → state.old.dropped.spare ≡ 0 }
     ensures count { deleted_at state.new ≡ capped (deleted_at state.old + counted result) }
     ensures kept { KeepsLines state.old state.new }
 {
-    match state.setting.side(id) {
-        Side::Own => retire_own(state, map, id),
-        Side::Formula => state.drop_shared(id),
-        Side::Foreign => state.drop_shared(id),
-        Side::Outside => Err(LineStop::Bad(Fault::NotLive(id))),
+    match state.params.ownership(id) {
+        Ownership::Own => retire_own(state, map, id),
+        Ownership::Formula => state.drop_shared(id),
+        Ownership::Foreign => state.drop_shared(id),
+        Ownership::Outside => Err(LineStop::Bad(Fault::NotLive(id))),
     }
 }
 
@@ -57,10 +57,10 @@ pub fn delete<M: ClauseMap>(
     map: &mut M,
     ids: &[Id],
 ) -> Result<(), LineStop>
-    requires at { IsPlaceOf state.old.setting (M.place map.old) }
+    requires at { IsViewOf state.old.params (M.caller_view map.old) }
     ensures deleted { (es : History) × M.moves map.old map.new es × AllByRecursion IsRetire es
         × ((count : ℕ) × (deleted_at state.new ≡ capped (deleted_at state.old + count))
-        × Deletes state.old.setting state.old.dropped.ids state.new.dropped.ids
+        × Deletes state.old.params state.old.dropped.ids state.new.dropped.ids
         ids.now es count result) }
     ensures kept { KeepsLines state.old state.new }
 {

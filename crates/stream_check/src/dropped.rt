@@ -1,6 +1,6 @@
 //! The identities that a stream dropped.
 ghost use Rattle.std.specs.Prelude.{◌≡◌, ◌||◌, ◌==◌, ◌+◌, ◌<◌, ◌^◌, ℕ, [], false, length, OnOk, OnErr, IsOk};
-ghost use Rattle.stream_check.specs.Standing.{is_among};
+ghost use Rattle.stream_check.specs.StreamContext.{is_among};
 
 use lrup_model::Id;
 use std::alloc::{AllocError, Global};

@@ -2,13 +2,13 @@
 ghost use Rattle.std.specs.Prelude.{◌≡◌, ◌≤◌, ◌<◌, ◌^◌, IsTrue};
 ghost use Rattle.lrup_model.specs.Clause.{IsTautology};
 ghost use Rattle.lrup_model.specs.Event.{History};
-ghost use Rattle.stream_check.specs.Standing.{is_among};
-ghost use Rattle.stream_check.specs.Checker.{IsPlaceOf};
+ghost use Rattle.stream_check.specs.StreamContext.{is_among};
+ghost use Rattle.stream_check.specs.Checker.{IsViewOf};
 ghost use Rattle.stream_check.specs.internal.Checking.{KeepsClause, Shows, excess_of};
 
-use crate::asking::look_up;
 use crate::fault::Fault;
 use crate::gate::Gate;
+use crate::lookup::look_up;
 use crate::stream_state::StreamState;
 use lrup_model::{ClauseMap, Id};
 use propagate::{Marks, Step};
@@ -31,14 +31,14 @@ pub fn try_hints<M: ClauseMap, G: Gate>(
     marks: &mut Marks,
     hints: &[Id],
 ) -> Result<(), Fault>
-    requires at { IsPlaceOf state.now.setting (M.place map.old) }
-    requires tries { state.now.setting.tries < 2 ^ 63 }
+    requires at { IsViewOf state.now.params (M.caller_view map.old) }
+    requires tries { state.now.params.tries < 2 ^ 63 }
     requires ready { IsTrue marks.old.ready }
-    requires variables { state.now.setting.layout.vars ≤ marks.old.vars }
+    requires variables { state.now.params.layout.vars ≤ marks.old.vars }
     requires consistent { ¬ IsTautology marks.old.falses }
-    ensures shown { let formula = (M.place map.old).caller.formula in
+    ensures shown { let formula = (M.caller_view map.old).caller.formula in
         (es : History) × M.moves map.old map.new es
-        × Shows state.now.setting (is_among state.now.dropped.ids) formula marks.old.falses
+        × Shows state.now.params (is_among state.now.dropped.ids) formula marks.old.falses
         hints.now es result }
     ensures kept { KeepsClause marks.old marks.new }
 {

@@ -3,7 +3,6 @@
 #![tactic(auto)]
 
 mod addition;
-mod asking;
 mod checker;
 mod deletion;
 mod dropped;
@@ -14,9 +13,10 @@ mod import;
 pub mod laws;
 mod line;
 mod line_stop;
+mod lookup;
+mod params;
 mod progress;
 mod report;
-mod setting;
 mod stream_state;
 
 pub use checker::Checker;

@@ -4,7 +4,7 @@ ghost use Rattle.lrup_model.specs.Event.{History};
 ghost use Rattle.lrup_text.specs.Lines.{IsWithinLimits, Addition, Deletion, Import, line_of};
 ghost use Rattle.stream_check.specs.internal.Taking.{IsReady, TakesBy};
 
-use crate::addition::Buffers;
+use crate::addition::LineScratch;
 use crate::deletion::delete;
 use crate::gate::Gate;
 use crate::line_stop::LineStop;
@@ -15,26 +15,27 @@ use lrup_text::Line;
 /// Checks an addition, and counts it where it is good.
 fn take_addition<M: ClauseMap, G: Gate>(
     state: &mut StreamState,
-    buffers: &mut Buffers,
+    scratch: &mut LineScratch,
     map: &mut M,
     gate: &mut G,
     id: Id,
     lits: &[i64],
     hints: &[Id],
 ) -> Result<(), LineStop>
-    requires ready { IsReady state.old (M.place map.old) }
-    requires variables { state.old.setting.layout.vars ≡ buffers.old.vars }
-    requires tries { state.old.setting.tries < 2 ^ 63 }
+    requires ready { IsReady state.old (M.caller_view map.old) }
+    requires variables { state.old.params.layout.vars ≡ scratch.old.vars }
+    requires tries { state.old.params.tries < 2 ^ 63 }
     requires fits { IsWithinLimits (Addition id lits.now hints.now) }
-    ensures taken { let free = (M.place map.old).room in let left = (M.place map.new).room in
+    ensures taken { let free = (M.caller_view map.old).room in
+        let left = (M.caller_view map.new).room in
         (es : History) × M.moves map.old map.new es
         × TakesBy state.old free state.new left (Addition id lits.now hints.now) es result }
-    ensures ready { IsReady state.new (M.place map.new) }
-    ensures setting { state.new.setting ≡ state.old.setting }
-    ensures variables { buffers.new.vars ≡ buffers.old.vars }
+    ensures ready { IsReady state.new (M.caller_view map.new) }
+    ensures params { state.new.params ≡ state.old.params }
+    ensures variables { scratch.new.vars ≡ scratch.old.vars }
 {
-    buffers.add(state, map, gate, id, lits, hints)?;
-    let within = state.setting.refutes(buffers.clause());
+    scratch.add(state, map, gate, id, lits, hints)?;
+    let within = state.params.refutes(scratch.clause());
     state.take_addition(id, lits.is_empty(), within);
     Ok(())
 }
@@ -45,12 +46,13 @@ fn take_deletion<M: ClauseMap>(
     map: &mut M,
     ids: &[Id],
 ) -> Result<(), LineStop>
-    requires ready { IsReady state.old (M.place map.old) }
-    ensures taken { let free = (M.place map.old).room in let left = (M.place map.new).room in
+    requires ready { IsReady state.old (M.caller_view map.old) }
+    ensures taken { let free = (M.caller_view map.old).room in
+        let left = (M.caller_view map.new).room in
         (es : History) × M.moves map.old map.new es
         × ((lead : ℕ) → TakesBy state.old free state.new left (Deletion lead ids.now) es result) }
-    ensures ready { IsReady state.new (M.place map.new) }
-    ensures setting { state.new.setting ≡ state.old.setting }
+    ensures ready { IsReady state.new (M.caller_view map.new) }
+    ensures params { state.new.params ≡ state.old.params }
 {
     delete(state, map, ids)?;
     state.count_line();
@@ -60,24 +62,25 @@ fn take_deletion<M: ClauseMap>(
 /// Compares an import, and counts its line where it is good.
 fn take_import<M: ClauseMap, G: Gate>(
     state: &mut StreamState,
-    buffers: &mut Buffers,
+    scratch: &mut LineScratch,
     map: &mut M,
     gate: &mut G,
     id: Id,
     lits: &[i64],
 ) -> Result<(), LineStop>
-    requires ready { IsReady state.old (M.place map.old) }
-    requires variables { state.old.setting.layout.vars ≡ buffers.old.vars }
-    requires tries { state.old.setting.tries < 2 ^ 63 }
+    requires ready { IsReady state.old (M.caller_view map.old) }
+    requires variables { state.old.params.layout.vars ≡ scratch.old.vars }
+    requires tries { state.old.params.tries < 2 ^ 63 }
     requires fits { IsWithinLimits (Import id lits.now) }
-    ensures taken { let free = (M.place map.old).room in let left = (M.place map.new).room in
+    ensures taken { let free = (M.caller_view map.old).room in
+        let left = (M.caller_view map.new).room in
         (es : History) × M.moves map.old map.new es
         × TakesBy state.old free state.new left (Import id lits.now) es result }
-    ensures ready { IsReady state.new (M.place map.new) }
-    ensures setting { state.new.setting ≡ state.old.setting }
-    ensures variables { buffers.new.vars ≡ buffers.old.vars }
+    ensures ready { IsReady state.new (M.caller_view map.new) }
+    ensures params { state.new.params ≡ state.old.params }
+    ensures variables { scratch.new.vars ≡ scratch.old.vars }
 {
-    buffers.import(state, map, gate, id, lits)?;
+    scratch.import(state, map, gate, id, lits)?;
     state.count_line();
     Ok(())
 }
@@ -85,25 +88,26 @@ fn take_import<M: ClauseMap, G: Gate>(
 /// Checks a line, and counts it where it is good.
 pub fn take_line<M: ClauseMap, G: Gate>(
     state: &mut StreamState,
-    buffers: &mut Buffers,
+    scratch: &mut LineScratch,
     map: &mut M,
     gate: &mut G,
     line: Line<'_>,
 ) -> Result<(), LineStop>
-    requires ready { IsReady state.old (M.place map.old) }
-    requires variables { state.old.setting.layout.vars ≡ buffers.old.vars }
-    requires tries { state.old.setting.tries < 2 ^ 63 }
+    requires ready { IsReady state.old (M.caller_view map.old) }
+    requires variables { state.old.params.layout.vars ≡ scratch.old.vars }
+    requires tries { state.old.params.tries < 2 ^ 63 }
     requires fits { IsWithinLimits (line_of line) }
-    ensures taken { let free = (M.place map.old).room in let left = (M.place map.new).room in
+    ensures taken { let free = (M.caller_view map.old).room in
+        let left = (M.caller_view map.new).room in
         (es : History) × M.moves map.old map.new es
         × TakesBy state.old free state.new left (line_of line.entry) es result }
-    ensures ready { IsReady state.new (M.place map.new) }
-    ensures setting { state.new.setting ≡ state.old.setting }
-    ensures variables { buffers.new.vars ≡ buffers.old.vars }
+    ensures ready { IsReady state.new (M.caller_view map.new) }
+    ensures params { state.new.params ≡ state.old.params }
+    ensures variables { scratch.new.vars ≡ scratch.old.vars }
 {
     match line {
-        Line::Add { id, lits, hints } => take_addition(state, buffers, map, gate, id, lits, hints),
+        Line::Add { id, lits, hints } => take_addition(state, scratch, map, gate, id, lits, hints),
         Line::Delete { ids, .. } => take_deletion(state, map, ids),
-        Line::Import { id, lits } => take_import(state, buffers, map, gate, id, lits),
+        Line::Import { id, lits } => take_import(state, scratch, map, gate, id, lits),
     }
 }

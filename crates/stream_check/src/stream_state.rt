@@ -1,13 +1,13 @@
 //! What a checker keeps of the good lines.
 ghost use Rattle.std.specs.Prelude.{◌≡◌, ◌≤◌, ◌<◌, ◌^◌, ◌+◌, ◌-◌, ◌||◌, min, [], false, length, IsErrOf};
 ghost use Rattle.stream_check.specs.internal.Checking.{DropsShared, counted};
-ghost use Rattle.stream_check.specs.Standing.{capped, is_among};
+ghost use Rattle.stream_check.specs.StreamContext.{capped, is_among};
 
 use crate::dropped::Dropped;
 use crate::fault::Fault;
 use crate::line_stop::LineStop;
+use crate::params::StreamParams;
 use crate::report::{Ending, Report};
-use crate::setting::Setting;
 use lrup_model::Id;
 use std::alloc::Global;
 
@@ -15,7 +15,7 @@ use std::alloc::Global;
 #[derive(Drop)]
 pub struct StreamState {
     /// Whose lines they are. It never changes.
-    pub setting: Setting,
+    pub params: StreamParams,
     /// The last identity that was added; with none, the last of the formula.
     last: Id,
     dropped: Dropped,
@@ -35,9 +35,9 @@ pub struct StreamState {
 
 impl StreamState {
     /// Before the first line.
-    pub fn new(alloc: Global, setting: Setting) -> StreamState
-        ensures setting { result.setting ≡ setting }
-        ensures last { result.last ≡ setting.layout.clauses }
+    pub fn new(alloc: Global, params: StreamParams) -> StreamState
+        ensures params { result.params ≡ params }
+        ensures last { result.last ≡ params.layout.clauses }
         ensures dropped { result.dropped.ids ≡ [] }
         ensures retired { result.retired ≡ 0 }
         ensures added { result.added ≡ 0 }
@@ -46,8 +46,8 @@ impl StreamState {
         ensures line { result.line ≡ 1 }
     {
         StreamState {
-            last: u64::from(setting.clauses()),
-            setting,
+            last: u64::from(params.clauses()),
+            params,
             dropped: Dropped::new(alloc),
             retired: 0,
             added: 0,
@@ -87,7 +87,7 @@ impl StreamState {
         ensures empty { self.new.empty ≡ (self.old.empty || is_empty) }
         ensures within { self.new.within ≡ (self.old.within || is_within) }
         ensures line { self.new.line ≡ min (self.old.line + 1) (2 ^ 64 - 1) }
-        ensures setting { self.new.setting ≡ self.old.setting }
+        ensures params { self.new.params ≡ self.old.params }
         ensures dropped { self.new.dropped ≡ self.old.dropped }
         ensures retired { self.new.retired ≡ self.old.retired }
     {
@@ -105,7 +105,7 @@ impl StreamState {
         ensures added { self.new.added ≡ self.old.added }
         ensures empty { self.new.empty ≡ self.old.empty }
         ensures within { self.new.within ≡ self.old.within }
-        ensures setting { self.new.setting ≡ self.old.setting }
+        ensures params { self.new.params ≡ self.old.params }
         ensures dropped { self.new.dropped ≡ self.old.dropped }
         ensures retired { self.new.retired ≡ self.old.retired }
     {
@@ -116,7 +116,7 @@ impl StreamState {
     pub fn count_retired(&mut self)
         ensures retired { self.new.retired ≡ capped (self.old.retired + 1) }
         ensures dropped { self.new.dropped ≡ self.old.dropped }
-        ensures setting { self.new.setting ≡ self.old.setting }
+        ensures params { self.new.params ≡ self.old.params }
         ensures last { self.new.last ≡ self.old.last }
         ensures added { self.new.added ≡ self.old.added }
         ensures empty { self.new.empty ≡ self.old.empty }
@@ -133,7 +133,7 @@ impl StreamState {
         ensures count { length self.new.dropped.ids ≡ length self.old.dropped.ids + counted result }
         ensures spare { IsErrOf result LineStop.Memory → self.old.dropped.spare ≡ 0 }
         ensures retired { self.new.retired ≡ self.old.retired }
-        ensures setting { self.new.setting ≡ self.old.setting }
+        ensures params { self.new.params ≡ self.old.params }
         ensures last { self.new.last ≡ self.old.last }
         ensures added { self.new.added ≡ self.old.added }
         ensures empty { self.new.empty ≡ self.old.empty }

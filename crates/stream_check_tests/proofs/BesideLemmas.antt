@@ -1,24 +1,24 @@
--- What another stream's calls at the map of one thread say of a stream's place.
+-- What another stream's calls at the map of one thread change of a stream's view.
 use Rattle.std.proofs.Common.{◌≡◌, ◌≢◌, ◌<◌, [], ◌∷◌, ℕ, sym, ap, ap₂, subst, ◌∙◌, arith}
 use Rattle.lrup_model.specs.Formula.{Cnf}
 use Rattle.lrup_model.specs.Layout.{LayoutValue}
 use Rattle.lrup_model.specs.Event.{History, fetch}
 use Rattle.lrup_model.specs.State.{State}
-use Rattle.lrup_model.specs.Place.{Place, Tells}
+use Rattle.lrup_model.specs.CallerView.{CallerView, CallerStep}
 use Rattle.lrup_model.specs.Replies.{reply_of}
-use Rattle.lrup_model.specs.Plain.{Plain, formula_of, plain_place, plain_state, PlainMoves}
-use Rattle.lrup_model.specs.lemmas.PlainMoveLemmas.{plain_moves_tells}
-use Rattle.lrup_model.specs.Desk.{map_of, stream_at, plain_desk_place, PlainDeskMoves}
+use Rattle.lrup_model.specs.Plain.{Plain, formula_of, plain_caller_view, plain_state, PlainMoves}
+use Rattle.lrup_model.specs.lemmas.PlainMoveLemmas.{plain_moves_are_step}
+use Rattle.lrup_model.specs.Desk.{map_of, stream_at, plain_desk_caller_view, PlainDeskMoves}
 use Rattle.lrup_model.specs.declared.clause_map.Fetched.{Fetched}
 use Rattle.lrup_model.specs.declared.plain_map.PlainDesk.{PlainDesk}
 use Rattle.lrup_model.specs.lemmas.HistoryLemmas.{run-others}
 use Rattle.lrup_model.specs.lemmas.CallerLemmas.{calls_differ}
-use Rattle.stream_check_tests.specs.lemmas.TellsLemmas.{tells_append}
+use Rattle.stream_check_tests.specs.lemmas.StepLemmas.{step_append}
 
 -- the calls of stream t are none of stream s
-pub tells_beside : (old new : Plain) (s t : ℕ) (es : History) → 0 < s → s ≢ t → PlainMoves old new t es
-    → Tells (plain_place old s) (plain_place new s) []
-tells_beside old new s t es positive other moves = record {
+pub step_beside : (old new : Plain) (s t : ℕ) (es : History) → 0 < s → s ≢ t → PlainMoves old new t es
+    → CallerStep (plain_caller_view old s) (plain_caller_view new s) []
+step_beside old new s t es positive other moves = record {
   caller = ap₂ (λ (f : Cnf) (p : LayoutValue). record { formula = f; layout = p; stream = s }) moves.formula moves.layout;
   callers = tt;
   room = omega (arith, moves.others s positive other);
@@ -30,27 +30,28 @@ tells_beside old new s t es positive other moves = record {
 }
 
 -- nothing, and then these events
-pub tells_then : (p q r : Place) (es : History) → Tells p q [] → Tells q r es → Tells p r es
-tells_then p q r es none later = tells_append p q r [] es none later
+pub step_then : (p q r : CallerView) (es : History) → CallerStep p q [] → CallerStep q r es → CallerStep p r es
+step_then p q r es none later = step_append p q r [] es none later
 
 -- the calls of a desk that held the map from m to n
 pub desk_told : (a b : PlainDesk) (m n : Plain) (s : ℕ) (es : History) → PlainDeskMoves a b es → map_of a ≡ m → stream_at a ≡ s
-    → n ≡ map_of b → Tells (plain_place m s) (plain_place n s) es
+    → n ≡ map_of b → CallerStep (plain_caller_view m s) (plain_caller_view n s) es
 desk_told a b m n s es moves before stream behind =
-    let told : Tells (plain_place (map_of a) (stream_at a)) (plain_place (map_of b) (stream_at a)) es =
-    plain_moves_tells (map_of a) (map_of b) (stream_at a) es moves.moves in
-    subst (λ (k : ℕ). Tells (plain_place m k) (plain_place n k) es) stream
-    (subst (λ (x : Plain). Tells (plain_place x (stream_at a)) (plain_place n (stream_at a)) es) before
-    (subst (λ (x : Plain). Tells (plain_place (map_of a) (stream_at a)) (plain_place x (stream_at a)) es) (sym behind) told))
+    let told : CallerStep (plain_caller_view (map_of a) (stream_at a)) (plain_caller_view (map_of b) (stream_at a)) es =
+    plain_moves_are_step (map_of a) (map_of b) (stream_at a) es moves.moves in
+    subst (λ (k : ℕ). CallerStep (plain_caller_view m k) (plain_caller_view n k) es) stream
+    (subst (λ (x : Plain). CallerStep (plain_caller_view x (stream_at a)) (plain_caller_view n (stream_at a)) es) before
+    (subst (λ (x : Plain). CallerStep (plain_caller_view (map_of a) (stream_at a)) (plain_caller_view x (stream_at a)) es)
+    (sym behind) told))
 
 -- and its fetch
 pub desk_fetched : (a b : PlainDesk) (m n : Plain) (s id : ℕ) (answer : Fetched)
-    → PlainDeskMoves a b (fetch (stream_at a) id (reply_of (plain_desk_place b) answer) ∷ [])
+    → PlainDeskMoves a b (fetch (stream_at a) id (reply_of (plain_desk_caller_view b) answer) ∷ [])
     → map_of a ≡ m → stream_at a ≡ s → n ≡ map_of b
-    → Tells (plain_place m s) (plain_place n s) (fetch s id (reply_of (plain_place n s) answer) ∷ [])
+    → CallerStep (plain_caller_view m s) (plain_caller_view n s) (fetch s id (reply_of (plain_caller_view n s) answer) ∷ [])
 desk_fetched a b m n s id answer moves before stream behind =
-    let event : ℕ → Plain → History = λ k x. fetch k id (reply_of (plain_place x k) answer) ∷ [] in
-    let told : Tells (plain_place m s) (plain_place n s) (event (stream_at a) (map_of b)) =
+    let event : ℕ → Plain → History = λ k x. fetch k id (reply_of (plain_caller_view x k) answer) ∷ [] in
+    let told : CallerStep (plain_caller_view m s) (plain_caller_view n s) (event (stream_at a) (map_of b)) =
     desk_told a b m n s (event (stream_at a) (map_of b)) moves before stream behind in
-    subst (λ (k : ℕ). Tells (plain_place m s) (plain_place n s) (event k n)) stream
-    (subst (λ (x : Plain). Tells (plain_place m s) (plain_place n s) (event (stream_at a) x)) (sym behind) told)
+    subst (λ (k : ℕ). CallerStep (plain_caller_view m s) (plain_caller_view n s) (event k n)) stream
+    (subst (λ (x : Plain). CallerStep (plain_caller_view m s) (plain_caller_view n s) (event (stream_at a) x)) (sym behind) told)

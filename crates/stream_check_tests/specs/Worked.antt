@@ -6,22 +6,22 @@ use Rattle.lrup_model.specs.declared.clause_map.Published.TheVariants as publish
 use Rattle.lrup_model.specs.declared.clause_map.Retired.TheVariants as retiring
 use Rattle.test_support.specs.Worked.{first, second, unit}
 use Rattle.lrup_text.specs.Lines.{Deletion}
-use Rattle.stream_check.specs.Setting.{Setting}
-use Rattle.stream_check.specs.Standing.{Standing, standing_of}
+use Rattle.stream_check.specs.StreamParams.{StreamParams}
+use Rattle.stream_check.specs.StreamContext.{StreamContext, context_of}
 
 abbrev pub two_streams : LayoutValue
 two_streams = record { vars = 2; clauses = 4; literals = 8; streams = 2; lines = 2; room = 1 }
 
 -- stream 1, which tries a foreign hint once more
-abbrev pub first_stream : Setting
+abbrev pub first_stream : StreamParams
 first_stream = record { layout = two_streams; cube = []; stream = 1; tries = 1 }
 
 -- before the first line, and after the line `5 d 1 0`
-abbrev pub at_start : Standing
-at_start = standing_of first_stream []
+abbrev pub at_start : StreamContext
+at_start = context_of first_stream []
 
-abbrev pub after_drop : Standing
-after_drop = standing_of first_stream (Deletion 5 (1 ∷ []) ∷ [])
+abbrev pub after_drop : StreamContext
+after_drop = context_of first_stream (Deletion 5 (1 ∷ []) ∷ [])
 
 -- fetches that find the first two clauses of the formula, one that finds nothing at 6, and the publish of the unit clause
 abbrev pub first_found : Event

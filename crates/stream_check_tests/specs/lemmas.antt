@@ -1,2 +1,2 @@
 -- Lemmas, which other crates' proofs may cite.
-pub mod TellsLemmas
+pub mod StepLemmas

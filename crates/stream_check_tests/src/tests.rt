@@ -3,7 +3,7 @@ ghost use Rattle.std.specs.Prelude.{◌≡◌, ◌<◌, IsSome};
 ghost use Rattle.checker_support.specs.Opened.{IsPlainOpened};
 ghost use Rattle.lrup_model.specs.Event.{History};
 ghost use Rattle.lrup_model.specs.Layout.{IsStream};
-ghost use Rattle.lrup_model.specs.Plain.{plain_place};
+ghost use Rattle.lrup_model.specs.Plain.{plain_caller_view};
 ghost use Rattle.stream_check.specs.Checker.{IsReadyAt};
 
 use checker_support::{checker_under, open_map};
@@ -73,10 +73,10 @@ const DEFAULTS: Options = Options {
 
 /// Feeds a piece to its end, or until the checker is over.
 fn feed_whole<M: ClauseMap, G: Gate>(checker: &mut Checker, map: &mut M, gate: &mut G, piece: &[u8])
-    requires { IsReadyAt checker.old (M.place map.old) }
-    ensures ready { IsReadyAt checker.new (M.place map.new) }
+    requires { IsReadyAt checker.old (M.caller_view map.old) }
+    ensures ready { IsReadyAt checker.new (M.caller_view map.new) }
     ensures moves { (es : History) × M.moves map.old map.new es }
-    ensures setting { checker.new.setting ≡ checker.old.setting }
+    ensures params { checker.new.params ≡ checker.old.params }
 {
     let mut rest = piece;
     'rest: loop {
@@ -96,7 +96,7 @@ fn feed_cut<M: ClauseMap, G: Gate>(
     bytes: &[u8],
     cut: usize,
 )
-    requires ready { IsReadyAt checker.old (M.place map.old) }
+    requires ready { IsReadyAt checker.old (M.caller_view map.old) }
     requires cut { 0 < cut }
     ensures { IsSome checker.new.ending }
 {
@@ -116,7 +116,7 @@ fn said_at_desk(
     cut: usize,
 ) -> (Report, Told)
     requires stream { IsStream map.old.layout stream }
-    requires ready { IsReadyAt checker.old (plain_place map.old stream) }
+    requires ready { IsReadyAt checker.old (plain_caller_view map.old stream) }
     requires cut { 0 < cut }
 {
     let mut gate = told_of(0, 0, 0);
@@ -673,7 +673,7 @@ fn bad_texts_end_the_reading(rt: HostRuntime) -> Result<(), Fail> {
 }
 
 /// The checker is over, and tells of a failed read.
-fn tells_of_read(rt: &impl Abort, checker: &Checker) {
+fn step_of_read(rt: &impl Abort, checker: &Checker) {
     let said = said_of(0, 0, false, Ending::ReadFailed(1));
     assert!(rt; checker.is_over());
     same(rt, checker.report(), said);
@@ -683,9 +683,9 @@ fn tells_of_read(rt: &impl Abort, checker: &Checker) {
 fn fails_reading(rt: &impl Abort, checker: &mut Checker) {
     same(rt, checker.is_over(), false);
     checker.read_failed();
-    tells_of_read(rt, checker);
+    step_of_read(rt, checker);
     checker.end();
-    tells_of_read(rt, checker);
+    step_of_read(rt, checker);
 }
 
 /// A checker at no map.

@@ -1,7 +1,7 @@
 //! Lines as they are judged, by the definitions alone.
 ghost use Rattle.std.specs.Prelude.{◌≡◌, true, false, [], ◌∷◌, pos, negsuc};
 ghost use Rattle.lrup_text.specs.Lines.{Addition, Deletion, Import};
-ghost use Rattle.stream_check.specs.Standing.{is_within};
+ghost use Rattle.stream_check.specs.StreamContext.{is_within};
 ghost use Rattle.stream_check.specs.Verdicts.{Good, Bad};
 ghost use Rattle.stream_check.specs.Judging.{JudgesLine};
 ghost use Rattle.stream_check_tests.specs.Worked.{first_stream, at_start, after_drop, first_found, second_found, six_vacant, unit_published, five_retired, five_refused};

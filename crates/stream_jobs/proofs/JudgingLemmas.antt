@@ -8,51 +8,52 @@ use Rattle.stream_check.specs.declared.report.Ending.{Ending}
 use Rattle.stream_check.specs.declared.report.Report.{Report}
 use Rattle.stream_check.specs.declared.progress.CheckTurn.{CheckTurn}
 use Rattle.stream_check.specs.declared.progress.CheckTurn.TheVariants as turns
-use Rattle.stream_check.specs.Checker.{state_by, checker_state, LeavesOn, Turns, EndsBy, Ends, ReportsEnd}
+use Rattle.stream_check.specs.Checker.{state_by, checker_state, Extends, Turns, EndsBy, Ends, ReportsEnd}
 use Rattle.stream_check.specs.CheckerValue.{Tally, report_of_tally, CheckerValue}
 use Rattle.stream_check.specs.Judging.{JudgesBlocks}
 use Rattle.stream_check.specs.Laws.{OverStays}
-use Rattle.stream_check.specs.Leaving.{CheckerState, Over, Leaves}
-use Rattle.stream_check.specs.Setting.{Setting}
-use Rattle.stream_check.specs.Standing.{is_among}
+use Rattle.stream_check.specs.Reaching.{CheckerState, Over, ReachesState}
+use Rattle.stream_check.specs.StreamParams.{StreamParams}
+use Rattle.stream_check.specs.StreamContext.{is_among}
 use Rattle.stream_check.specs.lemmas.StoppingLemmas.{drops_longer}
 use Rattle.stream_jobs.specs.Judged.{ending_with}
 use Rattle.stream_ring.specs.Items.{EndsBeforeMark}
 
-pub leaves_append : (c : Setting) (one two three : CheckerState) (xs ys : List ℕ) (front back : List History)
-    → LeavesOn c one xs front two → LeavesOn c two ys back three → LeavesOn c one (xs ++ ys) (front ++ back) three
-leaves_append c one two three xs ys front back first second bytes before left =
-    subst (λ (t : List ℕ). Leaves c t (before ++ (front ++ back)) three) (append_assoc bytes xs ys)
-    (subst (λ (bs : List History). Leaves c ((bytes ++ xs) ++ ys) bs three) (append_assoc before front back)
+pub reaches_append : (c : StreamParams) (one two three : CheckerState) (xs ys : List ℕ) (front back : List History)
+    → Extends c one xs front two → Extends c two ys back three → Extends c one (xs ++ ys) (front ++ back) three
+reaches_append c one two three xs ys front back first second bytes before left =
+    subst (λ (t : List ℕ). ReachesState c t (before ++ (front ++ back)) three) (append_assoc bytes xs ys)
+    (subst (λ (bs : List History). ReachesState c ((bytes ++ xs) ++ ys) bs three) (append_assoc before front back)
     (second (bytes ++ xs) (before ++ front) (first bytes before left)))
 
 -- a checker that is over takes the rest too
 over_takes : OverStays
-    → (c : Setting) (old : CheckerState) (used rest : List ℕ) (blocks : List History) (v : CheckerValue) (free : ℕ) (ending : Ending)
-    → v.ending ≡ Some ending → LeavesOn c old used blocks (checker_state v free)
-    → LeavesOn c old (used ++ rest) blocks (checker_state v free)
-over_takes stays c old used rest blocks v free ending is leaves bytes before left =
+    → (c : StreamParams) (old : CheckerState) (used rest : List ℕ) (blocks : List History) (v : CheckerValue) (free : ℕ) (ending : Ending)
+    → v.ending ≡ Some ending → Extends c old used blocks (checker_state v free)
+    → Extends c old (used ++ rest) blocks (checker_state v free)
+over_takes stays c old used rest blocks v free ending is reaches bytes before left =
     let report = report_of_tally v.tally ending in
     let gone : ℕ → Bool = is_among v.dropped in
     let over : checker_state v free ≡ Over report gone = ap (state_by v free) is in
-    let taken = subst (Leaves c (bytes ++ used) (before ++ blocks)) over (leaves bytes before left) in
-    let all = subst (λ (t : List ℕ). Leaves c t (before ++ blocks) (Over report gone)) (append_assoc bytes used rest) (
+    let taken = subst (ReachesState c (bytes ++ used) (before ++ blocks)) over (reaches bytes before left) in
+    let all = subst (λ (t : List ℕ). ReachesState c t (before ++ blocks) (Over report gone)) (append_assoc bytes used rest) (
       stays c (bytes ++ used) rest (before ++ blocks) report taken.0,
       drops_longer c (bytes ++ used) rest report gone taken.1,
     ) in
-    subst (Leaves c (bytes ++ (used ++ rest)) (before ++ blocks)) (sym over) all
+    subst (ReachesState c (bytes ++ (used ++ rest)) (before ++ blocks)) (sym over) all
 
 -- a call that ends no line has come to the piece's end, or to the checker's
-pub stopped_takes : OverStays → (turn : CheckTurn) (old new : CheckerValue) (piece used rest : List ℕ) (c : Setting) (state : CheckerState)
+pub stopped_takes : OverStays
+    → (turn : CheckTurn) (old new : CheckerValue) (piece used rest : List ℕ) (c : StreamParams) (state : CheckerState)
     (blocks : List History) (free : ℕ)
     → (turn ≡ turns.Line → ⊥) → Turns turn old new piece used → piece ≡ used ++ rest
-    → LeavesOn c state used blocks (checker_state new free) → LeavesOn c state piece blocks (checker_state new free)
-stopped_takes stays turns.Line old new piece used rest c state blocks free other turn split leaves = absurd (other refl)
-stopped_takes stays turns.More old new piece used rest c state blocks free other turn split leaves =
-    subst (λ (t : List ℕ). LeavesOn c state t blocks (checker_state new free)) turn.1 leaves
-stopped_takes stays turns.Over old new piece used rest c state blocks free other turn split leaves =
-    subst (λ (t : List ℕ). LeavesOn c state t blocks (checker_state new free)) (sym split)
-    (over_takes stays c state used rest blocks new free turn.0 turn.1 leaves)
+    → Extends c state used blocks (checker_state new free) → Extends c state piece blocks (checker_state new free)
+stopped_takes stays turns.Line old new piece used rest c state blocks free other turn split reaches = absurd (other refl)
+stopped_takes stays turns.More old new piece used rest c state blocks free other turn split reaches =
+    subst (λ (t : List ℕ). Extends c state t blocks (checker_state new free)) turn.1 reaches
+stopped_takes stays turns.Over old new piece used rest c state blocks free other turn split reaches =
+    subst (λ (t : List ℕ). Extends c state t blocks (checker_state new free)) (sym split)
+    (over_takes stays c state used rest blocks new free turn.0 turn.1 reaches)
 
 -- a call that came to the piece's end, or to the checker's, ended no line
 pub no_line : (turn : CheckTurn) → (turn ≡ turns.More) ⊎ (turn ≡ turns.Over) → turn ≡ turns.Line → ⊥
@@ -77,23 +78,24 @@ drops_by (Some ending) end old new ends = ap (λ (v : CheckerValue). v.dropped) 
 pub ends_dropped : (end : StreamEnd) (old new : CheckerValue) → Ends end old new → new.dropped ≡ old.dropped
 ends_dropped end old new ends = drops_by old.ending end old new ends
 
--- what was taken so far, and then more, with the same setting
-pub leaves_more : (c d : Setting) (one two three : CheckerState) (xs ys all : List ℕ) (front back : List History) → d ≡ c → all ≡ xs ++ ys
-    → LeavesOn c one xs front two → LeavesOn d two ys back three → LeavesOn c one all (front ++ back) three
-leaves_more c d one two three xs ys all front back same split first second =
-    subst (λ (t : List ℕ). LeavesOn c one t (front ++ back) three) (sym split)
-    (leaves_append c one two three xs ys front back first (subst (λ (e : Setting). LeavesOn e two ys back three) same second))
+-- what was taken so far, and then more, with the same parameters
+pub reaches_more : (c d : StreamParams) (one two three : CheckerState) (xs ys all : List ℕ) (front back : List History) → d ≡ c
+    → all ≡ xs ++ ys
+    → Extends c one xs front two → Extends d two ys back three → Extends c one all (front ++ back) three
+reaches_more c d one two three xs ys all front back same split first second =
+    subst (λ (t : List ℕ). Extends c one t (front ++ back) three) (sym split)
+    (reaches_append c one two three xs ys front back first (subst (λ (e : StreamParams). Extends e two ys back three) same second))
 
 -- the report of a checker that was ended
 pub closes : (end : StreamEnd) (v u : CheckerValue) (report : Report) → ReportsEnd end v u
     → IfSome u.ending (λ ending. report ≡ report_of_tally u.tally ending)
-    → (bytes : List ℕ) (blocks : List History) (free : ℕ) → Leaves v.setting bytes blocks (checker_state v free)
-    → JudgesBlocks v.setting bytes end blocks report
-closes end v u report reports told bytes blocks free leaves =
-    let judged = reports bytes blocks free leaves in
+    → (bytes : List ℕ) (blocks : List History) (free : ℕ) → ReachesState v.params bytes blocks (checker_state v free)
+    → JudgesBlocks v.params bytes end blocks report
+closes end v u report reports told bytes blocks free reaches =
+    let judged = reports bytes blocks free reaches in
     let same : report ≡ report_of_tally u.tally judged.0 =
     subst (λ (e : Option Ending). IfSome e (λ ending. report ≡ report_of_tally u.tally ending)) judged.1 told in
-    subst (JudgesBlocks v.setting bytes end blocks) (sym same) judged.2
+    subst (JudgesBlocks v.params bytes end blocks) (sym same) judged.2
 
 -- it is of the counts before the end, and where it was over before, its ending stays
 says_by : (o : Option Ending) (end : StreamEnd) (v u : CheckerValue) → v.ending ≡ o → EndsBy o end v u

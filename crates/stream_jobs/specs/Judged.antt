@@ -4,10 +4,10 @@ use Rattle.lrup_model.specs.Event.{History}
 use Rattle.lrup_text.specs.declared.device.StreamEnd.{StreamEnd}
 use Rattle.stream_check.specs.declared.report.Ending.{Ending}
 use Rattle.stream_check.specs.declared.report.Report.{Report}
-use Rattle.stream_check.specs.Checker.{checker_state, LeavesOn}
+use Rattle.stream_check.specs.Checker.{checker_state, Extends}
 use Rattle.stream_check.specs.CheckerValue.{report_of_tally, CheckerValue}
 use Rattle.stream_check.specs.Judging.{ending_at, JudgesBlocks}
-use Rattle.stream_check.specs.Leaving.{Leaves}
+use Rattle.stream_check.specs.Reaching.{ReachesState}
 use Rattle.stream_ring.specs.Items.{EndsAtMark}
 
 -- the ending of a checker that takes this end: one that was over keeps its own
@@ -21,7 +21,7 @@ pub record DropsBy (checker : CheckerValue) (room : ℕ) (bytes : List ℕ) (blo
     (ids : List ℕ) (report : Report) : Type 0 where
   pub last : CheckerValue
   pub free : ℕ
-  pub left : LeavesOn checker.setting (checker_state checker room) bytes blocks
+  pub left : Extends checker.params (checker_state checker room) bytes blocks
       (checker_state last free)
   pub are : ids ≡ last.dropped
   pub end : StreamEnd
@@ -35,5 +35,5 @@ pub record JudgesAtMark (checker : CheckerValue) (room : ℕ) (items : List ℕ)
   pub end : StreamEnd
   pub marked : EndsAtMark bytes end items
   pub dropped : DropsBy checker room bytes blocks ids report
-  pub judged : Leaves checker.setting [] [] (checker_state checker room)
-      → JudgesBlocks checker.setting bytes end blocks report
+  pub judged : ReachesState checker.params [] [] (checker_state checker room)
+      → JudgesBlocks checker.params bytes end blocks report

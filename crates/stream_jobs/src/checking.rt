@@ -3,10 +3,10 @@ ghost use Rattle.std.specs.Prelude.{◌≡◌, ◌<◌, ◌≤◌, ℕ, List, []
 ghost use Rattle.lrup_model.specs.Event.{History};
 ghost use Rattle.lrup_model.specs.Layout.{IsStream};
 ghost use Rattle.rtrb.specs.Ring.{received, SameConsumer};
-ghost use Rattle.stream_check.specs.Checker.{IsNew, IsReadyAt, LeavesOn, checker_state};
+ghost use Rattle.stream_check.specs.Checker.{IsNew, IsReadyAt, Extends, checker_state};
 ghost use Rattle.stream_check.specs.CheckerValue.{report_of_tally};
 ghost use Rattle.stream_check.specs.Judging.{joined, JudgesBlocks};
-ghost use Rattle.stream_check.specs.Leaving.{Leaves};
+ghost use Rattle.stream_check.specs.Reaching.{ReachesState};
 ghost use Rattle.stream_jobs.specs.Judged.{JudgesAtMark, ending_with};
 ghost use Rattle.stream_ring.specs.Items.{EndsAtMark, EndsBeforeMark};
 
@@ -14,7 +14,7 @@ use crate::start::wait_for_start;
 use lrup_model::ClauseMap;
 use lrup_text::{PIECE, StreamEnd};
 use rtrb::Consumer;
-use runs::Terms;
+use runs::RunParams;
 use std::alloc::{AllocError, Global};
 use std::sync::{OnceLock, OnceToken, Wait};
 use stream_check::laws::over_stays;
@@ -58,16 +58,22 @@ impl<G: Gate + Drop> CheckingJob<G> {
         receiver: Receiver,
         gate: G,
         stream: u64,
-        terms: &Terms<'_>,
+        run_params: &RunParams<'_>,
     ) -> Result<CheckingJob<G>, AllocError>
-        requires stream { IsStream terms.now.layout stream }
+        requires stream { IsStream run_params.now.layout stream }
         requires nothing { received receiver.consumer ≡ [] }
-        ensures checker { IfOk result (λ job. let t = terms.now in
+        ensures checker { IfOk result (λ job. let t = run_params.now in
             IsNew t.layout t.cube stream t.tries job.checker) }
         ensures gate { IfOk result (λ job. job.gate ≡ gate) }
         ensures receiver { IfOk result (λ job. job.receiver ≡ receiver) }
     {
-        let checker = Checker::new(alloc, stream, terms.layout(), terms.cube(), terms.tries())?;
+        let checker = Checker::new(
+            alloc,
+            stream,
+            run_params.layout(),
+            run_params.cube(),
+            run_params.tries(),
+        )?;
         let items = vec![in alloc; 0u16; POPPED]?;
         let bytes = vec![in alloc; 0u8; POPPED]?;
         Ok(CheckingJob {
@@ -89,12 +95,12 @@ pub fn check_when_told<'a, W: Wait, G: Gate + Drop, M: ClauseMap>(
     job: CheckingJob<G>,
     map: &mut M,
 ) -> Result<Checked, OnceToken<'a, bool>>
-    requires { IsReadyAt job.checker (M.place map.old) }
+    requires { IsReadyAt job.checker (M.caller_view map.old) }
     ensures leaves { IfErr result (λ token. (token.of ≡ signal.now.id) × (token.value ≡ false)) }
     ensures ring { IfOk result (λ checked. SameConsumer job.receiver.consumer checked.consumer) }
     ensures judged { IfOk result (λ checked. IfSome checked.report (λ report.
         (blocks : List History) × M.moves map.old map.new (joined blocks)
-        × JudgesAtMark job.checker (M.place map.old).room (received checked.consumer)
+        × JudgesAtMark job.checker (M.caller_view map.old).room (received checked.consumer)
         blocks checked.dropped.ids report)) }
     ensures no_mark { IfOk result (λ checked.
         IfNone checked.report (EndsBeforeMark (received checked.consumer))) }
@@ -136,14 +142,14 @@ fn judge<W: Wait, G: Gate, M: ClauseMap>(
     bytes: &mut [u8],
     map: &mut M,
 ) -> Option<Report>
-    requires ready { IsReadyAt checker.old (M.place map.old) }
+    requires ready { IsReadyAt checker.old (M.caller_view map.old) }
     requires some { 0 < length items.old }
     requires room { length items.old ≡ length bytes.old }
     requires nothing { received receiver.old.consumer ≡ [] }
     ensures ring { SameConsumer receiver.old.consumer receiver.new.consumer }
     ensures judged { IfSome result (λ report.
         (blocks : List History) × M.moves map.old map.new (joined blocks)
-        × JudgesAtMark checker.old (M.place map.old).room (received receiver.new.consumer)
+        × JudgesAtMark checker.old (M.caller_view map.old).room (received receiver.new.consumer)
         blocks checker.new.dropped report) }
     ensures no_mark { IfNone result (EndsBeforeMark (received receiver.new.consumer)) }
 {
@@ -154,8 +160,8 @@ fn judge<W: Wait, G: Gate, M: ClauseMap>(
 /// Finishes the checker, and says how the stream is judged; to the gate too, where it wasn't over before.
 fn finish_and_notify_gate<G: Gate>(checker: &mut Checker, gate: &mut G, end: StreamEnd) -> Report
     ensures judges { (bytes : List ℕ) (blocks : List History) (free : ℕ)
-        → Leaves checker.old.setting bytes blocks (checker_state checker.old free)
-        → JudgesBlocks checker.old.setting bytes end blocks result }
+        → ReachesState checker.old.params bytes blocks (checker_state checker.old free)
+        → JudgesBlocks checker.old.params bytes end blocks result }
     ensures dropped { checker.new.dropped ≡ checker.old.dropped }
     // One that was over keeps its ending.
     ensures reports { result ≡ report_of_tally checker.old.tally
@@ -172,8 +178,8 @@ fn finish_and_notify_gate<G: Gate>(checker: &mut Checker, gate: &mut G, end: Str
 /// Lets the checker take the end of the stream, or a read that failed, and says how the stream is judged.
 fn finish_checker(checker: &mut Checker, end: StreamEnd) -> Report
     ensures judges { (bytes : List ℕ) (blocks : List History) (free : ℕ)
-        → Leaves checker.old.setting bytes blocks (checker_state checker.old free)
-        → JudgesBlocks checker.old.setting bytes end blocks result }
+        → ReachesState checker.old.params bytes blocks (checker_state checker.old free)
+        → JudgesBlocks checker.old.params bytes end blocks result }
     ensures dropped { checker.new.dropped ≡ checker.old.dropped }
     // One that was over keeps its ending.
     ensures reports { result ≡ report_of_tally checker.old.tally
@@ -196,18 +202,18 @@ fn check_received<W: Wait, G: Gate, M: ClauseMap>(
     bytes: &mut [u8],
     map: &mut M,
 ) -> Option<StreamEnd>
-    requires ready { IsReadyAt checker.old (M.place map.old) }
+    requires ready { IsReadyAt checker.old (M.caller_view map.old) }
     requires some { 0 < length items.old }
     requires room { length items.old ≡ length bytes.old }
     requires nothing { received receiver.old.consumer ≡ [] }
     ensures ring { SameConsumer receiver.old.consumer receiver.new.consumer }
-    ensures setting { checker.new.setting ≡ checker.old.setting }
-    ensures took { let old = checker_state checker.old (M.place map.old).room in
-        let new = checker_state checker.new (M.place map.new).room in
+    ensures params { checker.new.params ≡ checker.old.params }
+    ensures took { let old = checker_state checker.old (M.caller_view map.old).room in
+        let new = checker_state checker.new (M.caller_view map.new).room in
         IfSome result (λ end. (fed : List ℕ) × (blocks : List History)
         × M.moves map.old map.new (joined blocks)
         × EndsAtMark fed end (received receiver.new.consumer)
-        × LeavesOn checker.old.setting old fed blocks new) }
+        × Extends checker.old.params old fed blocks new) }
     ensures no_mark { IfNone result (EndsBeforeMark (received receiver.new.consumer)) }
 {
     for _ in wait.forever() {
@@ -225,13 +231,13 @@ fn check_received<W: Wait, G: Gate, M: ClauseMap>(
 
 /// Lets the checker take all of a piece. One that is over takes nothing of it, and stays as it is.
 fn take_all<G: Gate, M: ClauseMap>(checker: &mut Checker, gate: &mut G, map: &mut M, piece: &[u8])
-    requires { IsReadyAt checker.old (M.place map.old) }
-    ensures took { let old = checker_state checker.old (M.place map.old).room in
-        let new = checker_state checker.new (M.place map.new).room in
+    requires { IsReadyAt checker.old (M.caller_view map.old) }
+    ensures took { let old = checker_state checker.old (M.caller_view map.old).room in
+        let new = checker_state checker.new (M.caller_view map.new).room in
         (blocks : List History) × M.moves map.old map.new (joined blocks)
-        × LeavesOn checker.old.setting old piece.now blocks new }
-    ensures ready { IsReadyAt checker.new (M.place map.new) }
-    ensures setting { checker.new.setting ≡ checker.old.setting }
+        × Extends checker.old.params old piece.now blocks new }
+    ensures ready { IsReadyAt checker.new (M.caller_view map.new) }
+    ensures params { checker.new.params ≡ checker.old.params }
 {
     over_stays();
     let mut rest = piece;

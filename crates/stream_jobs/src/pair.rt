@@ -8,14 +8,14 @@ ghost use Rattle.runs.specs.Streams.{Stream, JudgesStream};
 ghost use Rattle.stream_check.specs.declared.report.Report.{Report};
 ghost use Rattle.stream_check.specs.Checker.{IsNew, checker_state};
 ghost use Rattle.stream_check.specs.CheckerValue.{CheckerValue};
-ghost use Rattle.stream_check.specs.Leaving.{Leaves};
+ghost use Rattle.stream_check.specs.Reaching.{ReachesState};
 ghost use Rattle.stream_jobs.specs.Judged.{DropsBy, JudgesAtMark};
 ghost use Rattle.stream_ring.specs.Items.{SendsAll};
 
 use crate::checking::{Checked, CheckingJob};
 use crate::reading::{ReadingJob, Sent};
 use lrup_text::{PIECE, Source};
-use runs::Terms;
+use runs::RunParams;
 use std::alloc::{AllocError, Global};
 use stream_check::Gate;
 use stream_ring::{came_through, ring};
@@ -30,20 +30,20 @@ pub fn jobs<R: Source + Drop, G: Gate + Drop>(
     reader: R,
     gate: G,
     stream: u64,
-    terms: &Terms<'_>,
+    run_params: &RunParams<'_>,
 ) -> Result<(ReadingJob<R>, CheckingJob<G>), AllocError>
     requires running { R.has_failed reader ≡ false }
-    requires stream { IsStream terms.now.layout stream }
+    requires stream { IsStream run_params.now.layout stream }
     ensures pair { IfOk result (λ both.
         IsPair both.0.sender.producer both.1.receiver.consumer) }
     ensures reader { IfOk result (λ both. both.0.reader ≡ reader) }
     ensures gate { IfOk result (λ both. both.1.gate ≡ gate) }
-    ensures checker { IfOk result (λ both. let t = terms.now in
+    ensures checker { IfOk result (λ both. let t = run_params.now in
         IsNew t.layout t.cube stream t.tries both.1.checker) }
 {
     let (sender, receiver) = ring(alloc, CAPACITY)?;
     let reading = ReadingJob::new(alloc, reader, sender)?;
-    let checking = CheckingJob::new(alloc, receiver, gate, stream, terms)?;
+    let checking = CheckingJob::new(alloc, receiver, gate, stream, run_params)?;
     Ok((reading, checking))
 }
 
@@ -67,10 +67,10 @@ pub fn meet<R: Source + Drop>(sent: &mut Sent<R>, checked: &mut Checked)
         → SendsAll _ (readers_view R.Source) first sent.old.reader
         (Rattle.rtrb.specs.Ring.sent sent.old.producer)
         → JudgesAtMark v room (received checked.old.consumer) blocks ids report
-        → Leaves v.setting [] [] (checker_state v room)
+        → ReachesState v.params [] [] (checker_state v room)
         → (stream : Stream) × IsSome stream.end
         × IsStreamOf (readers_view R.Source) first sent.old.reader stream
-        × JudgesStream v.setting stream blocks report
+        × JudgesStream v.params stream blocks report
         × DropsBy v room stream.bytes blocks ids report }
 {
     came_through(&mut sent.producer, &mut checked.consumer);

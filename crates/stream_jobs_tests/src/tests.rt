@@ -2,15 +2,15 @@
 //! is left asleep, which no contract says.
 ghost use Rattle.std.specs.Prelude.{◌≡◌, ◌<◌, ◌≤◌, [], None, false, IfOk, IfSome};
 ghost use Rattle.lrup_model.specs.Layout.{IsStream};
-ghost use Rattle.lrup_model.specs.Plain.{plain_place};
+ghost use Rattle.lrup_model.specs.Plain.{plain_caller_view};
 ghost use Rattle.rtrb.specs.Ring.{IsPair, SameConsumer, SameProducer};
 ghost use Rattle.stream_check.specs.Checker.{IsNew, IsReadyAt};
-ghost use Rattle.stream_check.specs.Setting.{max_tries};
+ghost use Rattle.stream_check.specs.StreamParams.{max_tries};
 
 use checker_support::open_map;
 use lrup_model::{Cube, Id, Layout, PlainMap};
 use lrup_text::{LineFault, ReadFault, Source};
-use runs::Terms;
+use runs::RunParams;
 use std::alloc::{AllocError, Global};
 use std::fmt;
 use std::process::Abort;
@@ -48,7 +48,7 @@ struct Checking<G: Gate + Drop> {
     map: PlainMap,
     job: CheckingJob<G>,
     ghost stream: { IsStream map.layout 1 },
-    ghost ready: { IsReadyAt job.checker (plain_place map 1) },
+    ghost ready: { IsReadyAt job.checker (plain_caller_view map 1) },
 }
 
 /// The two jobs of a stream, with room for so many lines.
@@ -64,8 +64,8 @@ fn open_pair<R: Source + Drop, G: Gate + Drop>(
     ready_new();
     let map = open_map(alloc, 1, lines, 65_536)?;
     let cube = Cube::empty(alloc);
-    let terms = Terms::new(map.layout(), &cube, 3);
-    let (reading, job) = jobs(alloc, reader, gate, 1, &terms)?;
+    let run_params = RunParams::new(map.layout(), &cube, 3);
+    let (reading, job) = jobs(alloc, reader, gate, 1, &run_params)?;
     Ok((reading, Checking { map, job }))
 }
 
@@ -554,10 +554,10 @@ fn jobs_again(
     ensures checker { IfOk result (λ both. IsNew layout.now [] 1 3 both.1.checker) }
 {
     let cube = Cube::empty(alloc);
-    let terms = Terms::new(layout, &cube, 3);
-    match jobs(alloc, Pieces::new(REFUTATION, 12, 0), Open, 1, &terms) {
+    let run_params = RunParams::new(layout, &cube, 3);
+    match jobs(alloc, Pieces::new(REFUTATION, 12, 0), Open, 1, &run_params) {
         Ok(both) => Ok(both),
-        Err(_) => jobs(alloc, Pieces::new(REFUTATION, 12, 0), Open, 1, &terms),
+        Err(_) => jobs(alloc, Pieces::new(REFUTATION, 12, 0), Open, 1, &run_params),
     }
 }
 

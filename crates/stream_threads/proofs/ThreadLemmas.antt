@@ -8,7 +8,7 @@ use Rattle.std.specs.declared.vec.IntoIter.{IntoIter}
 use Rattle.std.specs.Vec.Iter.{into_iter_items, into_iter_len}
 use Rattle.lrup_model.specs.Event.{History}
 use Rattle.clause_store.specs.Passes.{PassValue}
-use Rattle.clause_store.specs.Desks.{desk_place, DeskMoves}
+use Rattle.clause_store.specs.Desks.{desk_caller_view, DeskMoves}
 use Rattle.clause_store.specs.declared.desk.Desk.{Desk}
 use Rattle.stream_check.specs.declared.report.Report.{Report}
 use Rattle.stream_check.specs.CheckerValue.{CheckerValue}
@@ -21,13 +21,13 @@ use Rattle.stream_threads.specs.Jobs.{AllFinish, AreJobs, FoundValue, IsJob, Job
 use Rattle.stream_threads.specs.declared.jobs.ThreadFault.{ThreadFault}
 use Rattle.stream_threads.specs.declared.jobs.ThreadFault.TheVariants.{Spawn, Ring}
 use Rattle.runs.specs.lemmas.EachLemmas.{zip_count}
-use Rattle.runs.specs.Streams.{TermsValue}
+use Rattle.runs.specs.Streams.{RunParamsValue}
 
 -- what was judged at a desk was judged at its pass
 pub judged_at : (v : CheckerValue) (old new : Desk) (from to : PassValue) (items ids : List ℕ) (report : Option Report)
     → old.pass ≡ from → to ≡ new.pass
     → IfSome report (λ r. (blocks : List History) × DeskMoves old new (joined blocks)
-    × JudgesAtMark v (desk_place old).room items blocks ids r)
+    × JudgesAtMark v (desk_caller_view old).room items blocks ids r)
     → IfSome report (JudgesAtPass v from to items ids)
 judged_at v old new from to items ids None first last judged = tt
 judged_at v old new from to items ids (Some r) first last judged =
@@ -129,43 +129,49 @@ first_fault {A} {S} view jobs ends (Err (Ring found)) all first =
 
 -- ---- the jobs of all streams
 
-jobs_more : {S : Type 0} (terms : TermsValue) (k : ℕ) (readers : List S) (ps : List PassValue) (js : List (JobsValue S)) (reader : S)
+jobs_more : {S : Type 0} (run_params : RunParamsValue) (k : ℕ) (readers : List S) (ps : List PassValue) (js : List (JobsValue S))
+    (reader : S)
     (p : PassValue) (j : JobsValue S)
-    → AreJobs terms k readers ps js → IsJob terms (k + length js) reader p j
-    → AreJobs terms k (readers ++ reader ∷ []) (ps ++ p ∷ []) (js ++ j ∷ [])
-jobs_more terms k [] [] [] reader p j all here =
-    let place : k + 0 ≡ k = omega arith in (subst (λ s. IsJob terms s reader p j) place here, tt)
-jobs_more terms k [] [] (i ∷ js) reader p j all here = absurd all
-jobs_more terms k [] (q ∷ ps) js reader p j all here = absurd all
-jobs_more terms k (e ∷ readers) [] js reader p j all here = absurd all
-jobs_more terms k (e ∷ readers) (q ∷ ps) [] reader p j all here = absurd all
-jobs_more terms k (e ∷ readers) (q ∷ ps) (i ∷ js) reader p j all here =
+    → AreJobs run_params k readers ps js → IsJob run_params (k + length js) reader p j
+    → AreJobs run_params k (readers ++ reader ∷ []) (ps ++ p ∷ []) (js ++ j ∷ [])
+jobs_more run_params k [] [] [] reader p j all here =
+    let place : k + 0 ≡ k = omega arith in (subst (λ s. IsJob run_params s reader p j) place here, tt)
+jobs_more run_params k [] [] (i ∷ js) reader p j all here = absurd all
+jobs_more run_params k [] (q ∷ ps) js reader p j all here = absurd all
+jobs_more run_params k (e ∷ readers) [] js reader p j all here = absurd all
+jobs_more run_params k (e ∷ readers) (q ∷ ps) [] reader p j all here = absurd all
+jobs_more run_params k (e ∷ readers) (q ∷ ps) (i ∷ js) reader p j all here =
     let place : k + length (i ∷ js) ≡ k + 1 + length js = omega arith in
-    (all.0, jobs_more terms (k + 1) readers ps js reader p j all.1 (subst (λ s. IsJob terms s reader p j) place here))
+    (all.0, jobs_more run_params (k + 1) readers ps js reader p j all.1 (subst (λ s. IsJob run_params s reader p j) place here))
 
 -- one stream's more, and of what they are
-pub jobs_pushed : {S X : Type 0} (terms : TermsValue) (s : ℕ) (read : X → S) (pass : X → PassValue) (xs : List X) (x : X)
+pub jobs_pushed : {S X : Type 0} (run_params : RunParamsValue) (s : ℕ) (read : X → S) (pass : X → PassValue) (xs : List X) (x : X)
     (js new : List (JobsValue S)) (j : JobsValue S)
-    → new ≡ js ++ j ∷ [] → s ≡ length js + 1 → AreJobs terms 1 (map read xs) (map pass xs) js → IsJob terms s (read x) (pass x) j
-    → AreJobs terms 1 (map read (xs ++ x ∷ [])) (map pass (xs ++ x ∷ [])) new
-jobs_pushed {S} {X} terms s read pass xs x js new j pushed place all here =
+    → new ≡ js ++ j ∷ [] → s ≡ length js + 1 → AreJobs run_params 1 (map read xs) (map pass xs) js → IsJob run_params s (read x) (pass x) j
+    → AreJobs run_params 1 (map read (xs ++ x ∷ [])) (map pass (xs ++ x ∷ [])) new
+jobs_pushed {S} {X} run_params s read pass xs x js new j pushed place all here =
     let next : s ≡ 1 + length js = omega (arith, place) in
-    subst (AreJobs terms 1 (map read (xs ++ x ∷ [])) (map pass (xs ++ x ∷ []))) (sym pushed)
-    (subst (λ (rs : List S). AreJobs terms 1 rs (map pass (xs ++ x ∷ [])) (js ++ j ∷ [])) (sym (map-append read xs (x ∷ [])))
-    (subst (λ (ps : List PassValue). AreJobs terms 1 (map read xs ++ read x ∷ []) ps (js ++ j ∷ [])) (sym (map-append pass xs (x ∷ [])))
-    (jobs_more terms 1 (map read xs) (map pass xs) js (read x) (pass x) j all (subst (λ k. IsJob terms k (read x) (pass x) j) next here))))
+    subst (AreJobs run_params 1 (map read (xs ++ x ∷ [])) (map pass (xs ++ x ∷ []))) (sym pushed)
+    (subst (λ (rs : List S). AreJobs run_params 1 rs (map pass (xs ++ x ∷ [])) (js ++ j ∷ [])) (sym (map-append read xs (x ∷ [])))
+    (subst (λ (ps : List PassValue). AreJobs run_params 1 (map read xs ++ read x ∷ []) ps (js ++ j ∷ []))
+    (sym (map-append pass xs (x ∷ [])))
+    (jobs_more run_params 1 (map read xs) (map pass xs) js (read x) (pass x) j all
+    (subst (λ k. IsJob run_params k (read x) (pass x) j) next here))))
 
 -- an iterator of no more steps has no more items
 pub none_to_come : {A Z : Type 0} (s : IntoIter A Z) → into_iter_len s ≡ 0 → into_iter_items s ≡ []
 none_to_come s none = nil_from_length s.rest.items (sym s.rest.ok.0 ∙ none)
 
 -- the jobs of all, where none is left
-pub jobs_whole : {S : Type 0} (terms : TermsValue) (rs readers more : List S) (ps passes others : List PassValue) (js : List (JobsValue S))
-    → AreJobs terms 1 rs ps js → rs ++ more ≡ readers → ps ++ others ≡ passes → more ≡ [] → others ≡ [] → AreJobs terms 1 readers passes js
-jobs_whole {S} terms rs readers more ps passes others js all first second none no_more =
+pub jobs_whole : {S : Type 0} (run_params : RunParamsValue) (rs readers more : List S) (ps passes others : List PassValue)
+    (js : List (JobsValue S))
+    → AreJobs run_params 1 rs ps js → rs ++ more ≡ readers → ps ++ others ≡ passes → more ≡ [] → others ≡ []
+    → AreJobs run_params 1 readers passes js
+jobs_whole {S} run_params rs readers more ps passes others js all first second none no_more =
     let here : rs ≡ readers = sym (append-nil rs) ∙ ap (λ xs. rs ++ xs) (sym none) ∙ first in
     let there : ps ≡ passes = sym (append-nil ps) ∙ ap (λ xs. ps ++ xs) (sym no_more) ∙ second in
-    subst (λ (xs : List S). AreJobs terms 1 xs passes js) here (subst (λ (xs : List PassValue). AreJobs terms 1 rs xs js) there all)
+    subst (λ (xs : List S). AreJobs run_params 1 xs passes js) here
+    (subst (λ (xs : List PassValue). AreJobs run_params 1 rs xs js) there all)
 
 -- ---- threads that wait for a signal
 

@@ -2,18 +2,18 @@
 use Rattle.std.specs.Prelude.{◌≡◌, ◌++◌, ℕ, List, [], IsSome}
 use Rattle.std.specs.List.{AllZip}
 use Rattle.lrup_model.specs.Event.{History}
-use Rattle.lrup_model.specs.Pass.{PassMoves, pass_place}
+use Rattle.lrup_model.specs.Pass.{PassMoves, pass_caller_view}
 use Rattle.clause_store.specs.Passes.{StoreValue, PassValue, store_of}
 use Rattle.stream_check.specs.declared.report.Report.{Report}
 use Rattle.stream_check.specs.Checker.{IsNew, IsReadyAt, checker_state}
 use Rattle.stream_check.specs.CheckerValue.{CheckerValue}
 use Rattle.stream_check.specs.DroppedValue.{DroppedValue}
 use Rattle.stream_check.specs.Judging.{joined}
-use Rattle.stream_check.specs.Leaving.{Leaves}
+use Rattle.stream_check.specs.Reaching.{ReachesState}
 use Rattle.lrup_text.specs.ReadOut.{SourceView}
 use Rattle.runs.specs.Each.{EachOfThree}
 use Rattle.runs.specs.Readings.{IsStreamOf}
-use Rattle.runs.specs.Streams.{Stream, JudgesStream, TermsValue}
+use Rattle.runs.specs.Streams.{Stream, JudgesStream, RunParamsValue}
 use Rattle.stream_jobs.specs.Judged.{DropsBy}
 use Rattle.stream_ring.specs.Items.{EndsBeforeMark, SendsAll}
 
@@ -24,16 +24,17 @@ pub record JobsValue (S : Type 0) : Type 0 where
   pub pass : PassValue
 
 -- the jobs of a stream, from 1 on, before its first byte: its reader, a checker of that stream, and its pass
-pub record IsJob {S : Type 0} (terms : TermsValue) (s : ℕ) (reader : S) (at : PassValue)
+pub record IsJob {S : Type 0} (run_params : RunParamsValue) (s : ℕ) (reader : S) (at : PassValue)
     (jobs : JobsValue S) : Type 0 where
   pub reader_is : jobs.reader ≡ reader
-  pub checker : IsNew terms.layout terms.cube s terms.tries jobs.checker
+  pub checker : IsNew run_params.layout run_params.cube s run_params.tries jobs.checker
   pub pass : jobs.pass ≡ at
 
 -- those of the streams counted on from s
-abbrev pub AreJobs : {S : Type 0} → TermsValue → ℕ → List S → List PassValue → List (JobsValue S)
+abbrev pub AreJobs : {S : Type 0} → RunParamsValue → ℕ → List S → List PassValue
+    → List (JobsValue S)
     → Type 0
-AreJobs terms s readers passes all = EachOfThree (IsJob terms) s readers passes all
+AreJobs run_params s readers passes all = EachOfThree (IsJob run_params) s readers passes all
 
 -- what they give back: the report, the reader, the pass, and the identities that the stream dropped
 pub record FoundValue (S : Type 0) : Type 0 where
@@ -45,7 +46,7 @@ pub record FoundValue (S : Type 0) : Type 0 where
 -- the pass is one of this store, and the checker may take its first byte at it
 pub record CanBegin {S : Type 0} (store : StoreValue) (jobs : JobsValue S) : Type 0 where
   pub here : store_of jobs.pass ≡ store
-  pub ready : IsReadyAt jobs.checker (pass_place jobs.pass.view)
+  pub ready : IsReadyAt jobs.checker (pass_caller_view jobs.pass.view)
 
 -- What was found is how the stream that the reader told, and its reads gave, is judged, by the calls that the pass made, where
 -- the checker had taken no byte before; and what its bytes dropped.
@@ -54,11 +55,12 @@ pub record Finishes {S : Type 0} (view : SourceView S) (jobs : JobsValue S)
   pub store : store_of found.pass ≡ store_of jobs.pass
   pub blocks : List History
   pub moves : PassMoves jobs.pass.view found.pass.view (joined blocks)
-  pub judged : Leaves jobs.checker.setting [] []
-      (checker_state jobs.checker (pass_place jobs.pass.view).room)
+  pub judged : ReachesState jobs.checker.params [] []
+      (checker_state jobs.checker (pass_caller_view jobs.pass.view).room)
       → (stream : Stream) × IsSome stream.end × IsStreamOf view jobs.reader found.reader stream
-      × JudgesStream jobs.checker.setting stream blocks found.report
-      × DropsBy jobs.checker (pass_place jobs.pass.view).room stream.bytes blocks found.dropped.ids
+      × JudgesStream jobs.checker.params stream blocks found.report
+      × DropsBy jobs.checker (pass_caller_view jobs.pass.view).room stream.bytes blocks
+      found.dropped.ids
       found.report
 
 -- what was found of each stream, in order

@@ -9,7 +9,7 @@ use crate::joining::StreamResult;
 use crate::tasks::{CheckTask, CheckedPass, ReadTask};
 use clause_store::Pass;
 use lrup_text::Source;
-use runs::Terms;
+use runs::RunParams;
 use std::alloc::{AllocError, Global};
 use std::marker::Model;
 use std::sync::OnceToken;
@@ -59,16 +59,16 @@ impl<R: Source + Drop, G: Gate + Drop> StreamJobs<R, G> {
         gate: G,
         pass: Pass,
         stream: u64,
-        terms: &Terms<'_>,
+        run_params: &RunParams<'_>,
     ) -> Result<StreamJobs<R, G>, AllocError>
         requires running { R.has_failed reader ≡ false }
-        requires stream { IsStream terms.now.layout stream }
+        requires stream { IsStream run_params.now.layout stream }
         ensures reader { IfOk result (λ jobs. jobs.reader ≡ reader) }
-        ensures checker { IfOk result (λ jobs. let t = terms.now in
+        ensures checker { IfOk result (λ jobs. let t = run_params.now in
             IsNew t.layout t.cube stream t.tries jobs.checker) }
         ensures pass { IfOk result (λ jobs. jobs.pass ≡ pass) }
     {
-        let (reading, checking) = jobs(alloc, reader, gate, stream, terms)?;
+        let (reading, checking) = jobs(alloc, reader, gate, stream, run_params)?;
         Ok(StreamJobs {
             reading,
             checking,
@@ -80,7 +80,7 @@ impl<R: Source + Drop, G: Gate + Drop> StreamJobs<R, G> {
 /// The jobs of all streams, in order. There have to be as many gates and passes as readers.
 pub fn jobs_of<R: Source + Drop, G: Gate + Drop>(
     alloc: Global,
-    terms: &Terms<'_>,
+    run_params: &RunParams<'_>,
     readers: Vec<R>,
     gates: Vec<G>,
     passes: Vec<Pass>,
@@ -88,14 +88,14 @@ pub fn jobs_of<R: Source + Drop, G: Gate + Drop>(
     requires gates { vec_len gates ≡ vec_len readers }
     requires passes { vec_len passes ≡ vec_len readers }
     requires running { AllByRecursion (λ r. R.has_failed r ≡ false) readers.items }
-    requires streams { terms.now.layout.streams ≡ length readers.items }
+    requires streams { run_params.now.layout.streams ≡ length readers.items }
     ensures { IfOk result
-        (λ all. AreJobs terms.now 1 readers.items passes.items all.items) }
+        (λ all. AreJobs run_params.now 1 readers.items passes.items all.items) }
 {
     let mut all = Vec::with_capacity(alloc, readers.len())?;
     for ((reader, gate), pass) in readers.into_iter().zip(gates).zip(passes) {
         let stream = all.len() as u64 + 1;
-        all.push_reserved(StreamJobs::new(alloc, reader, gate, pass, stream, terms)?);
+        all.push_reserved(StreamJobs::new(alloc, reader, gate, pass, stream, run_params)?);
     }
     Ok(all)
 }

@@ -1,7 +1,7 @@
 //! What the threads of a stream do, what they give back, and what is promised of it.
 ghost use Rattle.std.specs.Prelude.{◌≡◌, true, false, Ok, IfErr, IfNone, IfOk, IfSome, MatchResult};
 ghost use Rattle.clause_store.specs.Passes.{store_of};
-ghost use Rattle.lrup_model.specs.Pass.{pass_place};
+ghost use Rattle.lrup_model.specs.Pass.{pass_caller_view};
 ghost use Rattle.rtrb.specs.Ring.{received, SameConsumer, SameProducer};
 ghost use Rattle.stream_check.specs.Checker.{IsReadyAt};
 ghost use Rattle.stream_ring.specs.Items.{EndsBeforeMark, SendsAll};
@@ -82,7 +82,7 @@ pub(crate) fn check<'a, W: Wait, G: Gate + Drop>(
     pass: Pass,
 ) -> Result<CheckedPass, OnceToken<'a, bool>>
     requires store { store_of pass ≡ store.now }
-    requires ready { IsReadyAt job.checker (pass_place pass.view) }
+    requires ready { IsReadyAt job.checker (pass_caller_view pass.view) }
     ensures leaves { IfErr result (λ token. (token.of ≡ signal.now.id) × (token.value ≡ false)) }
     ensures ring { IfOk result (λ e. SameConsumer job.receiver.consumer e.checked.consumer) }
     ensures judged { IfOk result (λ e. IfSome e.checked.report

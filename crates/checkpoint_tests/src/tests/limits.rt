@@ -19,7 +19,7 @@ fn save_copies<M: ClauseMap>(
     count: usize,
     paper: &mut Paper,
 ) -> Result<Result<(), SaveFault>, Fail>
-    requires layout { layout.now ≡ (M.place desk.old).caller.layout }
+    requires layout { layout.now ≡ (M.caller_view desk.old).caller.layout }
     requires running { paper.old.failed ≡ false }
 {
     if !desk.covers(1) {

@@ -26,8 +26,8 @@ pub(super) struct Case {
 
 /// Publishes `2` under an identity of the caller's own, and may retire it.
 pub(super) fn act<M: ClauseMap>(desk: &mut M, case: &Case)
-    requires { (M.place desk.old).caller.formula ≡ four }
-    ensures { (M.place desk.new).caller ≡ (M.place desk.old).caller }
+    requires { (M.caller_view desk.old).caller.formula ≡ four }
+    ensures { (M.caller_view desk.new).caller ≡ (M.caller_view desk.old).caller }
 {
     if let Some(id) = case.publishes
         && desk.owns(id)

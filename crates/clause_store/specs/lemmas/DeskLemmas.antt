@@ -2,12 +2,12 @@
 use Rattle.std.specs.Prelude.{◌++◌, []}
 use Rattle.std.proofs.Common.{refl, ◌∙◌}
 use Rattle.lrup_model.specs.Event.{History}
-use Rattle.lrup_model.specs.Place.{Tells}
-use Rattle.lrup_model.specs.lemmas.PassLemmas.{moves_none, moves_append, moves_tells}
+use Rattle.lrup_model.specs.CallerView.{CallerStep}
+use Rattle.lrup_model.specs.lemmas.PassLemmas.{moves_none, moves_append, moves_are_step}
 use Rattle.clause_store.specs.declared.desk.Desk.{Desk}
-use Rattle.clause_store.specs.Desks.{desk_place, DeskMoves}
+use Rattle.clause_store.specs.Desks.{desk_caller_view, DeskMoves}
 
--- The laws of a place, for a desk.
+-- The laws of a caller's view, for a desk.
 pub desk_none : (d : Desk) → DeskMoves d d []
 desk_none d = record { store = refl; moves = moves_none d.pass.view }
 
@@ -18,6 +18,6 @@ desk_append a b c es fs h k = record {
   moves = moves_append a.pass.view b.pass.view c.pass.view es fs h.moves k.moves;
 }
 
-pub desk_tells : (a b : Desk) (es : History) → DeskMoves a b es
-    → Tells (desk_place a) (desk_place b) es
-desk_tells a b es h = moves_tells a.pass.view b.pass.view es h.moves
+pub desk_step : (a b : Desk) (es : History) → DeskMoves a b es
+    → CallerStep (desk_caller_view a) (desk_caller_view b) es
+desk_step a b es h = moves_are_step a.pass.view b.pass.view es h.moves

@@ -1,8 +1,8 @@
 //! Interleavings that counters force: a thread goes on once the others have come as far, so each run meets them.
 ghost use Rattle.std.specs.Prelude.{◌≡◌, ◌<◌, ◌≤◌};
 ghost use Rattle.lrup_model.specs.History.{IsPublishable};
-ghost use Rattle.lrup_model.specs.Pass.{pass_place};
-ghost use Rattle.lrup_model.specs.Place.{IsKnown};
+ghost use Rattle.lrup_model.specs.Pass.{pass_caller_view};
+ghost use Rattle.lrup_model.specs.CallerView.{IsKnown};
 ghost use Rattle.test_support.specs.Worked.{four};
 ghost use Rattle.clause_store.specs.Passes.{store_of};
 ghost use Rattle.clause_store_tests.specs.Worked.{IsPassAt, ArePassesAt, raced};
@@ -55,7 +55,7 @@ fn read_replaced(
     read: &AtomicU64,
 ) -> (Pass, (bool, bool))
     requires at { IsPassAt four store.now pass }
-    requires known { IsKnown (pass_place pass.view) clip.now }
+    requires known { IsKnown (pass_caller_view pass.view) clip.now }
     ensures { IsPassAt four store.now result.0 }
 {
     let in_time = waits_for(replaced, 1);
@@ -74,7 +74,7 @@ fn replace_and_read<R: Threads + Abort>(
 ) -> (Pass, Pass)
     requires first { IsPassAt four store.now a }
     requires second { IsPassAt four store.now b }
-    requires known { IsKnown (pass_place a.view) clip.now }
+    requires known { IsKnown (pass_caller_view a.view) clip.now }
     ensures first { IsPassAt four store.now result.0 }
     ensures second { IsPassAt four store.now result.1 }
 {
@@ -87,7 +87,7 @@ fn replace_and_read<R: Threads + Abort>(
             ensures { IsPassAt four store.entry.now result.0 }
         { replace_six(store, b, replaced, read) },
         || -> (Pass, (bool, bool))
-            requires { IsPassAt four store.now a × IsKnown (pass_place a.view) clip.now }
+            requires { IsPassAt four store.now a × IsKnown (pass_caller_view a.view) clip.now }
             ensures { IsPassAt four store.entry.now result.0 }
         { read_replaced(store, a, clip, replaced, read) },
     );
@@ -106,7 +106,7 @@ fn clip_of_six<R: Abort>(rt: &R, store: &Store, a: &mut Pass, b: &mut Pass) -> C
     requires second { IsPassAt four store.now b.old }
     ensures first { IsPassAt four store.now a.new }
     ensures second { IsPassAt four store.now b.new }
-    ensures known { IsKnown (pass_place a.new.view) result }
+    ensures known { IsKnown (pass_caller_view a.new.view) result }
 {
     let answer = publish(store, b, 6, &[lit(-2)]);
     same(rt, answer, Some(Published::Done));

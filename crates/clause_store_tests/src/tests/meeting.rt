@@ -1,12 +1,12 @@
 //! A pass that meets all others in turn, and then all again, brings them to one history.
 ghost use Rattle.std.specs.Prelude.{◌≡◌, ◌∷◌, []};
 ghost use Rattle.std.specs.List.{AllByRecursion};
-ghost use Rattle.lrup_model.specs.Pass.{IsFair, MeetsInTurn};
-ghost use Rattle.clause_store.specs.Passes.{store_of, AreOf, HaveMet, views};
+ghost use Rattle.lrup_model.specs.Pass.{IsFair, SyncInTurn};
+ghost use Rattle.clause_store.specs.Passes.{store_of, AreOf, ShareHistory, views};
 ghost use Rattle.clause_store_tests.specs.Worked.{IsPassAt, ArePassesAt, raced};
 
 use super::{finds_raced, open_race, publish_raced, same};
-use clause_store::laws::{meeting_keeps, meets_twice};
+use clause_store::laws::{meeting_keeps, sync_twice};
 use clause_store::{Pass, Store};
 use lrup_model::Published;
 use std::process::Abort;
@@ -16,7 +16,7 @@ use std::test::Fail;
 fn meet_both(store: &Store, first: &mut Pass, second: &mut Pass, third: &mut Pass)
     requires { AreOf store.now (first.old ∷ second.old ∷ third.old ∷ []) }
     ensures of { AreOf store.now (first.new ∷ second.new ∷ third.new ∷ []) }
-    ensures turns { MeetsInTurn first.old.view (views (second.old ∷ third.old ∷ []))
+    ensures turns { SyncInTurn first.old.view (views (second.old ∷ third.old ∷ []))
         first.new.view (views (second.new ∷ third.new ∷ [])) }
 {
     store.meet(first, second);
@@ -28,10 +28,10 @@ fn meet_both(store: &Store, first: &mut Pass, second: &mut Pass, third: &mut Pas
 fn meet_both_twice(store: &Store, first: &mut Pass, second: &mut Pass, third: &mut Pass)
     requires { AreOf store.now (first.old ∷ second.old ∷ third.old ∷ []) }
     ensures of { AreOf store.now (first.new ∷ second.new ∷ third.new ∷ []) }
-    ensures one { HaveMet (views (first.new ∷ second.new ∷ third.new ∷ [])) }
+    ensures one { ShareHistory (views (first.new ∷ second.new ∷ third.new ∷ [])) }
     ensures fair { AllByRecursion IsFair (views (second.new ∷ third.new ∷ [])) }
 {
-    meets_twice();
+    sync_twice();
     meeting_keeps();
     meet_both(store, first, second, third);
     meet_both(store, first, second, third);

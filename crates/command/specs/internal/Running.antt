@@ -8,12 +8,12 @@ use Rattle.lrup_model.specs.Plain.{formula_of, plain_state}
 use Rattle.lrup_model.specs.State.{state}
 use Rattle.clause_store.specs.Passes.{AreOf, views}
 use Rattle.lrup_text.specs.ReadOut.{SourceView}
-use Rattle.runs.specs.Headline.{HaveOneHistory}
-use Rattle.runs.specs.Streams.{TermsValue}
+use Rattle.runs.specs.SequentialConsistency.{HaveOneHistory}
+use Rattle.runs.specs.Streams.{RunParamsValue}
 use Rattle.stream_check.specs.DroppedValue.{DroppedValue}
 use Rattle.stream_check.specs.declared.report.Report.{Report}
 use Rattle.portfolio.specs.Histories.{IsRunOf, way_of}
-use Rattle.portfolio.specs.Outcomes.{terms_of}
+use Rattle.portfolio.specs.Outcomes.{run_params_of}
 use Rattle.command.specs.Commands.{HasNoFault}
 use Rattle.command.specs.declared.fault.CommandFault.{CommandFault}
 use Rattle.command.specs.declared.fault.CommandFault.TheVariants as faults
@@ -47,11 +47,11 @@ CanBeSaved (lefts.Plain left) = Fits left.map.layout (formula_of left.map)
 
 -- It is a run that has these reports, and these clauses were left by its history.
 pub record StandsBehind {R : Type 0} (view : SourceView R) (serial : Bool) (formula : Cnf)
-    (terms : TermsValue) (firsts : List R) (reports : List Report)
+    (run_params : RunParamsValue) (firsts : List R) (reports : List Report)
     (left : LeftClauses) : Type 0 where
   pub lasts : List R
-  pub ran : IsRunOf (way_of serial) view formula terms firsts lasts reports (dropped_in left)
-  pub layout : left_layout left ≡ terms.layout
+  pub ran : IsRunOf (way_of serial) view formula run_params firsts lasts reports (dropped_in left)
+  pub layout : left_layout left ≡ run_params.layout
   pub has : HasHistory formula ran.run.history left
 
 -- why streams aren't checked: there is no layout
@@ -70,8 +70,8 @@ IsRunCause serial layout faults.Memory = Unit {0}
 IsRunCause serial layout fault = ⊥
 
 -- the same, of a setup and so many streams
-abbrev pub terms_on : Setup → ℕ → TermsValue
-terms_on setup streams = terms_of setup.options setup.cube.now setup.formula.now streams
+abbrev pub run_params_on : Setup → ℕ → RunParamsValue
+run_params_on setup streams = run_params_of setup.options setup.cube.now setup.formula.now streams
 
 -- why a file that was opened wasn't read to its end
 abbrev pub IsFailedRead : {R : Type 0} → SourceView R → R → CommandFault → Type 0

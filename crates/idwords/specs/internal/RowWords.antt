@@ -3,23 +3,23 @@ use Rattle.std.specs.Prelude.{◌≡◌, ◌+◌, ◌*◌, ℕ, ℤ, List, [], �
 use Rattle.lrup_model.specs.Clause.{Clause}
 use Rattle.lrup_model.specs.State as states
 use Rattle.lrup_model.specs.State.{Slot}
-use Rattle.lrup_model.specs.Place.{Kept}
+use Rattle.lrup_model.specs.CallerView.{StoredClause}
 use Rattle.lrup_model.specs.Literal.{code_of}
 
 -- an identity's word: 0 is vacant, 1 live and 2 retired
 abbrev pub identity_word : ℕ → ℕ → ℕ → ℕ
 identity_word state len start = state + 4 * len + 4194304 * start
 
--- the word of a clause that is kept
-abbrev pub kept_word : ℕ → Option Kept → ℕ
-kept_word state None = 0
-kept_word state (Some kept) = identity_word state (length kept.literals) kept.start
+-- the word of a stored clause
+abbrev pub stored_word : ℕ → Option StoredClause → ℕ
+stored_word state None = 0
+stored_word state (Some stored) = identity_word state (length stored.literals) stored.start
 
--- the word of what the map has under an identity, whose clause is kept so
-abbrev pub word_of : Slot → Option Kept → ℕ
+-- the word of what the map has under an identity, whose stored clause is this
+abbrev pub word_of : Slot → Option StoredClause → ℕ
 word_of states.absent kept = 0
-word_of (states.live clause) kept = kept_word 1 kept
-word_of (states.retired clause) kept = kept_word 2 kept
+word_of (states.live clause) kept = stored_word 1 kept
+word_of (states.retired clause) kept = stored_word 2 kept
 
 -- their word: the code of the first in its lower half, and of the other in its upper
 abbrev pub literal_word : ℤ → Option ℤ → ℕ

@@ -1,4 +1,4 @@
--- How a seat's value comes from its parts, and what it keeps (this project's own).
+-- How a seat's value comes from its thread states, and what it keeps (this project's own).
 use Rattle.std.specs.Prelude.{◌≡◌, ◌+◌, ◌≤◌, ℕ, List, [], ◌∷◌, length}
 use Rattle.atomic_table.specs.Seated.{TableId}
 use Rattle.atomic_table.specs.Table.{Me}
@@ -6,12 +6,12 @@ use Rattle.lrup_model.specs.Layout.{row_words}
 use Rattle.lrup_model.specs.Event.{spent}
 use Rattle.lrup_model.specs.Pass.{IsFair}
 use Rattle.idwords.specs.Spelling.{top_after}
-use Rattle.idwords.specs.Seats.{Part, SeatValue}
-use Rattle.idwords.specs.internal.Rule.{part_stream}
+use Rattle.idwords.specs.Seats.{ThreadState, SeatValue}
+use Rattle.idwords.specs.internal.Rule.{thread_stream}
 
 -- no stream's
-abbrev no_part : Part
-no_part = record {
+abbrev no_thread : ThreadState
+no_thread = record {
   view = record {
     caller = record {
       formula = record { vars = 0; clauses = [] };
@@ -26,33 +26,33 @@ no_part = record {
   draft = [];
 }
 
--- the part that comes first
-abbrev pub first_part : List Part → Part
-first_part [] = no_part
-first_part (part ∷ parts) = part
+-- the thread state that comes first
+abbrev pub first_thread : List ThreadState → ThreadState
+first_thread [] = no_thread
+first_thread (thread ∷ threads) = thread
 
-abbrev pub first_only : List Part → List Part
+abbrev pub first_only : List ThreadState → List ThreadState
 first_only [] = []
-first_only (part ∷ parts) = part ∷ []
+first_only (thread ∷ threads) = thread ∷ []
 
-abbrev pub others : List Part → List Part
+abbrev pub others : List ThreadState → List ThreadState
 others [] = []
-others (part ∷ parts) = parts
+others (thread ∷ threads) = threads
 
 -- what the seat's stream knows
-abbrev pub part_of : SeatValue → Part
-part_of seat = record { view = seat.view; top = seat.top; draft = seat.draft }
+abbrev pub thread_of : SeatValue → ThreadState
+thread_of seat = record { view = seat.view; top = seat.top; draft = seat.draft }
 
--- the seat has one part, fair and with a draft inside its room, and keeps the numbers of its top, its draft and the end of its room
-pub record IsSeated {S : Type 0} (table : TableId) (me : Me S (List Part))
+-- the seat has one thread state, fair and with a draft inside its room, and keeps the numbers of its top, its draft and the end of its room
+pub record IsSeated {S : Type 0} (table : TableId) (me : Me S (List ThreadState))
     (top drafted room : ℕ) : Type 0 where
-  pub one : me ≡ (first_part me.0 ∷ [], [])
-  pub fair : IsFair (first_part me.0).view
-  pub words : table.words ≡ row_words (first_part me.0).view.caller.layout
-  pub top_is : (first_part me.0).top ≡ top_after (first_part me.0).view.caller.layout
-      (part_stream (first_part me.0)) (first_part me.0).view.mine
-  pub draft_is : drafted ≡ length (first_part me.0).draft
-  pub top_kept : top ≡ (first_part me.0).top
-  pub room_kept : room + spent (part_stream (first_part me.0)) (first_part me.0).view.mine
-      ≡ (first_part me.0).view.caller.layout.room
+  pub one : me ≡ (first_thread me.0 ∷ [], [])
+  pub fair : IsFair (first_thread me.0).view
+  pub words : table.words ≡ row_words (first_thread me.0).view.caller.layout
+  pub top_is : (first_thread me.0).top ≡ top_after (first_thread me.0).view.caller.layout
+      (thread_stream (first_thread me.0)) (first_thread me.0).view.mine
+  pub draft_is : drafted ≡ length (first_thread me.0).draft
+  pub top_kept : top ≡ (first_thread me.0).top
+  pub room_kept : room + spent (thread_stream (first_thread me.0)) (first_thread me.0).view.mine
+      ≡ (first_thread me.0).view.caller.layout.room
   pub within : drafted ≤ room

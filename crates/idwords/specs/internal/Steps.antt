@@ -1,36 +1,36 @@
--- What each step tells the part that makes it (this project's own).
+-- What each step tells the thread state that makes it (this project's own).
 use Rattle.std.specs.Prelude.{◌≡◌, ◌≢◌, ◌↔◌, ◌+◌, ◌==◌, ◌++◌, ℕ, ℤ, List, [], ◌∷◌, Option, IfSome, length, if◌then◌else◌}
 use Rattle.atomic_table.specs.Table.{Step, Me}
 use Rattle.lrup_model.specs.Event as events
 use Rattle.lrup_model.specs.State.{state, absent, IsLive}
 use Rattle.lrup_model.specs.Layout.{row_words}
-use Rattle.lrup_model.specs.Pass.{kept_in, Meets}
+use Rattle.lrup_model.specs.Pass.{stored_in, SyncViews}
 use Rattle.lrup_model.specs.declared.clause_map.Published.{Published}
 use Rattle.lrup_model.specs.declared.clause_map.Published.TheVariants as publishing
 use Rattle.lrup_model.specs.declared.clause_map.Retired.TheVariants as retiring
 use Rattle.lrup_model.specs.Literal.{code_of, max_variable, IsCode}
-use Rattle.idwords.specs.Words.{word_state, words_for, pair_of, ShowsKept, reply_in}
+use Rattle.idwords.specs.Words.{word_state, words_for, pair_of, ShowsStored, reply_in}
 use Rattle.idwords.specs.internal.RowWords.{word_of, literal_word}
 use Rattle.idwords.specs.Spelling.{LieWithin}
-use Rattle.idwords.specs.Seats.{Part}
-use Rattle.idwords.specs.internal.Rule.{part_stream}
+use Rattle.idwords.specs.Seats.{ThreadState}
+use Rattle.idwords.specs.internal.Rule.{thread_stream}
 use Rattle.idwords.specs.RowCalls.{Calls, IsText}
 
--- a fetch: the word found shows the clause that is kept, and spells the reply
-pub record Looks (id : ℕ) (old : Part) (word : ℕ) (new : Part) : Type 0 where
-  pub shows : ShowsKept (kept_in new.view.spelt id) word
+-- a fetch: the word found shows the stored clause, and spells the reply
+pub record Looks (id : ℕ) (old : ThreadState) (word : ℕ) (new : ThreadState) : Type 0 where
+  pub shows : ShowsStored (stored_in new.view.spelt id) word
   pub calls : Calls old.view new.view
-      (events.fetch (part_stream old) id (reply_in (kept_in new.view.spelt id) word))
+      (events.fetch (thread_stream old) id (reply_in (stored_in new.view.spelt id) word))
   pub top : new.top ≡ old.top
   pub draft : new.draft ≡ old.draft
 
 -- a load without an event
-pub record Reads (place : ℕ) (old : Part) (word : ℕ) (new : Part) : Type 0 where
+pub record Reads (place : ℕ) (old : ThreadState) (word : ℕ) (new : ThreadState) : Type 0 where
   pub same : new ≡ old
   pub text : IsText old.view.spelt place word
 
 -- the literal or two whose word this is are added to the draft
-abbrev pub Writes : ℕ → Part → Part → Type 0
+abbrev pub Writes : ℕ → ThreadState → ThreadState → Type 0
 Writes word old new =
     (l : ℤ) (other : Option ℤ) → IsCode max_variable (code_of l)
     → IfSome other (λ k. IsCode max_variable (code_of k)) → word ≡ literal_word l other
@@ -41,37 +41,37 @@ abbrev pub published_at : ℕ → Published
 published_at word = if word == 0 then publishing.Done else publishing.Taken
 
 -- a publish of the draft, which is empty then
-pub record Claims (id : ℕ) (old : Part) (word : ℕ) (new : Part) : Type 0 where
+pub record Claims (id : ℕ) (old : ThreadState) (word : ℕ) (new : ThreadState) : Type 0 where
   pub calls : Calls old.view new.view
-      (events.publish (part_stream old) id old.draft (published_at word))
+      (events.publish (thread_stream old) id old.draft (published_at word))
   pub absent : (word ≡ 0) ↔ (state old.view.caller.formula old.view.mine id ≡ absent)
   pub top : new.top ≡ (if word == 0 then old.top + words_for (length old.draft) else old.top)
   pub draft : new.draft ≡ []
 
 -- a retire that finds nothing live
-pub record FindsNone (id : ℕ) (old new : Part) : Type 0 where
-  pub calls : Calls old.view new.view (events.retire (part_stream old) id retiring.NotLive)
+pub record FindsNone (id : ℕ) (old new : ThreadState) : Type 0 where
+  pub calls : Calls old.view new.view (events.retire (thread_stream old) id retiring.NotLive)
   pub none : ¬ IsLive (state old.view.caller.formula old.view.mine id)
   pub top : new.top ≡ old.top
   pub draft : new.draft ≡ old.draft
 
 -- the look of a retire: a word that isn't live ends it, and at a live one nothing has happened yet
-pub record Finds (id : ℕ) (old : Part) (word : ℕ) (new : Part) : Type 0 where
+pub record Finds (id : ℕ) (old : ThreadState) (word : ℕ) (new : ThreadState) : Type 0 where
   pub own :
-      word ≡ word_of (state old.view.caller.formula old.view.mine id) (kept_in old.view.spelt id)
+      word ≡ word_of (state old.view.caller.formula old.view.mine id) (stored_in old.view.spelt id)
   pub live : word_state word ≡ 1 → new ≡ old
   pub none : word_state word ≢ 1 → FindsNone id old new
 
 -- a retire of a live clause
-pub record Retires (id : ℕ) (old new : Part) : Type 0 where
-  pub calls : Calls old.view new.view (events.retire (part_stream old) id retiring.Done)
+pub record Retires (id : ℕ) (old new : ThreadState) : Type 0 where
+  pub calls : Calls old.view new.view (events.retire (thread_stream old) id retiring.Done)
   pub live : IsLive (state old.view.caller.formula old.view.mine id)
   pub top : new.top ≡ old.top
   pub draft : new.draft ≡ old.draft
 
--- two parts have met
-pub record Met (old old' new new' : Part) : Type 0 where
-  pub meets : Meets old.view old'.view new.view new'.view
+-- two thread states were synced: both have seen the longer history
+pub record SyncThreads (old old' new new' : ThreadState) : Type 0 where
+  pub meets : SyncViews old.view old'.view new.view new'.view
   pub within : LieWithin (row_words new.view.caller.layout) new.view.spelt
   pub within' : LieWithin (row_words new'.view.caller.layout) new'.view.spelt
   pub top : new.top ≡ old.top
@@ -79,23 +79,25 @@ pub record Met (old old' new new' : Part) : Type 0 where
   pub top' : new'.top ≡ old'.top
   pub draft' : new'.draft ≡ old'.draft
 
--- a seat of one part has one part afterwards
+-- a seat of one thread state has one thread state afterwards
 module _ {S : Type 0} where
-  abbrev pub Changes : (ℕ → Part → ℕ → Part → Type 0) → Step S → Me S (List Part) → ℕ
-      → Me S (List Part) → Type 0
+  abbrev pub Changes : (ℕ → ThreadState → ℕ → ThreadState → Type 0) → Step S
+      → Me S (List ThreadState) → ℕ
+      → Me S (List ThreadState) → Type 0
   Changes R step before word after =
-      (old : Part) → before.0 ≡ old ∷ []
-      → (new : Part) × (after.0 ≡ new ∷ []) × (after.1 ≡ before.1) × R step.word old word new
+      (old : ThreadState) → before.0 ≡ old ∷ []
+      → (new : ThreadState) × (after.0 ≡ new ∷ []) × (after.1 ≡ before.1) × R step.word old word new
 
   -- one that stores
-  abbrev pub Stores : Step S → Me S (List Part) → ℕ → Me S (List Part) → Type 0
+  abbrev pub Stores : Step S → Me S (List ThreadState) → ℕ → Me S (List ThreadState) → Type 0
   Stores step before word after =
-      (old : Part) → before.0 ≡ old ∷ []
-      → (new : Part) × (after.0 ≡ new ∷ []) × (after.1 ≡ before.1) × Writes step.first old new
+      (old : ThreadState) → before.0 ≡ old ∷ []
+      → (new : ThreadState) × (after.0 ≡ new ∷ []) × (after.1 ≡ before.1)
+      × Writes step.first old new
 
-  -- a seat of two parts
-  abbrev pub Joined : Step S → Me S (List Part) → ℕ → Me S (List Part) → Type 0
+  -- a seat of two thread states
+  abbrev pub Joined : Step S → Me S (List ThreadState) → ℕ → Me S (List ThreadState) → Type 0
   Joined step before word after =
-      (old old' : Part) → before.0 ≡ old ∷ old' ∷ []
-      → (new new' : Part) × (after.0 ≡ new ∷ new' ∷ []) × (after.1 ≡ before.1)
-      × Met old old' new new'
+      (old old' : ThreadState) → before.0 ≡ old ∷ old' ∷ []
+      → (new new' : ThreadState) × (after.0 ≡ new ∷ new' ∷ []) × (after.1 ≡ before.1)
+      × SyncThreads old old' new new'

@@ -5,32 +5,32 @@ use Rattle.std.specs.Prelude.{◌≢◌, ◌-◌, ◌<◌, slice_index, slice_se
 use Rattle.lrup_model.specs.Clause.{Clause}
 use Rattle.lrup_model.specs.Layout.{LayoutValue, IsLayout, last_identity, max_row_words}
 use Rattle.lrup_model.specs.Plain as plain
-use Rattle.lrup_model.specs.Plain.{Stored, Plain, formula_of}
+use Rattle.lrup_model.specs.Plain.{PlainSlot, Plain, formula_of}
 use Rattle.lrup_model.specs.declared.plain_map.Entry.{Entry}
 use Rattle.lrup_model.specs.declared.plain_map.Entry.TheVariants as entries
 use Rattle.lrup_model.specs.Formula.{Cnf}
 use Rattle.lrup_model.specs.Entailment.{IsDerived}
 use Rattle.lrup_model.specs.State.{IsLive}
-use Rattle.lrup_model.specs.Place.{Kept}
+use Rattle.lrup_model.specs.CallerView.{StoredClause}
 use Rattle.lrup_model.specs.declared.clause_map.Fetched.{Fetched}
 use Rattle.lrup_model.specs.declared.clause_map.Fetched.TheVariants as fetched
 use Rattle.lrup_model.specs.declared.clause_map.Published.{Published}
 use Rattle.lrup_model.specs.declared.clause_map.Published.TheVariants as publishing
 use Rattle.lrup_model.specs.declared.clause_map.Retired.{Retired}
 use Rattle.lrup_model.specs.declared.clause_map.Retired.TheVariants as retiring
-use Rattle.lrup_model.specs.Plain.{vacant, live, retired, slot_of, stored_at}
+use Rattle.lrup_model.specs.Plain.{vacant, live, retired, slot_of, plain_slot_at}
 
 -- what an entry stands for
-abbrev pub stored_in : List ℤ → Entry → Stored
-stored_in literals entries.Vacant = plain.vacant
-stored_in literals (entries.Live start len) =
+abbrev pub plain_slot_in : List ℤ → Entry → PlainSlot
+plain_slot_in literals entries.Vacant = plain.vacant
+plain_slot_in literals (entries.Live start len) =
     plain.live (record { start = start; literals = slice_range literals start (start + len) })
-stored_in literals (entries.Retired start len) =
+plain_slot_in literals (entries.Retired start len) =
     plain.retired (record { start = start; literals = slice_range literals start (start + len) })
 
 abbrev pub plain_of : LayoutValue → List Entry → List ℤ → List ℕ → Plain
 plain_of layout entry_list literals free =
-    record { layout = layout; stored = map (stored_in literals) entry_list; free = free }
+    record { layout = layout; plain_slots = map (plain_slot_in literals) entry_list; free = free }
 
 -- the entry's literals lie in the list
 abbrev pub LiesWithin : ℕ → Entry → Type 0
@@ -41,13 +41,14 @@ LiesWithin count (entries.Retired start len) = start + len ≤ count
 -- the formula's clauses are live, for good
 abbrev pub IsFormulaLive : Plain → Type 0
 IsFormulaLive plain =
-    (id : ℕ) → 0 < id → id ≤ plain.layout.clauses → (kept : Kept) × (stored_at plain id ≡ live kept)
+    (id : ℕ) → 0 < id → id ≤ plain.layout.clauses
+    → (stored : StoredClause) × (plain_slot_at plain id ≡ live stored)
 
 -- the clause of what is stored follows from the formula
-abbrev pub StoresClause : Cnf → Stored → Type 0
+abbrev pub StoresClause : Cnf → PlainSlot → Type 0
 StoresClause formula vacant = Unit {0}
-StoresClause formula (live kept) = IsDerived formula kept.literals
-StoresClause formula (retired kept) = IsDerived formula kept.literals
+StoresClause formula (live stored) = IsDerived formula stored.literals
+StoresClause formula (retired stored) = IsDerived formula stored.literals
 
 -- capacity is what the list of literals has memory for: no publish takes more
 pub record IsPlainSound (layout : LayoutValue) (entry_list : List Entry) (literals : List ℤ)
@@ -61,7 +62,7 @@ pub record IsPlainSound (layout : LayoutValue) (entry_list : List Entry) (litera
   pub formula : IsFormulaLive (plain_of layout entry_list literals free)
   pub clauses : AllByRecursion
       (StoresClause (formula_of (plain_of layout entry_list literals free)))
-      (map (stored_in literals) entry_list)
+      (map (plain_slot_in literals) entry_list)
 
 -- the literals of all clauses, one clause after the other
 abbrev pub flat : List Clause → List ℤ
@@ -75,30 +76,32 @@ entries_from from (clause ∷ clauses) =
     entries.Live from (length clause) ∷ entries_from (from + length clause) clauses
 
 -- what a fetch of the identity answers where this is stored
-abbrev pub fetched_of : ℕ → Stored → Fetched
+abbrev pub fetched_of : ℕ → PlainSlot → Fetched
 fetched_of id vacant = fetched.Vacant
-fetched_of id (live kept) =
-    fetched.Live (record { id = id; len = length kept.literals; start = kept.start })
-fetched_of id (retired kept) = fetched.Retired
+fetched_of id (live stored) =
+    fetched.Live (record { id = id; len = length stored.literals; start = stored.start })
+fetched_of id (retired stored) = fetched.Retired
 
 -- the map after a publish, and after a retire, by its answer; index is the stream's place in the list of rooms, from 0 on
 abbrev pub AfterPublish : Plain → Plain → ℕ → ℕ → Clause → Published → Type 0
 AfterPublish old new index id clause publishing.Done =
-    (index < length old.free) × (id < length old.stored) × (stored_at old id ≡ vacant)
+    (index < length old.free) × (id < length old.plain_slots) × (plain_slot_at old id ≡ vacant)
     × (start : ℕ) × (new
     ≡ record {
       layout = old.layout;
-      stored = slice_set old.stored id (live (record { start = start; literals = clause }));
+      plain_slots =
+          slice_set old.plain_slots id (live (record { start = start; literals = clause }));
       free = slice_set old.free index (slice_index old.free index - length clause);
     })
-AfterPublish old new index id clause publishing.Taken = (stored_at old id ≢ vacant) × (new ≡ old)
+AfterPublish old new index id clause publishing.Taken =
+    (plain_slot_at old id ≢ vacant) × (new ≡ old)
 
 abbrev pub AfterRetire : Plain → Plain → ℕ → Retired → Type 0
 AfterRetire old new id retiring.Done =
-    (id < length old.stored) × (kept : Kept) × (stored_at old id ≡ live kept)
+    (id < length old.plain_slots) × (stored : StoredClause) × (plain_slot_at old id ≡ live stored)
     × (new ≡ record {
       layout = old.layout;
-      stored = slice_set old.stored id (retired kept);
+      plain_slots = slice_set old.plain_slots id (retired stored);
       free = old.free;
     })
-AfterRetire old new id retiring.NotLive = (¬ IsLive (slot_of (stored_at old id))) × (new ≡ old)
+AfterRetire old new id retiring.NotLive = (¬ IsLive (slot_of (plain_slot_at old id))) × (new ≡ old)

@@ -1,4 +1,4 @@
--- Lemmas on passes: the laws of a place at a clause map, what stays spelt, one call, and meeting.
+-- Lemmas on passes: the laws of a caller's view at a clause map, what stays spelt, one call, and meeting.
 use Rattle.std.proofs.Common.{◌≡◌, ◌≢◌, ℕ, ◌+◌, ◌≤◌, List, [], ◌∷◌, ◌++◌, length, Option, None, Some, refl, sym, ap, ap₂, subst, ◌∙◌, arith, append_assoc, append-nil}
 use Rattle.std.specs.List.{AllByRecursion}
 use Rattle.std.proofs.lemmas.List.{append_cancel_right}
@@ -11,16 +11,16 @@ use Rattle.lrup_model.specs.Event.{Event, Reply, History, stream_of, own, spent}
 use Rattle.lrup_model.specs.State.{State, Slot, absent, live, retired, IsRetired, Answers, opening, run, state}
 use Rattle.lrup_model.specs.History.{IsLegal}
 use Rattle.lrup_model.specs.lemmas.RunningLemmas.{run-append, own-append, spent-append, callers-append}
-use Rattle.lrup_model.specs.Place.{Caller, IsCaller, Kept, Place, ClipValue, literals_in, clip_clause, IsKnown, Tells, AllFollow, KeepsSpelt}
+use Rattle.lrup_model.specs.CallerView.{Caller, IsCaller, StoredClause, CallerView, ClipValue, literals_in, clip_clause, IsKnown, CallerStep, AllFollow, KeepsSpelt}
 use Rattle.lrup_model.specs.Replies.{AnswersOwn, AnswersFormula}
-use Rattle.lrup_model.specs.Pass.{View, Spelling, kept_in, Spells, IsSpelt, IsFair, PassMoves, pass_place, Meets, MeetsInTurn, AreMet, AllSaw}
+use Rattle.lrup_model.specs.Pass.{View, Spelling, stored_in, Spells, IsSpelt, IsFair, PassMoves, pass_caller_view, SyncViews, SyncInTurn, AreSynced, AllSaw}
 use Rattle.lrup_model.specs.Laws.{Advances}
 use Rattle.lrup_model.specs.lemmas.HistoryLemmas.{HasClause}
 use Rattle.lrup_model.specs.lemmas.EntailmentLemmas.{clauses_follow}
 use Rattle.lrup_model.specs.lemmas.EntryLemmas.{run-advances, has_stays}
 use Rattle.lrup_model.specs.lemmas.HistoryLemmas.{legal-front, legal-back, formula_stays, own-mine, own-none, spent-own, run-own}
 
--- The laws of a place
+-- The laws of a caller's view
 
 pub moves_none : (v : View) → PassMoves v v []
 moves_none v = record {
@@ -29,7 +29,7 @@ moves_none v = record {
   mine = sym (append-nil v.mine);
   seen = ([], sym (append-nil v.seen));
   room = omega arith;
-  spelt = λ id kept there. there;
+  spelt = λ id stored there. there;
   fair = λ fair. fair;
   fair_after = λ some. absurd (some refl);
   follow = λ all. all;
@@ -51,17 +51,17 @@ moves_append a b c es fs ab bc =
       mine = bc.mine ∙ ap (λ (h : History). h ++ fs) ab.mine ∙ append_assoc a.mine es fs;
       seen = (ab.seen.0 ++ bc.seen.0, bc.seen.1 ∙ ap (λ (h : History). h ++ bc.seen.0) ab.seen.1 ∙ append_assoc a.seen ab.seen.0 bc.seen.0);
       room =
-          let last : (pass_place c).room + spent a.caller.stream fs ≡ (pass_place b).room = subst (λ (s : ℕ). (pass_place c).room + spent s fs ≡ (pass_place b).room) stream bc.room in
+          let last : (pass_caller_view c).room + spent a.caller.stream fs ≡ (pass_caller_view b).room = subst (λ (s : ℕ). (pass_caller_view c).room + spent s fs ≡ (pass_caller_view b).room) stream bc.room in
           omega (arith, last, ab.room, spent-append a.caller.stream es fs);
-      spelt = λ id kept there. bc.spelt id kept (ab.spelt id kept there);
+      spelt = λ id stored there. bc.spelt id stored (ab.spelt id stored there);
       fair = λ fair. bc.fair (ab.fair fair);
       fair_after = fair_append a b c es fs ab bc;
       follow = λ all. bc.follow (ab.follow all);
     }
 
-pub moves_tells : (a b : View) (es : History) → PassMoves a b es
-    → Tells (pass_place a) (pass_place b) es
-moves_tells a b es moves = record {
+pub moves_are_step : (a b : View) (es : History) → PassMoves a b es
+    → CallerStep (pass_caller_view a) (pass_caller_view b) es
+moves_are_step a b es moves = record {
   caller = moves.caller;
   callers = moves.callers;
   room = moves.room;
@@ -71,66 +71,69 @@ moves_tells a b es moves = record {
   follow = moves.follow;
 }
 
-abbrev kept_from : ℕ → Clause → Option Kept
-kept_from start c = Some (record { start = start; literals = c })
+abbrev stored_from : ℕ → Clause → Option StoredClause
+stored_from start c = Some (record { start = start; literals = c })
 
--- a clip stays known while what is kept for it stays
-pub known_stays : (a b : Place) (es : History) (clip : ClipValue) → Tells a b es → IsKnown a clip
+-- a clip stays known while what is stored for it stays
+pub known_stays : (a b : CallerView) (es : History) (clip : ClipValue) → CallerStep a b es
+    → IsKnown a clip
     → IsKnown b clip × (clip_clause b clip ≡ clip_clause a clip)
-known_stays a b es clip tells known =
-    let kept : b.spelt clip.id ≡ kept_from clip.start (clip_clause a clip) = tells.spelt clip.id (record { start = clip.start; literals = clip_clause a clip }) known.kept in
-    let text : clip_clause b clip ≡ clip_clause a clip = ap literals_in kept in (
+known_stays a b es clip step known =
+    let stored : b.spelt clip.id ≡ stored_from clip.start (clip_clause a clip) = step.spelt clip.id (record { start = clip.start; literals = clip_clause a clip }) known.stored in
+    let text : clip_clause b clip ≡ clip_clause a clip = ap literals_in stored in (
       record {
-        kept = kept ∙ ap (kept_from clip.start) (sym text);
+        stored = stored ∙ ap (stored_from clip.start) (sym text);
         len = known.len ∙ ap length (sym text);
       },
       text,
     )
 
 -- where all clauses of a place follow from the formula, the clause of a known clip does
-pub known_follows : (p : Place) (clip : ClipValue) → AllFollow p → IsKnown p clip
+pub known_follows : (p : CallerView) (clip : ClipValue) → AllFollow p → IsKnown p clip
     → IsDerived p.caller.formula (clip_clause p clip)
-known_follows p clip all known = all.each clip.id (record { start = clip.start; literals = clip_clause p clip }) known.kept
+known_follows p clip all known = all.each clip.id (record { start = clip.start; literals = clip_clause p clip }) known.stored
 
 -- What is spelt
 
-spelt_has : (slot : Slot) (kept : Kept) → Spells slot (Some kept) → HasClause slot kept.literals
-spelt_has absent kept spells = absurd spells
-spelt_has (live c) kept spells = sym spells
-spelt_has (retired c) kept spells = sym spells
+spelt_has : (slot : Slot) (stored : StoredClause) → Spells slot (Some stored)
+    → HasClause slot stored.literals
+spelt_has absent stored spells = absurd spells
+spelt_has (live c) stored spells = sym spells
+spelt_has (retired c) stored spells = sym spells
 
--- the clause that is kept is the slot's
-pub kept_has : (f : Cnf) (h : History) (xs : List Spelling) (id : ℕ) (kept : Kept) → IsSpelt f h xs
-    → kept_in xs id ≡ Some kept → HasClause (state f h id) kept.literals
-kept_has f h xs id kept spelt there = spelt_has (state f h id) kept (subst (λ (k : Option Kept). Spells (state f h id) k) there (spelt.slots id))
+-- the stored clause is the slot's
+pub stored_has : (f : Cnf) (h : History) (xs : List Spelling) (id : ℕ) (stored : StoredClause)
+    → IsSpelt f h xs
+    → stored_in xs id ≡ Some stored → HasClause (state f h id) stored.literals
+stored_has f h xs id stored spelt there = spelt_has (state f h id) stored (subst (λ (k : Option StoredClause). Spells (state f h id) k) there (spelt.slots id))
 
-pub fair_follows : (v : View) → IsFair v → AllFollow (pass_place v)
+pub fair_follows : (v : View) → IsFair v → AllFollow (pass_caller_view v)
 fair_follows v fair = record {
-  each = λ id kept there.
-      clauses_follow v.caller.formula v.caller.layout v.seen id kept.literals fair.caller.formula fair.legal.events
-      (kept_has v.caller.formula v.seen v.spelt id kept fair.spelt there);
+  each = λ id stored there.
+      clauses_follow v.caller.formula v.caller.layout v.seen id stored.literals fair.caller.formula fair.legal.events
+      (stored_has v.caller.formula v.seen v.spelt id stored fair.spelt there);
 }
 
--- what is kept for a slot that has a clause
-kept_for : (slot : Slot) (c : Clause) (o : Option Kept) → HasClause slot c → Spells slot o
-    → (kept : Kept) × (o ≡ Some kept) × (kept.literals ≡ c)
-kept_for absent c o has spells = absurd has
-kept_for (live d) c None has spells = absurd spells
-kept_for (live d) c (Some kept) has spells = (kept, refl, spells ∙ has)
-kept_for (retired d) c None has spells = absurd spells
-kept_for (retired d) c (Some kept) has spells = (kept, refl, spells ∙ has)
+-- what is stored for a slot that has a clause
+stored_for : (slot : Slot) (c : Clause) (o : Option StoredClause) → HasClause slot c → Spells slot o
+    → (stored : StoredClause) × (o ≡ Some stored) × (stored.literals ≡ c)
+stored_for absent c o has spells = absurd has
+stored_for (live d) c None has spells = absurd spells
+stored_for (live d) c (Some stored) has spells = (stored, refl, spells ∙ has)
+stored_for (retired d) c None has spells = absurd spells
+stored_for (retired d) c (Some stored) has spells = (stored, refl, spells ∙ has)
 
 pub spelt_stays : (f : Cnf) (p : LayoutValue) (seen more : History) (xs ys : List Spelling) (id : ℕ)
-    (kept : Kept)
+    (stored : StoredClause)
     → IsLegal f p (seen ++ more) → IsSpelt f seen xs → IsSpelt f (seen ++ more) ys
-    → kept_in xs id ≡ Some kept
-    → (later : Kept) × (kept_in ys id ≡ Some later) × (later.literals ≡ kept.literals)
-spelt_stays f p seen more xs ys id kept legal before after there =
+    → stored_in xs id ≡ Some stored
+    → (later : StoredClause) × (stored_in ys id ≡ Some later) × (later.literals ≡ stored.literals)
+spelt_stays f p seen more xs ys id stored legal before after there =
     let advances : Advances (state f seen id) (run (state f seen) more id) = run-advances f p (state f seen) more id (legal-back f p (opening f) seen more legal.events) in
     let joined : run (state f seen) more id ≡ state f (seen ++ more) id = sym (ap (λ (m : State). m id) (run-append (opening f) seen more)) in
-    let has : HasClause (state f (seen ++ more) id) kept.literals =
-    has_stays (state f seen id) (state f (seen ++ more) id) kept.literals (subst (λ (x : Slot). Advances (state f seen id) x) joined advances) (kept_has f seen xs id kept before there) in
-    kept_for (state f (seen ++ more) id) kept.literals (kept_in ys id) has (after.slots id)
+    let has : HasClause (state f (seen ++ more) id) stored.literals =
+    has_stays (state f seen id) (state f (seen ++ more) id) stored.literals (subst (λ (x : Slot). Advances (state f seen id) x) joined advances) (stored_has f seen xs id stored before there) in
+    stored_for (state f (seen ++ more) id) stored.literals (stored_in ys id) has (after.slots id)
 
 -- One pass after another
 
@@ -143,7 +146,7 @@ spent_within v fair =
 
 room_left : (old new : View) (es : History) → IsFair new → new.caller ≡ old.caller
     → new.mine ≡ old.mine ++ es
-    → (pass_place new).room + spent old.caller.stream es ≡ (pass_place old).room
+    → (pass_caller_view new).room + spent old.caller.stream es ≡ (pass_caller_view old).room
 room_left old new es fair caller mine =
     let stream : new.caller.stream ≡ old.caller.stream = ap (λ (r : Caller). r.stream) caller in
     let room : new.caller.layout.room ≡ old.caller.layout.room = ap (λ (r : Caller). r.layout.room) caller in
@@ -154,7 +157,7 @@ pub moves_on : (old new : View) (es : History)
     → IsFair old → IsFair new → new.caller ≡ old.caller
     → AllByRecursion (λ e. stream_of e ≡ old.caller.stream) es → new.mine ≡ old.mine ++ es
     → ((more : History) × (new.seen ≡ old.seen ++ more))
-    → KeepsSpelt (kept_in old.spelt) (kept_in new.spelt)
+    → KeepsSpelt (stored_in old.spelt) (stored_in new.spelt)
     → PassMoves old new es
 moves_on old new es before after caller callers mine seen spelt = record {
   caller = caller;
@@ -174,7 +177,7 @@ pub own-others : (seen more : History) (s : ℕ) → AllByRecursion (λ d. strea
     → own (seen ++ more) s ≡ own seen s
 own-others seen more s others = own-append seen more s ∙ ap (λ (g : History). own seen s ++ g) (own-none more s others) ∙ append-nil (own seen s)
 
--- the pass when it has seen these events of others, with what is then kept
+-- the pass when it has seen these events of others, with what is then stored
 abbrev pub learned : View → History → List Spelling → View
 learned v more xs = record v {
   seen = v.seen ++ more;
@@ -185,7 +188,7 @@ pub moves_learn : (v : View) (more : History) (xs : List Spelling)
     → IsFair v
     → AllByRecursion (λ d. stream_of d ≢ v.caller.stream) more
     → IsLegal v.caller.formula v.caller.layout (v.seen ++ more)
-    → IsSpelt v.caller.formula (v.seen ++ more) xs → KeepsSpelt (kept_in v.spelt) (kept_in xs)
+    → IsSpelt v.caller.formula (v.seen ++ more) xs → KeepsSpelt (stored_in v.spelt) (stored_in xs)
     → PassMoves v (learned v more xs) [] × IsFair (learned v more xs)
 moves_learn v more xs fair others legal spelt keeps =
     let after : IsFair (learned v more xs) = record {
@@ -206,7 +209,7 @@ own_stepped v between e fair others mine =
     own-append (v.seen ++ between) (e ∷ []) v.caller.stream
     ∙ ap₂ (λ (g h : History). g ++ h) (own-others v.seen between v.caller.stream others ∙ fair.mine) (own-mine e [] v.caller.stream mine)
 
--- the pass when it has seen these events of others, and then made this call, with what is then kept
+-- the pass when it has seen these events of others, and then made this call, with what is then stored
 abbrev pub stepped : View → History → Event → List Spelling → View
 stepped v between e xs = record v {
   seen = v.seen ++ between ++ e ∷ [];
@@ -219,7 +222,7 @@ pub moves_step : (v : View) (between : History) (e : Event) (xs : List Spelling)
     → AllByRecursion (λ d. stream_of d ≢ v.caller.stream) between → stream_of e ≡ v.caller.stream
     → IsLegal v.caller.formula v.caller.layout (v.seen ++ between ++ e ∷ [])
     → IsSpelt v.caller.formula (v.seen ++ between ++ e ∷ []) xs
-    → KeepsSpelt (kept_in v.spelt) (kept_in xs)
+    → KeepsSpelt (stored_in v.spelt) (stored_in xs)
     → PassMoves v (stepped v between e xs) (e ∷ []) × IsFair (stepped v between e xs)
 moves_step v between e xs fair others mine legal spelt keeps =
     let after : IsFair (stepped v between e xs) = record {
@@ -263,7 +266,7 @@ own_answers f p before mine s id r legal mine_is owns =
 pub pass_fetches : (old new : View) (before : History) (id : ℕ) (r : Reply)
     → PassMoves old new (events.fetch old.caller.stream id r ∷ [])
     → new.seen ≡ before ++ events.fetch old.caller.stream id r ∷ []
-    → AnswersOwn (pass_place old) id r × AnswersFormula (pass_place old) id r
+    → AnswersOwn (pass_caller_view old) id r × AnswersFormula (pass_caller_view old) id r
 pass_fetches old new before id r moves last =
     let s : ℕ = old.caller.stream in
     let e : Event = events.fetch s id r in
@@ -285,41 +288,41 @@ pass_fetches old new before id r moves last =
 -- Meeting
 
 -- what a pass has met begins the history that it has seen then
-met_once : (u v : View) (xs ys : List View) → MeetsInTurn u xs v ys
+synced_once : (u v : View) (xs ys : List View) → SyncInTurn u xs v ys
     → ((more : History) × (v.seen ≡ u.seen ++ more))
     × AllByRecursion (λ y. (more : History) × (v.seen ≡ y.seen ++ more)) ys
-met_once u v [] [] meets = (([], ap (λ (w : View). w.seen) meets ∙ sym (append-nil u.seen)), tt)
-met_once u v [] (y ∷ ys) meets = absurd meets
-met_once u v (x ∷ xs) [] meets = absurd meets
-met_once u v (x ∷ xs) (y ∷ ys) meets =
+synced_once u v [] [] meets = (([], ap (λ (w : View). w.seen) meets ∙ sym (append-nil u.seen)), tt)
+synced_once u v [] (y ∷ ys) meets = absurd meets
+synced_once u v (x ∷ xs) [] meets = absurd meets
+synced_once u v (x ∷ xs) (y ∷ ys) meets =
     let w : View = meets.0 in
-    let rest = met_once w v xs ys meets.2 in
+    let rest = synced_once w v xs ys meets.2 in
     let grown : History = rest.0.0 in (
       (meets.1.first.seen.0 ++ grown, rest.0.1 ∙ ap (λ (h : History). h ++ grown) meets.1.first.seen.1 ∙ append_assoc u.seen meets.1.first.seen.0 grown),
       ((grown, rest.0.1 ∙ ap (λ (h : History). h ++ grown) (sym meets.1.one)), rest.1),
     )
 
 -- a pass that has seen all that each of the others has leaves them at its own history
-met_again : (h : History) (v w : View) (ys zs : List View) → v.seen ≡ h
-    → AllByRecursion (λ y. (more : History) × (h ≡ y.seen ++ more)) ys → MeetsInTurn v ys w zs
+synced_again : (h : History) (v w : View) (ys zs : List View) → v.seen ≡ h
+    → AllByRecursion (λ y. (more : History) × (h ≡ y.seen ++ more)) ys → SyncInTurn v ys w zs
     → (w.seen ≡ h) × AllSaw h zs
-met_again h v w [] [] here behind meets = (ap (λ (x : View). x.seen) meets ∙ here, tt)
-met_again h v w [] (z ∷ zs) here behind meets = absurd meets
-met_again h v w (y ∷ ys) [] here behind meets = absurd meets
-met_again h v w (y ∷ ys) (z ∷ zs) here behind meets =
-    let met : Meets v y meets.0 z = meets.1 in
+synced_again h v w [] [] here behind meets = (ap (λ (x : View). x.seen) meets ∙ here, tt)
+synced_again h v w [] (z ∷ zs) here behind meets = absurd meets
+synced_again h v w (y ∷ ys) [] here behind meets = absurd meets
+synced_again h v w (y ∷ ys) (z ∷ zs) here behind meets =
+    let met : SyncViews v y meets.0 z = meets.1 in
     let stays : meets.0.seen ≡ h = met.longer behind.0.0 (here ∙ behind.0.1) ∙ here in
-    let rest = met_again h meets.0 w ys zs stays behind.1 meets.2 in
+    let rest = synced_again h meets.0 w ys zs stays behind.1 meets.2 in
     (rest.0, (met.one ∙ stays, rest.1))
 
 -- each of these passes went on to the one at its place by no call, and is fair
-pub met_keep : (u v : View) (xs ys : List View) → MeetsInTurn u xs v ys → PassMoves u v []
-    × AreMet xs ys × (IsFair u → IsFair v)
-met_keep u v [] [] meets = (subst (λ (w : View). PassMoves u w []) (sym meets) (moves_none u), tt, λ fair. subst IsFair (sym meets) fair)
-met_keep u v [] (y ∷ ys) meets = absurd meets
-met_keep u v (x ∷ xs) [] meets = absurd meets
-met_keep u v (x ∷ xs) (y ∷ ys) meets =
-    let rest = met_keep meets.0 v xs ys meets.2 in
+pub synced_keep : (u v : View) (xs ys : List View) → SyncInTurn u xs v ys → PassMoves u v []
+    × AreSynced xs ys × (IsFair u → IsFair v)
+synced_keep u v [] [] meets = (subst (λ (w : View). PassMoves u w []) (sym meets) (moves_none u), tt, λ fair. subst IsFair (sym meets) fair)
+synced_keep u v [] (y ∷ ys) meets = absurd meets
+synced_keep u v (x ∷ xs) [] meets = absurd meets
+synced_keep u v (x ∷ xs) (y ∷ ys) meets =
+    let rest = synced_keep meets.0 v xs ys meets.2 in
     (moves_append u meets.0 v [] [] meets.1.first rest.0, (meets.1.second, meets.1.fair', rest.1), λ fair. rest.2 meets.1.fair)
 
 -- a pass that has seen nothing and made no call
@@ -336,8 +339,8 @@ opening_fair c xs caller spelt = record {
   spelt = spelt;
 }
 
-pub meets_twice : (u v w : View) (xs ys zs : List View) → MeetsInTurn u xs v ys
-    → MeetsInTurn v ys w zs → (w.seen ≡ v.seen) × AllSaw w.seen zs
-meets_twice u v w xs ys zs once again =
-    let all = met_again v.seen v w ys zs refl (met_once u v xs ys once).1 again in
+pub sync_twice : (u v w : View) (xs ys zs : List View) → SyncInTurn u xs v ys
+    → SyncInTurn v ys w zs → (w.seen ≡ v.seen) × AllSaw w.seen zs
+sync_twice u v w xs ys zs once again =
+    let all = synced_again v.seen v w ys zs refl (synced_once u v xs ys once).1 again in
     (all.0, subst (λ (h : History). AllSaw h zs) (sym all.0) all.1)

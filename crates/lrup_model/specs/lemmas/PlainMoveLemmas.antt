@@ -1,4 +1,4 @@
--- The laws of a place, for the clause map of one thread.
+-- The laws of a caller's view, for the clause map of one thread.
 use Rattle.std.specs.Prelude.{◌++◌, ℕ, []}
 use Rattle.std.proofs.Common.{refl, sym, ap, ap₂, subst, ◌∙◌, arith}
 use Rattle.lrup_model.specs.Formula.{Cnf}
@@ -6,8 +6,8 @@ use Rattle.lrup_model.specs.Layout.{LayoutValue}
 use Rattle.lrup_model.specs.Event.{History}
 use Rattle.lrup_model.specs.State.{State, run}
 use Rattle.lrup_model.specs.History.{LegalFrom}
-use Rattle.lrup_model.specs.Place.{Tells}
-use Rattle.lrup_model.specs.Plain.{Plain, formula_of, plain_state, plain_place, PlainMoves}
+use Rattle.lrup_model.specs.CallerView.{CallerStep}
+use Rattle.lrup_model.specs.Plain.{Plain, formula_of, plain_state, plain_caller_view, PlainMoves}
 use Rattle.lrup_model.specs.lemmas.RunningLemmas.{run-append, legal-append, spent-append, callers-append}
 
 pub plain_moves_none : (m : Plain) (s : ℕ) → PlainMoves m m s []
@@ -19,7 +19,7 @@ plain_moves_none m s = record {
   state = refl;
   room = omega arith;
   others = λ t positive other. refl;
-  spelt = λ id kept old. old;
+  spelt = λ id stored old. old;
   follow = λ all. all;
 }
 
@@ -38,13 +38,13 @@ plain_moves_append a b c s es fs h k = record {
   state = k.state ∙ ap (λ m. run m fs) h.state ∙ sym (run-append (plain_state a) es fs);
   room = omega (arith, spent-append s es fs, h.room, k.room);
   others = λ t positive other. k.others t positive other ∙ h.others t positive other;
-  spelt = λ id kept old. k.spelt id kept (h.spelt id kept old);
+  spelt = λ id stored old. k.spelt id stored (h.spelt id stored old);
   follow = λ all. k.follow (h.follow all);
 }
 
-pub plain_moves_tells : (a b : Plain) (s : ℕ) (es : History) → PlainMoves a b s es
-    → Tells (plain_place a s) (plain_place b s) es
-plain_moves_tells a b s es h = record {
+pub plain_moves_are_step : (a b : Plain) (s : ℕ) (es : History) → PlainMoves a b s es
+    → CallerStep (plain_caller_view a s) (plain_caller_view b s) es
+plain_moves_are_step a b s es h = record {
   caller = ap₂ (λ (f : Cnf) (p : LayoutValue). record { formula = f; layout = p; stream = s }) h.formula h.layout;
   callers = h.callers;
   room = h.room;

@@ -1,4 +1,5 @@
--- Running and legality of one history behind another, and what an event takes of the room. These lemmas stand beside the definitions since the laws of a place at a clause map rest on them.
+-- Running and legality of one history behind another, and what an event takes of the room. These lemmas stand beside the definitions since the laws of a caller's view at a clause map rest
+-- on them.
 use Rattle.std.specs.Prelude.{◌≡◌, ◌+◌, ◌==◌, ◌++◌, ℕ, [], ◌∷◌, length}
 use Rattle.std.specs.List.{sum_by, AllByRecursion}
 use Rattle.std.proofs.Common.{refl, ap, arith}

@@ -3,8 +3,8 @@ use Rattle.std.specs.Prelude.{◌≡◌, ℕ, ◌<◌, ◌≤◌, ◌^◌, ℤ, 
 use Rattle.std.specs.Fmt.{decimal, signed_decimal}
 use Rattle.std.specs.List.{AllByRecursion, flat_map}
 use Rattle.std.specs.Prelude.{Option, Some, None, Ok, Err}
-use Rattle.lrup_text.specs.declared.machine.Place.{Place}
-use Rattle.lrup_text.specs.declared.machine.Place.TheVariants as places
+use Rattle.lrup_text.specs.declared.machine.ParserState.{ParserState}
+use Rattle.lrup_text.specs.declared.machine.ParserState.TheVariants as states
 use Rattle.lrup_text.specs.declared.machine.ByteStep.{ByteStep}
 use Rattle.lrup_text.specs.declared.machine.ByteStep.TheVariants.{More, Done, Refused}
 use Rattle.lrup_text.specs.declared.machine.PartialLine.{PartialLine}
@@ -69,49 +69,49 @@ literal_front true number = minus ∷ decimal number
 literal_front false number = decimal number
 
 -- the bytes of the line that were read
-unfoldable pub pending_at : Place → PartialLine → List ℕ
-pending_at places.Start partial = []
-pending_at places.Lead partial = decimal partial.number
-pending_at places.Import partial = decimal partial.lead ++ space ∷ letter_i ∷ []
-pending_at places.Body partial = clause_front partial.imports partial.lead (literals_read partial)
-pending_at places.Minus partial =
+unfoldable pub pending_at : ParserState → PartialLine → List ℕ
+pending_at states.Start partial = []
+pending_at states.Lead partial = decimal partial.number
+pending_at states.Import partial = decimal partial.lead ++ space ∷ letter_i ∷ []
+pending_at states.Body partial = clause_front partial.imports partial.lead (literals_read partial)
+pending_at states.Minus partial =
     clause_front partial.imports partial.lead (literals_read partial) ++ minus ∷ []
-pending_at places.Literal partial =
+pending_at states.Literal partial =
     clause_front partial.imports partial.lead (literals_read partial)
     ++ literal_front partial.negative partial.number
-pending_at places.List partial = list_front partial.deletes partial.lead (literals_read partial)
-pending_at places.Item partial = item_front partial ++ space ∷ []
-pending_at places.Number partial = item_front partial ++ space ∷ decimal partial.number
-pending_at places.LineEnd partial =
+pending_at states.List partial = list_front partial.deletes partial.lead (literals_read partial)
+pending_at states.Item partial = item_front partial ++ space ∷ []
+pending_at states.Number partial = item_front partial ++ space ∷ decimal partial.number
+pending_at states.LineEnd partial =
     end_front partial.imports partial.deletes partial.lead (literals_read partial)
     (identities_read partial)
 
 abbrev pub pending : PartialLine → List ℕ
-pending partial = pending_at partial.place partial
+pending partial = pending_at partial.state partial
 
 -- where in a line that is
-unfoldable pub spot_at : Place → PartialLine → Spot
-spot_at places.Start partial = AtStart
-spot_at places.Lead partial = InLead partial.digits
-spot_at places.Import partial = AfterImport
-spot_at places.Body partial = BeforeLiteral partial.imports partial.literal_count
-spot_at places.Minus partial = AfterMinus partial.imports partial.literal_count
-spot_at places.Literal partial = InLiteral partial.imports partial.digits partial.literal_count
-spot_at places.List partial = BeforeList partial.deletes
-spot_at places.Item partial = BeforeItem partial.deletes partial.identity_count
-spot_at places.Number partial = InItem partial.deletes partial.digits partial.identity_count
-spot_at places.LineEnd partial = AtEnd
+unfoldable pub spot_at : ParserState → PartialLine → Spot
+spot_at states.Start partial = AtStart
+spot_at states.Lead partial = InLead partial.digits
+spot_at states.Import partial = AfterImport
+spot_at states.Body partial = BeforeLiteral partial.imports partial.literal_count
+spot_at states.Minus partial = AfterMinus partial.imports partial.literal_count
+spot_at states.Literal partial = InLiteral partial.imports partial.digits partial.literal_count
+spot_at states.List partial = BeforeList partial.deletes
+spot_at states.Item partial = BeforeItem partial.deletes partial.identity_count
+spot_at states.Number partial = InItem partial.deletes partial.digits partial.identity_count
+spot_at states.LineEnd partial = AtEnd
 
--- what a place asks of the counts, and of the line's kind
-unfoldable pub IsRoomy : Place → PartialLine → Type 0
-IsRoomy places.Import partial =
+-- what a state asks of the counts, and of the line's kind
+unfoldable pub IsRoomy : ParserState → PartialLine → Type 0
+IsRoomy states.Import partial =
     (partial.identity_count ≡ 0) × (partial.literal_count ≡ 0) × (partial.imports ≡ true)
-IsRoomy places.Body partial = partial.identity_count ≡ 0
-IsRoomy places.Minus partial = (partial.identity_count ≡ 0) × (partial.literal_count < 65535)
-IsRoomy places.Literal partial = (partial.identity_count ≡ 0) × (partial.literal_count < 65535)
-IsRoomy places.List partial = (partial.identity_count ≡ 0) × (partial.imports ≡ false)
-IsRoomy places.Item partial = partial.imports ≡ false
-IsRoomy places.Number partial = (partial.identity_count < 65536) × (partial.imports ≡ false)
+IsRoomy states.Body partial = partial.identity_count ≡ 0
+IsRoomy states.Minus partial = (partial.identity_count ≡ 0) × (partial.literal_count < 65535)
+IsRoomy states.Literal partial = (partial.identity_count ≡ 0) × (partial.literal_count < 65535)
+IsRoomy states.List partial = (partial.identity_count ≡ 0) × (partial.imports ≡ false)
+IsRoomy states.Item partial = partial.imports ≡ false
+IsRoomy states.Number partial = (partial.identity_count < 65536) × (partial.imports ≡ false)
 IsRoomy _ partial = Unit {0}
 
 -- the buffers have room for all that a line may hold
@@ -140,8 +140,8 @@ pub record IsPartialLine (partial : PartialLine) : Type 0 where
   pub kept : CanStandInLine partial.lead partial.literals.items partial.literal_count
       partial.identities.items partial.identity_count
   pub number : FitsDigits partial.number partial.digits
-  pub roomy : IsRoomy partial.place partial
-  pub tracks : Tracks (pending partial) (spot_at partial.place partial)
+  pub roomy : IsRoomy partial.state partial
+  pub tracks : Tracks (pending partial) (spot_at partial.state partial)
 
 -- What a byte does. The line goes on; or it is whole, and reading stands before the next; or no line begins so.
 abbrev pub ReadsByte : PartialLine → ℕ → ByteStep → PartialLine → Type 0

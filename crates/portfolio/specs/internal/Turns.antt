@@ -6,7 +6,7 @@ use Rattle.lrup_model.specs.Layout.{LayoutValue, IsStream}
 use Rattle.lrup_model.specs.Event.{spent}
 use Rattle.lrup_model.specs.State.{opening, run}
 use Rattle.lrup_model.specs.History.{LegalFrom}
-use Rattle.lrup_model.specs.Plain.{Plain, formula_of, plain_state, free_at, plain_place}
+use Rattle.lrup_model.specs.Plain.{Plain, formula_of, plain_state, free_at, plain_caller_view}
 use Rattle.stream_check.specs.declared.report.Ending.{Ending}
 use Rattle.stream_check.specs.declared.report.Report.{Report}
 use Rattle.stream_check.specs.CheckerValue.{report_of_tally}
@@ -14,10 +14,10 @@ use Rattle.stream_check.specs.Checker.{IsReadyAt}
 use Rattle.stream_check.specs.DroppedValue.{DroppedValue}
 use Rattle.runs.specs.Closed.{IsOfStream}
 use Rattle.runs.specs.Each.{Each}
-use Rattle.runs.specs.Streams.{Block, blocks_of, events_in, IsBlockWithin, TermsValue, setting_of}
+use Rattle.runs.specs.Streams.{Block, blocks_of, events_in, IsBlockWithin, RunParamsValue, stream_params}
 use Rattle.runs.specs.Turns.{IsByTurns, line_count, streams_of}
 use Rattle.lrup_text.specs.ReadOut.{SourceView}
-use Rattle.portfolio.specs.internal.Working.{WorkerValue, Works, IsStarted}
+use Rattle.portfolio.specs.internal.Working.{WorkerValue, WorkerInvariant, IsStarted}
 
 -- the map is the one that the blocks' events leave, and they are legal
 pub record HasRun (run_formula : Cnf) (run_layout : LayoutValue) (blocks : List Block)
@@ -31,17 +31,19 @@ pub record HasRun (run_formula : Cnf) (run_layout : LayoutValue) (blocks : List 
       → free_at map s + spent s (events_in blocks) ≡ run_layout.room
 
 -- the worker is stream s's, has come to this by the stream's blocks, and can go on at the map
-pub record IsWorking {S : Type 0} (view : SourceView S) (terms : TermsValue) (blocks : List Block)
+pub record IsWorking {S : Type 0} (view : SourceView S) (run_params : RunParamsValue)
+    (blocks : List Block)
     (map : Plain) (s : ℕ) (first : S) (worker : WorkerValue S) : Type 0 where
-  pub setting : worker.checker.setting ≡ setting_of terms s
-  pub works : Works view first worker (free_at map s) (blocks_of s blocks)
-  pub ready : IsReadyAt worker.checker (plain_place map s)
+  pub params : worker.checker.params ≡ stream_params run_params s
+  pub holds : WorkerInvariant view first worker (free_at map s) (blocks_of s blocks)
+  pub ready : IsReadyAt worker.checker (plain_caller_view map s)
 
 -- so it is with each worker, counted on from s
-abbrev pub AreWorking : {S : Type 0} → SourceView S → TermsValue → List Block → Plain → ℕ → List S
+abbrev pub AreWorking : {S : Type 0} → SourceView S → RunParamsValue → List Block → Plain
+    → ℕ → List S
     → List (WorkerValue S) → Type 0
-AreWorking view terms blocks map s firsts workers =
-    Each (IsWorking view terms blocks map) s firsts workers
+AreWorking view run_params blocks map s firsts workers =
+    Each (IsWorking view run_params blocks map) s firsts workers
 
 -- An order of lines after so many whole rounds and the turns of so many streams more. No stream has more lines than it has had turns,
 -- one that isn't over has as many, and the order is by turns.
@@ -57,28 +59,29 @@ pub record IsInRound {S : Type 0} (rounds taken : ℕ) (order : List ℕ)
 
 -- A run between two turns, where so many streams have had theirs in this round: its map is that of the blocks so far, and each
 -- worker has come to what its own blocks say.
-pub record Runs {S : Type 0} (view : SourceView S) (formula : Cnf) (terms : TermsValue)
+pub record SerialInvariant {S : Type 0} (view : SourceView S) (formula : Cnf)
+    (run_params : RunParamsValue)
     (firsts : List S) (taken : ℕ) (map : Plain) (workers : List (WorkerValue S)) : Type 0 where
-  pub count : length workers ≡ terms.layout.streams
+  pub count : length workers ≡ run_params.layout.streams
   pub blocks : List Block
-  pub map_is : HasRun formula terms.layout blocks map
-  pub workers_are : AreWorking view terms blocks map 1 firsts workers
+  pub map_is : HasRun formula run_params.layout blocks map
+  pub workers_are : AreWorking view run_params blocks map 1 firsts workers
   pub rounds : ℕ
   pub in_round : IsInRound rounds taken (streams_of blocks) workers
 
 -- the run of some formula, layout and readers stands here
-abbrev pub IsRunning : {S : Type 0} → SourceView S → ℕ → Plain → List (WorkerValue S) → Type 0
-IsRunning {S} view taken map workers =
-    (formula : Cnf) × (terms : TermsValue) × (firsts : List S)
-    × Runs view formula terms firsts taken map workers
+abbrev pub IsInSerialRun : {S : Type 0} → SourceView S → ℕ → Plain → List (WorkerValue S) → Type 0
+IsInSerialRun {S} view taken map workers =
+    (formula : Cnf) × (run_params : RunParamsValue) × (firsts : List S)
+    × SerialInvariant view formula run_params firsts taken map workers
 
 -- whatever run stood at the one moment stands at the other
-abbrev pub GoesOn : {S : Type 0} → SourceView S → ℕ → Plain → List (WorkerValue S) → ℕ → Plain
+abbrev pub SerialStep : {S : Type 0} → SourceView S → ℕ → Plain → List (WorkerValue S) → ℕ → Plain
     → List (WorkerValue S) → Type 0
-GoesOn {S} view taken map workers next later after =
-    (formula : Cnf) (terms : TermsValue) (firsts : List S)
-    → Runs view formula terms firsts taken map workers
-    → Runs view formula terms firsts next later after
+SerialStep {S} view taken map workers next later after =
+    (formula : Cnf) (run_params : RunParamsValue) (firsts : List S)
+    → SerialInvariant view formula run_params firsts taken map workers
+    → SerialInvariant view formula run_params firsts next later after
 
 abbrev pub IsOver : {S : Type 0} → WorkerValue S → Type 0
 IsOver worker = IsSome worker.checker.ending
@@ -91,9 +94,10 @@ abbrev pub IsOverAt : {S : Type 0} → List (WorkerValue S) → ℕ → Type 0
 IsOverAt workers place = IfSome (slice_get workers place) IsOver
 
 -- the workers of the streams counted on from s, before their first bytes
-abbrev pub AreStarted : {S : Type 0} → SourceView S → TermsValue → ℕ → List S → List (WorkerValue S)
+abbrev pub AreStarted : {S : Type 0} → SourceView S → RunParamsValue → ℕ → List S
+    → List (WorkerValue S)
     → Type 0
-AreStarted view terms s firsts workers = Each (IsStarted view terms) s firsts workers
+AreStarted view run_params s firsts workers = Each (IsStarted view run_params) s firsts workers
 
 -- the reports of workers that are over
 abbrev pub HaveReports : {S : Type 0} → List (WorkerValue S) → List Report → Type 0
@@ -103,11 +107,11 @@ HaveReports workers reports = AllZip (λ worker report. (ending : Ending)
 
 -- What a run that stood at the one map with these workers came to at the other: all its streams are over, and these are their
 -- reports, their readers, and the identities that they dropped.
-pub record AreRun {S : Type 0} (view : SourceView S) (opened : Plain)
+pub record SerialEnd {S : Type 0} (view : SourceView S) (opened : Plain)
     (workers : List (WorkerValue S)) (later : Plain) (reports : List Report) (readers : List S)
     (dropped : List DroppedValue) : Type 0 where
   pub ended : List (WorkerValue S)
-  pub goes : GoesOn view 0 opened workers 0 later ended
+  pub goes : SerialStep view 0 opened workers 0 later ended
   pub reports_are : HaveReports ended reports
   pub readers_are : readers ≡ map (λ worker. worker.reader) ended
   pub dropped_are : map (λ one. one.ids) dropped ≡ map (λ worker. worker.checker.dropped) ended

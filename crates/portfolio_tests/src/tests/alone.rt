@@ -4,7 +4,7 @@ ghost use Rattle.std.specs.List.{AllByRecursion};
 ghost use Rattle.stream_check.specs.Laws.{IsOfMemory};
 ghost use Rattle.runs.specs.Closed.{CiteWithin, IsOfStream};
 ghost use Rattle.run_laws.specs.Groups.{one};
-ghost use Rattle.runs.specs.Headline.{seen_by};
+ghost use Rattle.runs.specs.SequentialConsistency.{seen_by};
 ghost use Rattle.clause_store.specs.Passes.{views};
 ghost use Rattle.run_laws.specs.Premises.{FoundStays};
 ghost use Rattle.test_support.specs.Worked.{four};
@@ -15,7 +15,7 @@ use lrup_model::Cube;
 use lrup_text::Source;
 use lrup_text::laws::a_stream_is_cut_in_one_way;
 use portfolio::{Options, Outcome, Verdict, run, run_serial};
-use run_laws::groups::{readers_closed, told_is_reading};
+use run_laws::groups::{match_is_reading, readers_closed};
 use std::alloc::Global;
 use std::process::Abort;
 use std::sync::Wait;
@@ -72,7 +72,7 @@ fn said_by_threads<T: Threads + Wait + Sync>(
     ensures { IfOk result (λ report. ¬ IsOfMemory report → IsOnlyReport first.now report) }
 {
     readers_closed();
-    told_is_reading();
+    match_is_reading();
     let formula = four_clauses(alloc)?;
     let readers = two_readers(alloc, first, neighbour)?;
     let gates = vec![in alloc; Open; readers.len()]?;
@@ -99,7 +99,7 @@ fn said_by_turns<W: Wait>(
     ensures { IfOk result (λ report. ¬ IsOfMemory report → IsOnlyReport first.now report) }
 {
     readers_closed();
-    told_is_reading();
+    match_is_reading();
     let formula = four_clauses(alloc)?;
     let readers = two_readers(alloc, first, neighbour)?;
     let gates = vec![in alloc; Open; readers.len()]?;

@@ -3,7 +3,7 @@
 ghost use Rattle.std.specs.Prelude.{◌≡◌, ◌≤◌, length};
 ghost use Rattle.lrup_model.specs.Event.{History};
 ghost use Rattle.lrup_model.specs.Layout.{IsStream};
-ghost use Rattle.lrup_model.specs.Plain.{PlainMoves, plain_place};
+ghost use Rattle.lrup_model.specs.Plain.{PlainMoves, plain_caller_view};
 ghost use Rattle.stream_check.specs.Checker.{IsReadyAt};
 
 use super::threads::{found_with, waits_for};
@@ -22,10 +22,10 @@ use stream_check::{Checker, Ending, Fault, Gate, Report};
 
 /// Feeds bytes through the end of a line, or all of them, and says how many.
 fn take_line<M: ClauseMap>(checker: &mut Checker, map: &mut M, bytes: &[u8]) -> usize
-    requires { IsReadyAt checker.old (M.place map.old) }
-    ensures ready { IsReadyAt checker.new (M.place map.new) }
+    requires { IsReadyAt checker.old (M.caller_view map.old) }
+    ensures ready { IsReadyAt checker.new (M.caller_view map.new) }
     ensures moves { (es : History) × M.moves map.old map.new es }
-    ensures setting { checker.new.setting ≡ checker.old.setting }
+    ensures params { checker.new.params ≡ checker.old.params }
     ensures used { result ≤ length bytes.now }
 {
     checker.feed(map, &mut Open, bytes).used
@@ -34,10 +34,10 @@ fn take_line<M: ClauseMap>(checker: &mut Checker, map: &mut M, bytes: &[u8]) -> 
 /// The same of stream `s`, at its desk.
 fn take_at(map: &mut PlainMap, s: u64, checker: &mut Checker, bytes: &[u8]) -> usize
     requires stream { IsStream map.old.layout s }
-    requires ready { IsReadyAt checker.old (plain_place map.old s) }
+    requires ready { IsReadyAt checker.old (plain_caller_view map.old s) }
     ensures moves { (es : History) × PlainMoves map.old map.new s es }
-    ensures ready { IsReadyAt checker.new (plain_place map.new s) }
-    ensures setting { checker.new.setting ≡ checker.old.setting }
+    ensures ready { IsReadyAt checker.new (plain_caller_view map.new s) }
+    ensures params { checker.new.params ≡ checker.old.params }
     ensures used { result ≤ length bytes.now }
 {
     take_line(checker, &mut map.desk(s), bytes)
@@ -50,8 +50,8 @@ struct Two {
     first: Checker,
     second: Checker,
     ghost streams: { 2 ≤ map.layout.streams },
-    ghost first_ready: { IsReadyAt first (plain_place map 1) },
-    ghost second_ready: { IsReadyAt second (plain_place map 2) },
+    ghost first_ready: { IsReadyAt first (plain_caller_view map 1) },
+    ghost second_ready: { IsReadyAt second (plain_caller_view map 2) },
 }
 
 impl Two {

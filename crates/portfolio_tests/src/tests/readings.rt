@@ -132,12 +132,12 @@ impl Source for Blocks<'_> {
 
 /// Sets the flag of its stream as the stream's last clause is published.
 #[derive(Clone, Copy)]
-struct Tells<'a> {
+struct CallerStep<'a> {
     last: Id,
     flag: &'a AtomicBool,
 }
 
-impl Gate for Tells<'_> {
+impl Gate for CallerStep<'_> {
     fn before_fetch(&mut self, _stream: u64, _id: Id, _attempt: u64) {}
 
     fn after_publish(&mut self, _stream: u64, id: Id) {
@@ -177,22 +177,22 @@ fn one_waits<'a>(
 }
 
 /// Gates that set the flags at the last clauses of streams 2 and 3.
-fn telling<'a>(
+fn observation<'a>(
     alloc: Global,
     first: &'a AtomicBool,
     second: &'a AtomicBool,
-) -> Result<Vec<Tells<'a>>, AllocError>
+) -> Result<Vec<CallerStep<'a>>, AllocError>
     ensures { IfOk result (λ gates. length gates.items ≡ 3) }
 {
-    let of_first = Tells {
+    let of_first = CallerStep {
         last: 0,
         flag: first,
     };
-    let of_second = Tells {
+    let of_second = CallerStep {
         last: 9,
         flag: first,
     };
-    let of_third = Tells {
+    let of_third = CallerStep {
         last: 10,
         flag: second,
     };
@@ -205,7 +205,7 @@ fn a_blocked_reader_holds_up_no_other(rt: HostRuntime) -> Result<(), Fail> {
     let flags = [AtomicBool::new(false), AtomicBool::new(false)];
     let late = AtomicBool::new(false);
     let readers = one_waits(rt.alloc(), &flags, &late)?;
-    let gates = telling(rt.alloc(), &flags[0], &flags[1])?;
+    let gates = observation(rt.alloc(), &flags[0], &flags[1])?;
     let none = Cube::empty(rt.alloc());
     let outcome = run_by_threads(&rt, rt.alloc(), &none, defaults(), readers, gates)?;
     same(&rt, late.load(Ordering::SeqCst), false);

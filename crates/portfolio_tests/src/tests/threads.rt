@@ -2,7 +2,7 @@
 //! have come as far, so that one thread that takes the streams one after the other never passes them.
 ghost use Rattle.std.specs.Prelude.{◌≡◌, [], Some, false, length, map, IfOk, vec_len};
 ghost use Rattle.std.specs.List.{AllByRecursion};
-ghost use Rattle.portfolio.specs.Outcomes.{terms_of};
+ghost use Rattle.portfolio.specs.Outcomes.{run_params_of};
 ghost use Rattle.test_support.specs.Worked.{four};
 
 use super::{
@@ -118,13 +118,13 @@ fn a_held_stream_finds_the_others_clause(rt: HostRuntime) -> Result<(), Fail> {
 
 /// At its stream's first fetch, sets the stream's flag and waits for all others'.
 #[derive(Clone, Copy)]
-struct Meets<'a> {
+struct SyncViews<'a> {
     flags: &'a [AtomicBool],
     late: &'a AtomicBool,
     has_met: bool,
 }
 
-impl Gate for Meets<'_> {
+impl Gate for SyncViews<'_> {
     fn before_fetch(&mut self, stream: u64, _id: Id, _attempt: u64) {
         if self.has_met {
             return;
@@ -155,7 +155,7 @@ fn meet<'a, T: Threads + Wait + Sync>(
     flags: &[AtomicBool],
 ) -> Result<(Outcome<Pieces<'a>>, bool), Fail> {
     let late = AtomicBool::new(false);
-    let gate = Meets {
+    let gate = SyncViews {
         flags,
         late: &late,
         has_met: false,

@@ -11,9 +11,9 @@ use Rattle.lrup_model.specs.lemmas.RunningLemmas.{own-append}
 use Rattle.stream_check.specs.declared.report.Report.{Report}
 use Rattle.stream_check.specs.Judging.{joined}
 use Rattle.runs.specs.lemmas.EachLemmas.{each_more}
-use Rattle.runs.specs.Headline.{AreJudgedIn}
+use Rattle.runs.specs.SequentialConsistency.{AreJudgedIn}
 use Rattle.runs.specs.lemmas.StreamLemmas.{blocks-other, blocks-same}
-use Rattle.runs.specs.Streams.{AreJudged, Block, IsBlockWithin, Stream, TermsValue, blocks_of, events_in}
+use Rattle.runs.specs.Streams.{AreJudged, Block, IsBlockWithin, Stream, RunParamsValue, blocks_of, events_in}
 
 -- what holds of all events holds of a stream's
 pub own_all : (P : Event → Type 0) (h : History) (s : ℕ) → AllByRecursion P h
@@ -41,11 +41,11 @@ own-blocks p set s (b ∷ bs) all =
     ]
 
 -- streams that are judged by their blocks are judged by their own events of them all
-pub ordered_judged : (terms : TermsValue) (all set : ℕ → Bool) (bs : List Block) (s : ℕ)
+pub ordered_judged : (run_params : RunParamsValue) (all set : ℕ → Bool) (bs : List Block) (s : ℕ)
     (streams : List Stream) (reports : List Report)
-    → AllByRecursion (IsBlockWithin terms.layout all) bs
-    → AreJudged terms set (λ t events. events ≡ blocks_of t bs) s streams reports
-    → AreJudgedIn terms set (events_in bs) s streams reports
-ordered_judged terms all set bs s streams reports within judged =
+    → AllByRecursion (IsBlockWithin run_params.layout all) bs
+    → AreJudged run_params set (λ t events. events ≡ blocks_of t bs) s streams reports
+    → AreJudgedIn run_params set (events_in bs) s streams reports
+ordered_judged run_params all set bs s streams reports within judged =
     each_more s streams reports judged (λ t stream report j member.
-    let by = j member in (by.0, own-blocks terms.layout all t bs within ∙ ap joined (sym by.1), by.2))
+    let by = j member in (by.0, own-blocks run_params.layout all t bs within ∙ ap joined (sym by.1), by.2))

@@ -7,7 +7,7 @@ use Rattle.lrup_model.specs.Cube.{CubeValue}
 use Rattle.lrup_model.specs.Event as events
 use Rattle.lrup_model.specs.Event.{Event, History, published}
 use Rattle.lrup_model.specs.declared.clause_map.Published.TheVariants as publishing
-use Rattle.stream_check.specs.Standing.{is_within}
+use Rattle.stream_check.specs.StreamContext.{is_within}
 
 -- the event published a clause that passes
 abbrev pub publishes_passing : (Clause → Bool) → Event → Bool

@@ -9,16 +9,16 @@ use Rattle.propagate.specs.Marks.{Propagation}
 use Rattle.stream_check.specs.declared.fault.Fault.{Fault}
 use Rattle.stream_check.specs.declared.report.Ending.{Ending}
 use Rattle.stream_check.specs.declared.stream_state.StreamState.{StreamState}
-use Rattle.stream_check.specs.Setting.{Setting}
-use Rattle.stream_check.specs.Standing.{capped, Standing, is_among}
+use Rattle.stream_check.specs.StreamParams.{StreamParams}
+use Rattle.stream_check.specs.StreamContext.{capped, StreamContext, is_among}
 use Rattle.stream_check.specs.Additions.{BeforeHints}
 use Rattle.stream_check.specs.CheckerValue.{Tally, CheckerValue}
-use Rattle.stream_check.specs.declared.setting.Side.{Side}
-use Rattle.stream_check.specs.declared.setting.Side.TheVariants as sides
+use Rattle.stream_check.specs.declared.params.Ownership.{Ownership}
+use Rattle.stream_check.specs.declared.params.Ownership.TheVariants as ownerships
 
 -- what the good lines so far leave, where so much room is left
-abbrev pub standing_at : StreamState → ℕ → Standing
-standing_at state free =
+abbrev pub context_at : StreamState → ℕ → StreamContext
+context_at state free =
     record { last = state.last; free = free; gone = is_among state.dropped.ids }
 
 -- how many identities were deleted
@@ -35,7 +35,7 @@ tally_at state = record {
 
 -- what only a good line changes
 pub record KeepsLines (old new : StreamState) : Type 0 where
-  pub setting : new.setting ≡ old.setting
+  pub params : new.params ≡ old.params
   pub last : new.last ≡ old.last
   pub added : new.added ≡ old.added
   pub empty : new.empty ≡ old.empty
@@ -43,28 +43,29 @@ pub record KeepsLines (old new : StreamState) : Type 0 where
   pub line : new.line ≡ old.line
 
 -- The conditions before those of the hints hold, and the addition's clause is taken up.
-pub record Admits (setting : Setting) (standing : Standing) (id : ℕ) (lits : List ℤ)
+pub record Admits (params : StreamParams) (context : StreamContext) (id : ℕ) (lits : List ℤ)
     (marks : Propagation) : Type 0 where
-  pub owns : Owns setting.layout setting.stream id
-  pub above : standing.last < id
-  pub literals : AllByRecursion (λ l. nat_abs l ≤ setting.layout.vars) lits
-  pub fits : length (distinct lits) ≤ standing.free
-  pub clause : IsClause setting.layout.vars (distinct lits)
+  pub owns : Owns params.layout params.stream id
+  pub above : context.last < id
+  pub literals : AllByRecursion (λ l. nat_abs l ≤ params.layout.vars) lits
+  pub fits : length (distinct lits) ≤ context.free
+  pub clause : IsClause params.layout.vars (distinct lits)
   pub consistent : ¬ IsTautology (distinct lits)
   pub marks_are : marks
       ≡ record {
-        vars = setting.layout.vars;
+        vars = params.layout.vars;
         clause = distinct lits;
         falses = distinct lits;
         ready = true;
       }
 
 -- the conditions before those of the hints: they hold, or the addition violates one
-abbrev pub AdmitsBy : Setting → Standing → ℕ → List ℤ → Propagation → Result (Unit {0}) Fault
+abbrev pub AdmitsBy : StreamParams → StreamContext → ℕ → List ℤ → Propagation
+    → Result (Unit {0}) Fault
     → Type 0
-AdmitsBy setting standing id lits marks (Ok _) = Admits setting standing id lits marks
-AdmitsBy setting standing id lits marks (Err fault) =
-    BeforeHints setting standing id lits [] fault ⊥
+AdmitsBy params context id lits marks (Ok _) = Admits params context id lits marks
+AdmitsBy params context id lits marks (Err fault) =
+    BeforeHints params context id lits [] fault ⊥
 
 -- the text that a reader has read of a line
 abbrev pub read_of : ReaderState → List ℕ
@@ -74,7 +75,7 @@ read_of (Err fault) = []
 -- a checker of these parts
 abbrev pub value_of : StreamState → List ℕ → Option Ending → CheckerValue
 value_of state pending ending = record {
-  setting = state.setting;
+  params = state.params;
   tally = tally_at state;
   last = state.last;
   dropped = state.dropped.ids;
@@ -84,16 +85,16 @@ value_of state pending ending = record {
   ending = ending;
 }
 
--- a checker that isn't over reads on, and its parts are for one setting
-pub record IsSound (setting : Setting) (vars : ℕ) (reader : ReaderState)
+-- a checker that isn't over reads on, and its parts have one stream's parameters
+pub record IsSound (params : StreamParams) (vars : ℕ) (reader : ReaderState)
     (ending : Option Ending) : Type 0 where
   pub reads : ending ≡ None → reader ≡ Ok (read_of reader)
-  pub variables : setting.layout.vars ≡ vars
-  pub tries : setting.tries < 2 ^ 63
+  pub variables : params.layout.vars ≡ vars
+  pub tries : params.tries < 2 ^ 63
 
--- how often a hint of this side is fetched again at most, where another stream's is fetched again so often
-abbrev pub tries_on : Side → ℕ → ℕ
-tries_on sides.Formula tries = 0
-tries_on sides.Own tries = 0
-tries_on sides.Foreign tries = tries
-tries_on sides.Outside tries = 0
+-- how often a hint of this ownership is fetched again at most, where another stream's is fetched again so often
+abbrev pub tries_on : Ownership → ℕ → ℕ
+tries_on ownerships.Formula tries = 0
+tries_on ownerships.Own tries = 0
+tries_on ownerships.Foreign tries = tries
+tries_on ownerships.Outside tries = 0

@@ -6,7 +6,7 @@ use Rattle.lrup_model.specs.Formula.{Cnf}
 use Rattle.lrup_model.specs.Entailment.{IsDerived}
 use Rattle.lrup_model.specs.Event as events
 use Rattle.lrup_model.specs.Event.{Event, History}
-use Rattle.lrup_model.specs.Place.{Place, ClipValue, IsKnown, AllFollow, clip_clause}
+use Rattle.lrup_model.specs.CallerView.{CallerView, ClipValue, IsKnown, AllFollow, clip_clause}
 use Rattle.lrup_model.specs.Propagation.{Accepts}
 use Rattle.lrup_model.specs.declared.clause_map.Fetched.{Fetched}
 use Rattle.lrup_model.specs.declared.clause_map.Fetched.TheVariants as fetched
@@ -14,23 +14,23 @@ use Rattle.lrup_model.specs.declared.clause_map.Retired.TheVariants as retiring
 use Rattle.propagate.specs.Marks.{Propagation}
 use Rattle.stream_check.specs.declared.fault.Fault.{Fault}
 use Rattle.stream_check.specs.declared.fault.Fault.TheVariants as faults
-use Rattle.stream_check.specs.declared.setting.Side.{Side}
-use Rattle.stream_check.specs.declared.setting.Side.TheVariants as sides
+use Rattle.stream_check.specs.declared.params.Ownership.{Ownership}
+use Rattle.stream_check.specs.declared.params.Ownership.TheVariants as ownerships
 use Rattle.stream_check.specs.declared.line_stop.LineStop.{LineStop}
 use Rattle.stream_check.specs.declared.line_stop.LineStop.TheVariants as stops
-use Rattle.stream_check.specs.Setting.{Setting, side_of}
-use Rattle.stream_check.specs.Standing.{is_among}
+use Rattle.stream_check.specs.StreamParams.{StreamParams, ownership_of}
+use Rattle.stream_check.specs.StreamContext.{is_among}
 use Rattle.stream_check.specs.Verdicts.{LineVerdict, Good, Bad}
 use Rattle.stream_check.specs.Additions.{AreFound, FailsHints}
 use Rattle.stream_check.specs.Deletions.{JudgesDeletion, StopsDeletion}
 use Rattle.stream_check.specs.Stopping.{DropsMore}
 
--- a live clause that a fetch gave is known at the place, every clause there follows, and the layout has the formula's variables
-abbrev pub Gives : Place → Fetched → Type 0
-Gives place fetched.Vacant = Unit {0}
-Gives place (fetched.Live clip) =
-    IsKnown place clip × AllFollow place × (place.caller.formula.vars ≡ place.caller.layout.vars)
-Gives place fetched.Retired = Unit {0}
+-- a live clause that a fetch gave is known in the view, every clause there follows, and the layout has the formula's variables
+abbrev pub Gives : CallerView → Fetched → Type 0
+Gives view fetched.Vacant = Unit {0}
+Gives view (fetched.Live clip) =
+    IsKnown view clip × AllFollow view × (view.caller.formula.vars ≡ view.caller.layout.vars)
+Gives view fetched.Retired = Unit {0}
 
 -- the event is a fetch
 abbrev pub IsFetch : Event → Type 0
@@ -45,18 +45,19 @@ abbrev pub KeepsClause : Propagation → Propagation → Type 0
 KeepsClause old new = (new.vars ≡ old.vars) × (new.clause ≡ old.clause)
 
 -- what a look-up found: the clause of the clip, or the fault
-abbrev pub found_by : Place → Result ClipValue Fault → Result Clause Fault
-found_by place (Ok clip) = Ok (clip_clause place clip)
-found_by place (Err fault) = Err fault
+abbrev pub found_by : CallerView → Result ClipValue Fault → Result Clause Fault
+found_by view (Ok clip) = Ok (clip_clause view clip)
+found_by view (Err fault) = Err fault
 
 -- what the hints of an addition come to: they show its clause, or there is a fault
-abbrev pub Shows : Setting → (ℕ → Bool) → Cnf → Clause → List ℕ → History → Result (Unit {0}) Fault
+abbrev pub Shows : StreamParams → (ℕ → Bool) → Cnf → Clause → List ℕ → History
+    → Result (Unit {0}) Fault
     → Type 0
-Shows setting gone formula clause hints history (Ok _) =
+Shows params gone formula clause hints history (Ok _) =
     (hinted : List Clause) × AllByRecursion (IsDerived formula) hinted × Accepts clause hinted
-    × (formula.vars ≡ setting.layout.vars) × AreFound setting gone hints hinted history
-Shows setting gone formula clause hints history (Err fault) =
-    FailsHints setting gone clause hints history fault
+    × (formula.vars ≡ params.layout.vars) × AreFound params gone hints hinted history
+Shows params gone formula clause hints history (Err fault) =
+    FailsHints params gone clause hints history fault
 
 -- no hint may be left after the conflict
 abbrev pub excess_of : List ℕ → Result (Unit {0}) Fault
@@ -71,14 +72,14 @@ line_verdict (Err fault) = Bad 0 fault
 -- Deletions
 
 -- An identity to delete that is an own one: the reply to one retire decides. No other has an event.
-abbrev pub DeletesOwn : Setting → ℕ → List ℕ → List ℕ → History → Result (Unit {0}) LineStop
+abbrev pub DeletesOwn : StreamParams → ℕ → List ℕ → List ℕ → History → Result (Unit {0}) LineStop
     → Type 0
-DeletesOwn setting id old new history (Ok _) =
-    (history ≡ events.retire setting.stream id retiring.Done ∷ []) × (new ≡ old)
-DeletesOwn setting id old new history (Err (stops.Bad fault)) =
-    (history ≡ events.retire setting.stream id retiring.NotLive ∷ []) × (fault ≡ faults.NotLive id)
+DeletesOwn params id old new history (Ok _) =
+    (history ≡ events.retire params.stream id retiring.Done ∷ []) × (new ≡ old)
+DeletesOwn params id old new history (Err (stops.Bad fault)) =
+    (history ≡ events.retire params.stream id retiring.NotLive ∷ []) × (fault ≡ faults.NotLive id)
     × (new ≡ old)
-DeletesOwn setting id old new history (Err stops.Memory) = ⊥
+DeletesOwn params id old new history (Err stops.Memory) = ⊥
 
 -- one of the formula's or of another stream's: it is kept among the dropped ones, where it isn't yet
 abbrev pub DropsShared : ℕ → List ℕ → List ℕ → Result (Unit {0}) LineStop → Type 0
@@ -88,22 +89,22 @@ DropsShared id old new (Err (stops.Bad fault)) =
     (is_among old id ≡ true) × (fault ≡ faults.NotLive id) × (new ≡ old)
 DropsShared id old new (Err stops.Memory) = (is_among old id ≡ false) × (new ≡ old)
 
-abbrev pub DeletesSide : Side → Setting → ℕ → List ℕ → List ℕ → History
+abbrev pub DeletesByOwnership : Ownership → StreamParams → ℕ → List ℕ → List ℕ → History
     → Result (Unit {0}) LineStop → Type 0
-DeletesSide sides.Formula setting id old new history result =
+DeletesByOwnership ownerships.Formula params id old new history result =
     (history ≡ []) × DropsShared id old new result
-DeletesSide sides.Own setting id old new history result =
-    DeletesOwn setting id old new history result
-DeletesSide sides.Foreign setting id old new history result =
+DeletesByOwnership ownerships.Own params id old new history result =
+    DeletesOwn params id old new history result
+DeletesByOwnership ownerships.Foreign params id old new history result =
     (history ≡ []) × DropsShared id old new result
-DeletesSide sides.Outside setting id old new history result =
+DeletesByOwnership ownerships.Outside params id old new history result =
     (history ≡ []) × (result ≡ Err (stops.Bad (faults.NotLive id))) × (new ≡ old)
 
 -- what became of one identity to delete, where these were dropped before, and these are afterwards
-abbrev pub DeletesOne : Setting → ℕ → List ℕ → List ℕ → History → Result (Unit {0}) LineStop
+abbrev pub DeletesOne : StreamParams → ℕ → List ℕ → List ℕ → History → Result (Unit {0}) LineStop
     → Type 0
-DeletesOne setting id old new history result =
-    DeletesSide (side_of setting id) setting id old new history result
+DeletesOne params id old new history result =
+    DeletesByOwnership (ownership_of params id) params id old new history result
 
 -- so many identities more were deleted with this one
 abbrev pub counted : Result (Unit {0}) LineStop → ℕ
@@ -111,19 +112,20 @@ counted (Ok _) = 1
 counted (Err stop) = 0
 
 -- The dropped ones are those of before, and the shared ones of these identities.
-abbrev pub AreDropped : Setting → List ℕ → List ℕ → List ℕ → Type 0
-AreDropped setting old ids new = DropsMore setting (is_among old) ids (is_among new)
+abbrev pub AreDropped : StreamParams → List ℕ → List ℕ → List ℕ → Type 0
+AreDropped params old ids new = DropsMore params (is_among old) ids (is_among new)
 
 -- What a deletion came to: it is good, or bad, or out of memory, after so many identities; the shared ones of these were dropped.
-abbrev pub Deletes : Setting → List ℕ → List ℕ → List ℕ → History → ℕ → Result (Unit {0}) LineStop
+abbrev pub Deletes : StreamParams → List ℕ → List ℕ → List ℕ → History → ℕ
+    → Result (Unit {0}) LineStop
     → Type 0
-Deletes setting old new ids history count (Ok _) =
-    JudgesDeletion setting (is_among old) [] ids history Good × (count ≡ length ids)
-    × AreDropped setting old ids new
-Deletes setting old new ids history count (Err (stops.Bad fault)) =
+Deletes params old new ids history count (Ok _) =
+    JudgesDeletion params (is_among old) [] ids history Good × (count ≡ length ids)
+    × AreDropped params old ids new
+Deletes params old new ids history count (Err (stops.Bad fault)) =
     (earlier later : List ℕ) × (count ≡ length earlier) × (ids ≡ earlier ++ later)
-    × JudgesDeletion setting (is_among old) [] ids history (Bad (length earlier) fault)
-    × AreDropped setting old earlier new
-Deletes setting old new ids history count (Err stops.Memory) =
+    × JudgesDeletion params (is_among old) [] ids history (Bad (length earlier) fault)
+    × AreDropped params old earlier new
+Deletes params old new ids history count (Err stops.Memory) =
     (earlier : List ℕ) × (count ≡ length earlier)
-    × StopsDeletion setting (is_among old) ids history earlier × AreDropped setting old earlier new
+    × StopsDeletion params (is_among old) ids history earlier × AreDropped params old earlier new

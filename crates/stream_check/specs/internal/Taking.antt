@@ -1,41 +1,41 @@
 -- What a checker's line leaves of it (this project's own).
 use Rattle.std.specs.Prelude.{◌≡◌, ◌+◌, ◌++◌, ℕ, List, [], length, Result, Ok, Err}
 use Rattle.lrup_model.specs.Event.{History}
-use Rattle.lrup_model.specs.Place.{Place, IsVacantAbove}
+use Rattle.lrup_model.specs.CallerView.{CallerView, IsVacantAbove}
 use Rattle.lrup_text.specs.Lines.{StreamLine, Deletion}
 use Rattle.stream_check.specs.declared.report.Ending.{Ending}
 use Rattle.stream_check.specs.declared.report.Ending.TheVariants as endings
 use Rattle.stream_check.specs.declared.stream_state.StreamState.{StreamState}
 use Rattle.stream_check.specs.declared.line_stop.LineStop.{LineStop}
 use Rattle.stream_check.specs.declared.line_stop.LineStop.TheVariants as stops
-use Rattle.stream_check.specs.Standing.{capped, is_among, deleted_by}
+use Rattle.stream_check.specs.StreamContext.{capped, is_among, deleted_by}
 use Rattle.stream_check.specs.Verdicts.{Good, Bad}
 use Rattle.stream_check.specs.Deletions.{StopsDeletion}
 use Rattle.stream_check.specs.Judging.{JudgesLine}
-use Rattle.stream_check.specs.Leaving.{Holding, TakesLine}
-use Rattle.stream_check.specs.Checker.{IsPlaceOf}
+use Rattle.stream_check.specs.Reaching.{GoingState, TakesLine}
+use Rattle.stream_check.specs.Checker.{IsViewOf}
 use Rattle.stream_check.specs.internal.Checking.{AreDropped}
-use Rattle.stream_check.specs.internal.CheckerInside.{standing_at, tally_at, deleted_at}
+use Rattle.stream_check.specs.internal.CheckerInside.{context_at, tally_at, deleted_at}
 
 -- what is held, with this text read of the next line, where so much room is left
-abbrev pub hold : StreamState → List ℕ → ℕ → Holding
+abbrev pub hold : StreamState → List ℕ → ℕ → GoingState
 hold state pending free = record {
   tally = tally_at state;
-  standing = standing_at state free;
+  context = context_at state free;
   pending = pending;
   line = state.line;
 }
 
--- the place is one where the next line can be checked
-pub record IsReady (state : StreamState) (place : Place) : Type 0 where
-  pub at : IsPlaceOf state.setting place
+-- with this view the next line can be checked
+pub record IsReady (state : StreamState) (place : CallerView) : Type 0 where
+  pub at : IsViewOf state.params place
   pub vacant : IsVacantAbove place state.last
 
 -- these identities more were deleted, and of them the shared ones dropped, and nothing else was counted
 pub record DeletesMore (old new : StreamState) (ids : List ℕ) : Type 0 where
   pub added : new.added ≡ old.added
   pub deleted : deleted_at new ≡ capped (deleted_at old + length ids)
-  pub dropped : AreDropped old.setting old.dropped.ids ids new.dropped.ids
+  pub dropped : AreDropped old.params old.dropped.ids ids new.dropped.ids
   pub empty : new.empty ≡ old.empty
   pub within : new.within ≡ old.within
   pub line : new.line ≡ old.line
@@ -44,15 +44,15 @@ pub record DeletesMore (old new : StreamState) (ids : List ℕ) : Type 0 where
 abbrev pub TakesBy : StreamState → ℕ → StreamState → ℕ → StreamLine → History
     → Result (Unit {0}) LineStop → Type 0
 TakesBy old free new left line history (Ok _) =
-    JudgesLine old.setting (standing_at old free) line history Good
-    × ((read : List ℕ) → TakesLine old.setting (hold old read free) line (hold new [] left))
+    JudgesLine old.params (context_at old free) line history Good
+    × ((read : List ℕ) → TakesLine old.params (hold old read free) line (hold new [] left))
 TakesBy old free new left line history (Err (stops.Bad fault)) =
     (ids later : List ℕ) × (deleted_by line ≡ ids ++ later)
-    × JudgesLine old.setting (standing_at old free) line history (Bad (length ids) fault)
+    × JudgesLine old.params (context_at old free) line history (Bad (length ids) fault)
     × DeletesMore old new ids
 TakesBy old free new left line history (Err stops.Memory) =
     (lead : ℕ) × (ids earlier : List ℕ) × (line ≡ Deletion lead ids)
-    × StopsDeletion old.setting (is_among old.dropped.ids) ids history earlier
+    × StopsDeletion old.params (is_among old.dropped.ids) ids history earlier
     × DeletesMore old new earlier
 
 -- a line that stopped ends the reading so

@@ -10,11 +10,11 @@ use Rattle.lrup_model.specs.Propagation.{IsUnit, Refutes}
 use Rattle.lrup_model.specs.State.{State, run}
 use Rattle.lrup_text.specs.Lines.{IsStreamLiteral}
 use Rattle.stream_check.specs.declared.fault.Fault.{Fault}
-use Rattle.stream_check.specs.Setting.{Setting}
-use Rattle.stream_check.specs.Standing.{Standing}
+use Rattle.stream_check.specs.StreamParams.{StreamParams}
+use Rattle.stream_check.specs.StreamContext.{StreamContext}
 use Rattle.stream_check.specs.Verdicts.{Violates}
-use Rattle.stream_check.specs.Asking.{Asks, LooksUp}
-use Rattle.stream_check.specs.Additions.{AreFound, BeforeHints, context_of, IsValidAddition, Misleads}
+use Rattle.stream_check.specs.Lookup.{Asks, LooksUp}
+use Rattle.stream_check.specs.Additions.{AreFound, BeforeHints, addition_context, IsValidAddition, Misleads}
 use Rattle.stream_check.specs.internal.Checking.{IsFetch}
 
 -- none of the literals of a line is 0
@@ -36,7 +36,7 @@ pub violates_maps : (Holds : Type 0) (its : Fault) (es fs : History) (fault : Fa
 violates_maps Holds its es fs fault A B none next (inl bad) = inl (bad.0, none bad.1, bad.2)
 violates_maps Holds its es fs fault A B none next (inr good) = inr (good.0, next good.1)
 
-pub before_maps : (c : Setting) (st : Standing) (id : ℕ) (lits : List ℤ) (es fs : History)
+pub before_maps : (c : StreamParams) (st : StreamContext) (id : ℕ) (lits : List ℤ) (es fs : History)
     (fault : Fault) (A B : Type 0)
     → (es ≡ [] → fs ≡ []) → (A → B) → BeforeHints c st id lits es fault A
     → BeforeHints c st id lits fs fault B
@@ -45,9 +45,10 @@ before_maps c st id lits es fs fault A B none next before =
     (λ a. violates_maps _ _ es fs fault _ _ none next a) a) a) before
 
 -- a valid addition violates none of the conditions before those of its hints
-pub valid_passes : (c : Setting) (st : Standing) (fetches : History) (id : ℕ) (lits : List ℤ)
+pub valid_passes : (c : StreamParams) (st : StreamContext) (fetches : History) (id : ℕ)
+    (lits : List ℤ)
     (hints : List ℕ) (es : History) (fault : Fault) (A : Type 0)
-    → IsValidAddition c.layout c.stream (context_of c st fetches) id lits hints
+    → IsValidAddition c.layout c.stream (addition_context c st fetches) id lits hints
     → BeforeHints c st id lits es fault A → A
 valid_passes c st fetches id lits hints es fault A valid (inl bad) = absurd (bad.0 (valid.owns, valid.above))
 valid_passes c st fetches id lits hints es fault A valid (inr (a, inl bad)) = absurd (bad.0 valid.literals)
@@ -57,7 +58,7 @@ valid_passes c st fetches id lits hints es fault A valid (inr (a, inr (b, inr (d
 valid_passes c st fetches id lits hints es fault A valid (inr (a, inr (b, inr (d, inr (e, next))))) = next
 
 -- a look-up that came to a clause fetched it
-pub found_live : (c : Setting) (gone : ℕ → Bool) (h : ℕ) (es : History) (d : Clause)
+pub found_live : (c : StreamParams) (gone : ℕ → Bool) (h : ℕ) (es : History) (d : Clause)
     → LooksUp c gone h es (Ok d) → (gone h ≡ false) × Asks c h es (events.live d)
 found_live c gone h es d (inl dropped) = absurd (let e = dropped.2 in cc)
 found_live c gone h es d (inr (kept, events.vacant, asks, is)) = absurd (cc)
@@ -65,13 +66,14 @@ found_live c gone h es d (inr (kept, events.live e, asks, is)) =
     let same : e ≡ d = cc in (kept, subst (λ (x : Clause). Asks c h es (events.live x)) same asks)
 found_live c gone h es d (inr (kept, events.retired, asks, is)) = absurd (cc)
 
-pub no_hints_left : (c : Setting) (gone : ℕ → Bool) (hints : List ℕ) (es : History)
+pub no_hints_left : (c : StreamParams) (gone : ℕ → Bool) (hints : List ℕ) (es : History)
     → AreFound c gone hints [] es → hints ≡ []
 no_hints_left c gone [] es found = refl
 no_hints_left c gone (h ∷ hints) es found = absurd found
 
 -- a clause that is needed is of help
-pub no_help : (n : List ℤ) (d : Clause) (ds : List Clause) (c : Setting) (gone : ℕ → Bool) (h : ℕ)
+pub no_help : (n : List ℤ) (d : Clause) (ds : List Clause) (c : StreamParams)
+    (gone : ℕ → Bool) (h : ℕ)
     (hints : List ℕ) (es : History) (fault : Fault)
     → Refutes n (d ∷ ds) → AreFound c gone hints ds es → Misleads n d h hints fault → ⊥
 no_help n d [] c gone h hints es fault refutes found (inl neither) = neither.0 refutes

@@ -6,7 +6,7 @@ use Rattle.std.specs.List.{list_any}
 use Rattle.std.proofs.lemmas.Bool.Decides.{Decides-int_eq}
 use Rattle.lrup_model.specs.Clause.{Clause, Has}
 use Rattle.lrup_model.specs.Cube.{CubeValue, Within}
-use Rattle.stream_check.specs.Standing.{is_within}
+use Rattle.stream_check.specs.StreamContext.{is_within}
 
 either : (a b : Bool) (A B : Type 0) → (IsTrue a ↔ A) → (IsTrue b ↔ B) → IsTrue (a || b) → A ⊎ B
 either true b A B first rest is = inl (first.0 refl)

@@ -8,17 +8,17 @@ use Rattle.lrup_model.specs.Event.{Event, History, Reply}
 use Rattle.lrup_model.specs.lemmas.ListLemmas.{All-append}
 use Rattle.lrup_model.specs.declared.clause_map.Retired.TheVariants as retiring
 use Rattle.stream_check.specs.declared.fault.Fault.{Fault}
-use Rattle.stream_check.specs.declared.setting.Side.{Side}
-use Rattle.stream_check.specs.declared.setting.Side.TheVariants as sides
-use Rattle.stream_check.specs.Setting.{Setting, side_of}
-use Rattle.stream_check.specs.Standing.{Standing}
+use Rattle.stream_check.specs.declared.params.Ownership.{Ownership}
+use Rattle.stream_check.specs.declared.params.Ownership.TheVariants as ownerships
+use Rattle.stream_check.specs.StreamParams.{StreamParams, ownership_of}
+use Rattle.stream_check.specs.StreamContext.{StreamContext}
 use Rattle.stream_check.specs.Verdicts.{LineVerdict, Good, Bad, Violates}
-use Rattle.stream_check.specs.Asking.{AsksAt, Asks, answer_of, LooksUp}
+use Rattle.stream_check.specs.Lookup.{AsksAt, Asks, answer_of, LooksUp}
 use Rattle.stream_check.specs.Additions.{AreFound, FailsBy, FailsHints, published_by, JudgesAddition}
 use Rattle.stream_check.specs.Deletions.{DeletesAt, JudgesDeletion}
 use Rattle.stream_check.specs.Imports.{JudgesImport}
 
-module _ (c : Setting) (P : History → Type 0) (none : P []) where
+module _ (c : StreamParams) (P : History → Type 0) (none : P []) where
   none_holds : (es : History) → es ≡ [] → P es
   none_holds es e = subst P (sym e) none
 
@@ -79,7 +79,8 @@ module _ (c : Setting) (P : History → Type 0) (none : P []) where
         subst P (sym fails.2)
         (looks_hold gone h fails.0 fails.1 fails.3 all.0 fails.4 rest.0 rest.1)
 
-    pub addition_holds : (st : Standing) (id : ℕ) (lits : List ℤ) (hints : List ℕ) (es : History)
+    pub addition_holds : (st : StreamContext) (id : ℕ) (lits : List ℤ) (hints : List ℕ)
+        (es : History)
         (v : LineVerdict)
         → (v ≡ Good → P (published_by c id lits ∷ [])) → AllByRecursion IsHint hints
         → JudgesAddition c st id lits hints es v → P es
@@ -91,7 +92,8 @@ module _ (c : Setting) (P : History → Type 0) (none : P []) where
         (λ a. violates_holds _ _ es fault _ (λ a. violates_holds _ _ es fault _
         (λ a. fails_hold st.gone _ hints es fault all a) a) a) a) bad.1
 
-    pub import_holds : (st : Standing) (id : ℕ) (lits : List ℤ) (es : History) (v : LineVerdict)
+    pub import_holds : (st : StreamContext) (id : ℕ) (lits : List ℤ) (es : History)
+        (v : LineVerdict)
         → IsHint id → JudgesImport c st id lits es v → P es
     import_holds st id lits es Good is good =
         looks_last st.gone id es (Ok good.clause) is good.found
@@ -107,16 +109,16 @@ module _ (c : Setting) (P : History → Type 0) (none : P []) where
       → P (events.retire c.stream id retiring.Done ∷ rest))
       (refused : (id : ℕ) → IsDeleted id
       → P (events.retire c.stream id retiring.NotLive ∷ [])) where
-    at_holds : (side : Side) (gone : ℕ → Bool) (earlier : List ℕ) (id : ℕ) (es : History)
+    at_holds : (ownership : Ownership) (gone : ℕ → Bool) (earlier : List ℕ) (id : ℕ) (es : History)
         (v : LineVerdict) (A : History → Type 0)
         → IsDeleted id → ((rest : History) → A rest → P rest)
-        → DeletesAt side c gone earlier id es v A → P es
-    at_holds sides.Formula gone earlier id es v A is next (inl bad) = none_holds es bad.1.0
-    at_holds sides.Formula gone earlier id es v A is next (inr good) = next es good.1
-    at_holds sides.Foreign gone earlier id es v A is next (inl bad) = none_holds es bad.1.0
-    at_holds sides.Foreign gone earlier id es v A is next (inr good) = next es good.1
-    at_holds sides.Outside gone earlier id es v A is next at = none_holds es at.0
-    at_holds sides.Own gone earlier id es v A is next at = elim at.decided [
+        → DeletesAt ownership c gone earlier id es v A → P es
+    at_holds ownerships.Formula gone earlier id es v A is next (inl bad) = none_holds es bad.1.0
+    at_holds ownerships.Formula gone earlier id es v A is next (inr good) = next es good.1
+    at_holds ownerships.Foreign gone earlier id es v A is next (inl bad) = none_holds es bad.1.0
+    at_holds ownerships.Foreign gone earlier id es v A is next (inr good) = next es good.1
+    at_holds ownerships.Outside gone earlier id es v A is next at = none_holds es at.0
+    at_holds ownerships.Own gone earlier id es v A is next at = elim at.decided [
       | inl good ↦ subst P (sym good.0) (done id at.rest is (next at.rest good.1))
       | inr bad ↦
           let one = ap (λ r. events.retire c.stream id retiring.NotLive ∷ r) bad.1.0 in
@@ -127,7 +129,7 @@ module _ (c : Setting) (P : History → Type 0) (none : P []) where
         → AllByRecursion IsDeleted ids → JudgesDeletion c gone earlier ids es v → P es
     identities_hold gone earlier [] es v all judged = none_holds es judged.0
     identities_hold gone earlier (id ∷ ids) es v all judged =
-        at_holds (side_of c id) gone earlier id es v
+        at_holds (ownership_of c id) gone earlier id es v
         (λ rest. JudgesDeletion c gone (earlier ++ id ∷ []) ids rest v) all.0
         (λ rest k. identities_hold gone (earlier ++ id ∷ []) ids rest v all.1 k) judged
 
@@ -148,25 +150,27 @@ vacants_are : (P : Event → Type 0) (s id k : ℕ) (r : Reply)
 vacants_are P s id zero r each = (each r, tt)
 vacants_are P s id (suc k) r each = (each events.vacant, vacants_are P s id k r each)
 
-asked_at : (side : Side) (P : Event → Type 0) (c : Setting) (h : ℕ) (es : History) (r : Reply)
-    → ((x : Reply) → P (events.fetch c.stream h x)) → AsksAt side c h es r → AllByRecursion P es
-asked_at sides.Formula P c h es r each asks = subst (AllByRecursion P) (sym asks) (each r, tt)
-asked_at sides.Own P c h es r each asks = subst (AllByRecursion P) (sym asks) (each r, tt)
-asked_at sides.Foreign P c h es r each asks = subst (AllByRecursion P) (sym asks.3) (vacants_are P c.stream h asks.0 r each)
-asked_at sides.Outside P c h es r each asks = subst (AllByRecursion P) (sym asks.0) tt
+asked_at : (ownership : Ownership) (P : Event → Type 0) (c : StreamParams) (h : ℕ)
+    (es : History) (r : Reply)
+    → ((x : Reply) → P (events.fetch c.stream h x)) → AsksAt ownership c h es r
+    → AllByRecursion P es
+asked_at ownerships.Formula P c h es r each asks = subst (AllByRecursion P) (sym asks) (each r, tt)
+asked_at ownerships.Own P c h es r each asks = subst (AllByRecursion P) (sym asks) (each r, tt)
+asked_at ownerships.Foreign P c h es r each asks = subst (AllByRecursion P) (sym asks.3) (vacants_are P c.stream h asks.0 r each)
+asked_at ownerships.Outside P c h es r each asks = subst (AllByRecursion P) (sym asks.0) tt
 
-pub asked_are : (P : Event → Type 0) (c : Setting) (h : ℕ) (es : History) (r : Reply)
+pub asked_are : (P : Event → Type 0) (c : StreamParams) (h : ℕ) (es : History) (r : Reply)
     → ((x : Reply) → P (events.fetch c.stream h x)) → Asks c h es r → AllByRecursion P es
-asked_are P c h es r each asks = asked_at (side_of c h) P c h es r each asks
+asked_are P c h es r each asks = asked_at (ownership_of c h) P c h es r each asks
 
-pub asked_more : (P : Event → Type 0) (c : Setting) (h : ℕ) (asked rest : History) (r : Reply)
+pub asked_more : (P : Event → Type 0) (c : StreamParams) (h : ℕ) (asked rest : History) (r : Reply)
     → ((x : Reply) → P (events.fetch c.stream h x)) → Asks c h asked r → AllByRecursion P rest
     → AllByRecursion P (asked ++ rest)
 asked_more P c h asked rest r each asks all = All-append P asked rest (asked_are P c h asked r each asks) all
 
 -- What holds of each fetch, and of the publish of a good addition
 
-module _ (c : Setting) (P : Event → Type 0)
+module _ (c : StreamParams) (P : Event → Type 0)
     (fetches : (id : ℕ) (r : Reply) → P (events.fetch c.stream id r)) where
   fetches_more : (h : ℕ) (asked rest : History) (r : Reply) → IsAny h → Asks c h asked r
       → (r ≡ events.vacant → rest ≡ []) → AllByRecursion P rest → AllByRecursion P (asked ++ rest)
@@ -187,13 +191,14 @@ module _ (c : Setting) (P : Event → Type 0)
       fails
 
   pub addition_all : (id : ℕ) (lits : List ℤ) (v : LineVerdict)
-      → (v ≡ Good → P (published_by c id lits)) → (st : Standing) (hints : List ℕ) (es : History)
+      → (v ≡ Good → P (published_by c id lits))
+      → (st : StreamContext) (hints : List ℕ) (es : History)
       → JudgesAddition c st id lits hints es v → AllByRecursion P es
   addition_all id lits v publishes st hints es judged =
       addition_holds c (AllByRecursion P) tt IsAny fetches_more st id lits hints es v
       (λ good. (publishes good, tt)) (all_any hints) judged
 
-  pub import_all : (st : Standing) (id : ℕ) (lits : List ℤ) (es : History) (v : LineVerdict)
+  pub import_all : (st : StreamContext) (id : ℕ) (lits : List ℤ) (es : History) (v : LineVerdict)
       → JudgesImport c st id lits es v → AllByRecursion P es
   import_all st id lits es v judged =
       import_holds c (AllByRecursion P) tt IsAny fetches_more st id lits es v tt judged

@@ -10,30 +10,30 @@ use Rattle.lrup_model.specs.declared.clause_map.Retired.{Retired}
 use Rattle.lrup_model.specs.declared.clause_map.Retired.TheVariants as retiring
 use Rattle.lrup_text.specs.Lines.{StreamLine, Addition, Deletion, Import}
 use Rattle.stream_check.specs.declared.fault.Fault.{Fault}
-use Rattle.stream_check.specs.declared.setting.Side.{Side}
-use Rattle.stream_check.specs.declared.setting.Side.TheVariants as sides
-use Rattle.stream_check.specs.Setting.{Setting, side_of}
-use Rattle.stream_check.specs.Standing.{Standing}
+use Rattle.stream_check.specs.declared.params.Ownership.{Ownership}
+use Rattle.stream_check.specs.declared.params.Ownership.TheVariants as ownerships
+use Rattle.stream_check.specs.StreamParams.{StreamParams, ownership_of}
+use Rattle.stream_check.specs.StreamContext.{StreamContext}
 use Rattle.stream_check.specs.Verdicts.{LineVerdict, Good, Bad}
-use Rattle.stream_check.specs.Asking.{answer_of, LooksUp}
+use Rattle.stream_check.specs.Lookup.{answer_of, LooksUp}
 use Rattle.stream_check.specs.Additions.{AreFound, FailsBy, FailsHints, published_by, JudgesAddition}
 use Rattle.stream_check.specs.lemmas.AdditionLemmas.{violates_maps, before_maps}
 use Rattle.stream_check.specs.Deletions.{RetiresThen, DropsThen, DeletesAt, JudgesDeletion}
 use Rattle.stream_check.specs.Imports.{JudgesImport}
 use Rattle.stream_check.specs.Judging.{JudgesLine}
 
--- the same setting, under this cube
-abbrev pub under : Setting → CubeValue → Setting
+-- the same parameters, under this cube
+abbrev pub under : StreamParams → CubeValue → StreamParams
 under c cube = record c { cube = cube }
 
 -- the events of a look-up, and those behind them, become others that come to the same
-pub record LooksOn (c : Setting) (f : History → History) (gone : ℕ → Bool) (h : ℕ)
+pub record LooksOn (c : StreamParams) (f : History → History) (gone : ℕ → Bool) (h : ℕ)
     (asked rest : History) (answer : Result Clause Fault) : Type 0 where
   pub fewer : History
   pub events : f (asked ++ rest) ≡ fewer ++ f rest
   pub looks : LooksUp c gone h fewer answer
 
-module _ (c : Setting) (cube : CubeValue) (f : History → History) (none : f [] ≡ [])
+module _ (c : StreamParams) (cube : CubeValue) (f : History → History) (none : f [] ≡ [])
     (published : (id : ℕ) (lits : List ℤ)
     → f (published_by c id lits ∷ []) ≡ published_by c id lits ∷ [])
     (retired : (id : ℕ) (r : Retired) (rest : History)
@@ -90,7 +90,7 @@ module _ (c : Setting) (cube : CubeValue) (f : History → History) (none : f []
       let r = looked gone h fails.0 fails.1 fails.3 fails.4 by.0 in
       (r.fewer, f fails.1, ap f fails.2 ∙ r.events, fails.3, r.looks, by.1)
 
-  addition_maps : (st : Standing) (id : ℕ) (lits : List ℤ) (hints : List ℕ) (es : History)
+  addition_maps : (st : StreamContext) (id : ℕ) (lits : List ℤ) (hints : List ℕ) (es : History)
       (v : LineVerdict) → JudgesAddition c st id lits hints es v
       → JudgesAddition (under c cube) st id lits hints (f es) v
   addition_maps st id lits hints es Good (fetches, good, is) =
@@ -114,7 +114,7 @@ module _ (c : Setting) (cube : CubeValue) (f : History → History) (none : f []
         (λ a. hints_map st.gone (distinct lits) hints es fault a) bad.1,
   )
 
-  import_maps : (st : Standing) (id : ℕ) (lits : List ℤ) (es : History) (v : LineVerdict)
+  import_maps : (st : StreamContext) (id : ℕ) (lits : List ℤ) (es : History) (v : LineVerdict)
       → JudgesImport c st id lits es v → JudgesImport (under c cube) st id lits (f es) v
   import_maps st id lits es Good good = record {
     shared = good.shared;
@@ -154,28 +154,28 @@ module _ (c : Setting) (cube : CubeValue) (f : History → History) (none : f []
         record { rest = f a.rest; decided = inr (is, (nothing a.rest bad.1.0, bad.1.1)) }
   ]
 
-  at_maps : (side : Side) (gone : ℕ → Bool) (earlier : List ℕ) (id : ℕ) (es : History)
+  at_maps : (ownership : Ownership) (gone : ℕ → Bool) (earlier : List ℕ) (id : ℕ) (es : History)
       (v : LineVerdict) (A B : History → Type 0) → ((rest : History) → A rest → B (f rest))
-      → DeletesAt side c gone earlier id es v A
-      → DeletesAt side (under c cube) gone earlier id (f es) v B
-  at_maps sides.Formula gone earlier id es v A B next at =
+      → DeletesAt ownership c gone earlier id es v A
+      → DeletesAt ownership (under c cube) gone earlier id (f es) v B
+  at_maps ownerships.Formula gone earlier id es v A B next at =
       drops_map gone earlier id es v A B (next es) at
-  at_maps sides.Own gone earlier id es v A B next at = retires_map earlier id es v A B next at
-  at_maps sides.Foreign gone earlier id es v A B next at =
+  at_maps ownerships.Own gone earlier id es v A B next at = retires_map earlier id es v A B next at
+  at_maps ownerships.Foreign gone earlier id es v A B next at =
       drops_map gone earlier id es v A B (next es) at
-  at_maps sides.Outside gone earlier id es v A B next at = (nothing es at.0, at.1)
+  at_maps ownerships.Outside gone earlier id es v A B next at = (nothing es at.0, at.1)
 
   pub identities_map : (gone : ℕ → Bool) (earlier ids : List ℕ) (es : History) (v : LineVerdict)
       → JudgesDeletion c gone earlier ids es v
       → JudgesDeletion (under c cube) gone earlier ids (f es) v
   identities_map gone earlier [] es v judged = (nothing es judged.0, judged.1)
   identities_map gone earlier (id ∷ ids) es v judged =
-      at_maps (side_of c id) gone earlier id es v
+      at_maps (ownership_of c id) gone earlier id es v
       (λ rest. JudgesDeletion c gone (earlier ++ id ∷ []) ids rest v)
       (λ rest. JudgesDeletion (under c cube) gone (earlier ++ id ∷ []) ids rest v)
       (λ rest k. identities_map gone (earlier ++ id ∷ []) ids rest v k) judged
 
-  pub line_maps : (st : Standing) (line : StreamLine) (es : History) (v : LineVerdict)
+  pub line_maps : (st : StreamContext) (line : StreamLine) (es : History) (v : LineVerdict)
       → JudgesLine c st line es v → JudgesLine (under c cube) st line (f es) v
   line_maps st (Addition id lits hints) es v judged = addition_maps st id lits hints es v judged
   line_maps st (Deletion lead ids) es v judged = identities_map st.gone [] ids es v judged

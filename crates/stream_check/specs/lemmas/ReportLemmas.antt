@@ -10,11 +10,11 @@ use Rattle.lrup_model.specs.Event.{History}
 use Rattle.lrup_text.specs.Lines.{StreamLine, Addition, Deletion, Import, line_text}
 use Rattle.lrup_text.specs.declared.device.StreamEnd.{StreamEnd}
 use Rattle.stream_check.specs.declared.report.Report.{Report}
-use Rattle.stream_check.specs.Setting.{Setting}
-use Rattle.stream_check.specs.Standing.{additions_of, is_within}
+use Rattle.stream_check.specs.StreamParams.{StreamParams}
+use Rattle.stream_check.specs.StreamContext.{additions_of, is_within}
 use Rattle.stream_check.specs.Judging.{EndsAfter, at_bad_line, at_bad_text, at_memory, at_end, joined}
-use Rattle.stream_check.specs.Leaving.{CheckerState, Leaves}
-use Rattle.stream_check.specs.Checker.{LeavesOn}
+use Rattle.stream_check.specs.Reaching.{CheckerState, ReachesState}
+use Rattle.stream_check.specs.Checker.{Extends}
 
 pub joined-append : (a b : List History) → joined (a ++ b) ≡ joined a ++ joined b
 joined-append a b = flat_map-append (λ block. block) a b
@@ -33,12 +33,12 @@ additions-append (Deletion lead ids ∷ a) b = additions-append a b
 additions-append (Import id lits ∷ a) b = additions-append a b
 
 -- nothing is taken
-pub leaves_still : (c : Setting) (s : CheckerState) → LeavesOn c s [] [] s
-leaves_still c s bytes before leaves =
-    subst (λ (b : List ℕ). Leaves c b (before ++ []) s) (sym (append-nil bytes)) (subst (λ (blocks : List History). Leaves c bytes blocks s) (sym (append-nil before)) leaves)
+pub reaches_still : (c : StreamParams) (s : CheckerState) → Extends c s [] [] s
+reaches_still c s bytes before reaches =
+    subst (λ (b : List ℕ). ReachesState c b (before ++ []) s) (sym (append-nil bytes)) (subst (λ (blocks : List History). ReachesState c bytes blocks s) (sym (append-nil before)) reaches)
 
 -- the report tells of the good lines alone
-pub said_within : (c : Setting) (lines : List StreamLine) (rest : List ℕ) (end : StreamEnd)
+pub said_within : (c : StreamParams) (lines : List StreamLine) (rest : List ℕ) (end : StreamEnd)
     (back : List History) (report : Report) → EndsAfter c lines rest end back report
     → report.within ≡ list_any (λ addition. is_within c.cube addition.1) (additions_of lines)
 said_within c lines rest end back report (at_bad_line _ _ _ _ _ _ _ _ _ says) = ap (λ (r : Report). r.within) says
@@ -46,7 +46,7 @@ said_within c lines rest end back report (at_bad_text _ _ _ says) = ap (λ (r : 
 said_within c lines rest end back report (at_memory _ _ _ _ _ _ _ _ _ says) = ap (λ (r : Report). r.within) says
 said_within c lines rest end back report (at_end _ _ says) = ap (λ (r : Report). r.within) says
 
-pub said_empty : (c : Setting) (lines : List StreamLine) (rest : List ℕ) (end : StreamEnd)
+pub said_empty : (c : StreamParams) (lines : List StreamLine) (rest : List ℕ) (end : StreamEnd)
     (back : List History) (report : Report) → EndsAfter c lines rest end back report
     → report.empty ≡ list_any (λ addition. length addition.1 == 0) (additions_of lines)
 said_empty c lines rest end back report (at_bad_line _ _ _ _ _ _ _ _ _ says) = ap (λ (r : Report). r.empty) says

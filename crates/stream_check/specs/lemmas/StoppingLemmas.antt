@@ -3,7 +3,7 @@ use Rattle.std.proofs.Common.{◌≡◌, ◌||◌, ◌&&◌, ◌∙◌, ℕ, Boo
 use Rattle.std.specs.List.{flat_map}
 use Rattle.lrup_text.specs.Lines.{line_text}
 use Rattle.stream_check.specs.declared.report.Report.{Report}
-use Rattle.stream_check.specs.Setting.{Setting, side_of, is_shared}
+use Rattle.stream_check.specs.StreamParams.{StreamParams, ownership_of, is_shared}
 use Rattle.stream_check.specs.Stopping.{AreDeletedFirst, DropsMore, DropsUntilStop}
 
 or_none : (before shared : Bool) → (before || shared && false) ≡ before
@@ -12,8 +12,8 @@ or_none false true = refl
 or_none false false = refl
 
 -- no identities drop nothing
-pub drops_none : (c : Setting) (gone : ℕ → Bool) → DropsMore c gone [] gone
-drops_none c gone id = sym (or_none (gone id) (is_shared (side_of c id)))
+pub drops_none : (c : StreamParams) (gone : ℕ → Bool) → DropsMore c gone [] gone
+drops_none c gone id = sym (or_none (gone id) (is_shared (ownership_of c id)))
 
 first_longer : (ids bytes more : List ℕ) → AreDeletedFirst ids bytes
     → AreDeletedFirst ids (bytes ++ more)
@@ -22,7 +22,7 @@ first_longer ids bytes more (inr (line, fits, later, rest, text, deletes)) =
     inr (line, fits, later, rest ++ more, ap (λ (b : List ℕ). b ++ more) text ∙ append_assoc (line_text line) rest more, deletes)
 
 -- whatever follows
-pub drops_longer : (c : Setting) (bytes more : List ℕ) (report : Report) (gone : ℕ → Bool)
+pub drops_longer : (c : StreamParams) (bytes more : List ℕ) (report : Report) (gone : ℕ → Bool)
     → DropsUntilStop c bytes report gone → DropsUntilStop c (bytes ++ more) report gone
 drops_longer c bytes more report gone d = record {
   lines = d.lines;

@@ -2,8 +2,8 @@
 ghost use Rattle.std.specs.Prelude.{◌≡◌, ◌≤◌, [], IfOk};
 ghost use Rattle.checker_support.specs.Opened.{IsPlainOpened};
 ghost use Rattle.lrup_model.specs.Event.{History};
-ghost use Rattle.lrup_model.specs.Place.{Tells};
-ghost use Rattle.lrup_model.specs.Plain.{PlainMoves, formula_of, free_at, plain_place};
+ghost use Rattle.lrup_model.specs.CallerView.{CallerStep};
+ghost use Rattle.lrup_model.specs.Plain.{PlainMoves, formula_of, free_at, plain_caller_view};
 ghost use Rattle.test_support.specs.Worked.{four};
 
 use super::{Told, feed_cut, same, told_of};
@@ -93,7 +93,7 @@ struct LateMap<'a> {
 
 /// Publishes `-2` under identity 6, or retires it.
 fn call_at_six<M: ClauseMap>(desk: &mut M, retires: bool)
-    requires { (M.place desk.old).caller.formula ≡ four }
+    requires { (M.caller_view desk.old).caller.formula ≡ four }
     ensures { (es : History) × M.moves desk.old desk.new es }
 {
     if !desk.owns(6) {
@@ -119,7 +119,7 @@ fn call_second(map: &mut PlainMap, retires: bool)
 fn call_late(map: &mut PlainMap, late: Late, fetch: u64)
     requires formula { formula_of map.old ≡ four }
     requires streams { 2 ≤ map.old.layout.streams }
-    ensures { Tells (plain_place map.old 1) (plain_place map.new 1) [] }
+    ensures { CallerStep (plain_caller_view map.old 1) (plain_caller_view map.new 1) [] }
 {
     match late {
         Late::Published(at) if at == fetch => call_second(map, false),
@@ -132,11 +132,11 @@ fn call_late(map: &mut PlainMap, late: Late, fetch: u64)
 }
 
 impl ClauseMap for LateMap<'_> {
-    ghost use Rattle.stream_check_tests.specs.lemmas.TellsLemmas.{tells_none, tells_append};
+    ghost use Rattle.stream_check_tests.specs.lemmas.StepLemmas.{step_none, step_append};
 
-    ghost place = { λ m. plain_place m.map 1 };
+    ghost caller_view = { λ m. plain_caller_view m.map 1 };
 
-    ghost moves = { λ a b es. Tells (plain_place a.map 1) (plain_place b.map 1) es };
+    ghost moves = { λ a b es. CallerStep (plain_caller_view a.map 1) (plain_caller_view b.map 1) es };
 
     fn stream(&self) -> u64 {
         1
@@ -189,12 +189,12 @@ impl ClauseMap for LateMap<'_> {
         answer
     }
 
-    ghost moves_none = { λ m. tells_none (plain_place m.map 1) };
+    ghost moves_none = { λ m. step_none (plain_caller_view m.map 1) };
 
     ghost moves_append = { λ a b c.
-        tells_append (plain_place a.map 1) (plain_place b.map 1) (plain_place c.map 1) };
+        step_append (plain_caller_view a.map 1) (plain_caller_view b.map 1) (plain_caller_view c.map 1) };
 
-    ghost moves_tells = { λ a b es moves. moves };
+    ghost moves_are_step = { λ a b es moves. moves };
 }
 
 const NOTHING: Events = Events {

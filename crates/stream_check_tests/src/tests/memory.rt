@@ -2,7 +2,7 @@
 //! `rt try --test --fail-alloc N`.
 ghost use Rattle.std.specs.Prelude.{IsSome, IsTrue};
 ghost use Rattle.lrup_model.specs.Layout.{IsStream};
-ghost use Rattle.lrup_model.specs.Plain.{plain_place};
+ghost use Rattle.lrup_model.specs.Plain.{plain_caller_view};
 ghost use Rattle.stream_check.specs.Checker.{IsReadyAt};
 
 use super::{said_of, same, told_of};
@@ -41,8 +41,8 @@ static LINES: [&str; 20] = [
 
 /// Feeds a line, of which all is used. Is the checker over then?
 fn feed_line<R: Abort, M: ClauseMap>(rt: &R, checker: &mut Checker, map: &mut M, line: &str) -> bool
-    requires { IsReadyAt checker.old (M.place map.old) }
-    ensures ready { IsReadyAt checker.new (M.place map.new) }
+    requires { IsReadyAt checker.old (M.caller_view map.old) }
+    ensures ready { IsReadyAt checker.new (M.caller_view map.new) }
     ensures over { IsTrue result → IsSome checker.new.ending }
 {
     let progress = checker.feed(map, &mut told_of(0, 0, 0), line.as_bytes());
@@ -59,7 +59,7 @@ fn feed_line<R: Abort, M: ClauseMap>(rt: &R, checker: &mut Checker, map: &mut M,
 
 /// Feeds these lines, each alone. Where the checker is over before the last it has used the whole line.
 fn feed_lines<R: Abort, M: ClauseMap>(rt: &R, checker: &mut Checker, map: &mut M)
-    requires { IsReadyAt checker.old (M.place map.old) }
+    requires { IsReadyAt checker.old (M.caller_view map.old) }
     ensures { IsSome checker.new.ending }
 {
     for line in &LINES {
@@ -73,7 +73,7 @@ fn feed_lines<R: Abort, M: ClauseMap>(rt: &R, checker: &mut Checker, map: &mut M
 
 /// A further line changes nothing.
 fn stays_over<R: Abort, M: ClauseMap>(rt: &R, checker: &mut Checker, map: &mut M)
-    requires ready { IsReadyAt checker.old (M.place map.old) }
+    requires ready { IsReadyAt checker.old (M.caller_view map.old) }
     requires over { IsSome checker.old.ending }
 {
     let said = checker.report();
@@ -83,7 +83,7 @@ fn stays_over<R: Abort, M: ClauseMap>(rt: &R, checker: &mut Checker, map: &mut M
 
 /// How much of a further line is used, and whose turn it is then.
 fn fed_more<M: ClauseMap>(checker: &mut Checker, map: &mut M) -> (usize, CheckTurn)
-    requires ready { IsReadyAt checker.old (M.place map.old) }
+    requires ready { IsReadyAt checker.old (M.caller_view map.old) }
     requires over { IsSome checker.old.ending }
     ensures { IsSome checker.new.ending }
 {
@@ -94,7 +94,7 @@ fn fed_more<M: ClauseMap>(checker: &mut Checker, map: &mut M) -> (usize, CheckTu
 /// What a checker says of a stream of these lines.
 fn said_at_desk<R: Abort>(rt: &R, map: &mut PlainMap, checker: &mut Checker) -> Report
     requires stream { IsStream map.old.layout 1 }
-    requires ready { IsReadyAt checker.old (plain_place map.old 1) }
+    requires ready { IsReadyAt checker.old (plain_caller_view map.old 1) }
 {
     feed_lines(rt, checker, &mut map.desk(1));
     checker.report()

@@ -3,7 +3,7 @@ ghost use Rattle.std.specs.Prelude.{◌≡◌, ◌≤◌, IfOk};
 ghost use Rattle.checker_support.specs.Opened.{IsPlainOpened};
 ghost use Rattle.lrup_model.specs.Event.{History};
 ghost use Rattle.lrup_model.specs.Layout.{IsStream};
-ghost use Rattle.lrup_model.specs.Plain.{PlainMoves, plain_place};
+ghost use Rattle.lrup_model.specs.Plain.{PlainMoves, plain_caller_view};
 ghost use Rattle.stream_check.specs.Checker.{IsReadyAt};
 
 use super::{Said, Told, feed_whole, report_of, same, told_of};
@@ -24,17 +24,17 @@ struct Two {
     first_told: Told,
     second_told: Told,
     ghost streams: { 2 ≤ map.layout.streams },
-    ghost first_ready: { IsReadyAt first (plain_place map 1) },
-    ghost second_ready: { IsReadyAt second (plain_place map 2) },
+    ghost first_ready: { IsReadyAt first (plain_caller_view map 1) },
+    ghost second_ready: { IsReadyAt second (plain_caller_view map 2) },
 }
 
 /// Feeds a piece of stream `s` at its desk.
 fn feed_at(map: &mut PlainMap, s: u64, checker: &mut Checker, gate: &mut Told, piece: &[u8])
     requires stream { IsStream map.old.layout s }
-    requires ready { IsReadyAt checker.old (plain_place map.old s) }
+    requires ready { IsReadyAt checker.old (plain_caller_view map.old s) }
     ensures moves { (es : History) × PlainMoves map.old map.new s es }
-    ensures ready { IsReadyAt checker.new (plain_place map.new s) }
-    ensures setting { checker.new.setting ≡ checker.old.setting }
+    ensures ready { IsReadyAt checker.new (plain_caller_view map.new s) }
+    ensures params { checker.new.params ≡ checker.old.params }
 {
     feed_whole(checker, &mut map.desk(s), gate, piece);
 }
@@ -43,8 +43,8 @@ fn feed_at(map: &mut PlainMap, s: u64, checker: &mut Checker, gate: &mut Told, p
 fn two_checkers(alloc: Global, map: &PlainMap, tries: u64) -> Result<(Checker, Checker), Fail>
     requires { IsPlainOpened map.now }
     ensures streams { IfOk result (λ _. 2 ≤ map.now.layout.streams) }
-    ensures first { IfOk result (λ both. IsReadyAt both.0 (plain_place map.now 1)) }
-    ensures second { IfOk result (λ both. IsReadyAt both.1 (plain_place map.now 2)) }
+    ensures first { IfOk result (λ both. IsReadyAt both.0 (plain_caller_view map.now 1)) }
+    ensures second { IfOk result (λ both. IsReadyAt both.1 (plain_caller_view map.now 2)) }
 {
     let first = checker_at(alloc, map, 1, tries)?;
     let second = checker_at(alloc, map, 2, tries)?;

@@ -6,7 +6,7 @@ use Rattle.stream_threads.specs.Jobs.{FoundValue, JobsValue, MissesMark, Finishe
 use Rattle.stream_threads.specs.declared.jobs.ThreadFault.{ThreadFault}
 use Rattle.stream_threads.specs.declared.jobs.ThreadFault.TheVariants.{Spawn, Ring}
 use Rattle.lrup_model.specs.Event.{History}
-use Rattle.lrup_model.specs.Pass.{PassMoves, pass_place}
+use Rattle.lrup_model.specs.Pass.{PassMoves, pass_caller_view}
 use Rattle.clause_store.specs.Passes.{PassValue, store_of}
 use Rattle.stream_check.specs.declared.report.Report.{Report}
 use Rattle.stream_check.specs.CheckerValue.{CheckerValue}
@@ -34,7 +34,7 @@ pub record JudgesAtPass (checker : CheckerValue) (old new : PassValue) (items : 
   pub store : store_of new ≡ store_of old
   pub blocks : List History
   pub moves : PassMoves old.view new.view (joined blocks)
-  pub judged : JudgesAtMark checker (pass_place old.view).room items blocks ids report
+  pub judged : JudgesAtMark checker (pass_caller_view old.view).room items blocks ids report
 
 -- what came of a stream: what was found of it, or that its mark was missed
 abbrev pub IsEndOf : {S : Type 0} → SourceView S → JobsValue S → Option (FoundValue S) → Type 0

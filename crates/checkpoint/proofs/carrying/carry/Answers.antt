@@ -1,5 +1,5 @@
 use Rattle.std.proofs.Common.{◌∙◌, List, append-nil, inl, inr, refl}
-use Rattle.lrup_model.specs.Place.{ClipValue}
+use Rattle.lrup_model.specs.CallerView.{ClipValue}
 use Rattle.checkpoint.specs.Live.{entries_of}
 use Rattle.checkpoint.specs.Printing.{formula_text}
 use Rattle.checkpoint.proofs.CarryLemmas.{checkpoint_next, not_carried}
@@ -7,7 +7,7 @@ use Rattle.checkpoint.proofs.carrying.carry.Goals as goal
 
 pub returns-in-Ok-save_clips-clause-next : goal.returns-in-Ok-save_clips-clause-next
 returns-in-Ok-save_clips-clause-next g c =
-    let before = g.M.ClauseMap.place c.live_clauses.new.map in
+    let before = g.M.ClauseMap.caller_view c.live_clauses.new.map in
     let clips : List ClipValue = c.in_ok-clips.clips.items in
     let formula = rw (c.deref.ensures.value, c.vars.ensures.vars) at c.in-Ok.ensures.formula in
     let within = rw c.deref.ensures.value at c.in-Ok.ensures.within in
@@ -15,7 +15,8 @@ returns-in-Ok-save_clips-clause-next g c =
     at c.in-Ok-save_clips.ensures.saves in (
       formula_text c.args.layout.now.vars (entries_of before clips),
       text,
-      checkpoint_next (g.M.ClauseMap.place c.args.map.now).caller.formula c.args.layout.now.vars (entries_of before clips) c.in-Ok.next
+      checkpoint_next (g.M.ClauseMap.caller_view c.args.map.now).caller.formula c.args.layout.now.vars (entries_of before clips)
+          c.in-Ok.next
           c.requires.fits.vars c.vars.ensures.limits.vars within c.in_ok-clips.ensures.follow formula,
     )
 

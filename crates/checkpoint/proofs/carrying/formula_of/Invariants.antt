@@ -5,9 +5,9 @@ use Rattle.checkpoint.proofs.carrying.formula_of.Given as goal
 
 abbrev pub invariant-loop-clip : goal.invariant-loop-clip
 invariant-loop-clip g l =
-    let place = g.M.ClauseMap.place in
+    let view = g.M.ClauseMap.caller_view in
     record {
-      formula : l.formula ≡ printed l.vars (entries_of (place l.fn.map) (take l.clip-index l.clips));
+      formula : l.formula ≡ printed l.vars (entries_of (view l.fn.map) (take l.clip-index l.clips));
       event : g.M.ClauseMap.moves l.fn.map l.map [];
-      stays : place l.map ≡ place l.fn.map;
+      stays : view l.map ≡ view l.fn.map;
     }

@@ -1,6 +1,6 @@
 use Rattle.std.proofs.Common.{◌++◌, ◌∷◌, [], ap, sym, ◌∙◌, add-one, take}
 use Rattle.lrup_model.specs.lemmas.ClauseLemmas.{take-next}
-use Rattle.lrup_model.specs.Place.{clip_clause}
+use Rattle.lrup_model.specs.CallerView.{clip_clause}
 use Rattle.checkpoint.proofs.carrying.spell.Goals as goal
 
 pub returns-in_err-push-clause-event : goal.returns-in_err-push-clause-event
@@ -9,7 +9,7 @@ returns-in_err-push-clause-event g c =
 
 pub loop-k-preserved : goal.loop-k-preserved
 loop-k-preserved g c =
-    let clause = clip_clause (g.M.ClauseMap.place c.args.map.now) c.args.clip.now in
+    let clause = clip_clause (g.M.ClauseMap.caller_view c.args.map.now) c.args.clip.now in
     let k = c.loop-k.k in
     let at = rw c.loop-k.invariant.stays at c.literal-lit.ensures.value in
     record {

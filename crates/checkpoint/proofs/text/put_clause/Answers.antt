@@ -1,6 +1,6 @@
 use Rattle.std.proofs.Common.{◌++◌, ◌+◌, ◌*◌, ◌≤◌, drop, length, sym, ◌∙◌, arith}
 use Rattle.std.specs.Prelude.{codes}
-use Rattle.lrup_model.specs.Place.{clip_clause}
+use Rattle.lrup_model.specs.CallerView.{clip_clause}
 use Rattle.lrup_text.specs.lemmas.WritingLemmas.{at_err, breaks_next, puts_next, puts_all_next, puts_then}
 use Rattle.checkpoint.proofs.PrintLemmas.{puts_as, literals_text, literals_split, literals_all, pair_alone, pair_both, pair_split}
 use Rattle.checkpoint.proofs.text.put_clause.Goals as goal
@@ -8,7 +8,7 @@ use Rattle.checkpoint.proofs.text.put_clause.Goals.{in-Some+in_ok-put_literal-2,
 
 pub returns-in_err-put_literal-clause-puts : goal.returns-in_err-put_literal-clause-puts
 returns-in_err-put_literal-clause-puts g c =
-    let clause = clip_clause (g.M.ClauseMap.place c.args.map.now) c.args.clip.now in
+    let clause = clip_clause (g.M.ClauseMap.caller_view c.args.map.now) c.args.clip.now in
     let i = c.loop-i.i in
     let first = rw c.loop-i.invariant.stays at c.pair-first.ensures.first in
     at_err c.from_residual.result _ _ c.from_residual.ensures.0
@@ -20,7 +20,7 @@ returns-in_err-put_literal-clause-event g c = g.met.M.ClauseMap.moves_append _ _
 
 pub returns-in_err-put_literal-2-clause-puts : goal.returns-in_err-put_literal-2-clause-puts
 returns-in_err-put_literal-2-clause-puts g c =
-    let clause = clip_clause (g.M.ClauseMap.place c.args.map.now) c.args.clip.now in
+    let clause = clip_clause (g.M.ClauseMap.caller_view c.args.map.now) c.args.clip.now in
     let i = c.loop-i.i in
     let first = rw c.loop-i.invariant.stays at c.pair-first.ensures.first in
     let second = rw c.loop-i.invariant.stays at c.pair-first.ensures.second in
@@ -34,7 +34,7 @@ returns-in_err-put_literal-2-clause-event g c = g.met.M.ClauseMap.moves_append _
 
 pub loop-i-preserved : goal.loop-i-preserved
 loop-i-preserved g c =
-    let clause = clip_clause (g.M.ClauseMap.place c.args.map.now) c.args.clip.now in
+    let clause = clip_clause (g.M.ClauseMap.caller_view c.args.map.now) c.args.clip.now in
     let i = c.loop-i.i in
     let first = rw c.loop-i.invariant.stays at c.pair-first.ensures.first in
     let second = rw c.loop-i.invariant.stays at c.pair-first.ensures.second in
@@ -59,7 +59,7 @@ loop-i-preserved g c =
 
 pub returns-clause-puts : goal.returns-clause-puts
 returns-clause-puts g c =
-    let clause = clip_clause (g.M.ClauseMap.place c.args.map.now) c.args.clip.now in
+    let clause = clip_clause (g.M.ClauseMap.caller_view c.args.map.now) c.args.clip.now in
     let i = c.loop-i.i in
     let all : length clause ≤ 2 * i = omega (arith, c.loop-i-test.false, c.requires.known.len, c.pairs-i-end.ensures) in
     puts_all_next c.put.result _ _ _ c.loop-i.invariant.puts c.put.ensures.puts (literals_all clause (2 * i) all)

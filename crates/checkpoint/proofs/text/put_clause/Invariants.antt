@@ -1,12 +1,12 @@
 use Rattle.std.proofs.Common.{◌≡◌, ◌*◌, [], take, false}
-use Rattle.lrup_model.specs.Place.{clip_clause}
+use Rattle.lrup_model.specs.CallerView.{clip_clause}
 use Rattle.lrup_text.specs.Writing.{Puts}
 use Rattle.checkpoint.proofs.PrintLemmas.{literals_text}
 use Rattle.checkpoint.proofs.text.put_clause.Given as goal
 
 abbrev pub invariant-loop-i : goal.invariant-loop-i
 invariant-loop-i g l =
-    let place = g.M.ClauseMap.place in
+    let place = g.M.ClauseMap.caller_view in
     let written = g.W.Sink.written in
     record {
       running : g.W.Sink.has_failed l.sink ≡ false;

@@ -7,14 +7,14 @@ use Rattle.checkpoint.proofs.text.write_formula.Goals as goal
 
 pub returns-in_err-put_header-clause-text : goal.returns-in_err-put_header-clause-text
 returns-in_err-put_header-clause-text g c =
-    let entry = entry_of (g.M.ClauseMap.place c.args.map.now) in
+    let entry = entry_of (g.M.ClauseMap.caller_view c.args.map.now) in
     breaks_from_empty c.from_residual.result c.new-buffer.ensures c.from_residual.ensures.0
     (breaks_first c.in_err-put_header.ensures.puts (later_entries entry c.args.clips.now 0)
     (header_first c.args.vars entry c.args.clips.now))
 
 pub returns-in_err-put_entry-clause-text : goal.returns-in_err-put_entry-clause-text
 returns-in_err-put_entry-clause-text g c =
-    let entry = entry_of (g.M.ClauseMap.place c.args.map.now) in
+    let entry = entry_of (g.M.ClauseMap.caller_view c.args.map.now) in
     let clips = c.args.clips.now in
     let k = c.loop-before.before in
     let text = rw c.loop-before.invariant.stays at c.in_err-put_entry.ensures.puts in
@@ -31,7 +31,7 @@ returns-in_err-put_entry-clause-event g c =
 
 pub loop-before-preserved : goal.loop-before-preserved
 loop-before-preserved g c =
-    let entry = entry_of (g.M.ClauseMap.place c.args.map.now) in
+    let entry = entry_of (g.M.ClauseMap.caller_view c.args.map.now) in
     let clips = c.args.clips.now in
     let k = c.loop-before.before in
     let text = rw c.loop-before.invariant.stays at c.in_ok-put_entry.ensures.puts in
@@ -46,6 +46,6 @@ loop-before-preserved g c =
 
 pub returns-clause-text : goal.returns-clause-text
 returns-clause-text g c =
-    let entry = entry_of (g.M.ClauseMap.place c.args.map.now) in
+    let entry = entry_of (g.M.ClauseMap.caller_view c.args.map.now) in
     let text = entries_all c.args.vars entry c.args.clips.now c.loop-before.before c.loop-before-test.false in
     writes_all_next c.flush.result _ (puts_as c.loop-before.invariant.puts text) c.flush.ensures.text

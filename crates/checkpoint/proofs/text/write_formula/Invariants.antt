@@ -6,7 +6,7 @@ use Rattle.checkpoint.proofs.text.write_formula.Given as goal
 
 abbrev pub invariant-loop-before : goal.invariant-loop-before
 invariant-loop-before g l =
-    let place = g.M.ClauseMap.place in
+    let place = g.M.ClauseMap.caller_view in
     let written = g.W.Sink.written in
     record {
       running : g.W.Sink.has_failed l.sink ≡ false;

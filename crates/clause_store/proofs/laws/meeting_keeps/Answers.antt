@@ -1,5 +1,5 @@
-use Rattle.lrup_model.specs.lemmas.PassLemmas.{met_keep}
+use Rattle.lrup_model.specs.lemmas.PassLemmas.{synced_keep}
 use Rattle.clause_store.proofs.laws.meeting_keeps.Goals as goal
 
 pub returns : goal.returns
-returns c = met_keep
+returns c = synced_keep

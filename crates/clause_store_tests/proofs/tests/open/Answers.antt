@@ -1,7 +1,7 @@
 use Rattle.std.proofs.Common.{◌≡◌, ℕ, ◌+◌, ◌-◌, ◌<◌, suc, List, [], ◌∷◌, length, Some, slice_get, refl, ap, ◌∙◌, arith}
 use Rattle.std.proofs.lemmas.Option.{slice_get_within}
 use Rattle.lrup_model.specs.Formula.{Cnf}
-use Rattle.lrup_model.specs.Place.{Caller}
+use Rattle.lrup_model.specs.CallerView.{Caller}
 use Rattle.clause_store.specs.Passes.{StoreValue, PassValue}
 use Rattle.clause_store_tests.specs.Worked.{IsPassAt, ArePassesAt}
 use Rattle.clause_store_tests.proofs.tests.open.Goals as goal

@@ -1,6 +1,6 @@
 use Rattle.std.proofs.Common.{◌≡◌, ◌∙◌, ℕ, List, Option, inl, length, sym, subst}
 use Rattle.lrup_model.specs.Layout.{LayoutValue}
-use Rattle.portfolio.specs.Outcomes.{layout_of, terms_of}
+use Rattle.portfolio.specs.Outcomes.{layout_of, run_params_of}
 use Rattle.command_line.specs.CommandLine.{IsCommandLineOf}
 use Rattle.command.specs.Commands.{FilesView, HasNoFault, IsCause, IsFormulaAt, IsLeftUnused, IsStartCause, Text, WasReadIn, checkpoint_at}
 use Rattle.command.specs.Commands.{created_at, created_path, files_view, from_first}
@@ -113,7 +113,7 @@ returns-clause-outcome g c words first good at =
     let after = c.close_checkpoint-unsaved.new.files in
     let unsaved = c.close_checkpoint-unsaved.result in
     let closes = c.close_checkpoint-unsaved.ensures line.serial begun.formula
-    (terms_of c.unwrap-options.result begun.cube begun.formula (length readers)) readers run.reports.items c.in-Ok.ensures.stands in
+    (run_params_of c.unwrap-options.result begun.cube begun.formula (length readers)) readers run.reports.items c.in-Ok.ensures.stands in
     is_outcome files words line begun.formula begun.cube c.unwrap-options.result readers c.args.files.now of.later last good is_formula
     of.assumed options of.opened of.left run.reports.items run.verdict unsaved after c.in-Ok.ensures.checked
     (leaves_behind files.its _ run.verdict last c.create_checkpoint.new.files after (checkpoint_at line) c.in_ok-output.output unsaved

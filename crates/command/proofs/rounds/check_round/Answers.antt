@@ -2,26 +2,28 @@ use Rattle.std.proofs.Common.{◌≡◌, ◌+◌, ◌∙◌, None, Some, inl, in
 use Rattle.command.specs.Commands.{Text, deeds}
 use Rattle.runs.specs.Readings.{readers_view}
 use Rattle.command.specs.Paths.{formula_path}
-use Rattle.command.specs.Rounds.{CarriesCheckpoint, HaveEnded, terms_by}
+use Rattle.command.specs.Rounds.{CarriesCheckpoint, HaveEnded, run_params_by}
 use Rattle.command.specs.internal.Running.{StandsBehind}
 use Rattle.command.specs.internal.Saving.{CreatesCheckpoint}
-use Rattle.command.specs.internal.Standing.{plan_of}
+use Rattle.command.specs.internal.RoundProgress.{plan_of}
 use Rattle.portfolio.specs.declared.outcome.Verdict.TheVariants.{Unknown}
 use Rattle.command.proofs.CheckingLemmas.{some_given}
 use Rattle.command.proofs.SavingLemmas.{leaves_behind, stands_moved}
-use Rattle.command.proofs.RoundLemmas.{barred_by, saves_round, terms_same}
+use Rattle.command.proofs.RoundLemmas.{barred_by, saves_round, run_params_same}
 use Rattle.command.proofs.rounds.check_round.Given as given
 use Rattle.command.proofs.rounds.check_round.Goals as goal
 
--- the reports and what was left stand on one history, by the terms of the round
+-- the reports and what was left stand on one history, by the parameters of the round
 stands : (g : given.Over) (c : goal.After-drop-path-2 g)
     → StandsBehind (readers_view g.F.Input.Source) c.args.course.now.serial c.args.round.formula
-    (terms_by (plan_of c.args.course.now) c.args.round.formula c.args.round.sizes) c.args.round.readers.items c.in-Ok.run'.reports.items
+    (run_params_by (plan_of c.args.course.now) c.args.round.formula c.args.round.sizes) c.args.round.readers.items
+    c.in-Ok.run'.reports.items
     c.in-Ok.run'.left
 stands g c =
     let round = c.args.round in
     let plan = plan_of c.args.course.now in
-    let same = terms_same round.formula plan c.options.result round.sizes (length round.readers.items) c.options.ensures c.requires.count in
+    let same = run_params_same round.formula plan c.options.result round.sizes (length round.readers.items) c.options.ensures
+    c.requires.count in
     stands_moved (readers_view g.F.Input.Source) plan.serial round.formula _ _ round.readers.items c.in-Ok.run'.reports.items
     c.in-Ok.run'.left same c.in-Ok.ensures.stands
 
@@ -43,7 +45,7 @@ returns-clause-next g c next is =
     let run = c.in-Ok.run' in
     let closed = c.close_round-closed in
     let of = c.next_of-next.ensures in
-    let keeps = closed.ensures.next plan.serial round.formula (terms_by plan round.formula round.sizes) round.readers.items
+    let keeps = closed.ensures.next plan.serial round.formula (run_params_by plan round.formula round.sizes) round.readers.items
     run.reports.items (stands g c) next (some_given (λ f. closed.result.next ≡ Some f) is of.next) in
     record {
       verdict = some_given (λ f. run.verdict ≡ Unknown) is of.verdict;
@@ -59,9 +61,9 @@ returns-clause-over g c = λ none.
     let round = c.args.round in
     let run = c.in-Ok.run' in
     let closed = c.close_round-closed in
-    let terms = terms_by plan round.formula round.sizes in
-    let Carries = CarriesCheckpoint its plan.serial round.formula terms round.readers.items run.reports.items in
-    let closes = closed.ensures.closes plan.serial round.formula terms round.readers.items run.reports.items (stands g c) in
+    let run_params = run_params_by plan round.formula round.sizes in
+    let Carries = CarriesCheckpoint its plan.serial round.formula run_params round.readers.items run.reports.items in
+    let closes = closed.ensures.closes plan.serial round.formula run_params round.readers.items run.reports.items (stands g c) in
     record {
       why = elim (c.next_of-next.ensures.none none) [
         | inl nothing ↦ barred_by run.verdict closed.result.unsaved (HaveEnded run.reports.items) (closed.ensures.none nothing)

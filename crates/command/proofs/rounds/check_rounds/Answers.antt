@@ -2,7 +2,7 @@ use Rattle.std.proofs.Common.{◌≡◌, ◌∙◌, ℕ, IfErr, IfOk, None, ap, 
 use Rattle.command_line.specs.declared.sizes.Sizes.{Sizes}
 use Rattle.command.specs.Commands.{IsCause, IsFormulaAt, checkpoint_at, deeds, files_view, from_first}
 use Rattle.command.specs.Rounds.{StreamsOpened, plan_at, sizes_of}
-use Rattle.command.specs.internal.Standing.{EndsAt, FailsAt, IsReported, IsRoundsFault}
+use Rattle.command.specs.internal.RoundProgress.{EndsAt, FailsAt, IsReported, IsRoundsFault}
 use Rattle.command.specs.declared.fault.CommandFault.{CommandFault}
 use Rattle.command.proofs.CheckingLemmas.{if_err, if_ok, start_cause}
 use Rattle.command.proofs.RoundLemmas.{ends_sound, ends_sound_under, first_start, no_path, opened_count}

@@ -1,7 +1,7 @@
 use Rattle.std.proofs.Common.{◌∙◌, Ok, Option, ap, arith, inr, subst}
 use Rattle.lrup_model.specs.Formula.{Cnf}
 use Rattle.command.specs.Commands.{deeds}
-use Rattle.command.specs.internal.Standing.{RoundsStand, plan_of}
+use Rattle.command.specs.internal.RoundProgress.{RoundsStand, plan_of}
 use Rattle.command.proofs.RoundLemmas.{ends_alone, ends_barred, ends_high, fails_after, stands_first}
 use Rattle.command.proofs.rounds.go_on.Goals as goal
 

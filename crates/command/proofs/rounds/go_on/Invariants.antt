@@ -1,7 +1,7 @@
 use Rattle.std.proofs.Common.{◌≡◌, ◌+◌, List}
 use Rattle.command.specs.Commands.{Text, deeds}
 use Rattle.command.specs.Rounds.{StreamsOpened}
-use Rattle.command.specs.internal.Standing.{RoundsStand, plan_of}
+use Rattle.command.specs.internal.RoundProgress.{RoundsStand, plan_of}
 use Rattle.command.proofs.rounds.go_on.Given as goal
 
 abbrev pub invariant-loop-number : goal.invariant-loop-number

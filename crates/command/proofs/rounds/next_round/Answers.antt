@@ -3,7 +3,7 @@ use Rattle.command_line.specs.declared.sizes.Sizes.{Sizes}
 use Rattle.command.specs.Paths.{sizes_path, stream_paths}
 use Rattle.command.specs.Commands.{deeds}
 use Rattle.command.specs.Rounds.{AreSized, IsRoundStartCause, IsStreamCause, StreamsOpened}
-use Rattle.command.specs.internal.Standing.{RoundsStand, plan_of}
+use Rattle.command.specs.internal.RoundProgress.{RoundsStand, plan_of}
 use Rattle.command.proofs.RoundLemmas.{for_some, stands_next}
 use Rattle.command.proofs.rounds.next_round.Goals as goal
 

@@ -1,11 +1,11 @@
 use Rattle.std.proofs.Common.{length, subst, sym, true}
-use Rattle.command.specs.internal.Running.{terms_on, IsRunCause}
+use Rattle.command.specs.internal.Running.{run_params_on, IsRunCause}
 use Rattle.command.proofs.CheckingLemmas.{err_given, has_layout, run_cause}
 use Rattle.command.proofs.running.run_by_turns.Goals as goal
 
 pub returns-clause-checked : goal.returns-clause-checked
 returns-clause-checked g c =
-    let p = (terms_on c.args.setup.now (length c.args.readers.items)).layout in
+    let p = (run_params_on c.args.setup.now (length c.args.readers.items)).layout in
     let found = c.in_ok-outcome.ensures in
     record {
       layout = has_layout p c.run_serial.result c.in_ok-outcome.outcome c.in_ok-outcome.was c.run_serial.ensures.layout;
@@ -29,7 +29,7 @@ returns-clause-stands g c =
 
 pub returns-in_err-outcome-clause-cause : goal.returns-in_err-outcome-clause-cause
 returns-in_err-outcome-clause-cause g c =
-    let p = (terms_on c.args.setup.now (length c.args.readers.items)).layout in
+    let p = (run_params_on c.args.setup.now (length c.args.readers.items)).layout in
     err_given c.from_residual-in_err-outcome.result _ _ (λ fault same. subst (IsRunCause true p) (sym same)
     (run_cause true p c.run_serial.result c.in_err-outcome.field-0.0 c.in_err-outcome.was c.run_serial.ensures.layout
     (λ stream e. absurd ((c.run_serial.ensures.no_threads stream).0 e))

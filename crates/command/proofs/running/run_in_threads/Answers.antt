@@ -2,14 +2,14 @@ use Rattle.std.proofs.Common.{false, length, refl, subst, sym}
 use Rattle.clause_store.specs.Passes.{views}
 use Rattle.lrup_model.specs.Event.{History}
 use Rattle.lrup_model.specs.Layout.{LayoutValue}
-use Rattle.runs.specs.Headline.{HaveOneHistory, seen_by}
-use Rattle.command.specs.internal.Running.{terms_on, IsRunCause}
+use Rattle.runs.specs.SequentialConsistency.{HaveOneHistory, seen_by}
+use Rattle.command.specs.internal.Running.{run_params_on, IsRunCause}
 use Rattle.command.proofs.CheckingLemmas.{err_given, has_layout, run_cause}
 use Rattle.command.proofs.running.run_in_threads.Goals as goal
 
 pub returns-clause-checked : goal.returns-clause-checked
 returns-clause-checked g c =
-    let p = (terms_on c.args.setup.now (length c.args.readers.items)).layout in
+    let p = (run_params_on c.args.setup.now (length c.args.readers.items)).layout in
     let found = c.in_ok-outcome.ensures in
     record {
       layout = has_layout p c.run.result c.in_ok-outcome.outcome c.in_ok-outcome.was c.run.ensures.layout;
@@ -37,7 +37,7 @@ returns-clause-stands g c =
 
 pub returns-in_err-outcome-clause-cause : goal.returns-in_err-outcome-clause-cause
 returns-in_err-outcome-clause-cause g c =
-    let p = (terms_on c.args.setup.now (length c.args.readers.items)).layout in
+    let p = (run_params_on c.args.setup.now (length c.args.readers.items)).layout in
     err_given c.from_residual-in_err-outcome.result _ _ (λ fault same. subst (IsRunCause false p) (sym same)
     (run_cause false p c.run.result c.in_err-outcome.field-0.0 c.in_err-outcome.was c.run.ensures.layout
     (λ stream e. (refl, c.run.ensures.spawn stream e)) (λ stream e. (refl, (c.run.ensures.ring stream e).is_stream))))

@@ -1,7 +1,7 @@
 use Rattle.std.proofs.Common.{arith, ◌≡◌, ◌<◌, [], length, get_or, take, ap, ◌∙◌}
 use Rattle.lrup_model.specs.internal.PlainInside.{flat}
 use Rattle.lrup_model.specs.lemmas.HistoryLemmas.{clause_at-suc}
-use Rattle.lrup_model.proofs.OpeningLemmas.{kept_more, kept_fits}
+use Rattle.lrup_model.proofs.OpeningLemmas.{stored_more, stored_fits}
 use Rattle.lrup_model.proofs.plain_map.keep_clauses.Goals as goal
 
 pub overflow_cast-start : goal.overflow_cast-start
@@ -9,7 +9,7 @@ overflow_cast-start c =
     let within : c.loop-i.i < length c.args.formula.now.clauses = omega arith in
     let size : length c.as_slice.result.now ≡ length (flat (take c.loop-i.i c.args.formula.now.clauses)) =
     ap length (c.as_slice.ensures.value ∙ c.loop-i.invariant.literals) in
-    omega (arith, kept_fits c.args.formula.now.clauses c.loop-i.i within, c.requires.small)
+    omega (arith, stored_fits c.args.formula.now.clauses c.loop-i.i within, c.requires.small)
 
 pub unreachable-requires : goal.unreachable-requires
 unreachable-requires c =
@@ -20,7 +20,7 @@ unreachable-requires c =
     ap length (c.clause-clause.ensures ∙ clause_at-suc c.args.formula.now c.loop-i.i) in
     omega (
       arith,
-      kept_fits c.args.formula.now.clauses c.loop-i.i within,
+      stored_fits c.args.formula.now.clauses c.loop-i.i within,
       c.requires.literals,
       c.loop-i.literals.ok.0,
       c.in_default.ensures.full,
@@ -30,7 +30,7 @@ unreachable-requires c =
 pub loop-i-preserved : goal.loop-i-preserved
 loop-i-preserved c =
     let within : c.loop-i.i < length c.args.formula.now.clauses = omega arith in
-    let kept = kept_more c.args.formula.now.clauses c.loop-i.i c.clause-clause.result.now
+    let kept = stored_more c.args.formula.now.clauses c.loop-i.i c.clause-clause.result.now
     (length c.as_slice.result.now) c.loop-i.literals.items c.extend_from_slice.new.self.items
     c.loop-i.entries.items c.push_reserved.new.self.items c.args.entries.now.items within
     (c.clause-clause.ensures ∙ clause_at-suc c.args.formula.now c.loop-i.i) c.loop-i.invariant.literals

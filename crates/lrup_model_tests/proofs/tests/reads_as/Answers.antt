@@ -1,5 +1,5 @@
 use Rattle.std.proofs.Common.{sym, subst, [], ◌++◌}
-use Rattle.lrup_model.specs.Place.{Place, IsKnown}
+use Rattle.lrup_model.specs.CallerView.{CallerView, IsKnown}
 use Rattle.lrup_model_tests.proofs.tests.reads_as.Goals as goal
 
 pub returns-then-ne : goal.returns-then-ne
@@ -11,7 +11,7 @@ returns-then-ne g c = (
 
 pub loop-k-preserved : goal.loop-k-preserved
 loop-k-preserved g c = record {
-  known = subst (λ (p : Place). IsKnown p c.in-Live.clip) (sym c.literal.ensures.stays) c.loop-k.invariant.known;
+  known = subst (λ (p : CallerView). IsKnown p c.in-Live.clip) (sym c.literal.ensures.stays) c.loop-k.invariant.known;
   len = c.loop-k.invariant.len;
   moved = (
     c.loop-k.invariant.moved.0 ++ [],

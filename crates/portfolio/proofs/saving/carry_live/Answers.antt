@@ -4,10 +4,10 @@ use Rattle.std.specs.Io.KnownBytes.{Appends}
 use Rattle.std.proofs.lemmas.List.{map-append}
 use Rattle.lrup_model.specs.Formula.{Cnf}
 use Rattle.lrup_model.specs.Layout.{LayoutValue}
-use Rattle.lrup_model.specs.Pass.{View, AreMet}
-use Rattle.lrup_model.specs.Place.{Caller}
+use Rattle.lrup_model.specs.Pass.{View, AreSynced}
+use Rattle.lrup_model.specs.CallerView.{Caller}
 use Rattle.clause_store.specs.Passes.{PassValue, StoreValue, AreOf, store_of, views}
-use Rattle.runs.specs.Headline.{HaveOneHistory}
+use Rattle.runs.specs.SequentialConsistency.{HaveOneHistory}
 use Rattle.checkpoint.specs.Checkpoints.{IsCheckpointOf}
 use Rattle.portfolio.specs.Saving.{CarriesFound, is_wanted}
 use Rattle.portfolio.proofs.SavingLemmas.{fetched_so, last_at, other_last}
@@ -60,10 +60,10 @@ returns-clause-carries g c = λ f h history.
     ∙ map-append (λ (p : PassValue). p.view) rest (c.into_pass.result ∷ [])
     ∙ ap (λ (p : PassValue). vs ++ p.view ∷ []) c.into_pass.ensures in
     let one : HaveOneHistory f p h (vs ++ v ∷ []) = subst (HaveOneHistory f p h) before history in
-    let met : AreMet (vs ++ w ∷ []) us = subst (λ (xs : List View). AreMet xs us) after c.meet_all.ensures.met in
+    let synced : AreSynced (vs ++ w ∷ []) us = subst (λ (xs : List View). AreSynced xs us) after c.meet_all.ensures.synced in
     record {
       replies = saved.0;
-      answers = fetched_so f p h vs v w saved.0 us c.meet_all.ensures.one.0 one saved.1.moves met c.meet_all.ensures.one.1;
+      answers = fetched_so f p h vs v w saved.0 us c.meet_all.ensures.one.0 one saved.1.moves synced c.meet_all.ensures.one.1;
       carries = subst (λ (p : LayoutValue). CarriesFound g.W.Sink.written c.carry-carried.result p
           (is_wanted c.args.dropped.now) saved.0 c.args.sink.now c.carry-carried.new.sink)
           c.layout-layout.ensures (saved.2, saved.3);

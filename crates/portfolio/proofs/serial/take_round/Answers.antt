@@ -1,7 +1,7 @@
 use Rattle.std.proofs.Common.{◌≡◌, ◌+◌, ℕ, length, refl, subst, arith}
 use Rattle.runs.specs.Readings.{readers_view}
-use Rattle.portfolio.specs.internal.Turns.{Runs}
-use Rattle.portfolio.proofs.TurnsLemmas.{goes_twice, over_each, over_more, runs_round, running_on}
+use Rattle.portfolio.specs.internal.Turns.{SerialInvariant}
+use Rattle.portfolio.proofs.TurnsLemmas.{step_twice, over_each, over_more, serial_round, running_on}
 use Rattle.portfolio.proofs.serial.take_round.Goals as goal
 
 pub take_turn-going-requires-clause-running : goal.take_turn-going-requires-clause-running
@@ -10,7 +10,7 @@ take_turn-going-requires-clause-running g c = running_on (readers_view g.R.Sourc
 
 pub loop-i-init : goal.loop-i-init
 loop-i-init g c = record {
-  runs = λ f terms entries runs. runs;
+  runs = λ f run_params entries runs. runs;
   over = λ none. (refl, λ k below. absurd (omega (arith, below)));
 }
 
@@ -19,20 +19,20 @@ loop-i-preserved g c =
     let now = c.loop-i in
     let turn = c.take_turn-going in
     record {
-      runs = goes_twice (readers_view g.R.Source) 0 now.i (now.i + 1) c.args.map.now now.map
-          turn.new.map c.args.workers.now now.workers turn.new.workers now.invariant.runs turn.ensures.runs;
+      runs = step_twice (readers_view g.R.Source) 0 now.i (now.i + 1) c.args.map.now now.map
+          turn.new.map c.args.workers.now now.workers turn.new.workers now.invariant.runs turn.ensures.step;
       over = λ none. over_more (readers_view g.R.Source) now.i now.going turn.result
           c.args.workers.now now.workers turn.new.workers none now.invariant.over turn.ensures.over;
     }
 
-pub returns-clause-runs : goal.returns-clause-runs
-returns-clause-runs g c f terms firsts runs =
+pub returns-clause-step : goal.returns-clause-step
+returns-clause-step g c f run_params firsts runs =
     let view = readers_view g.R.Source in
     let map = c.loop-i.map in
     let workers = c.loop-i.workers in
     let all : c.loop-i.i ≡ length workers = omega arith in
-    runs_round view f terms firsts map workers
-    (subst (λ (k : ℕ). Runs view f terms firsts k map workers) all (c.loop-i.invariant.runs f terms firsts runs))
+    serial_round view f run_params firsts map workers
+    (subst (λ (k : ℕ). SerialInvariant view f run_params firsts k map workers) all (c.loop-i.invariant.runs f run_params firsts runs))
 
 pub returns-clause-over : goal.returns-clause-over
 returns-clause-over g c none = let over = c.loop-i.invariant.over none in

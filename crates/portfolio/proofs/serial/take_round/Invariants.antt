@@ -1,10 +1,10 @@
 use Rattle.std.proofs.Common.{◌≡◌, ◌<◌, ℕ, false}
 use Rattle.runs.specs.Readings.{readers_view}
-use Rattle.portfolio.specs.internal.Turns.{GoesOn, IsOverAt}
+use Rattle.portfolio.specs.internal.Turns.{SerialStep, IsOverAt}
 use Rattle.portfolio.proofs.serial.take_round.Given as goal
 
 abbrev pub invariant-loop-i : goal.invariant-loop-i
 invariant-loop-i g l = record {
-  runs : GoesOn (readers_view g.R.Source) 0 l.initial.map l.initial.workers l.i l.map l.workers;
+  runs : SerialStep (readers_view g.R.Source) 0 l.initial.map l.initial.workers l.i l.map l.workers;
   over : l.going ≡ false → (l.workers ≡ l.initial.workers) × ((k : ℕ) → k < l.i → IsOverAt l.workers k);
 }

@@ -1,7 +1,7 @@
 use Rattle.std.proofs.Common.{ap, arith}
 use Rattle.lrup_model.specs.Layout.{LayoutValue}
 use Rattle.runs.specs.Readings.{readers_view}
-use Rattle.portfolio.proofs.TurnsLemmas.{going_at, ready_at, runs_more, runs_past}
+use Rattle.portfolio.proofs.TurnsLemmas.{going_at, ready_at, serial_more, serial_past}
 use Rattle.portfolio.proofs.serial.take_turn.Goals as goal
 
 pub turn_at_desk-requires-clause-stream : goal.turn_at_desk-requires-clause-stream
@@ -18,19 +18,19 @@ turn_at_desk-requires-clause-going g c =
     going_at (readers_view g.R.Source) c.args.workers.now c.args.i c.index-workers-i.result
     c.index-workers-i-2.result c.is_over.result c.requires.within c.is_over.ensures c.if-is_over.false
 
-pub returns-clause-runs : goal.returns-clause-runs
-returns-clause-runs g c f terms entries runs =
+pub returns-clause-step : goal.returns-clause-step
+returns-clause-step g c f run_params entries runs =
     let turn = c.turn_at_desk.ensures in
     let going = going_at (readers_view g.R.Source) c.args.workers.now c.args.i
     c.index-workers-i.result c.index-workers-i-2.result c.is_over.result c.requires.within c.is_over.ensures c.if-is_over.false in
-    runs_more (readers_view g.R.Source) c.ready_beside.ensures f terms entries c.args.map.now
-    c.turn_at_desk.new.map c.args.workers.now c.args.i c.index-workers-i-2.result c.turn_at_desk.new.worker turn.works.0
-    c.requires.within going turn.works.1 turn.works.2 turn.works.3 turn.ready turn.setting runs
+    serial_more (readers_view g.R.Source) c.ready_beside.ensures f run_params entries c.args.map.now
+    c.turn_at_desk.new.map c.args.workers.now c.args.i c.index-workers-i-2.result c.turn_at_desk.new.worker turn.holds.0
+    c.requires.within going turn.holds.1 turn.holds.2 turn.holds.3 turn.ready turn.params runs
 
-pub returns-then-is_over-clause-runs : goal.returns-then-is_over-clause-runs
-returns-then-is_over-clause-runs g c f terms entries runs =
+pub returns-then-is_over-clause-step : goal.returns-then-is_over-clause-step
+returns-then-is_over-clause-step g c f run_params entries runs =
     let over = c.is_over.ensures.0 c.if-is_over.true in
-    runs_past (readers_view g.R.Source) f terms entries c.args.map.now c.args.workers.now
+    serial_past (readers_view g.R.Source) f run_params entries c.args.map.now c.args.workers.now
     c.args.i c.index-workers-i.result c.requires.within over runs
 
 pub returns-clause-over : goal.returns-clause-over

@@ -1,7 +1,7 @@
 use Rattle.runs.specs.Readings.{readers_view}
-use Rattle.portfolio.specs.internal.Turns.{GoesOn}
+use Rattle.portfolio.specs.internal.Turns.{SerialStep}
 use Rattle.portfolio.proofs.serial.take_turns.Given as goal
 
 abbrev pub invariant-loop : goal.invariant-loop
 invariant-loop g l =
-    GoesOn (readers_view g.R.Source) 0 l.initial.map l.initial.workers 0 l.map l.workers
+    SerialStep (readers_view g.R.Source) 0 l.initial.map l.initial.workers 0 l.map l.workers

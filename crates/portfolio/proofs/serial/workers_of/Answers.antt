@@ -20,7 +20,7 @@ loop-reader-preserved g c =
     let pushed = c.push_reserved.ensures in
     record {
       running = running.1;
-      started = started_pushed (readers_view g.R.Source) c.args.terms.now _
+      started = started_pushed (readers_view g.R.Source) c.args.run_params.now _
           (λ x. x.0) now.yielded item now.workers.items c.push_reserved.new.self.items c.in_ok-new.field-0 pushed.items
           (omega (arith, now.workers.ok.0, c.len-in-loop-reader.ensures)) now.invariant.started c.in_ok-new.ensures;
       readers = taken_next (λ x. x.0) now.yielded item before rest reader _ steps.0.0 refl now.invariant.readers;

@@ -11,7 +11,7 @@ invariant-loop-reader g l =
     let rest = zip_first l.reader-iterator in
     record {
       running : AllByRecursion (λ r. g.R.Source.has_failed r ≡ false) (into_iter_items rest);
-      started : AreStarted (readers_view g.R.Source) l.terms 1
+      started : AreStarted (readers_view g.R.Source) l.run_params 1
           (map (λ x. x.0) l.yielded) l.workers.items;
       readers : map (λ x. x.0) l.yielded ++ into_iter_items rest ≡ l.fn.readers.items;
       count : vec_len l.workers + into_iter_len rest ≡ vec_len l.fn.readers;

@@ -4,7 +4,7 @@ use Rattle.stream_threads.specs.Faults.{IsFaultWithin, IsFirstFault, fault_strea
 use Rattle.runs.specs.Readings.{readers_view}
 use Rattle.portfolio.specs.Dropping.{WasReadOut}
 use Rattle.portfolio.specs.internal.Threads.{WereGathered}
-use Rattle.portfolio.proofs.HeadlineLemmas.{begin_take, finish_of, finish_count, read_out_of}
+use Rattle.portfolio.proofs.ConsistencyLemmas.{begin_take, finish_of, finish_count, read_out_of}
 use Rattle.portfolio.proofs.threads.check.Goals as goal
 
 pub outcome_of-requires-clause-store : goal.outcome_of-requires-clause-store
@@ -22,7 +22,7 @@ pub outcome_of-requires-clause-passes : goal.outcome_of-requires-clause-passes
 outcome_of-requires-clause-passes g c =
     let count = finish_count (readers_view g.R.Source) c.args.jobs.items
     c.in-Ok.found.items c.in-Ok.ensures.found in
-    omega (arith, count, c.in-Ok.found.ok.0, c.args.jobs.ok.0, c.len.ensures, c.in_ok-room.ensures.met.1)
+    omega (arith, count, c.in-Ok.found.ok.0, c.args.jobs.ok.0, c.len.ensures, c.in_ok-room.ensures.synced.1)
 
 pub outcome_of-requires-clause-readers : goal.outcome_of-requires-clause-readers
 outcome_of-requires-clause-readers g c =
@@ -42,7 +42,7 @@ returns-in-Ok-clause-found g c =
     record {
       found = c.in-Ok.found.items;
       finish = c.in-Ok.ensures.found;
-      met = out.met;
+      synced = out.synced;
       one = out.one;
       reports_are = out.reports;
       readers_are = out.readers;
@@ -75,7 +75,7 @@ outcome_of-before-requires-clause-reports g c =
 pub outcome_of-before-requires-clause-passes : goal.outcome_of-before-requires-clause-passes
 outcome_of-before-requires-clause-passes g c =
     let within = subst (IsFaultWithin c.args.jobs.len) c.in-Err-Ring.field-0-is c.in-Err-Ring.ensures.fault in
-    omega (arith, within.1, c.in-Err-Ring.found.ok.0, c.len.ensures, c.in_ok-room.ensures.met.1)
+    omega (arith, within.1, c.in-Err-Ring.found.ok.0, c.len.ensures, c.in_ok-room.ensures.synced.1)
 
 pub outcome_of-before-requires-clause-readers : goal.outcome_of-before-requires-clause-readers
 outcome_of-before-requires-clause-readers g c =
@@ -113,7 +113,7 @@ returns-in-Err-Ring-clause-first g c = λ stream e.
       record {
         found = found;
         finish = before.0;
-        met = out.ensures.met;
+        synced = out.ensures.synced;
         one = out.ensures.one;
         reports_are = out.ensures.reports;
         readers_are = out.ensures.readers;

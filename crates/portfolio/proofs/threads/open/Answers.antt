@@ -1,7 +1,7 @@
 use Rattle.std.proofs.Common.{◌∙◌, sym, ap, arith}
 use Rattle.lrup_model.specs.Layout.{LayoutValue}
 use Rattle.runs.specs.Readings.{readers_view}
-use Rattle.portfolio.proofs.HeadlineLemmas.{run_ready}
+use Rattle.portfolio.proofs.ConsistencyLemmas.{run_ready}
 use Rattle.portfolio.proofs.threads.open.Goals as goal
 
 pub jobs_of-requires-clause-passes : goal.jobs_of-requires-clause-passes
@@ -19,6 +19,6 @@ returns g c =
       fits = c.requires.fits;
       count = sym c.requires.streams;
       store_is = opened.ensures.layout ∙ c.layout.ensures;
-      ready = run_ready view c.args.terms.now c.layout.result.now c.args.readers.items opened.passes.items jobs.items
+      ready = run_ready view c.args.run_params.now c.layout.result.now c.args.readers.items opened.passes.items jobs.items
           opened.passes.ok.0 opened.ensures.count opened.ensures.passes c.in_ok-jobs.ensures;
     }

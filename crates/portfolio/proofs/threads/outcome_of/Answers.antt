@@ -1,8 +1,8 @@
 use Rattle.std.proofs.Common.{◌≡◌, ◌∙◌, List, length, map, drop, sym, ap, subst, arith}
 use Rattle.std.specs.Vec.Iter.{into_iter_items}
-use Rattle.lrup_model.specs.Pass.{AreMet}
+use Rattle.lrup_model.specs.Pass.{AreSynced}
 use Rattle.lrup_model.specs.lemmas.ListLemmas.{whole_end}
-use Rattle.clause_store.specs.Passes.{HaveMet, PassValue, views}
+use Rattle.clause_store.specs.Passes.{ShareHistory, PassValue, views}
 use Rattle.stream_threads.specs.Jobs.{FoundValue}
 use Rattle.portfolio.proofs.JoiningLemmas.{pushed_more, whole_more}
 use Rattle.portfolio.proofs.TurnsLemmas.{written_back}
@@ -61,21 +61,23 @@ returns-clause-dropped g c =
     now.invariant.dropped ∙ ap (map (λ (f : FoundValue g.row.R.Denot). f.dropped))
     (whole_end now.yielded c.args.found.items now.one-iterator c.next.new.self c.in-None.ensures.steps now.invariant.whole)
 
-pub returns-clause-met : goal.returns-clause-met
-returns-clause-met g c =
+pub returns-clause-synced : goal.returns-clause-synced
+returns-clause-synced g c =
     let now = c.loop-one in
-    let met = c.meet_all.new.passes in
+    let synced = c.meet_all.new.passes in
     let found = map (λ (f : FoundValue g.row.R.Denot). f.pass) c.args.found.items in
-    let back = written_back now.passes.len met (drop (length met) now.passes.items) (c.meet_all.auto.passes ∙ c.deref_mut.ensures.len) in
+    let back = written_back now.passes.len synced (drop (length synced) now.passes.items)
+    (c.meet_all.auto.passes ∙ c.deref_mut.ensures.len) in
     let whole = whole_end now.yielded c.args.found.items now.one-iterator c.next.new.self c.in-None.ensures.steps now.invariant.whole in
     let passes : c.deref_mut.result.now ≡ found = c.deref_mut.ensures.value ∙ now.invariant.passes
     ∙ ap (map (λ (f : FoundValue g.row.R.Denot). f.pass)) whole in
-    subst (λ (ps : List PassValue). AreMet (views found) (views ps)) (sym back)
-    (subst (λ (ps : List PassValue). AreMet (views ps) (views met)) passes c.meet_all.ensures.met)
+    subst (λ (ps : List PassValue). AreSynced (views found) (views ps)) (sym back)
+    (subst (λ (ps : List PassValue). AreSynced (views ps) (views synced)) passes c.meet_all.ensures.synced)
 
 pub returns-clause-one : goal.returns-clause-one
 returns-clause-one g c =
     let now = c.loop-one in
-    let met = c.meet_all.new.passes in
-    let back = written_back now.passes.len met (drop (length met) now.passes.items) (c.meet_all.auto.passes ∙ c.deref_mut.ensures.len) in
-    subst (λ (ps : List PassValue). HaveMet (views ps)) (sym back) c.meet_all.ensures.one
+    let synced = c.meet_all.new.passes in
+    let back = written_back now.passes.len synced (drop (length synced) now.passes.items)
+    (c.meet_all.auto.passes ∙ c.deref_mut.ensures.len) in
+    subst (λ (ps : List PassValue). ShareHistory (views ps)) (sym back) c.meet_all.ensures.one

@@ -3,41 +3,41 @@ use Rattle.std.proofs.lemmas.Result.{IfOk-weaker}
 use Rattle.clause_store.specs.Passes.{AreOf, StoreValue}
 use Rattle.lrup_model.specs.Layout.{Fits, IsLayout, LayoutValue}
 use Rattle.runs.specs.Readings.{readers_view}
-use Rattle.runs.specs.Streams.{TermsValue}
-use Rattle.portfolio.specs.Outcomes.{terms_of}
+use Rattle.runs.specs.Streams.{RunParamsValue}
+use Rattle.portfolio.specs.Outcomes.{run_params_of}
 use Rattle.portfolio.specs.lemmas.ResultLemmas.{if_both}
 use Rattle.portfolio.specs.internal.Threads.{IsBegun}
 use Rattle.portfolio.proofs.CubeLemmas.{sound_under_run}
-use Rattle.portfolio.proofs.HeadlineLemmas.{can_begin, no_fault, sound_run, stream_within}
-use Rattle.portfolio.proofs.HeadlineLemmas.{is_memory, none_of_layout, not_layout, terms_made}
-use Rattle.portfolio.proofs.HeadlineLemmas.{run_before, run_history, run_read_out, run_reports}
+use Rattle.portfolio.proofs.ConsistencyLemmas.{can_begin, no_fault, sound_run, stream_within}
+use Rattle.portfolio.proofs.ConsistencyLemmas.{is_memory, none_of_layout, not_layout, run_params_made}
+use Rattle.portfolio.proofs.ConsistencyLemmas.{run_before, run_history, run_read_out, run_reports}
 use Rattle.portfolio.proofs.threads.run.Given as given
 use Rattle.portfolio.proofs.threads.run.Goals as goal
 use Rattle.portfolio.proofs.threads.run.Goals.{In_ok-store}
 
--- the run was begun by the terms of its formula, options and streams
+-- the run was begun by the parameters of its formula, options and streams
 begun : (g : given.Over) (c : In_ok-store g) → IsBegun c.args.formula.now
-    (terms_of c.args.options c.args.cube.now c.args.formula.now (length c.args.readers.items)) c.in_ok-store.field-0.store
+    (run_params_of c.args.options c.args.cube.now c.args.formula.now (length c.args.readers.items)) c.in_ok-store.field-0.store
     c.args.readers.items c.in_ok-store.field-0.jobs.items
 begun g c =
     let opened = c.in_ok-store.field-0 in
-    subst (λ (t : TermsValue). IsBegun c.args.formula.now t opened.store c.args.readers.items opened.jobs.items)
-    (terms_made c.args.options c.args.cube.now c.args.formula.now c.in_ok-layout.layout c.len.result (length c.args.readers.items)
-    c.tries.result _ c.new-terms.ensures c.in_ok-layout.ensures.layout.0 (c.len.ensures ∙ c.args.readers.ok.0) c.tries.ensures.tries)
+    subst (λ (t : RunParamsValue). IsBegun c.args.formula.now t opened.store c.args.readers.items opened.jobs.items)
+    (run_params_made c.args.options c.args.cube.now c.args.formula.now c.in_ok-layout.layout c.len.result (length c.args.readers.items)
+    c.tries.result _ c.new-run_params.ensures c.in_ok-layout.ensures.layout.0 (c.len.ensures ∙ c.args.readers.ok.0) c.tries.ensures.tries)
     c.in_ok-store.ensures
 
 pub open-requires-clause-layout : goal.open-requires-clause-layout
 open-requires-clause-layout g c =
-    subst IsLayout (sym (ap (λ (t : TermsValue). t.layout) c.new-terms.ensures)) c.in_ok-layout.ensures.layout.1
+    subst IsLayout (sym (ap (λ (t : RunParamsValue). t.layout) c.new-run_params.ensures)) c.in_ok-layout.ensures.layout.1
 
 pub open-requires-clause-fits : goal.open-requires-clause-fits
 open-requires-clause-fits g c =
-    subst (λ (p : LayoutValue). Fits p c.args.formula.now) (sym (ap (λ (t : TermsValue). t.layout) c.new-terms.ensures))
+    subst (λ (p : LayoutValue). Fits p c.args.formula.now) (sym (ap (λ (t : RunParamsValue). t.layout) c.new-run_params.ensures))
     c.in_ok-layout.ensures.layout.2
 
 pub open-requires-clause-streams : goal.open-requires-clause-streams
 open-requires-clause-streams g c =
-    ap (λ (t : TermsValue). t.layout.streams) c.new-terms.ensures
+    ap (λ (t : RunParamsValue). t.layout.streams) c.new-run_params.ensures
     ∙ ap (λ (p : LayoutValue). p.streams) c.in_ok-layout.ensures.layout.0 ∙ c.len.ensures ∙ c.args.readers.ok.0
 
 pub check-requires-clause-begin : goal.check-requires-clause-begin
@@ -63,32 +63,32 @@ pub returns-clause-spawn : goal.returns-clause-spawn
 returns-clause-spawn g c = λ stream e.
     let begun = begun g (goal.at.returns-clause-spawn g c).In_ok-store in
     let view = readers_view g.R.Source in
-    let wanted = terms_of c.args.options c.args.cube.now c.args.formula.now (length c.args.readers.items) in
-    stream_within view {terms = wanted} begun stream (c.check.ensures.spawn stream e)
+    let wanted = run_params_of c.args.options c.args.cube.now c.args.formula.now (length c.args.readers.items) in
+    stream_within view {run_params = wanted} begun stream (c.check.ensures.spawn stream e)
 
 pub returns-clause-ring : goal.returns-clause-ring
 returns-clause-ring g c = λ stream e.
     let begun = begun g (goal.at.returns-clause-ring g c).In_ok-store in
     let view = readers_view g.R.Source in
-    let wanted = terms_of c.args.options c.args.cube.now c.args.formula.now (length c.args.readers.items) in
+    let wanted = run_params_of c.args.options c.args.cube.now c.args.formula.now (length c.args.readers.items) in
     record {
-      is_stream = stream_within view {terms = wanted} begun stream (c.check.ensures.ring stream e);
-      before = run_before view {terms = wanted} begun (stream - 1) (c.check.ensures.first stream e);
-      read_out = run_read_out view {terms = wanted} begun (stream - 1) (c.check.ensures.read_out stream e);
+      is_stream = stream_within view {run_params = wanted} begun stream (c.check.ensures.ring stream e);
+      before = run_before view {run_params = wanted} begun (stream - 1) (c.check.ensures.first stream e);
+      read_out = run_read_out view {run_params = wanted} begun (stream - 1) (c.check.ensures.read_out stream e);
     }
 
 pub returns-clause-history : goal.returns-clause-history
 returns-clause-history g c =
     let begun = begun g (goal.at.returns-clause-history g c).In_ok-store in
-    let wanted = terms_of c.args.options c.args.cube.now c.args.formula.now (length c.args.readers.items) in
-    IfOk-weaker c.check.result _ _ (λ outcome found. run_history (readers_view g.R.Source) {terms = wanted} begun _ _ _ _ found)
+    let wanted = run_params_of c.args.options c.args.cube.now c.args.formula.now (length c.args.readers.items) in
+    IfOk-weaker c.check.result _ _ (λ outcome found. run_history (readers_view g.R.Source) {run_params = wanted} begun _ _ _ _ found)
     c.check.ensures.found
 
 pub returns-clause-reports : goal.returns-clause-reports
 returns-clause-reports g c =
     let begun = begun g (goal.at.returns-clause-reports g c).In_ok-store in
-    let wanted = terms_of c.args.options c.args.cube.now c.args.formula.now (length c.args.readers.items) in
-    IfOk-weaker c.check.result _ _ (λ outcome found. run_reports (readers_view g.R.Source) {terms = wanted} begun _ _ _ _ found)
+    let wanted = run_params_of c.args.options c.args.cube.now c.args.formula.now (length c.args.readers.items) in
+    IfOk-weaker c.check.result _ _ (λ outcome found. run_reports (readers_view g.R.Source) {run_params = wanted} begun _ _ _ _ found)
     c.check.ensures.found
 
 -- the premise of the laws is the layout of the formula and the readers

@@ -1,11 +1,11 @@
-use Rattle.lrup_model.specs.Place.{clip_clause}
+use Rattle.lrup_model.specs.CallerView.{clip_clause}
 use Rattle.propagate.proofs.TakenLemmas.{other-told, same-told}
 use Rattle.propagate.proofs.trail.is_same.Goals as goal
 use Rattle.propagate.proofs.trail.is_same.Goals.{then-take_clause, else-take_clause}
 
 pub returns-clause-same : goal.returns-clause-same
 returns-clause-same g c =
-    let d = clip_clause (g.M.ClauseMap.place c.args.map.now) c.args.clip.now in
+    let d = clip_clause (g.M.ClauseMap.caller_view c.args.map.now) c.args.clip.now in
     elim c.if-take_clause.branch [
       | then-take_clause w ↦ rw w.same-is (same-told c.args.marks.now c.mark_all.new.marks c.take_clause.new.marks d c.args.literals.now
           w.any_marked.result c.mark_all.ensures c.requires.unmarked (c.take_clause.ensures.yes w.if-take_clause.true) w.any_marked.ensures)

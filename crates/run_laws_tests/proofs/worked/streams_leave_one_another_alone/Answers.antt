@@ -34,7 +34,7 @@ returns c = record {
       ),
     ),
   );
-  right = (
+  valid = (
     record {
       owns = refl;
       above = omega arith;

@@ -4,4 +4,4 @@ use Rattle.run_laws_tests.proofs.worked.the_first_line_is_no_refutation.Goals as
 pub returns : goal.returns
 returns c = λ refutes.
     no_empty_begins c.bytes_begin_with_one_line.ensures c.no_bytes_may_become_a_line.ensures
-    refutes.lines refutes.right.more refutes.right.fits refutes.right.text refutes.empty
+    refutes.lines refutes.valid.more refutes.valid.fits refutes.valid.text refutes.empty

@@ -2,7 +2,7 @@ use Rattle.std.proofs.Common.{◌≡◌, ◌∙◌, ◌+◌, ℕ, List, [], ◌�
 use Rattle.std.proofs.lemmas.List.{take_more, take_all}
 use Rattle.std.proofs.lemmas.Result.{err_from_is_err_and}
 use Rattle.lrup_model.specs.lemmas.ListLemmas.{All-append}
-use Rattle.stream_check.specs.Setting.{Setting}
+use Rattle.stream_check.specs.StreamParams.{StreamParams}
 use Rattle.stream_check.specs.declared.stream_state.StreamState.{StreamState}
 use Rattle.stream_check.specs.Deletions.{IsRetire}
 use Rattle.stream_check.specs.internal.Checking.{DeletesOne, AreDropped}
@@ -13,7 +13,7 @@ use Rattle.stream_check.proofs.deletion.delete.Goals as goal
 pub returns-in_err-delete_one-clause-deleted : goal.returns-in_err-delete_one-clause-deleted
 returns-in_err-delete_one-clause-deleted g c =
     let old = c.args.state.now in
-    let s = old.setting in
+    let s = old.params in
     let i = c.loop-id.id-index in
     let ids = c.args.ids.now in
     let id = get_or ids i 0 in
@@ -21,8 +21,8 @@ returns-in_err-delete_one-clause-deleted g c =
     let deleted = c.loop-id.invariant.deleted in
     let one = c.in_err-delete_one.ensures.deletes in
     let deletes : DeletesOne s id c.loop-id.state.dropped.ids c.delete_one.new.state.dropped.ids one.0 (Err stop) =
-    subst (λ (x : Setting). DeletesOne x id c.loop-id.state.dropped.ids c.delete_one.new.state.dropped.ids one.0 (Err stop))
-    c.loop-id.invariant.kept.setting one.3 in
+    subst (λ (x : StreamParams). DeletesOne x id c.loop-id.state.dropped.ids c.delete_one.new.state.dropped.ids one.0 (Err stop))
+    c.loop-id.invariant.kept.params one.3 in
     let count : length (take i ids) ≡ i = omega (arith, length-take i ids, c.loop-id-test.true) in
     let given = err_from_is_err_and c.from_residual.result c.from_residual.ensures.1 in
     rw (given.1, given.2) (
@@ -39,7 +39,7 @@ returns-in_err-delete_one-clause-deleted g c =
 
 keeps_on : (a b c : StreamState) → KeepsLines a b → KeepsLines b c → KeepsLines a c
 keeps_on a b c h k = record {
-  setting = k.setting ∙ h.setting;
+  params = k.params ∙ h.params;
   last = k.last ∙ h.last;
   added = k.added ∙ h.added;
   empty = k.empty ∙ h.empty;
@@ -50,15 +50,15 @@ keeps_on a b c h k = record {
 pub loop-id-preserved : goal.loop-id-preserved
 loop-id-preserved g c =
     let old = c.args.state.now in
-    let s = old.setting in
+    let s = old.params in
     let i = c.loop-id.id-index in
     let ids = c.args.ids.now in
     let id = get_or ids i 0 in
     let deleted = c.loop-id.invariant.deleted in
     let one = c.in_ok-delete_one.ensures.deletes in
     let deletes : DeletesOne s id c.loop-id.state.dropped.ids c.delete_one.new.state.dropped.ids one.0 (Ok tt) =
-    subst (λ (x : Setting). DeletesOne x id c.loop-id.state.dropped.ids c.delete_one.new.state.dropped.ids one.0 (Ok tt))
-    c.loop-id.invariant.kept.setting one.3 in
+    subst (λ (x : StreamParams). DeletesOne x id c.loop-id.state.dropped.ids c.delete_one.new.state.dropped.ids one.0 (Ok tt))
+    c.loop-id.invariant.kept.params one.3 in
     let more : take (i + 1) ids ≡ take i ids ++ id ∷ [] = take_more ids i 0 c.loop-id-test.true in
     record {
       kept = keeps_on old c.loop-id.state c.delete_one.new.state c.loop-id.invariant.kept c.delete_one.ensures.kept;
@@ -79,7 +79,7 @@ loop-id-preserved g c =
 pub returns-clause-deleted : goal.returns-clause-deleted
 returns-clause-deleted g c =
     let old = c.args.state.now in
-    let s = old.setting in
+    let s = old.params in
     let i = c.loop-id.id-index in
     let ids = c.args.ids.now in
     let deleted = c.loop-id.invariant.deleted in

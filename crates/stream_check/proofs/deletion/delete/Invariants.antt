@@ -1,7 +1,7 @@
 use Rattle.std.proofs.Common.{◌≡◌, ◌+◌, ◌++◌, ℕ, List, [], take}
 use Rattle.std.specs.List.{AllByRecursion}
 use Rattle.lrup_model.specs.Event.{History}
-use Rattle.stream_check.specs.Standing.{is_among, capped}
+use Rattle.stream_check.specs.StreamContext.{is_among, capped}
 use Rattle.stream_check.specs.Verdicts.{LineVerdict}
 use Rattle.stream_check.specs.Deletions.{JudgesDeletion, IsRetire}
 use Rattle.stream_check.specs.internal.Checking.{AreDropped}
@@ -15,9 +15,9 @@ invariant-loop-id g l =
     record {
       kept : KeepsLines old l.state;
       count : deleted_at l.state ≡ capped (deleted_at old + l.id-index);
-      dropped : AreDropped old.setting old.dropped.ids earlier l.state.dropped.ids;
+      dropped : AreDropped old.params old.dropped.ids earlier l.state.dropped.ids;
       deleted : (es : History) × g.M.ClauseMap.moves l.initial.map l.map es × AllByRecursion IsRetire es
           × ((more : List ℕ) (rest : History) (v : LineVerdict)
-          → JudgesDeletion old.setting (is_among old.dropped.ids) earlier more rest v
-          → JudgesDeletion old.setting (is_among old.dropped.ids) [] (earlier ++ more) (es ++ rest) v);
+          → JudgesDeletion old.params (is_among old.dropped.ids) earlier more rest v
+          → JudgesDeletion old.params (is_among old.dropped.ids) [] (earlier ++ more) (es ++ rest) v);
     }

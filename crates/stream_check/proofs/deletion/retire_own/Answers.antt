@@ -6,7 +6,7 @@ use Rattle.stream_check.proofs.deletion.retire_own.Goals as goal
 
 pub returns-in-Done-clause-deletes : goal.returns-in-Done-clause-deletes
 returns-in-Done-clause-deletes g c =
-    let es : History = retire (g.M.ClauseMap.place c.args.map.now).caller.stream c.args.id retiring.Done ∷ [] in (
+    let es : History = retire (g.M.ClauseMap.caller_view c.args.map.now).caller.stream c.args.id retiring.Done ∷ [] in (
       es,
       c.in-Done.ensures.event,
       (tt, tt),
@@ -22,7 +22,7 @@ returns-in-Done-clause-count g c =
 
 pub returns-in-NotLive-clause-deletes : goal.returns-in-NotLive-clause-deletes
 returns-in-NotLive-clause-deletes g c =
-    let es : History = retire (g.M.ClauseMap.place c.args.map.now).caller.stream c.args.id retiring.NotLive ∷ [] in
+    let es : History = retire (g.M.ClauseMap.caller_view c.args.map.now).caller.stream c.args.id retiring.NotLive ∷ [] in
     (es, c.in-NotLive.ensures.event, (tt, tt), (ap (λ s. retire s c.args.id retiring.NotLive ∷ []) c.requires.at.stream, refl, refl))
 
 pub returns-in-NotLive-clause-count : goal.returns-in-NotLive-clause-count

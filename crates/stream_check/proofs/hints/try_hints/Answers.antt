@@ -1,9 +1,9 @@
 use Rattle.std.proofs.Common.{◌≡◌, ◌∙◌, ℕ, ℤ, neg_ℤ, Bool, Result, List, [], ◌∷◌, ◌++◌, refl, sym, ap, subst, append-nil}
 use Rattle.std.proofs.lemmas.Result.{err_from_is_err_and}
-use Rattle.lrup_model.specs.Place.{clip_clause}
+use Rattle.lrup_model.specs.CallerView.{clip_clause}
 use Rattle.propagate.specs.Marks.{Propagation}
 use Rattle.stream_check.specs.declared.fault.Fault.{Fault}
-use Rattle.stream_check.specs.Standing.{is_among}
+use Rattle.stream_check.specs.StreamContext.{is_among}
 use Rattle.stream_check.specs.internal.Checking.{Shows}
 use Rattle.stream_check.proofs.TryLemmas.{derived_before, variables_before, HasLed, goes_on, shows_unfound}
 use Rattle.stream_check.proofs.TryLemmas.{shows_not_unit, shows_none, shows_conflict}
@@ -28,9 +28,9 @@ hints-init g c = record {
 
 pub hints-preserved : goal.hints-preserved
 hints-preserved g c =
-    let s = c.args.state.now.setting in
-    let p = g.M.ClauseMap.place c.args.map.now in
-    let q = g.M.ClauseMap.place c.look_up.new.map in
+    let s = c.args.state.now.params in
+    let p = g.M.ClauseMap.caller_view c.args.map.now in
+    let q = g.M.ClauseMap.caller_view c.look_up.new.map in
     let gone : ℕ → Bool = is_among c.args.state.now.dropped.ids in
     let led = c.hints.invariant.led in
     let looked = c.in_ok-clip.ensures.looked in
@@ -41,7 +41,7 @@ hints-preserved g c =
     let tried =
     g.met.M.ClauseMap.moves_append c.args.map.now c.look_up.new.map c.hint.new.map (led.0 ++ looked.0) [] moved c.hint.ensures.event in
     let derived = derived_before p q (led.0 ++ looked.0) c.in_ok-clip.clip
-    (g.met.M.ClauseMap.moves_tells c.args.map.now c.look_up.new.map (led.0 ++ looked.0) moved) gives.0 gives.1 in
+    (g.met.M.ClauseMap.moves_are_step c.args.map.now c.look_up.new.map (led.0 ++ looked.0) moved) gives.0 gives.1 in
     record {
       ready = ap (λ (m : Propagation). m.ready) step.2 ∙ c.hints.invariant.ready;
       kept = (
@@ -61,9 +61,9 @@ hints-preserved g c =
 
 pub returns-in-Conflict-clause-shown : goal.returns-in-Conflict-clause-shown
 returns-in-Conflict-clause-shown g c =
-    let s = c.args.state.now.setting in
-    let p = g.M.ClauseMap.place c.args.map.now in
-    let q = g.M.ClauseMap.place c.look_up.new.map in
+    let s = c.args.state.now.params in
+    let p = g.M.ClauseMap.caller_view c.args.map.now in
+    let q = g.M.ClauseMap.caller_view c.look_up.new.map in
     let gone : ℕ → Bool = is_among c.args.state.now.dropped.ids in
     let led = c.hints.invariant.led in
     let looked = c.in_ok-clip.ensures.looked in
@@ -71,9 +71,9 @@ returns-in-Conflict-clause-shown g c =
     let moved = g.met.M.ClauseMap.moves_append c.args.map.now c.hints.map c.look_up.new.map led.0 looked.0 led.1 looked.1 in
     let tried =
     g.met.M.ClauseMap.moves_append c.args.map.now c.look_up.new.map c.hint.new.map (led.0 ++ looked.0) [] moved c.hint.ensures.event in
-    let tells = g.met.M.ClauseMap.moves_tells c.args.map.now c.look_up.new.map (led.0 ++ looked.0) moved in
-    let derived = derived_before p q (led.0 ++ looked.0) c.in_ok-clip.clip tells gives.0 gives.1 in
-    let variables = variables_before s p q (led.0 ++ looked.0) c.requires.at tells gives.2 in
+    let caller_step = g.met.M.ClauseMap.moves_are_step c.args.map.now c.look_up.new.map (led.0 ++ looked.0) moved in
+    let derived = derived_before p q (led.0 ++ looked.0) c.in_ok-clip.clip caller_step gives.0 gives.1 in
+    let variables = variables_before s p q (led.0 ++ looked.0) c.requires.at caller_step gives.2 in
     let shown = shows_conflict s gone p.caller.formula c.args.marks.now.falses c.hints.marks.falses c.args.hints.now c.in-Some.hint.now
     c.hints.left.now c.in-Some.rest.now led.0 looked.0 c.in-Some.ensures.cases.0 led.2 (clip_clause q c.in_ok-clip.clip) looked.2
     c.requires.consistent derived variables c.in-Conflict.ensures.step.0 in (
@@ -85,9 +85,9 @@ returns-in-Conflict-clause-shown g c =
 
 pub returns-in-NotUnit-clause-shown : goal.returns-in-NotUnit-clause-shown
 returns-in-NotUnit-clause-shown g c =
-    let s = c.args.state.now.setting in
-    let p = g.M.ClauseMap.place c.args.map.now in
-    let q = g.M.ClauseMap.place c.look_up.new.map in
+    let s = c.args.state.now.params in
+    let p = g.M.ClauseMap.caller_view c.args.map.now in
+    let q = g.M.ClauseMap.caller_view c.look_up.new.map in
     let gone : ℕ → Bool = is_among c.args.state.now.dropped.ids in
     let led = c.hints.invariant.led in
     let looked = c.in_ok-clip.ensures.looked in
@@ -104,8 +104,8 @@ returns-in-NotUnit-clause-shown g c =
 
 pub returns-in_err-clip-clause-shown : goal.returns-in_err-clip-clause-shown
 returns-in_err-clip-clause-shown g c =
-    let s = c.args.state.now.setting in
-    let f = (g.M.ClauseMap.place c.args.map.now).caller.formula in
+    let s = c.args.state.now.params in
+    let f = (g.M.ClauseMap.caller_view c.args.map.now).caller.formula in
     let gone : ℕ → Bool = is_among c.args.state.now.dropped.ids in
     let led = c.hints.invariant.led in
     let looked = c.in_err-clip.ensures.looked in
@@ -118,8 +118,8 @@ returns-in_err-clip-clause-shown g c =
 
 pub returns-clause-shown : goal.returns-clause-shown
 returns-clause-shown g c =
-    let s = c.args.state.now.setting in
-    let f = (g.M.ClauseMap.place c.args.map.now).caller.formula in
+    let s = c.args.state.now.params in
+    let f = (g.M.ClauseMap.caller_view c.args.map.now).caller.formula in
     let gone : ℕ → Bool = is_among c.args.state.now.dropped.ids in
     let led = c.hints.invariant.led in (
       led.0,

@@ -1,4 +1,4 @@
-use Rattle.stream_check.proofs.LeavingLemmas.{bad_line_taken as lemma}
+use Rattle.stream_check.proofs.ReachingLemmas.{bad_line_taken as lemma}
 use Rattle.stream_check.proofs.laws.bad_line_taken.Goals as goal
 
 pub returns : goal.returns

@@ -1,4 +1,4 @@
-use Rattle.stream_check.proofs.LeavingLemmas.{bad_text_read as lemma}
+use Rattle.stream_check.proofs.ReachingLemmas.{bad_text_read as lemma}
 use Rattle.stream_check.proofs.laws.bad_text_read.Goals as goal
 
 pub returns : goal.returns

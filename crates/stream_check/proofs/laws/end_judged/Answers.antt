@@ -1,4 +1,4 @@
-use Rattle.stream_check.proofs.LeavingLemmas.{end_judged as lemma}
+use Rattle.stream_check.proofs.ReachingLemmas.{end_judged as lemma}
 use Rattle.stream_check.proofs.laws.end_judged.Goals as goal
 
 pub returns : goal.returns

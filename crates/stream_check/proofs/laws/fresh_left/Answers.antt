@@ -1,4 +1,4 @@
-use Rattle.stream_check.proofs.LeavingLemmas.{fresh_left as lemma}
+use Rattle.stream_check.proofs.ReachingLemmas.{fresh_left as lemma}
 use Rattle.stream_check.proofs.laws.fresh_left.Goals as goal
 
 pub returns : goal.returns

@@ -1,4 +1,4 @@
-use Rattle.stream_check.proofs.LeavingLemmas.{good_line_taken as lemma}
+use Rattle.stream_check.proofs.ReachingLemmas.{good_line_taken as lemma}
 use Rattle.stream_check.proofs.laws.good_line_taken.Goals as goal
 
 pub returns : goal.returns

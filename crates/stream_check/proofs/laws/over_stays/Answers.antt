@@ -1,4 +1,4 @@
-use Rattle.stream_check.proofs.LeavingLemmas.{over_stays as lemma}
+use Rattle.stream_check.proofs.ReachingLemmas.{over_stays as lemma}
 use Rattle.stream_check.proofs.laws.over_stays.Goals as goal
 
 pub returns : goal.returns

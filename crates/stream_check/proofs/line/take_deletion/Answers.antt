@@ -6,8 +6,8 @@ pub returns-in_err-delete-clause-taken : goal.returns-in_err-delete-clause-taken
 returns-in_err-delete-clause-taken g c =
     let old = c.args.state.now in
     let mid = c.delete.new.state in
-    let p = g.M.ClauseMap.place c.args.map.now in
-    let q = g.M.ClauseMap.place c.delete.new.map in
+    let p = g.M.ClauseMap.caller_view c.args.map.now in
+    let q = g.M.ClauseMap.caller_view c.delete.new.map in
     let deleted = c.in_err-delete.ensures.deleted in
     let given = err_from_is_err_and c.from_residual.result c.from_residual.ensures.1 in
     rw (given.1, given.2) (
@@ -21,19 +21,19 @@ pub returns-in_err-delete-clause-ready : goal.returns-in_err-delete-clause-ready
 returns-in_err-delete-clause-ready g c =
     let old = c.args.state.now in
     let mid = c.delete.new.state in
-    let p = g.M.ClauseMap.place c.args.map.now in
-    let q = g.M.ClauseMap.place c.delete.new.map in
+    let p = g.M.ClauseMap.caller_view c.args.map.now in
+    let q = g.M.ClauseMap.caller_view c.delete.new.map in
     let deleted = c.in_err-delete.ensures.deleted in
-    ready_retires old mid p q deleted.0 (g.met.M.ClauseMap.moves_tells c.args.map.now c.delete.new.map deleted.0 deleted.1) deleted.2
-    c.delete.ensures.kept.setting c.delete.ensures.kept.last c.requires.ready
+    ready_retires old mid p q deleted.0 (g.met.M.ClauseMap.moves_are_step c.args.map.now c.delete.new.map deleted.0 deleted.1) deleted.2
+    c.delete.ensures.kept.params c.delete.ensures.kept.last c.requires.ready
 
 pub returns-clause-taken : goal.returns-clause-taken
 returns-clause-taken g c =
     let old = c.args.state.now in
     let mid = c.delete.new.state in
     let new = c.count_line.new.self in
-    let p = g.M.ClauseMap.place c.args.map.now in
-    let q = g.M.ClauseMap.place c.delete.new.map in
+    let p = g.M.ClauseMap.caller_view c.args.map.now in
+    let q = g.M.ClauseMap.caller_view c.delete.new.map in
     let deleted = c.in_ok-delete.ensures.deleted in
     let taken = c.count_line.ensures in
     let counts : Counts mid new = record {
@@ -45,7 +45,8 @@ returns-clause-taken g c =
       dropped = taken.dropped;
       retired = taken.retired;
     } in
-    let room = room_retires p q deleted.0 (g.met.M.ClauseMap.moves_tells c.args.map.now c.delete.new.map deleted.0 deleted.1) deleted.2 in (
+    let room = room_retires p q deleted.0 (g.met.M.ClauseMap.moves_are_step c.args.map.now c.delete.new.map deleted.0 deleted.1)
+    deleted.2 in (
       deleted.0,
       deleted.1,
       λ lead. takes_deletion old mid new p.room q.room lead c.args.ids.now deleted.0 deleted.3.0 c.delete.ensures.kept counts deleted.3.1
@@ -56,9 +57,9 @@ pub returns-clause-ready : goal.returns-clause-ready
 returns-clause-ready g c =
     let old = c.args.state.now in
     let mid = c.delete.new.state in
-    let p = g.M.ClauseMap.place c.args.map.now in
-    let q = g.M.ClauseMap.place c.delete.new.map in
+    let p = g.M.ClauseMap.caller_view c.args.map.now in
+    let q = g.M.ClauseMap.caller_view c.delete.new.map in
     let deleted = c.in_ok-delete.ensures.deleted in
-    let ready = ready_retires old mid p q deleted.0 (g.met.M.ClauseMap.moves_tells c.args.map.now c.delete.new.map deleted.0 deleted.1)
-    deleted.2 c.delete.ensures.kept.setting c.delete.ensures.kept.last c.requires.ready in
-    still_ready mid c.count_line.new.self q c.count_line.ensures.setting c.count_line.ensures.last ready
+    let ready = ready_retires old mid p q deleted.0 (g.met.M.ClauseMap.moves_are_step c.args.map.now c.delete.new.map deleted.0 deleted.1)
+    deleted.2 c.delete.ensures.kept.params c.delete.ensures.kept.last c.requires.ready in
+    still_ready mid c.count_line.new.self q c.count_line.ensures.params c.count_line.ensures.last ready

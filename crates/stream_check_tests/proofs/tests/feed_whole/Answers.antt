@@ -14,7 +14,7 @@ rest-preserved g c =
         g.met.M.ClauseMap.moves_append c.args.map.now c.rest.map c.feed-progress.new.map before.moves.0
             (joined blocks) before.moves.1 fed.left.1,
       );
-      setting = fed.setting ∙ before.setting;
+      params = fed.params ∙ before.params;
     }
 
 pub returns-in-More : goal.returns-in-More
@@ -29,5 +29,5 @@ returns-in-More g c =
         g.met.M.ClauseMap.moves_append c.args.map.now c.rest.map c.feed-progress.new.map before.moves.0
             (joined blocks) before.moves.1 fed.left.1,
       );
-      setting = fed.setting ∙ before.setting;
+      params = fed.params ∙ before.params;
     }

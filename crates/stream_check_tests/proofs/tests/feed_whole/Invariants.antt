@@ -5,9 +5,9 @@ use Rattle.stream_check_tests.proofs.tests.feed_whole.Given as goal
 
 abbrev pub invariant-rest : goal.invariant-rest
 invariant-rest g l = record {
-  ready : IsReadyAt l.checker (g.M.ClauseMap.place l.map);
+  ready : IsReadyAt l.checker (g.M.ClauseMap.caller_view l.map);
   moves : (es : History) × g.M.ClauseMap.moves l.initial.map l.map es;
-  setting : l.checker.setting ≡ l.initial.checker.setting;
+  params : l.checker.params ≡ l.initial.checker.params;
 }
 
 abbrev pub decreases-rest : goal.decreases-rest

@@ -1,15 +1,15 @@
 use Rattle.std.proofs.Common.{◌++◌, ◌∙◌, ℕ, List, [], refl, sym, subst, take, map, rules}
 use Rattle.std.proofs.lemmas.List.{length-take-le}
 use Rattle.rtrb.specs.Ring.{received}
-use Rattle.stream_check.specs.Checker.{LeavesOn, checker_state}
-use Rattle.stream_check.specs.lemmas.ReportLemmas.{joined-append, leaves_still}
+use Rattle.stream_check.specs.Checker.{Extends, checker_state}
+use Rattle.stream_check.specs.lemmas.ReportLemmas.{joined-append, reaches_still}
 use Rattle.stream_ring.specs.Items.{EndsBeforeMark, byte_of}
-use Rattle.stream_jobs.proofs.JudgingLemmas.{leaves_more, none_before}
+use Rattle.stream_jobs.proofs.JudgingLemmas.{reaches_more, none_before}
 use Rattle.stream_jobs.proofs.checking.check_received.Goals as goal
 
 pub loop-init : goal.loop-init
 loop-init g c =
-    let state = checker_state c.args.checker.now (g.M.ClauseMap.place c.args.map.now).room in
+    let state = checker_state c.args.checker.now (g.M.ClauseMap.caller_view c.args.map.now).room in
     record {
       next = (tt, tt);
       ring = search rules;
@@ -17,12 +17,12 @@ loop-init g c =
       room = c.requires.room;
       ready = c.requires.ready;
       no_mark = subst EndsBeforeMark (sym c.requires.nothing) none_before;
-      setting = refl;
+      params = refl;
       took = (
         [],
         g.met.M.ClauseMap.moves_none c.args.map.now,
-        subst (λ (items : List ℕ). LeavesOn c.args.checker.now.setting state (map byte_of items) [] state) (sym c.requires.nothing)
-            (leaves_still c.args.checker.now.setting state),
+        subst (λ (items : List ℕ). Extends c.args.checker.now.params state (map byte_of items) [] state) (sym c.requires.nothing)
+            (reaches_still c.args.checker.now.params state),
       );
     }
 
@@ -44,15 +44,15 @@ loop-preserved g c =
       room = search rules;
       ready = c.take_all.ensures.ready;
       no_mark = c.receive.ensures.no_mark c.in-Bytes.count c.in-Bytes.is;
-      setting = c.take_all.ensures.setting ∙ c.loop.invariant.setting;
+      params = c.take_all.ensures.params ∙ c.loop.invariant.params;
       took = (
         old.0 ++ fed.0,
         subst (g.M.ClauseMap.moves start end) (sym (joined-append old.0 fed.0))
             (g.met.M.ClauseMap.moves_append start mid end _ _ old.1 fed.1),
-        leaves_more c.args.checker.now.setting c.loop.checker.setting _ _
-            (checker_state c.take_all.new.checker (g.M.ClauseMap.place end).room)
+        reaches_more c.args.checker.now.params c.loop.checker.params _ _
+            (checker_state c.take_all.new.checker (g.M.ClauseMap.caller_view end).room)
             (map byte_of (received c.loop.receiver.consumer)) _ (map byte_of (received c.receive.new.self.consumer)) old.0 fed.0
-            c.loop.invariant.setting came.1 old.2 fed.2,
+            c.loop.invariant.params came.1 old.2 fed.2,
       );
     }
 
@@ -77,10 +77,10 @@ returns-in-Mark-clause-took g c =
       subst (g.M.ClauseMap.moves start end) (sym (joined-append old.0 fed.0))
           (g.met.M.ClauseMap.moves_append start mid end _ _ old.1 fed.1),
       came.1,
-      leaves_more c.args.checker.now.setting c.loop.checker.setting _ _
-          (checker_state c.take_all-in-Mark.new.checker (g.M.ClauseMap.place end).room)
+      reaches_more c.args.checker.now.params c.loop.checker.params _ _
+          (checker_state c.take_all-in-Mark.new.checker (g.M.ClauseMap.caller_view end).room)
           (map byte_of (received c.loop.receiver.consumer)) (take c.in-Mark.count c.receive.new.bytes) bytes old.0 fed.0
-          c.loop.invariant.setting refl old.2 fed.2,
+          c.loop.invariant.params refl old.2 fed.2,
     )
 
 pub returns-in-Gone-clause-no_mark : goal.returns-in-Gone-clause-no_mark

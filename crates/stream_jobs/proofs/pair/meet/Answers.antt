@@ -34,8 +34,8 @@ returns-clause-judged g c first v room blocks ids report sent marked fresh =
         },
         sent.read,
       ),
-      judged_out v.setting sent.bytes [] sent.end blocks report
-          (subst (λ (end : StreamEnd). JudgesBlocks v.setting sent.bytes end blocks report) same.1
-          (subst (λ (bytes : List ℕ). JudgesBlocks v.setting bytes marked.end blocks report) same.0 (marked.judged fresh))),
+      judged_out v.params sent.bytes [] sent.end blocks report
+          (subst (λ (end : StreamEnd). JudgesBlocks v.params sent.bytes end blocks report) same.1
+          (subst (λ (bytes : List ℕ). JudgesBlocks v.params bytes marked.end blocks report) same.0 (marked.judged fresh))),
       subst (λ (bytes : List ℕ). DropsBy v room bytes blocks ids report) same.0 marked.dropped,
     )

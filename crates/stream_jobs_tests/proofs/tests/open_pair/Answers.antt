@@ -1,6 +1,6 @@
 use Rattle.std.proofs.Common.{subst}
 use Rattle.checker_support.specs.lemmas.OpenedLemmas.{ready_opened}
-use Rattle.runs.specs.Streams.{TermsValue}
+use Rattle.runs.specs.Streams.{RunParamsValue}
 use Rattle.stream_check.specs.Checker.{IsNew}
 use Rattle.stream_jobs_tests.proofs.tests.open_pair.Goals as goal
 
@@ -10,4 +10,4 @@ invariant_of-result-clause-ready g c =
     let checker = c.in_ok-reading.job.checker in
     ready_opened c.ready_new.ensures c.layout.result.now c.empty-cube.result 1 3 checker c.in_ok-map.map
     c.in_ok-map.ensures.opened c.layout.ensures
-    (subst (λ (t : TermsValue). IsNew t.layout t.cube 1 t.tries checker) c.new-terms.ensures c.in_ok-reading.ensures.checker)
+    (subst (λ (t : RunParamsValue). IsNew t.layout t.cube 1 t.tries checker) c.new-run_params.ensures c.in_ok-reading.ensures.checker)

@@ -23,7 +23,7 @@ loop-reader-preserved g c =
     let new = c.in_ok-new.ensures in
     record {
       running = running.1;
-      jobs = jobs_pushed c.args.terms.now _ (λ x. x.0.0)
+      jobs = jobs_pushed c.args.run_params.now _ (λ x. x.0.0)
           (λ x. x.1) now.yielded item now.all.items c.push_reserved.new.self.items c.in_ok-new.field-0
           pushed.items (omega (arith, now.all.ok.0, c.len-in-loop-reader.ensures)) now.invariant.jobs (record {
             reader_is = new.reader;
@@ -49,7 +49,7 @@ returns g c =
       | inr e ↦ omega (arith, e.1.0, now.invariant.others)
     ] in
     let no_more : into_iter_len third ≡ 0 = omega (arith, none, now.invariant.others) in
-    jobs_whole c.args.terms.now _ _ (into_iter_items first) _ _ (into_iter_items third) now.all.items
+    jobs_whole c.args.run_params.now _ _ (into_iter_items first) _ _ (into_iter_items third) now.all.items
     now.invariant.jobs now.invariant.readers now.invariant.passes (none_to_come first none) (none_to_come third no_more)
 
 pub loop-reader-init : goal.loop-reader-init
@@ -65,7 +65,7 @@ loop-reader-init g c =
     let passes = ap (λ z. into_iter_len (zip_second z)) all ∙ outer.second.1 in
     record {
       running = subst (AllByRecursion (λ r. g.R.Source.has_failed r ≡ false)) (sym readers) c.requires.running;
-      jobs = subst (AreJobs c.args.terms.now 1 [] []) (sym c.in_ok-all.ensures.items) tt;
+      jobs = subst (AreJobs c.args.run_params.now 1 [] []) (sym c.in_ok-all.ensures.items) tt;
       readers = readers;
       passes = ap (λ z. into_iter_items (zip_second z)) all ∙ outer.second.0;
       count = omega (arith, c.in_ok-all.ensures.len, count);

@@ -12,7 +12,7 @@ invariant-loop-reader g l =
     let third = zip_second l.reader-iterator in
     record {
       running : AllByRecursion (λ r. g.R.Source.has_failed r ≡ false) (into_iter_items first);
-      jobs : AreJobs l.terms 1 (map (λ x. x.0.0) l.yielded) (map (λ x. x.1) l.yielded) l.all.items;
+      jobs : AreJobs l.run_params 1 (map (λ x. x.0.0) l.yielded) (map (λ x. x.1) l.yielded) l.all.items;
       readers : map (λ x. x.0.0) l.yielded ++ into_iter_items first ≡ l.fn.readers.items;
       passes : map (λ x. x.1) l.yielded ++ into_iter_items third ≡ l.fn.passes.items;
       count : vec_len l.all + into_iter_len first ≡ vec_len l.fn.readers;

@@ -1,5 +1,5 @@
 use Rattle.std.proofs.Common.{List, ℕ, ◌∙◌, sym, ap, subst}
-use Rattle.lrup_model.specs.Pass.{pass_place}
+use Rattle.lrup_model.specs.Pass.{pass_caller_view}
 use Rattle.runs.specs.Readings.{IsStreamOf, readers_view}
 use Rattle.stream_check.specs.DroppedValue.{DroppedValue}
 use Rattle.stream_jobs.specs.Judged.{DropsBy}
@@ -22,7 +22,8 @@ returns-clause-end g c jobs sent judged no_mark =
             met.1,
             subst (λ r. IsStreamOf (readers_view g.R.Source) jobs.reader r met.0) same met.2,
             met.3,
-            subst (λ (ids : List ℕ). DropsBy jobs.checker (pass_place jobs.pass.view).room met.0.bytes e.blocks ids c.in_ok-report.report)
+            subst (λ (ids : List ℕ). DropsBy jobs.checker (pass_caller_view jobs.pass.view).room met.0.bytes e.blocks ids
+                c.in_ok-report.report)
                 dropped met.4,
           );
     }

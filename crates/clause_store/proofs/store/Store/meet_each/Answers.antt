@@ -1,5 +1,5 @@
 use Rattle.std.proofs.Common.{◌≡◌, ℕ, ◌<◌, length, set, subst, sym, arith, add-one}
-use Rattle.clause_store.proofs.MeetingLemmas.{HasMet, meets_next, met_all, are_of-set}
+use Rattle.clause_store.proofs.MeetingLemmas.{IsSynced, sync_next, synced_all, are_of-set}
 use Rattle.clause_store.proofs.store.Store.meet_each.Goals as goal
 
 pub loop-other-preserved : goal.loop-other-preserved
@@ -12,14 +12,14 @@ loop-other-preserved c =
     record {
       pass = c.meet.ensures.first;
       others = are_of-set c.args.self.now i others other c.meet.ensures.second c.loop-other.invariant.others;
-      met = subst (λ (n : ℕ). HasMet n u c.meet.new.first.view c.args.others.now (set others i other)) (sym (add-one i))
-          (meets_next i u c.loop-other.pass.view c.meet.new.first.view c.args.others.now others c.other-item.result other within
-          c.loop-other.invariant.met c.meet.ensures.meets);
+      synced = subst (λ (n : ℕ). IsSynced n u c.meet.new.first.view c.args.others.now (set others i other)) (sym (add-one i))
+          (sync_next i u c.loop-other.pass.view c.meet.new.first.view c.args.others.now others c.other-item.result other within
+          c.loop-other.invariant.synced c.meet.ensures.meets);
     }
 
 pub returns-clause-turns : goal.returns-clause-turns
 returns-clause-turns c =
     let all : c.loop-other.other-index ≡ length c.args.others.now = omega arith in
-    met_all c.args.pass.now.view c.loop-other.pass.view c.args.others.now c.loop-other.others
-    (subst (λ (n : ℕ). HasMet n c.args.pass.now.view c.loop-other.pass.view c.args.others.now c.loop-other.others) all
-    c.loop-other.invariant.met)
+    synced_all c.args.pass.now.view c.loop-other.pass.view c.args.others.now c.loop-other.others
+    (subst (λ (n : ℕ). IsSynced n c.args.pass.now.view c.loop-other.pass.view c.args.others.now c.loop-other.others) all
+    c.loop-other.invariant.synced)

@@ -11,7 +11,7 @@ returns-clause-one c =
     let xs : List View = c.args.second.now.view ∷ c.args.third.now.view ∷ [] in
     let ys : List View = c.meet_both.new.second.view ∷ c.meet_both.new.third.view ∷ [] in
     let zs : List View = c.meet_both-2.new.second.view ∷ c.meet_both-2.new.third.view ∷ [] in
-    (d.seen, (refl, (c.meets_twice.ensures a b d xs ys zs c.meet_both.ensures.turns c.meet_both-2.ensures.turns).1))
+    (d.seen, (refl, (c.sync_twice.ensures a b d xs ys zs c.meet_both.ensures.turns c.meet_both-2.ensures.turns).1))
 
 pub returns-clause-fair : goal.returns-clause-fair
 returns-clause-fair c =

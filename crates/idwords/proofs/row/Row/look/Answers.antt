@@ -1,8 +1,8 @@
 use Rattle.std.proofs.Common.{rules, ℕ, List, refl, sym, ap, ◌∙◌, arith}
 use mathlib.Core.Option.{none}
 use Rattle.atomic_table.specs.Table.{step, Me}
-use Rattle.idwords.specs.Seats.{Part}
-use Rattle.idwords.specs.internal.Seating.{first_part, part_of}
+use Rattle.idwords.specs.Seats.{ThreadState}
+use Rattle.idwords.specs.internal.Seating.{first_thread, thread_of}
 use Rattle.idwords.specs.internal.Steps.{Changes, Looks}
 use Rattle.idwords.proofs.StepLemmas.{changes}
 use Rattle.idwords.proofs.LookLemmas.{looks}
@@ -17,13 +17,13 @@ load-requires c =
     asks shared.key.formula.value shared.key.layout shared.table_id.slots token.id c.args.id (λ n. n) (Looks c.args.id) (Changes Looks one)
     token.table_id shared.table_id token.me c.args.seat.now c.seat.inside.top c.seat.inside.drafted c.seat.inside.room
     c.seat.invariant c.seat.view_is (c.requires.row ∙ sym c.self.view_is) (omega arith)
-    (looks (part_of c.args.seat.now) token.id c.args.id c.requires.identity) (changes Looks one)
+    (looks (thread_of c.args.seat.now) token.id c.args.id c.requires.identity) (changes Looks one)
 
 pub invariant_of-seat : goal.invariant_of-seat
 invariant_of-seat c =
     let token = c.seat.inside.token in
     let new = c.load.new.seat in
-    let told = c.load.ensures.2 (first_part token.me.0) (ap (λ (m : Me ℕ (List Part)). m.0) c.seat.invariant.one) in
+    let told = c.load.ensures.2 (first_thread token.me.0) (ap (λ (m : Me ℕ (List ThreadState)). m.0) c.seat.invariant.one) in
     seated_call token.table_id new.table_id token.me new.me c.seat.inside.top c.seat.inside.drafted c.seat.inside.room told.0 _
     c.seat.invariant
     c.load.ensures.0 told.1 told.2 told.3.calls refl refl told.3.top told.3.draft

@@ -1,11 +1,11 @@
 use Rattle.std.proofs.Common.{◌≡◌, ℕ, ◌++◌, List, [], ◌∷◌, refl, sym, ap, ap₂, subst, ◌∙◌, arith}
 use mathlib.Core.Option.{none}
 use Rattle.atomic_table.specs.Table.{step, Me, Allows}
-use Rattle.idwords.specs.Seats.{Part, SeatValue}
-use Rattle.idwords.specs.internal.Rule.{IsKept}
-use Rattle.idwords.specs.internal.Seating.{first_part}
-use Rattle.idwords.specs.internal.Steps.{Joined, Met}
-use Rattle.idwords.proofs.MeetLemmas.{splits_hand, splits_part, joins, meets, joined, parted}
+use Rattle.idwords.specs.Seats.{ThreadState, SeatValue}
+use Rattle.idwords.specs.internal.Rule.{HoldsRowInvariant}
+use Rattle.idwords.specs.internal.Seating.{first_thread}
+use Rattle.idwords.specs.internal.Steps.{Joined, SyncThreads}
+use Rattle.idwords.proofs.MeetLemmas.{splits_hand, splits_thread, joins, meets, joined, parted}
 use Rattle.idwords.proofs.SeatLemmas.{words_of, seated_on}
 use Rattle.idwords.proofs.row.Row.meet.Goals as goal
 
@@ -36,7 +36,7 @@ join_seat-requires c =
     ∙ sym c.self.view_is in (
       table,
       given.3 ∙ table',
-      ap (λ (m : Me ℕ (List Part)). m.1) given.4,
+      ap (λ (m : Me ℕ (List ThreadState)). m.1) given.4,
       omega (
         arith,
         words_of token.table_id shared.table_id token.me c.first.inside.top c.first.inside.drafted c.first.inside.room
@@ -50,22 +50,23 @@ load-requires c =
     let shared = c.self.inside.table.shared in
     let token = c.first.inside.token in
     let new = c.join_seat.new.seat in
-    let v : Part = first_part token.me.0 in
-    let v' : Part = first_part c.second.inside.token.me.0 in
+    let v : ThreadState = first_thread token.me.0 in
+    let v' : ThreadState = first_thread c.second.inside.token.me.0 in
     let one = step {S = ℕ} shared.table_id.slots 0 0 0 none in
     let table : token.table_id ≡ shared.table_id = ap (λ (s : SeatValue). s.table) c.first.view_is ∙ c.requires.first
     ∙ sym c.self.view_is in
-    let other : c.split_seat-token.result.me.0 ≡ v' ∷ [] = ap (λ (m : Me ℕ (List Part)). m.0) c.split_seat-token.ensures.4
-    ∙ ap (λ (m : Me ℕ (List Part)). m.0) c.second.invariant.one in
+    let other : c.split_seat-token.result.me.0 ≡ v' ∷ [] = ap (λ (m : Me ℕ (List ThreadState)). m.0) c.split_seat-token.ensures.4
+    ∙ ap (λ (m : Me ℕ (List ThreadState)). m.0) c.second.invariant.one in
     let me : new.me ≡ (v ∷ v' ∷ [], []) = c.join_seat.ensures.2
-    ∙ ap₂ (λ (m : Me ℕ (List Part)) (ws : List Part). (m.0 ++ ws, m.1)) c.first.invariant.one other in (
+    ∙ ap₂ (λ (m : Me ℕ (List ThreadState)) (ws : List ThreadState). (m.0 ++ ws, m.1)) c.first.invariant.one other in (
       c.join_seat.ensures.0 ∙ table,
       omega (
         arith,
         words_of token.table_id shared.table_id token.me c.first.inside.top c.first.inside.drafted c.first.inside.room
             c.first.invariant table,
       ),
-      subst (λ (m : Me ℕ (List Part)). Allows {S = ℕ} (IsKept shared.key.formula.value shared.key.layout) shared.table_id.slots new.id m 0
+      subst (λ (m : Me ℕ (List ThreadState)). Allows {S = ℕ} (HoldsRowInvariant shared.key.formula.value shared.key.layout)
+          shared.table_id.slots new.id m 0
           (λ n. n) (Joined one m)) (sym me)
           (meets shared.key.formula.value shared.key.layout shared.table_id.slots new.id v v' 0 (Joined one (v ∷ v' ∷ [], []))
           (joined one v v')),
@@ -84,22 +85,23 @@ split_seat-requires c =
         words_of token.table_id shared.table_id token.me c.first.inside.top c.first.inside.drafted c.first.inside.room
             c.first.invariant table,
       ),
-      splits_part shared.key.formula.value shared.key.layout new.id new.me.0,
+      splits_thread shared.key.formula.value shared.key.layout new.id new.me.0,
     )
 
--- what the load told, once each part has its seat again
+-- what the load told, once each thread state has its seat again
 now : (c : goal.After-drop-second-inside)
-    → Met (first_part c.first.inside.token.me.0) (first_part c.second.inside.token.me.0) (first_part c.split_seat.new.seat.me.0)
-    (first_part c.split_seat.result.me.0)
-    × (c.split_seat.new.seat.me ≡ (first_part c.split_seat.new.seat.me.0 ∷ [], []))
-    × (c.split_seat.result.me ≡ (first_part c.split_seat.result.me.0 ∷ [], []))
+    → SyncThreads (first_thread c.first.inside.token.me.0) (first_thread c.second.inside.token.me.0)
+    (first_thread c.split_seat.new.seat.me.0)
+    (first_thread c.split_seat.result.me.0)
+    × (c.split_seat.new.seat.me ≡ (first_thread c.split_seat.new.seat.me.0 ∷ [], []))
+    × (c.split_seat.result.me ≡ (first_thread c.split_seat.result.me.0 ∷ [], []))
 now c =
-    let v : Part = first_part c.first.inside.token.me.0 in
-    let v' : Part = first_part c.second.inside.token.me.0 in
-    let other : c.split_seat-token.result.me.0 ≡ v' ∷ [] = ap (λ (m : Me ℕ (List Part)). m.0) c.split_seat-token.ensures.4
-    ∙ ap (λ (m : Me ℕ (List Part)). m.0) c.second.invariant.one in
+    let v : ThreadState = first_thread c.first.inside.token.me.0 in
+    let v' : ThreadState = first_thread c.second.inside.token.me.0 in
+    let other : c.split_seat-token.result.me.0 ≡ v' ∷ [] = ap (λ (m : Me ℕ (List ThreadState)). m.0) c.split_seat-token.ensures.4
+    ∙ ap (λ (m : Me ℕ (List ThreadState)). m.0) c.second.invariant.one in
     let both : c.join_seat.new.seat.me ≡ (v ∷ v' ∷ [], []) = c.join_seat.ensures.2
-    ∙ ap₂ (λ (m : Me ℕ (List Part)) (ws : List Part). (m.0 ++ ws, m.1)) c.first.invariant.one other in
+    ∙ ap₂ (λ (m : Me ℕ (List ThreadState)) (ws : List ThreadState). (m.0 ++ ws, m.1)) c.first.invariant.one other in
     parted (step {S = ℕ} c.self.inside.table.shared.table_id.slots 0 0 0 none) c.join_seat.new.seat.me c.load.new.seat.me
     c.split_seat.new.seat.me c.split_seat.result.me v v' c.load.result
     both c.load.ensures.2 c.split_seat.ensures.2 c.split_seat.ensures.4
@@ -110,9 +112,9 @@ invariant_of-first c =
     let left = c.split_seat.new.seat in
     let told = now c in
     seated_on token.table_id left.table_id token.me left.me c.first.inside.top c.first.inside.drafted c.first.inside.room
-    (first_part left.me.0) [] c.first.invariant
-    (c.split_seat.ensures.0 ∙ c.load.ensures.0 ∙ c.join_seat.ensures.0) (ap (λ (m : Me ℕ (List Part)). m.0) told.1)
-    (ap (λ (m : Me ℕ (List Part)). m.1) told.1)
+    (first_thread left.me.0) [] c.first.invariant
+    (c.split_seat.ensures.0 ∙ c.load.ensures.0 ∙ c.join_seat.ensures.0) (ap (λ (m : Me ℕ (List ThreadState)). m.0) told.1)
+    (ap (λ (m : Me ℕ (List ThreadState)). m.1) told.1)
     told.0.meets.first told.0.meets.fair refl told.0.top told.0.draft
 
 pub invariant_of-second : goal.invariant_of-second
@@ -125,9 +127,10 @@ invariant_of-second c =
     let second : token.table_id ≡ c.self.inside.table.shared.table_id = ap (λ (s : SeatValue). s.table) c.second.view_is ∙ c.requires.second
     ∙ sym c.self.view_is in
     seated_on token.table_id right.table_id token.me right.me c.second.inside.top c.second.inside.drafted c.second.inside.room
-    (first_part right.me.0) [] c.second.invariant
-    (c.split_seat.ensures.3 ∙ c.load.ensures.0 ∙ c.join_seat.ensures.0 ∙ first ∙ sym second) (ap (λ (m : Me ℕ (List Part)). m.0) told.2)
-    (ap (λ (m : Me ℕ (List Part)). m.1) told.2)
+    (first_thread right.me.0) [] c.second.invariant
+    (c.split_seat.ensures.3 ∙ c.load.ensures.0 ∙ c.join_seat.ensures.0 ∙ first ∙ sym second)
+    (ap (λ (m : Me ℕ (List ThreadState)). m.0) told.2)
+    (ap (λ (m : Me ℕ (List ThreadState)). m.1) told.2)
     told.0.meets.second told.0.meets.fair' refl told.0.top' told.0.draft'
 
 pub returns-clause-within : goal.returns-clause-within

@@ -1,6 +1,6 @@
 use Rattle.std.proofs.Common.{arith, ℕ, List, [], ◌∷◌, length, sym, ap, subst, ◌∙◌}
 use Rattle.lrup_model.specs.Formula.{Cnf}
-use Rattle.idwords.specs.internal.Rule.{Keeps, IsPlan, opening_parts}
+use Rattle.idwords.specs.internal.Rule.{Keeps, IsPlan, opening_threads}
 use Rattle.idwords.proofs.SpellingLemmas.{lies_within}
 use Rattle.idwords.proofs.OpeningLemmas.{opens, length-opening_words, opening_fair}
 use Rattle.idwords.proofs.row.Row.open.Goals as goal
@@ -12,8 +12,8 @@ of_words-requires c =
     let plan : IsPlan f p = c.in_ok-words.ensures.plan in
     let kept = opens {S = ℕ} f p [] plan.formula plan.layout c.requires in (
       kept.0,
-      subst (λ (g : Cnf). Keeps g p kept.0 c.as_slice.result.now (opening_parts g p 1 p.streams ∷ [])) (sym c.of.ensures)
-          (subst (λ (ws : List ℕ). Keeps f p kept.0 ws (opening_parts f p 1 p.streams ∷ []))
+      subst (λ (g : Cnf). Keeps g p kept.0 c.as_slice.result.now (opening_threads g p 1 p.streams ∷ [])) (sym c.of.ensures)
+          (subst (λ (ws : List ℕ). Keeps f p kept.0 ws (opening_threads f p 1 p.streams ∷ []))
           (sym (c.as_slice.ensures.value ∙ c.in_ok-words.ensures.words)) kept.1),
     )
 

@@ -1,7 +1,7 @@
 use Rattle.std.proofs.Common.{ℕ, sym, ◌∙◌}
 use mathlib.Core.Option.{none}
 use Rattle.atomic_table.specs.Table.{step}
-use Rattle.idwords.specs.internal.Seating.{part_of}
+use Rattle.idwords.specs.internal.Seating.{thread_of}
 use Rattle.idwords.specs.internal.Steps.{Changes, Reads}
 use Rattle.idwords.proofs.StepLemmas.{changes}
 use Rattle.idwords.proofs.PlaceLemmas.{reads}
@@ -17,4 +17,4 @@ load-requires c =
     (Changes Reads one)
     token.table_id shared.table_id token.me c.args.seat.now c.seat.inside.top c.seat.inside.drafted c.seat.inside.room
     c.seat.invariant c.seat.view_is (c.requires.row ∙ sym c.self.view_is) c.requires.within
-    (reads (part_of c.args.seat.now) token.id c.args.place) (changes Reads one)
+    (reads (thread_of c.args.seat.now) token.id c.args.place) (changes Reads one)

@@ -12,6 +12,6 @@ returns c =
     c.read_items-count.new.out c.read_items-count.result.0 c.read_items-count.result.1)
     c.as_mut_slice-identities.ensures.value c.read_items-count.ensures in
     items_ahead c.args.self.now _ c.read_items-count.result.0 c.read_items-count.result.1
-    (c.in-Some.last + 1) c.read_items-count.new.out c.args.piece.now c.requires.reads c.requires.place
+    (c.in-Some.last + 1) c.read_items-count.new.out c.args.piece.now c.requires.reads c.requires.state
     (with_items_is c.args.self.now.identities c.read_items-count.new.out size)
     (c.read_items-count.auto.out ∙ ap length c.as_mut_slice-identities.ensures.value ∙ c.requires.reads.room.identities) inside found

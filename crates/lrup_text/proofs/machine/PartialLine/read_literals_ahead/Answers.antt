@@ -12,6 +12,6 @@ returns c =
     c.read_literals-count.new.out c.read_literals-count.result.0 c.read_literals-count.result.1)
     c.as_mut_slice-literals.ensures.value c.read_literals-count.ensures in
     literals_ahead c.args.self.now _ c.read_literals-count.result.0 c.read_literals-count.result.1
-    (c.in-Some.last + 1) c.read_literals-count.new.out c.args.piece.now c.requires.reads c.requires.place
+    (c.in-Some.last + 1) c.read_literals-count.new.out c.args.piece.now c.requires.reads c.requires.state
     (with_items_is c.args.self.now.literals c.read_literals-count.new.out size)
     (c.read_literals-count.auto.out ∙ ap length c.as_mut_slice-literals.ensures.value ∙ c.requires.reads.room.literals) inside found

@@ -1,6 +1,6 @@
 use Rattle.std.proofs.Common.{sym, subst}
 use Rattle.lrup_model.specs.Layout.{LayoutValue, IsFault}
-use Rattle.portfolio.proofs.HeadlineLemmas.{no_fault}
+use Rattle.portfolio.proofs.ConsistencyLemmas.{no_fault}
 use Rattle.portfolio.proofs.options.Options.check_layout.Goals as goal
 
 pub returns-in-Ok-clause-none : goal.returns-in-Ok-clause-none

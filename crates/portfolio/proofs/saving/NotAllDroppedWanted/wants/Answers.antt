@@ -2,7 +2,7 @@ use Rattle.std.proofs.Common.{◌≡◌, ◌∙◌, ◌==◌, ◌||◌, Bool, tr
 use Rattle.std.specs.List.{All, Any, list_any}
 use Rattle.std.proofs.lemmas.List.Folds.{list_any_none, list_any-from_Any}
 use Rattle.stream_check.specs.DroppedValue.{DroppedValue}
-use Rattle.stream_check.specs.Standing.{is_among}
+use Rattle.stream_check.specs.StreamContext.{is_among}
 use Rattle.portfolio.proofs.saving.NotAllDroppedWanted.wants.Goals as goal
 
 found_so : {X : Type 0} (p : X → Bool) (xs : List X) (found : Bool) → (found ≡ true → Any (λ x. p x ≡ true) xs)

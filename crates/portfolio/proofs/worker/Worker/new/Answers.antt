@@ -6,24 +6,25 @@ use Rattle.lrup_text.specs.lemmas.ReadLemmas.{gave_none}
 use Rattle.stream_check.specs.declared.report.Ending.{Ending}
 use Rattle.stream_check.specs.Checker.{IsNew}
 use Rattle.runs.specs.Readings.{readers_view}
-use Rattle.portfolio.specs.internal.Working.{WorksBy}
+use Rattle.portfolio.specs.internal.Working.{WorkerInvariantBy}
 use Rattle.portfolio.proofs.worker.Worker.new.Goals as goal
 
 pub returns : goal.returns
 returns g c =
-    let terms = c.args.terms.now in
+    let run_params = c.args.run_params.now in
     let s = c.args.stream in
     let first = c.args.reader in
     let v = c.in_ok-new.field-0 in
     let view = readers_view g.R.Source in
-    let made : IsNew terms.layout terms.cube s terms.tries v =
-    subst (λ (p : LayoutValue). IsNew p terms.cube s terms.tries v) c.layout.ensures
-    (subst (λ (cube : CubeValue). IsNew c.layout.result.now cube s terms.tries v) c.cube.ensures
+    let made : IsNew run_params.layout run_params.cube s run_params.tries v =
+    subst (λ (p : LayoutValue). IsNew p run_params.cube s run_params.tries v) c.layout.ensures
+    (subst (λ (cube : CubeValue). IsNew c.layout.result.now cube s run_params.tries v) c.cube.ensures
     (subst (λ (n : ℕ). IsNew c.layout.result.now c.cube.result.now s n v) c.tries.ensures.tries c.in_ok-new.ensures)) in
     record {
-      setting = made.setting;
+      params = made.params;
       last = made.last;
       ending = made.ending;
-      works = subst (λ (e : Option Ending). WorksBy view e first (record { reader = first; unread = []; checker = v }) terms.layout.room [])
+      holds = subst (λ (e : Option Ending). WorkerInvariantBy view e first (record { reader = first; unread = []; checker = v })
+          run_params.layout.room [])
           (sym made.ending) ([], Consumes-nil (view.left first), gave_none _ view.reads first, made.left);
     }

@@ -6,15 +6,15 @@ use Rattle.std.proofs.KnownBytes.{Consumes-nil, Consumes-kept}
 use Rattle.lrup_text.specs.declared.device.StreamEnd.TheVariants as stream_ends
 use Rattle.lrup_text.specs.ReadOut.{EndsSo}
 use Rattle.runs.specs.Readings.{readers_view}
-use Rattle.portfolio.specs.internal.Working.{WorkerValue, WorksOn}
-use Rattle.portfolio.proofs.WorkingLemmas.{worker_of, works_read, works_over, none_between}
+use Rattle.portfolio.specs.internal.Working.{WorkerValue, WorkerStep}
+use Rattle.portfolio.proofs.WorkingLemmas.{worker_of, worker_read, worker_over, none_between}
 use Rattle.portfolio.proofs.worker.Worker.read.Goals as goal
 
 pub read-requires : goal.read-requires
 read-requires g c = c.self.invariant.running (ap (λ (v : WorkerValue g.row.R.Denot). v.checker.ending) c.self.view_is ∙ c.requires)
 
-pub returns-in-Ok-eq0-clause-works : goal.returns-in-Ok-eq0-clause-works
-returns-in-Ok-eq0-clause-works g c room =
+pub returns-in-Ok-eq0-clause-holds : goal.returns-in-Ok-eq0-clause-holds
+returns-in-Ok-eq0-clause-holds g c room =
     let w = c.self.inside in
     let old = g.R.Source.left w.reader in
     let new = g.R.Source.left c.read.new.self in
@@ -31,12 +31,13 @@ returns-in-Ok-eq0-clause-works g c room =
     let last = subst (λ (k : ℕ). view.reads w.reader (length c.read.new.buffer) (Some (take k c.read.new.buffer)) reader)
     c.in-Ok-eq0.field-0-test c.in-Ok-eq0.ensures.reads in
     let stops : EndsSo stream_ends.Ended new has = (read.1 c.in-Ok-eq0.field-0-test some, c.in-Ok-eq0.ensures.failed) in
-    let over = works_over view stream_ends.Ended w.reader reader _ rest w.checker c.close.new.checker room stops
+    let over = worker_over view stream_ends.Ended w.reader reader _ rest w.checker c.close.new.checker room stops
     (length c.read.new.buffer, some, last) none taken going c.close.ensures.ends c.close.ensures.reports in
-    subst (λ (v : WorkerValue g.row.R.Denot). WorksOn view v room [] (worker_of reader rest c.close.new.checker) room) c.self.view_is over
+    subst (λ (v : WorkerValue g.row.R.Denot). WorkerStep view v room [] (worker_of reader rest c.close.new.checker) room)
+    c.self.view_is over
 
-pub returns-in-Ok-clause-works : goal.returns-in-Ok-clause-works
-returns-in-Ok-clause-works g c room =
+pub returns-in-Ok-clause-holds : goal.returns-in-Ok-clause-holds
+returns-in-Ok-clause-holds g c room =
     let w = c.self.inside in
     let old = g.R.Source.left w.reader in
     let new = g.R.Source.left c.read.new.self in
@@ -54,11 +55,11 @@ returns-in-Ok-clause-works g c room =
     let long = length-take-le c.in-Ok.count c.read.new.buffer c.in-Ok.ensures.bound in
     let test = c.in-Ok.count-test in
     let some : 0 < length piece = omega (arith, ap length is, long) in
-    let more = works_read view w.reader reader _ piece (length c.read.new.buffer) w.checker room given gave some taken going in
-    subst (λ (v : WorkerValue g.row.R.Denot). WorksOn view v room [] (worker_of reader piece w.checker) room) c.self.view_is more
+    let more = worker_read view w.reader reader _ piece (length c.read.new.buffer) w.checker room given gave some taken going in
+    subst (λ (v : WorkerValue g.row.R.Denot). WorkerStep view v room [] (worker_of reader piece w.checker) room) c.self.view_is more
 
-pub returns-in-Err-clause-works : goal.returns-in-Err-clause-works
-returns-in-Err-clause-works g c room =
+pub returns-in-Err-clause-holds : goal.returns-in-Err-clause-holds
+returns-in-Err-clause-holds g c room =
     let w = c.self.inside in
     let old = g.R.Source.left w.reader in
     let new = g.R.Source.left c.read.new.self in
@@ -69,7 +70,7 @@ returns-in-Err-clause-works g c room =
     let going : w.checker.ending ≡ None = ap (λ (v : WorkerValue g.row.R.Denot). v.checker.ending) c.self.view_is ∙ c.requires in
     let taken : take (w.to - w.from) (drop w.from w.buffer.items) ≡ [] = none_between w.buffer.items w.from w.to c.if-self.false in
     let none = Consumes-kept old old new [] (Consumes-nil old) c.in-Err.ensures.bytes in
-    let over = works_over view stream_ends.Failed w.reader reader _ rest w.checker c.close-in-Err.new.checker room c.in-Err.ensures.failed
+    let over = worker_over view stream_ends.Failed w.reader reader _ rest w.checker c.close-in-Err.new.checker room c.in-Err.ensures.failed
     (length c.read.new.buffer, c.in-Err.ensures.reads) none taken going c.close-in-Err.ensures.ends c.close-in-Err.ensures.reports in
-    subst (λ (v : WorkerValue g.row.R.Denot). WorksOn view v room [] (worker_of reader rest c.close-in-Err.new.checker) room)
+    subst (λ (v : WorkerValue g.row.R.Denot). WorkerStep view v room [] (worker_of reader rest c.close-in-Err.new.checker) room)
     c.self.view_is over

@@ -13,7 +13,8 @@ returns g c =
     let view = source_view (λ (r : Pieces). Some r.left.now) (λ r. r.failed) (λ _ _ _ _. Unit {0}) in
     if_both c.first_report.result c.first_report.ensures.report c.first_report.ensures.failed
     (λ report says fine.
-    report_alone c.readers_closed.ensures c.told_is_reading.ensures view c.in_ok-readers.readers.items c.in_ok-outcome.outcome.readers.items
+    report_alone c.readers_closed.ensures c.match_is_reading.ensures view c.in_ok-readers.readers.items
+    c.in_ok-outcome.outcome.readers.items
     c.args.first.now _ report
     (two_isolated view _ _ _ _ _ _ _ c.usual_options.ensures c.empty.ensures c.in_ok-formula.ensures c.in_ok-readers.ensures.two
     (ran.isolated, ran.ordered.0.run, ran.ordered.0.read)) c.requires c.in_ok-readers.ensures.first

@@ -1,6 +1,6 @@
 use Rattle.std.proofs.Common.{◌≡◌, ◌∙◌, ℕ, List, [], ◌∷◌, ◌++◌, None, Some, Ok, inl, inr, refl, sym, ap, subst, take, arith, append-nil}
 use Rattle.std.proofs.lemmas.List.{take_all}
-use Rattle.lrup_text.specs.Feeding.{ReaderState, Feeds, ReaderLeaves}
+use Rattle.lrup_text.specs.Feeding.{ReaderState, Feeds, ReaderReaches}
 use Rattle.lrup_text.specs.Faults.{IsRefused}
 use Rattle.lrup_text.specs.Lines.{IsPending, Cut, LineText, line_of}
 use Rattle.lrup_text.specs.declared.reader.ReaderTurn.{ReaderTurn}
@@ -8,14 +8,14 @@ use Rattle.lrup_text.specs.declared.reader.ReaderTurn.TheVariants as turns
 use Rattle.stream_check.specs.declared.fault.Fault.TheVariants as faults
 use Rattle.stream_check.specs.declared.report.Ending.{Ending}
 use Rattle.stream_check.specs.declared.report.Ending.TheVariants as endings
-use Rattle.stream_check.specs.Leaving.{Going, Over}
-use Rattle.stream_check.specs.Standing.{is_among}
+use Rattle.stream_check.specs.Reaching.{Going, Over}
+use Rattle.stream_check.specs.StreamContext.{is_among}
 use Rattle.stream_check.specs.CheckerValue.{report_of_tally, CheckerValue}
 use Rattle.stream_check.specs.internal.CheckerInside.{read_of, value_of, tally_at}
-use Rattle.stream_check.specs.Checker.{checker_state, LeavesOn}
+use Rattle.stream_check.specs.Checker.{checker_state, Extends}
 use Rattle.stream_check.specs.internal.Taking.{hold, ending_of}
-use Rattle.stream_check.specs.lemmas.ReportLemmas.{leaves_still}
-use Rattle.stream_check.proofs.TakeLemmas.{leaves_good, leaves_stopped, leaves_refused}
+use Rattle.stream_check.specs.lemmas.ReportLemmas.{reaches_still}
+use Rattle.stream_check.proofs.TakeLemmas.{reaches_good, reaches_stopped, reaches_refused}
 use Rattle.stream_check.proofs.FeedLemmas.{some_of, none_of, feeds_line, feeds_more, front_cut, line_cut, feeds_over}
 use Rattle.stream_check.proofs.checker.Checker.feed.Goals as goal
 
@@ -24,7 +24,7 @@ returns-then-is_some-clause-left g c = (
   [],
   g.met.M.ClauseMap.moves_none c.args.map.now,
   omega arith,
-  leaves_still c.args.self.now.setting (checker_state c.args.self.now (g.M.ClauseMap.place c.args.map.now).room),
+  reaches_still c.args.self.now.params (checker_state c.args.self.now (g.M.ClauseMap.caller_view c.args.map.now).room),
 )
 
 pub returns-then-is_some-clause-turn : goal.returns-then-is_some-clause-turn
@@ -35,7 +35,7 @@ returns-then-is_some-clause-turn g c =
 
 pub returns-in-NeedMore-clause-left : goal.returns-in-NeedMore-clause-left
 returns-in-NeedMore-clause-left g c =
-    let p = g.M.ClauseMap.place c.args.map.now in
+    let p = g.M.ClauseMap.caller_view c.args.map.now in
     let h = c.self.inside.state in
     let r = c.self.inside.reader in
     let new = c.feed-fed.follows.lender-at-none in
@@ -46,13 +46,13 @@ returns-in-NeedMore-clause-left g c =
     let reads : r ≡ Ok read = c.self.invariant.reads none in
     let gives : Feeds (Ok read) piece used turns.NeedMore = subst (λ (s : ReaderState). Feeds s piece used turns.NeedMore) reads
     (subst (λ (t : ReaderTurn). Feeds r piece used t) c.in-NeedMore.is c.feed-fed.ensures.gives) in
-    let leaves : ReaderLeaves (Ok read) piece turns.NeedMore new = subst (λ (s : ReaderState). ReaderLeaves s piece turns.NeedMore new)
-    reads (subst (λ (t : ReaderTurn). ReaderLeaves r piece t new) c.in-NeedMore.is c.feed-fed.follows.holds-at-none) in
-    let left = feeds_more h read new piece used p.room c.self.inside.ending none leaves.0 gives leaves.1 in (
+    let reaches : ReaderReaches (Ok read) piece turns.NeedMore new = subst (λ (s : ReaderState). ReaderReaches s piece turns.NeedMore new)
+    reads (subst (λ (t : ReaderTurn). ReaderReaches r piece t new) c.in-NeedMore.is c.feed-fed.follows.holds-at-none) in
+    let left = feeds_more h read new piece used p.room c.self.inside.ending none reaches.0 gives reaches.1 in (
       [],
       g.met.M.ClauseMap.moves_none c.args.map.now,
       refl,
-      subst (λ (v : CheckerValue). LeavesOn v.setting (checker_state v p.room) (take used piece) []
+      subst (λ (v : CheckerValue). Extends v.params (checker_state v p.room) (take used piece) []
           (checker_state (value_of h (read_of new) c.self.inside.ending) p.room)) c.self.view_is left,
     )
 
@@ -67,12 +67,12 @@ returns-in-NeedMore-clause-turn g c =
     let reads : r ≡ Ok read = c.self.invariant.reads none in
     let gives : Feeds (Ok read) piece used turns.NeedMore = subst (λ (s : ReaderState). Feeds s piece used turns.NeedMore) reads
     (subst (λ (t : ReaderTurn). Feeds r piece used t) c.in-NeedMore.is c.feed-fed.ensures.gives) in
-    let leaves : ReaderLeaves (Ok read) piece turns.NeedMore new = subst (λ (s : ReaderState). ReaderLeaves s piece turns.NeedMore new)
-    reads (subst (λ (t : ReaderTurn). ReaderLeaves r piece t new) c.in-NeedMore.is c.feed-fed.follows.holds-at-none) in
+    let reaches : ReaderReaches (Ok read) piece turns.NeedMore new = subst (λ (s : ReaderState). ReaderReaches s piece turns.NeedMore new)
+    reads (subst (λ (t : ReaderTurn). ReaderReaches r piece t new) c.in-NeedMore.is c.feed-fed.follows.holds-at-none) in
     let all : take used piece ≡ piece = take_all used piece (omega (arith, gives)) in
     let here : read ≡ c.args.self.now.pending = ap (λ (v : CheckerValue). v.pending) c.self.view_is in
-    let after : read_of new ≡ c.args.self.now.pending ++ piece = ap read_of leaves.0 ∙ ap (λ (b : List ℕ). b ++ piece) here in
-    let front : IsPending (c.args.self.now.pending ++ piece) = subst (λ (b : List ℕ). IsPending (b ++ piece)) here leaves.1 in (
+    let after : read_of new ≡ c.args.self.now.pending ++ piece = ap read_of reaches.0 ∙ ap (λ (b : List ℕ). b ++ piece) here in
+    let front : IsPending (c.args.self.now.pending ++ piece) = subst (λ (b : List ℕ). IsPending (b ++ piece)) here reaches.1 in (
       none,
       all,
       after,
@@ -82,8 +82,8 @@ returns-in-NeedMore-clause-turn g c =
 
 pub returns-in-Ok-clause-left : goal.returns-in-Ok-clause-left
 returns-in-Ok-clause-left g c =
-    let p = g.M.ClauseMap.place c.args.map.now in
-    let q = g.M.ClauseMap.place c.take_line.new.map in
+    let p = g.M.ClauseMap.caller_view c.args.map.now in
+    let q = g.M.ClauseMap.caller_view c.take_line.new.map in
     let h = c.self.inside.state in
     let n = c.take_line.new.state in
     let r = c.self.inside.reader in
@@ -95,15 +95,15 @@ returns-in-Ok-clause-left g c =
     let none = none_of c.self.inside.ending (sym c.is_some.ensures ∙ c.if-is_some.false) in
     let gives : Feeds (Ok read) piece used (turns.Line line) = subst (λ (s : ReaderState). Feeds s piece used (turns.Line line))
     (c.self.invariant.reads none) (subst (λ (t : ReaderTurn). Feeds r piece used t) c.in-Line.is c.feed-fed.ensures.gives) in
-    let leaves : ReaderLeaves r piece (turns.Line line) new =
-    subst (λ (t : ReaderTurn). ReaderLeaves r piece t new) c.in-Line.is c.feed-fed.follows.holds-at-none in
+    let reaches : ReaderReaches r piece (turns.Line line) new =
+    subst (λ (t : ReaderTurn). ReaderReaches r piece t new) c.in-Line.is c.feed-fed.follows.holds-at-none in
     let taken = c.in-Ok.ensures.taken in
-    let left = feeds_line h n read new (take used piece) (taken.0 ∷ []) p.room q.room c.self.inside.ending none leaves.0
-    (leaves_good c.good_line_taken.ensures h n p.room q.room read (take used piece) (line_of line) taken.0 gives.2 taken.2) in (
+    let left = feeds_line h n read new (take used piece) (taken.0 ∷ []) p.room q.room c.self.inside.ending none reaches.0
+    (reaches_good c.good_line_taken.ensures h n p.room q.room read (take used piece) (line_of line) taken.0 gives.2 taken.2) in (
       taken.0 ∷ [],
       subst (g.M.ClauseMap.moves c.args.map.now c.take_line.new.map) (sym (append-nil taken.0)) taken.1,
       refl,
-      subst (λ (v : CheckerValue). LeavesOn v.setting (checker_state v p.room) (take used piece) (taken.0 ∷ [])
+      subst (λ (v : CheckerValue). Extends v.params (checker_state v p.room) (take used piece) (taken.0 ∷ [])
           (checker_state (value_of n (read_of new) c.self.inside.ending) q.room)) c.self.view_is left,
     )
 
@@ -117,20 +117,20 @@ returns-in-Ok-clause-turn g c =
     let none = none_of c.self.inside.ending (sym c.is_some.ensures ∙ c.if-is_some.false) in
     let gives : Feeds (Ok (read_of r)) piece used (turns.Line line) = subst (λ (s : ReaderState). Feeds s piece used (turns.Line line))
     (c.self.invariant.reads none) (subst (λ (t : ReaderTurn). Feeds r piece used t) c.in-Line.is c.feed-fed.ensures.gives) in
-    let leaves : ReaderLeaves r piece (turns.Line line) new =
-    subst (λ (t : ReaderTurn). ReaderLeaves r piece t new) c.in-Line.is c.feed-fed.follows.holds-at-none in
+    let reaches : ReaderReaches r piece (turns.Line line) new =
+    subst (λ (t : ReaderTurn). ReaderReaches r piece t new) c.in-Line.is c.feed-fed.follows.holds-at-none in
     let text : LineText (line_of line) (c.args.self.now.pending ++ take used piece) =
     subst (λ (b : List ℕ). LineText (line_of line) (b ++ take used piece))
     (ap (λ (v : CheckerValue). v.pending) c.self.view_is) gives.2 in (
       none,
-      ap read_of leaves.0,
+      ap read_of reaches.0,
       λ bytes lines cut. (line_of line, line_cut bytes c.args.self.now.pending (take used piece) lines (line_of line) text cut),
     )
 
 pub returns-in-Err-clause-left : goal.returns-in-Err-clause-left
 returns-in-Err-clause-left g c =
-    let p = g.M.ClauseMap.place c.args.map.now in
-    let q = g.M.ClauseMap.place c.take_line.new.map in
+    let p = g.M.ClauseMap.caller_view c.args.map.now in
+    let q = g.M.ClauseMap.caller_view c.take_line.new.map in
     let h = c.self.inside.state in
     let n = c.take_line.new.state in
     let r = c.self.inside.reader in
@@ -142,19 +142,19 @@ returns-in-Err-clause-left g c =
     let gives : Feeds (Ok read) piece used (turns.Line line) = subst (λ (s : ReaderState). Feeds s piece used (turns.Line line))
     (c.self.invariant.reads none) (subst (λ (t : ReaderTurn). Feeds r piece used t) c.in-Line.is c.feed-fed.ensures.gives) in
     let taken = c.in-Err.ensures.taken in
-    let stopped : LeavesOn h.setting (Going (hold h read p.room)) (take used piece) (taken.0 ∷ [])
+    let stopped : Extends h.params (Going (hold h read p.room)) (take used piece) (taken.0 ∷ [])
     (Over (report_of_tally (tally_at n) c.ending.result) (is_among n.dropped.ids)) =
-    subst (λ (e : Ending). LeavesOn h.setting (Going (hold h read p.room)) (take used piece) (taken.0 ∷ [])
+    subst (λ (e : Ending). Extends h.params (Going (hold h read p.room)) (take used piece) (taken.0 ∷ [])
     (Over (report_of_tally (tally_at n) e) (is_among n.dropped.ids)))
     (sym (c.ending.ensures ∙ ap (λ (k : ℕ). ending_of k c.in-Err.stop) c.line.ensures))
-    (leaves_stopped h n p.room q.room read (take used piece) (line_of line) taken.0 c.in-Err.stop gives.2 taken.2) in
+    (reaches_stopped h n p.room q.room read (take used piece) (line_of line) taken.0 c.in-Err.stop gives.2 taken.2) in
     let left = feeds_over h read (take used piece) (taken.0 ∷ []) p.room c.self.inside.ending
     (report_of_tally (tally_at n) c.ending.result) (is_among n.dropped.ids) none stopped in
     rw c.tell.ensures (
       taken.0 ∷ [],
       subst (g.M.ClauseMap.moves c.args.map.now c.take_line.new.map) (sym (append-nil taken.0)) taken.1,
       omega arith,
-      subst (λ (v : CheckerValue). LeavesOn v.setting (checker_state v p.room) (take used piece) (taken.0 ∷ [])
+      subst (λ (v : CheckerValue). Extends v.params (checker_state v p.room) (take used piece) (taken.0 ∷ [])
           (Over (report_of_tally (tally_at n) c.ending.result) (is_among n.dropped.ids))) c.self.view_is left,
     )
 
@@ -173,7 +173,7 @@ returns-in-Err-clause-turn g c =
 
 pub returns-in-Fault-clause-left : goal.returns-in-Fault-clause-left
 returns-in-Fault-clause-left g c =
-    let p = g.M.ClauseMap.place c.args.map.now in
+    let p = g.M.ClauseMap.caller_view c.args.map.now in
     let h = c.self.inside.state in
     let r = c.self.inside.reader in
     let read = read_of r in
@@ -185,14 +185,14 @@ returns-in-Fault-clause-left g c =
     let gives : Feeds (Ok read) piece used (turns.Fault fault) = subst (λ (s : ReaderState). Feeds s piece used (turns.Fault fault))
     (c.self.invariant.reads none) (subst (λ (t : ReaderTurn). Feeds r piece used t) c.in-Fault.is c.feed-fed.ensures.gives) in
     let left = feeds_over h read (take used piece) [] p.room c.self.inside.ending report (is_among h.dropped.ids) none
-    (subst (λ (n : ℕ). LeavesOn h.setting (Going (hold h read p.room)) (take used piece) []
+    (subst (λ (n : ℕ). Extends h.params (Going (hold h read p.room)) (take used piece) []
     (Over (report_of_tally (tally_at h) (endings.Bad n (faults.Text fault))) (is_among h.dropped.ids))) (sym c.line-in-Fault.ensures)
-    (leaves_refused h p.room read (take used piece) fault gives.2)) in
+    (reaches_refused h p.room read (take used piece) fault gives.2)) in
     rw c.tell-in-Fault.ensures (
       [],
       g.met.M.ClauseMap.moves_none c.args.map.now,
       omega arith,
-      subst (λ (v : CheckerValue). LeavesOn v.setting (checker_state v p.room) (take used piece) []
+      subst (λ (v : CheckerValue). Extends v.params (checker_state v p.room) (take used piece) []
           (Over report (is_among h.dropped.ids))) c.self.view_is left,
     )
 

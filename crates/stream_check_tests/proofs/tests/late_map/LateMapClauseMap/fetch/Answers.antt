@@ -1,5 +1,5 @@
-use Rattle.lrup_model.specs.Plain.{plain_place}
-use Rattle.stream_check_tests.proofs.BesideLemmas.{tells_then, desk_fetched}
+use Rattle.lrup_model.specs.Plain.{plain_caller_view}
+use Rattle.stream_check_tests.proofs.BesideLemmas.{step_then, desk_fetched}
 use Rattle.stream_check_tests.proofs.tests.late_map.LateMapClauseMap.fetch.Goals as goal
 
 -- what stream 2 did, and then the fetch
@@ -10,4 +10,4 @@ returns-clause-event c =
     let left = c.drop-desk.new.self.0 in
     let told = desk_fetched c.desk-desk.result c.fetch-answer.new.self late left 1 c.args.id c.fetch-answer.result
     c.fetch-answer.ensures.event desk.map_now desk.stream c.drop-desk.ensures in
-    tells_then (plain_place c.args.self.now.map 1) (plain_place late 1) (plain_place left 1) _ c.call_late.ensures told
+    step_then (plain_caller_view c.args.self.now.map 1) (plain_caller_view late 1) (plain_caller_view left 1) _ c.call_late.ensures told

@@ -1,0 +1,386 @@
+-- What the program says of a valid refutation.
+use Rattle.std.proofs.Common.{◌≡◌, ◌≢◌, ◌⊎◌, ◌≤◌, ℕ, ℤ, Bool, true, false, List, [], ◌∷◌, length, map, Option, None, Some, Result}
+use Rattle.std.proofs.Common.{inl, inr, refl, sym, ap, subst, ◌∙◌, arith}
+use Rattle.std.specs.List.{AllByRecursion}
+use Rattle.lrup_model.specs.Distinct.{distinct}
+use Rattle.lrup_model.specs.lemmas.DistinctLemmas.{IsClause-distinct, length-distinct}
+use Rattle.lrup_model.specs.Formula.{Cnf, IsCnf, IsFormulaClause, max_clause_literals}
+use Rattle.lrup_model.specs.Layout.{LayoutValue, IsFault}
+use Rattle.lrup_model.specs.Literal.{IsLiteral}
+use Rattle.lrup_model.specs.declared.layout.LayoutFault.{LayoutFault}
+use Rattle.lrup_text.specs.Cubes.{IsCubeFault}
+use Rattle.lrup_text.specs.declared.cube.CubeFault.{CubeFault}
+use Rattle.dimacs.specs.FormulaText.{IsFormulaText}
+use Rattle.dimacs.specs.FormulaFault.{IsFormulaFault}
+use Rattle.dimacs.specs.declared.fault.DimacsFault.{DimacsFault}
+use Rattle.stream_check.specs.declared.report.Report.{Report}
+use Rattle.stream_check.specs.StreamParams.{ownership_of}
+use Rattle.stream_check.specs.declared.params.Ownership.TheVariants as ownerships
+use Rattle.runs.specs.Closed.{IsOfStream}
+use Rattle.runs.specs.Streams.{stream_params}
+use Rattle.run_laws.specs.Together.{IsValidOrder, lines_by, TogetherBegins}
+use Rattle.run_laws.specs.Valid.{IsCutOffIn, IsValidPrefix}
+use Rattle.run_laws.specs.ValidLaws.{ValidBegins, ValidEmpty}
+use Rattle.portfolio.specs.Outcomes.{OptionsValue, layout_of}
+use Rattle.portfolio.specs.declared.outcome.Verdict.{Verdict}
+use Rattle.portfolio.specs.declared.outcome.Verdict.TheVariants.{Unsatisfiable, UnsatisfiableUnder, Unknown}
+use Rattle.checkpoint.specs.declared.saving.SaveFault.{SaveFault}
+use Rattle.command_line.specs.CommandLine.{AskToSave, IsCommandLineOf}
+use Rattle.command_line.specs.declared.words.CommandLine.{CommandLine}
+use Rattle.command.specs.Commands.{Deeds, LeavesBehind, EndsWithFault, EndsWithReport, FilesView}
+use Rattle.command.specs.Commands.{IsAssumeCause, IsCause, IsFormulaAt, IsOutcome, IsReadCause}
+use Rattle.command.specs.Commands.{LeavesCheckpoint, SinkChange, Text, assumed_at, checkpoint_at, layout_at, options_of, report_status}
+use Rattle.command.specs.Commands.{verdict_status}
+use Rattle.command.specs.Faults.{status_of}
+use Rattle.command.specs.declared.fault.CommandFault.{CommandFault}
+use Rattle.command.specs.declared.fault.CommandFault.TheVariants as faults
+use Rattle.outcome_laws.specs.Valid.{AreValidAssumptions, AskWell, AskForValidRefutation, AskForValidOrder, IsOfMachine}
+use Rattle.outcome_laws.specs.Valid.{StoppedAtForeignHint}
+use Rattle.outcome_laws.specs.Valid.{InconclusiveBecause, unwritten, no_report, lost, IsOpen, IsRefutedOrLost, ValidRefutationSays}
+use Rattle.outcome_laws.specs.Valid.{ValidOrderSays}
+use Rattle.outcome_laws.specs.Laws.{SameWordsAskAlike}
+use Rattle.outcome_laws.proofs.CheckLemmas.{refutation_says as refutes, order_says as orders}
+use Rattle.outcome_laws.proofs.OutcomeLemmas.{OneFormula, text_of, is_text, check_of}
+
+-- The formula of a text
+
+formula_clauses : (vars : ℕ) (written : List (List ℤ)) → AllByRecursion (AllByRecursion (IsLiteral vars)) written
+    → AllByRecursion (λ clause. length clause ≤ max_clause_literals) written → AllByRecursion (IsFormulaClause vars) (map distinct written)
+formula_clauses vars [] literals sizes = tt
+formula_clauses vars (ls ∷ written) literals sizes = (
+  (IsClause-distinct vars ls literals.0, omega (arith, length-distinct ls, sizes.0)),
+  formula_clauses vars written literals.1 sizes.1,
+)
+
+pub text_cnf : (bytes : List ℕ) (f : Cnf) → IsFormulaText bytes f → IsCnf f
+text_cnf bytes f is = record {
+  vars = is.few_variables;
+  count = is.few_clauses;
+  clauses = subst (AllByRecursion (IsFormulaClause f.vars)) (sym is.clauses) (formula_clauses f.vars is.written is.literals is.sizes);
+}
+
+-- With a report
+
+module _ (its : Deeds) (Saves : Result (Unit {0}) SaveFault → its.Output → its.Output → Type 0) where
+  -- with 'unsatisfiable' there is nothing to be saved
+  all_saved : (verdict : Verdict) (before : its.State) (path : Option Text) (unsaved : Option SaveFault) (after : its.State)
+      → verdict ≡ Unsatisfiable → LeavesBehind its Saves verdict before path unsaved after → unsaved ≡ None
+  all_saved UnsatisfiableUnder before path unsaved after is leaves = absurd (let no : UnsatisfiableUnder ≡ Unsatisfiable = is in cc)
+  all_saved Unknown before path unsaved after is leaves = absurd (let no : Unknown ≡ Unsatisfiable = is in cc)
+  all_saved Unsatisfiable before None unsaved after is leaves = leaves.0
+  all_saved Unsatisfiable before (Some path) unsaved after is leaves = leaves.0
+
+  -- what wasn't saved was asked for
+  asked_for : (verdict : Verdict) (before : its.State) (path : Option Text) (fault : SaveFault) (after : its.State)
+      → LeavesBehind its Saves verdict before path (Some fault) after → (asked : Text) × (path ≡ Some asked)
+  asked_for verdict before None fault after leaves = absurd (let no : Some fault ≡ None = leaves.0 in cc)
+  asked_for verdict before (Some path) fault after leaves = (path, refl)
+
+-- what comes of a report: of one that says 'unsatisfiable', or that the stream was stopped
+module _ (files : FilesView) (Lost : Report → Type 0) (words : List Text) (after : files.its.State) (s : ℕ) (out err : SinkChange) (status :
+    ℕ)
+    (ends : EndsWithReport files words after out err status) where
+  -- where the checkpoint wasn't saved the verdict isn't 'unsatisfiable', and the words ask for it
+  none_refuted : (fault : SaveFault) → ends.unsaved ≡ Some fault → ends.verdict ≢ Unsatisfiable
+  none_refuted fault unsaved is =
+      let o = ends.outcome in
+      let saved = all_saved files.its _ ends.verdict o.last (checkpoint_at o.given) ends.unsaved after is ends.checkpoint in
+      let no : Some fault ≡ None = sym unsaved ∙ saved in cc
+
+  asked_to_save : (fault : SaveFault) → ends.unsaved ≡ Some fault → (path : Text) × AskToSave words path
+  asked_to_save fault unsaved =
+      let o = ends.outcome in
+      let line = o.command_line in
+      let asked = asked_for files.its _ ends.verdict o.last (checkpoint_at o.given) fault after
+      (subst (λ (u : Option SaveFault). LeavesCheckpoint files words ends.reports ends.verdict o u after) unsaved ends.checkpoint) in
+      (asked.0, record { good = line.good; path_is = sym line.said.checkpoint ∙ asked.1 })
+
+  abbrev Inconclusive : Type 0
+  Inconclusive = InconclusiveBecause files words s Lost after out err status
+
+  -- the report was written, and its status isn't 0
+  so_open : out.failed ≡ false → IsOpen words ends.unsaved ends.verdict status
+      → IsRefutedOrLost s Lost ends.reports ends.verdict → Inconclusive
+  so_open written is (inl refuted) = absurd (is.0 refuted)
+  so_open written is (inr (report, says, why)) = lost ends written report says why is
+
+  comes_so : IsRefutedOrLost s Lost ends.reports ends.verdict
+      → (failed : Bool) → out.failed ≡ failed → (unsaved : Option SaveFault) → ends.unsaved ≡ unsaved
+      → (verdict : Verdict) → ends.verdict ≡ verdict → status ≡ report_status failed unsaved verdict → (status ≡ 0) ⊎ Inconclusive
+  comes_so says true failed unsaved u verdict v is = inr (unwritten ends failed says is)
+  comes_so says false written (Some fault) u verdict v is =
+      let asked = asked_to_save fault u in
+      inr (so_open written (none_refuted fault u, inr (fault, asked.0, u, asked.1, is)) says)
+  comes_so says false written None u Unsatisfiable v is = inl is
+  comes_so says false written None u UnsatisfiableUnder v is =
+      let other : ends.verdict ≢ Unsatisfiable = λ refuted. let no : UnsatisfiableUnder ≡ Unsatisfiable = sym v ∙ refuted in cc in
+      inr (so_open written (other, inl (u, is ∙ ap verdict_status (sym v))) says)
+  comes_so says false written None u Unknown v is =
+      let other : ends.verdict ≢ Unsatisfiable = λ refuted. let no : Unknown ≡ Unsatisfiable = sym v ∙ refuted in cc in
+      inr (so_open written (other, inl (u, is ∙ ap verdict_status (sym v))) says)
+
+  pub with_report : IsRefutedOrLost s Lost ends.reports ends.verdict → (status ≡ 0) ⊎ Inconclusive
+  with_report says = comes_so says out.failed refl ends.unsaved refl ends.verdict refl ends.status_is
+
+-- no text of a formula has a fault: the law of `dimacs`
+abbrev pub NoFormulaFault : Type 0
+NoFormulaFault = (bytes : List ℕ) (f : Cnf) (fault : DimacsFault) → IsFormulaText bytes f → ¬ IsFormulaFault bytes fault
+
+pub machine_status : (fault : CommandFault) → IsOfMachine fault → (status_of fault ≡ 5) ⊎ (status_of fault ≡ 6)
+machine_status (faults.Usage text) is = absurd is
+machine_status faults.Unread is = inl refl
+machine_status (faults.Refused fault) is = absurd is
+machine_status faults.CubeUnread is = inl refl
+machine_status (faults.CubeRefused fault) is = absurd is
+machine_status (faults.NotOpened stream) is = inl refl
+machine_status (faults.Layout fault) is = absurd is
+machine_status (faults.Spawn stream) is = inr refl
+machine_status (faults.Ring stream) is = inr refl
+machine_status faults.Memory is = inr refl
+machine_status faults.Unwritten is = absurd is
+machine_status faults.NotCreated is = inl refl
+machine_status (faults.NotSaved fault) is = absurd is
+machine_status faults.TwoCheckpoints is = absurd is
+machine_status faults.SizesUnread is = absurd is
+machine_status faults.Sizes is = absurd is
+
+-- another stream than s owns the identity
+abbrev IsAnothers : LayoutValue → ℕ → ℕ → Type 0
+IsAnothers p s id = ownership_of (stream_params (record { layout = p; cube = []; tries = 0 }) s) id ≡ ownerships.Foreign
+
+module _ (one_formula : OneFormula) (alike : SameWordsAskAlike) (empty : ValidEmpty) (files : FilesView) where
+  -- what was asked for is what the outcome is of
+  pub record IsOf (words : List Text) (asks : AskWell files words None) (reports : List Report) (verdict : Verdict)
+      (a : IsOutcome files words reports verdict) : Type 0 where
+    pub formulas : a.formula ≡ asks.formula
+    pub streams : a.given.streams ≡ asks.given.streams
+    pub layouts : layout_at asks.given asks.formula ≡ layout_at a.given a.formula
+    pub cnf : IsCnf a.formula
+
+  pub is_of : (words : List Text) (asks : AskWell files words None) (reports : List Report) (verdict : Verdict)
+      (a : IsOutcome files words reports verdict) → IsOf words asks reports verdict a
+  is_of words asks reports verdict a =
+      let same = alike words asks.given a.given asks.command_line a.command_line in
+      let told : files.tells a.given.formula.now ≡ Some asks.text = ap files.tells same.2 ∙ asks.told in
+      let formulas : a.formula ≡ asks.formula =
+      one_formula asks.text a.formula asks.formula
+      (is_text files a.given.formula.now a.formula a.next asks.text told a.is_formula) asks.is_text in
+      record {
+        formulas = formulas;
+        streams = same.1;
+        layouts = ap (λ (x : OptionsValue). layout_of x asks.formula (length asks.given.streams)) (sym same.0)
+            ∙ ap (λ (x : Cnf). layout_of (options_of a.given) x (length asks.given.streams)) (sym formulas)
+            ∙ ap (λ (x : List Text). layout_of (options_of a.given) a.formula (length x)) (sym same.1);
+        cnf = text_cnf asks.text a.formula (subst (IsFormulaText asks.text) (sym formulas) asks.is_text);
+      }
+
+  refutation_says : ValidBegins
+      → (words : List Text) (s : ℕ) (ask : AskForValidRefutation files words s) (reports : List Report) (verdict : Verdict)
+      (a : IsOutcome files words reports verdict)
+      → (verdict ≡ Unsatisfiable) ⊎ ((report : Report) × IsOfStream reports s report × IsCutOffIn (length ask.valid.lines) report)
+  refutation_says begins words s ask reports verdict a =
+      let asks = ask.asks in
+      let lines = ask.valid.lines in
+      let is : IsOf words asks reports verdict a = is_of words asks reports verdict a in
+      let valid : IsValidPrefix a.formula (layout_at a.given a.formula) s ask.bytes lines =
+      subst (λ (x : Cnf). IsValidPrefix x (layout_at a.given a.formula) s ask.bytes lines) (sym is.formulas)
+      (subst (λ (p : LayoutValue). IsValidPrefix asks.formula p s ask.bytes lines) is.layouts ask.valid.valid) in
+      let names : IsOfStream a.given.streams s ask.path = subst (λ (x : List Text). IsOfStream x s ask.path) (sym is.streams) ask.names in
+      refutes files.its.reading (check_of files words reports verdict a) begins empty is.cnf s ask.path ask.bytes lines names
+      ask.tells
+      valid ask.valid.empty
+
+  order_says : TogetherBegins
+      → (words : List Text) (s : ℕ) (ask : AskForValidOrder files words s) (reports : List Report) (verdict : Verdict)
+      (a : IsOutcome files words reports verdict)
+      → (verdict ≡ Unsatisfiable)
+      ⊎ ((report : Report) × IsOfStream reports s report
+      × StoppedAtForeignHint files words ask.asks s (length (lines_by s ask.steps)) report)
+  order_says together words s ask reports verdict a =
+      let asks = ask.asks in
+      let is : IsOf words asks reports verdict a = is_of words asks reports verdict a in
+      let order : IsValidOrder a.formula (layout_at a.given a.formula) ask.steps =
+      subst (λ (x : Cnf). IsValidOrder x (layout_at a.given a.formula) ask.steps) (sym is.formulas)
+      (subst (λ (p : LayoutValue). IsValidOrder asks.formula p ask.steps) is.layouts ask.order) in
+      elim (orders files.its.reading (check_of files words reports verdict a) together empty is.cnf s ask.set ask.steps order
+      ask.members
+      (λ t path member names. ask.tells t path member (subst (λ (x : List Text). IsOfStream x t path) is.streams names)) ask.empty) [
+        | inl says ↦ inl says
+        | inr (report, says, inl cut) ↦ inr (report, says, inl cut)
+        | inr (report, says, inr lacks) ↦ inr (
+          report,
+          says,
+          inr (lacks.0, lacks.1, lacks.2, subst (λ (p : LayoutValue). IsAnothers p s lacks.1) (sym is.layouts) lacks.3, lacks.4),
+        )
+      ]
+
+-- Without one
+
+module _ (one_formula : OneFormula) (no_fault : NoFormulaFault) (alike : SameWordsAskAlike) (files : FilesView) (folder : Option Text) where
+  -- no file that was read is at fault
+  not_refused : (given : CommandLine) (text : List ℕ) (f : Cnf) (fault : DimacsFault) (after : files.its.State)
+      → files.tells given.formula.now ≡ Some text → IsFormulaText text f → ¬ IsReadCause files given (faults.Refused fault) after
+  not_refused given text f fault after told is cause =
+      let same = text_of (files.tells given.formula.now) text cause.1.0 told cause.1.1.told in
+      no_fault cause.1.0 f fault (subst (λ (b : List ℕ). IsFormulaText b f) same is) cause.1.2
+
+  not_assumed : (vars : ℕ) (before : files.its.State) (path : Option Text) (fault : CubeFault) (after : files.its.State)
+      → AreValidAssumptions files vars path → ¬ IsAssumeCause files vars before path (faults.CubeRefused fault) after
+  not_assumed vars before None fault after valid cause = cause
+  not_assumed vars before (Some path) fault after valid cause =
+      let same = text_of (files.tells path) valid.0 cause.1.0 valid.1 cause.1.1.told in
+      valid.2 fault cause.0 (subst (λ (b : List ℕ). IsCubeFault vars b fault) (sym same) cause.1.2)
+
+  no_usage : (before : files.its.State) (path : Option Text) (vars : ℕ) (fault : DimacsFault) (after : files.its.State)
+      → ¬ IsAssumeCause files vars before path (faults.Refused fault) after
+  no_usage before None vars fault after cause = cause
+  no_usage before (Some path) vars fault after cause = cause
+
+  no_layout : (before : files.its.State) (path : Option Text) (vars : ℕ) (fault : LayoutFault) (after : files.its.State)
+      → ¬ IsAssumeCause files vars before path (faults.Layout fault) after
+  no_layout before None vars fault after cause = cause
+  no_layout before (Some path) vars fault after cause = cause
+
+  never_unsaved : (before : files.its.State) (path : Option Text) (vars : ℕ) (fault : SaveFault) (after : files.its.State)
+      → ¬ IsAssumeCause files vars before path (faults.NotSaved fault) after
+  never_unsaved before None vars fault after cause = cause
+  never_unsaved before (Some path) vars fault after cause = cause
+
+  no_sizes : (before : files.its.State) (path : Option Text) (vars : ℕ) (after : files.its.State)
+      → ¬ IsAssumeCause files vars before path faults.Sizes after
+  no_sizes before None vars after cause = cause
+  no_sizes before (Some path) vars after cause = cause
+
+  no_sizes_unread : (before : files.its.State) (path : Option Text) (vars : ℕ) (after : files.its.State)
+      → ¬ IsAssumeCause files vars before path faults.SizesUnread after
+  no_sizes_unread before None vars after cause = cause
+  no_sizes_unread before (Some path) vars after cause = cause
+
+  never_unwritten : (before : files.its.State) (path : Option Text) (vars : ℕ) (after : files.its.State)
+      → ¬ IsAssumeCause files vars before path faults.Unwritten after
+  never_unwritten before None vars after cause = cause
+  never_unwritten before (Some path) vars after cause = cause
+
+  -- the formula that was read is the one that is told
+  pub formula_at : (words : List Text) (ask : AskWell files words folder) (given : CommandLine) (f : Cnf) (next : files.its.State)
+      → IsCommandLineOf words given → IsFormulaAt files given.formula.now f next → f ≡ ask.formula
+  formula_at words ask given f next line at =
+      let same = alike words ask.given given ask.command_line line in
+      one_formula ask.text f ask.formula (is_text files given.formula.now f next ask.text (ap files.tells same.2 ∙ ask.told) at) ask.is_text
+
+  pub of_machine : (words : List Text) (ask : AskWell files words folder) → (after : files.its.State)
+      → ¬ IsCause files words faults.TwoCheckpoints after
+      → (fault : CommandFault) → IsCause files words fault after → IsOfMachine fault
+  of_machine words ask after one (faults.Usage text) cause = cause.0 ask.command_line.good
+  of_machine words ask after one faults.Unread cause = tt
+  of_machine words ask after one faults.CubeUnread cause = tt
+  of_machine words ask after one (faults.NotOpened stream) cause = tt
+  of_machine words ask after one (faults.Spawn stream) cause = tt
+  of_machine words ask after one (faults.Ring stream) cause = tt
+  of_machine words ask after one faults.Memory cause = tt
+  of_machine words ask after one (faults.Refused fault) cause =
+      let same = alike words ask.given cause.0 ask.command_line cause.1 in
+      elim cause.2 [
+        | inl read ↦ not_refused cause.0 ask.text ask.formula fault after (ap files.tells same.2 ∙ ask.told) ask.is_text read
+        | inr later ↦ elim later.3 [
+          | inl assume ↦ no_usage later.1 (assumed_at cause.0) later.0.vars fault after assume
+          | inr last ↦ elim last.3 [ inl opens ↦ opens | inr start ↦ start.3 ]
+        ]
+      ]
+  of_machine words ask after one (faults.CubeRefused fault) cause =
+      elim cause.2 [
+        | inl read ↦ read
+        | inr later ↦ elim later.3 [
+          | inl assume ↦
+              let assumed : assumed_at cause.0 ≡ assumed_at ask.given = cause.1.said.assume ∙ sym ask.command_line.said.assume in
+              let formulas = formula_at words ask cause.0 later.0 later.1 cause.1 later.2.1 in
+              not_assumed ask.formula.vars later.1 (assumed_at ask.given) fault after ask.assumptions
+              (subst (λ (p : Option Text). IsAssumeCause files ask.formula.vars later.1 p (faults.CubeRefused fault) after) assumed
+              (subst (λ (f : Cnf). IsAssumeCause files f.vars later.1 (assumed_at cause.0) (faults.CubeRefused fault) after) formulas
+              assume))
+          | inr last ↦ elim last.3 [ inl opens ↦ opens | inr start ↦ start.3 ]
+        ]
+      ]
+  of_machine words ask after one (faults.Layout fault) cause =
+      elim cause.2 [
+        | inl read ↦ read
+        | inr later ↦ elim later.3 [
+          | inl assume ↦ no_layout later.1 (assumed_at cause.0) later.0.vars fault after assume
+          | inr last ↦ elim last.3 [
+            | inl opens ↦ opens
+            | inr start ↦
+                let same = alike words ask.given cause.0 ask.command_line cause.1 in
+                let formulas = formula_at words ask cause.0 later.0 later.1 cause.1 later.2.1 in
+                let layouts : layout_at cause.0 later.0 ≡ layout_at ask.given ask.formula =
+                ap (λ (x : OptionsValue). layout_of x later.0 (length cause.0.streams)) same.0
+                ∙ ap (λ (x : Cnf). layout_of (options_of ask.given) x (length cause.0.streams)) formulas
+                ∙ ap (λ (x : List Text). layout_of (options_of ask.given) ask.formula (length x)) same.1 in
+                ask.layout fault (subst (λ (p : LayoutValue). IsFault p fault) layouts start.3.0)
+          ]
+        ]
+      ]
+  of_machine words ask after one faults.Unwritten cause =
+      elim cause.2 [
+        | inl read ↦ read
+        | inr later ↦ elim later.3 [
+          | inl assume ↦ never_unwritten later.1 (assumed_at cause.0) later.0.vars after assume
+          | inr last ↦ elim last.3 [ inl opens ↦ opens | inr start ↦ start.3 ]
+        ]
+      ]
+  of_machine words ask after one faults.NotCreated cause = tt
+  of_machine words ask after one faults.TwoCheckpoints cause = absurd (one cause)
+  of_machine words ask after one faults.Sizes cause =
+      elim cause.2 [
+        | inl read ↦ read
+        | inr later ↦ elim later.3 [
+          | inl assume ↦ no_sizes later.1 (assumed_at cause.0) later.0.vars after assume
+          | inr last ↦ elim last.3 [ inl opens ↦ opens | inr start ↦ start.3 ]
+        ]
+      ]
+  of_machine words ask after one faults.SizesUnread cause =
+      elim cause.2 [
+        | inl read ↦ read
+        | inr later ↦ elim later.3 [
+          | inl assume ↦ no_sizes_unread later.1 (assumed_at cause.0) later.0.vars after assume
+          | inr last ↦ elim last.3 [ inl opens ↦ opens | inr start ↦ start.3 ]
+        ]
+      ]
+  of_machine words ask after one (faults.NotSaved fault) cause =
+      elim cause.2 [
+        | inl read ↦ read
+        | inr later ↦ elim later.3 [
+          | inl assume ↦ never_unsaved later.1 (assumed_at cause.0) later.0.vars fault after assume
+          | inr last ↦ elim last.3 [ inl opens ↦ opens | inr start ↦ start.3 ]
+        ]
+      ]
+
+-- without rounds there aren't two checkpoints
+no_rounds : (files : FilesView) (words : List Text) (after : files.its.State) → AskWell files words None
+    → ¬ IsCause files words faults.TwoCheckpoints after
+no_rounds files words after ask cause =
+    let no : Some cause.0 ≡ None = sym cause.2.folder_is ∙ sym ask.command_line.said.rounds ∙ ask.rounds in cc
+
+pub without_report : OneFormula → NoFormulaFault → SameWordsAskAlike → (files : FilesView) (Lost : Report → Type 0) (words : List Text)
+    (after : files.its.State) (s : ℕ) (out err : SinkChange) (status : ℕ) → AskWell files words None
+    → EndsWithFault files words after out err status → InconclusiveBecause files words s Lost after out err status
+without_report one_formula no_fault alike files Lost words after s out err status ask ends =
+    let machine = of_machine one_formula no_fault alike files None words ask after (no_rounds files words after ask) ends.fault ends.cause
+    in
+    no_report ends machine (subst (λ (n : ℕ). (n ≡ 5) ⊎ (n ≡ 6)) (sym ends.status_is) (machine_status ends.fault machine))
+
+pub valid_refutation_says : OneFormula → NoFormulaFault → SameWordsAskAlike → ValidBegins → ValidEmpty
+    → (files : FilesView) → ValidRefutationSays files
+valid_refutation_says one_formula no_fault alike begins empty files words after s out err status ask (inl ends) =
+    with_report files (IsCutOffIn (length ask.valid.lines)) words after s out err status ends
+    (refutation_says one_formula alike empty files begins words s ask ends.reports ends.verdict ends.outcome)
+valid_refutation_says one_formula no_fault alike begins empty files words after s out err status ask (inr ends) =
+    inr (without_report one_formula no_fault alike files (IsCutOffIn (length ask.valid.lines)) words after s out err status ask.asks ends)
+
+pub valid_order_says : OneFormula → NoFormulaFault → SameWordsAskAlike → TogetherBegins → ValidEmpty
+    → (files : FilesView) → ValidOrderSays files
+valid_order_says one_formula no_fault alike together empty files words after s out err status ask (inl ends) =
+    with_report files (StoppedAtForeignHint files words ask.asks s (length (lines_by s ask.steps))) words after s out err status ends
+    (order_says one_formula alike empty files together words s ask ends.reports ends.verdict ends.outcome)
+valid_order_says one_formula no_fault alike together empty files words after s out err status ask (inr ends) =
+    inr (without_report one_formula no_fault alike files
+    (StoppedAtForeignHint files words ask.asks s (length (lines_by s ask.steps))) words after s out err status ask.asks ends)

@@ -1,6 +1,0 @@
-use Rattle.outcome_laws.proofs.RightLemmas.{right_refutation_says as lemma}
-use Rattle.outcome_laws.proofs.laws.right_refutation_says.Goals as goal
-
-pub returns : goal.returns
-returns g c = lemma c.one_formula.ensures c.formula_or_fault.ensures c.same_words_ask_alike.ensures
-    c.right_begins.ensures c.right_empty.ensures _

@@ -1,6 +1,0 @@
-use Rattle.outcome_laws.proofs.SerialLemmas.{right_turns_say as lemma}
-use Rattle.outcome_laws.proofs.laws.right_turns_say.Goals as goal
-
-pub returns : goal.returns
-returns g c = lemma c.one_formula.ensures c.formula_or_fault.ensures c.same_words_ask_alike.ensures
-    c.right_by_turns.ensures c.right_empty.ensures _

@@ -1,0 +1,567 @@
+-- The one history of a run with threads, and what the reports say of it.
+use Rattle.std.proofs.Common.{◌≡◌, inl, inr, ℕ, zero, suc, ◌+◌, ◌-◌, ◌<◌, ◌≤◌, Bool, true, false, List, [], ◌∷◌, ◌++◌, length, map, take}
+use Rattle.std.proofs.Common.{Some, refl, sym, ap, ap₂, subst, ◌∙◌, arith, append-nil}
+use Rattle.std.specs.Result.{IfErr, IsErrAnd}
+use Rattle.std.specs.Prelude.{IsSome, IsSomeAnd, Option, None, Result, Ok, Err, slice_get, if◌then◌else◌}
+use Rattle.std.specs.List.{AllByRecursion, list_any, AllZip}
+use Rattle.std.proofs.lemmas.List.{length-map}
+use Rattle.std.proofs.lemmas.Simd.{map-map}
+use Rattle.std.proofs.lemmas.Option.{slice_get_within}
+use Rattle.std.proofs.lemmas.Bool.{or_cases}
+use Rattle.lrup_model.specs.Cube.{CubeValue}
+use Rattle.lrup_model.specs.Entailment.{IsUnsatisfiable}
+use Rattle.lrup_model.specs.Event.{History, own, spent}
+use Rattle.lrup_model.specs.Formula.{Cnf}
+use Rattle.lrup_model.specs.History.{IsLegal}
+use Rattle.lrup_model.specs.lemmas.HistoryLemmas.{opening-owned}
+use Rattle.lrup_model.specs.Layout.{LayoutValue, IsLayout, IsFault, IsStream, Fits, Owns}
+use Rattle.lrup_model.specs.declared.layout.LayoutFault.{LayoutFault}
+use Rattle.lrup_model.specs.declared.layout.LayoutFault.TheVariants as faults
+use Rattle.lrup_model.specs.Pass.{View, IsFair, PassMoves, AreSynced, AllSaw, pass_caller_view}
+use Rattle.lrup_model.specs.CallerView.{Caller}
+use Rattle.lrup_model.specs.State.{state}
+use Rattle.clause_store.specs.Passes.{StoreValue, PassValue, IsOpened, AreOf, ShareHistory, views}
+use Rattle.stream_check.specs.declared.report.Report.{Report}
+use Rattle.stream_check.specs.Checker.{checker_state}
+use Rattle.stream_check.specs.Judging.{joined}
+use Rattle.stream_check.specs.Reaching.{ReachesState}
+use Rattle.stream_check.specs.DroppedValue.{DroppedValue}
+use Rattle.stream_check.specs.StreamParams.{StreamParams}
+use Rattle.portfolio.specs.declared.outcome.RunFault.{RunFault}
+use Rattle.portfolio.specs.declared.outcome.RunFault.TheVariants.{Layout, Memory, Ring, Spawn}
+use Rattle.portfolio.specs.declared.outcome.Verdict.{Verdict}
+use Rattle.portfolio.specs.declared.outcome.Verdict.TheVariants.{Unsatisfiable, UnsatisfiableUnder, Unknown}
+use Rattle.portfolio.specs.Dropping.{HasDropped, HaveDropped, WasReadOut, WereJudged}
+use Rattle.portfolio.specs.Outcomes.{OptionsValue, layout_of, run_params_of, verdict_of}
+use Rattle.portfolio.specs.Histories.{InThreads, IsRunOf}
+use Rattle.portfolio.specs.internal.Threads.{AreGathered, HaveReadyJobs, IsBegun, HasReadyJobs, WereGathered}
+use Rattle.runs.specs.Each.{EachOfThree}
+use Rattle.runs.specs.lemmas.EachLemmas.{each_count, each_take, zip_count}
+use Rattle.runs.specs.lemmas.StreamLemmas.{IsJudgedBy, observed_as_many, observed_count}
+use Rattle.runs.specs.SequentialConsistency.{HaveOneHistory, AreJudgedIn, seen_by}
+use Rattle.stream_threads.specs.Jobs.{JobsValue, FoundValue, CanBegin, Finishes, AllFinish, AreJobs, MissesMark}
+use Rattle.lrup_text.specs.ReadOut.{SourceView}
+use Rattle.runs.specs.Readings.{AreRead, IsStreamOf}
+use Rattle.runs.specs.Streams.{Stream, InputObservation, observations, MatchesInput, JudgesStream, RunParamsValue, stream_params}
+use Rattle.run_laws.specs.Groups.{IsRun, IsRunOfFirst}
+use Rattle.portfolio.proofs.DroppingLemmas.{job_drops}
+use Rattle.portfolio.proofs.EmptyLemmas.{sound}
+
+-- ---- the layout
+
+-- the limits of a layout are kept, so none is broken
+pub no_fault : (p : LayoutValue) (fault : LayoutFault) → IsLayout p → IsFault p fault → ⊥
+no_fault p faults.TooManyVariables is bad = omega (arith, is.vars, bad)
+no_fault p faults.TooManyClauses is bad = omega (arith, is.clauses, bad.1)
+no_fault p faults.BadStreamCount is (a, b, inl none) = omega (arith, is.some_stream, none)
+no_fault p faults.BadStreamCount is (a, b, inr many) = omega (arith, is.streams, many)
+no_fault p faults.RowTooLong is bad = omega (arith, is.row, bad.4)
+
+-- the parameters that a run makes are those of its formula, options and streams
+pub run_params_made : (options : OptionsValue) (cube : CubeValue) (f : Cnf) (p : LayoutValue) (n streams tries : ℕ) (made : RunParamsValue)
+    → made ≡ record { layout = p; cube = cube; tries = tries } → p ≡ layout_of options f n → n ≡ streams → tries ≡ options.tries
+    → made ≡ run_params_of options cube f streams
+run_params_made options cube f p n streams tries made is same count often = cc
+
+-- a run that was opened has no fault of its layout
+pub none_of_layout : (options : OptionsValue) (f : Cnf) (p : LayoutValue) (n streams : ℕ) → p ≡ layout_of options f n → n ≡ streams
+    → IsLayout p → (fault : LayoutFault) → IsFault (layout_of options f streams) fault → ⊥
+none_of_layout options f p n streams same count is fault bad =
+    no_fault p fault is (subst (λ (l : LayoutValue). IsFault l fault) (sym (same ∙ ap (layout_of options f) count)) bad)
+
+-- what is there is no fault
+no_error : {T E : Type 0} {value : T} {e : E} → Ok value ≡ Err e → ⊥
+no_error is = cc
+
+-- out of memory is no other fault
+pub not_layout : {T : Type 0} (result : Result T RunFault) (fault : LayoutFault) → IfErr result (λ e. e ≡ Memory)
+    → result ≡ Err (Layout fault) → ⊥
+not_layout (Ok value) fault memory is = no_error is
+not_layout (Err e) fault memory is = cc
+
+pub not_spawn : {T : Type 0} (result : Result T RunFault) (stream : ℕ) → IfErr result (λ e. e ≡ Memory)
+    → result ≡ Err (Spawn stream) → ⊥
+not_spawn (Ok value) stream memory is = no_error is
+not_spawn (Err e) stream memory is = cc
+
+pub not_ring : {T : Type 0} (result : Result T RunFault) (stream : ℕ) → IfErr result (λ e. e ≡ Memory)
+    → result ≡ Err (Ring stream) → ⊥
+not_ring (Ok value) stream memory is = no_error is
+not_ring (Err e) stream memory is = cc
+
+-- what `?` hands on is out of memory, and so is whatever fault there is
+pub is_memory : {T : Type 0} (result : Result T RunFault) → IsErrAnd result (λ e. e ≡ Memory) → IfErr result (λ e. e ≡ Memory)
+is_memory (Ok value) is = tt
+is_memory (Err e) is = is
+
+-- ---- the opening
+
+-- the passes of the streams counted on from s, as the store opened them
+abbrev pub AreOpened : StoreValue → Cnf → ℕ → List PassValue → Type 0
+AreOpened store f s [] = Unit {0}
+AreOpened store f s (p ∷ ps) = IsOpened store f s p × AreOpened store f (s + 1) ps
+
+opened_from : (store : StoreValue) (f : Cnf) (s : ℕ) (ps : List PassValue)
+    → ((k : ℕ) (p : PassValue) → slice_get ps k ≡ Some p → IsOpened store f (s + k) p) → AreOpened store f s ps
+opened_from store f s [] each = tt
+opened_from store f s (p ∷ ps) each =
+    let here : s + 0 ≡ s = omega arith in (
+      subst (λ (n : ℕ). IsOpened store f n p) here (each 0 p refl),
+      opened_from store f (s + 1) ps
+          (λ k q at. let next : s + suc k ≡ s + 1 + k = omega arith in subst (λ (n : ℕ). IsOpened store f n q) next (each (suc k) q at)),
+    )
+
+-- each stream's pass stands at its place
+are_opened : (store : StoreValue) (f : Cnf) (p : LayoutValue) (ps : List PassValue) → length ps ≡ p.streams
+    → ((s : ℕ) (pass : PassValue) → IsStream p s → slice_get ps (s - 1) ≡ Some pass → IsOpened store f s pass) → AreOpened store f 1 ps
+are_opened store f p ps count each = opened_from store f 1 ps (λ k pass at.
+    let within : k < length ps = slice_get_within ps k pass at in
+    let stream : (0 < 1 + k) × (1 + k ≤ p.streams) = (omega arith, omega arith) in
+    let place : k ≡ 1 + k - 1 = omega arith in
+    each (1 + k) pass stream (subst (λ (n : ℕ). slice_get ps n ≡ Some pass) place at))
+
+-- ---- the jobs
+
+-- what the calls of a pass come to
+
+-- one stream's pass, from its opening to the meeting: it is the stream's, and its calls are those that were made
+pub record Ends (f : Cnf) (p : LayoutValue) (s : ℕ) (es : History) (v : View) : Type 0 where
+  pub caller : v.caller ≡ record { formula = f; layout = p; stream = s }
+  pub mine : v.mine ≡ es
+  pub fair : IsFair v
+
+-- what the pass has seen is legal, and has its calls just as they were made
+ends_own : (f : Cnf) (p : LayoutValue) (s : ℕ) (es h : History) (v : View) → Ends f p s es v → v.seen ≡ h → v.mine ≡ own h s
+ends_own f p s es h v e saw = sym e.fair.mine ∙ ap₂ (λ (g : History) (n : ℕ). own g n) saw (ap (λ (c : Caller). c.stream) e.caller)
+
+ends_legal : (f : Cnf) (p : LayoutValue) (s : ℕ) (es h : History) (v : View) → Ends f p s es v → v.seen ≡ h → IsLegal f p h
+ends_legal f p s es h v e saw = subst (λ (c : Caller). IsLegal c.formula c.layout h) e.caller
+    (subst (λ (g : History). IsLegal v.caller.formula v.caller.layout g) saw e.fair.legal)
+
+first_saw : (h : History) (vs : List View) → AllSaw h vs → 0 < length vs → h ≡ seen_by vs
+first_saw h [] saw some = absurd (omega arith)
+first_saw h (v ∷ vs) saw some = sym saw.0
+
+-- a pass that has made no call has the whole room
+opened_room : (f : Cnf) (p : LayoutValue) (store : StoreValue) (s : ℕ) (q : PassValue) → store.layout ≡ p → IsOpened store f s q
+    → p.room ≡ (pass_caller_view q.view).room
+opened_room f p store s q same opened =
+    let whole : p.room ≡ p.room - 0 = omega arith in
+    whole ∙ sym (ap₂ (λ (c : Caller) (m : History). c.layout.room - spent c.stream m) opened.caller opened.mine
+    ∙ ap (λ (l : LayoutValue). l.room - 0) same)
+
+-- Each report is the judgement of what is observed of the stream's reader and of the calls of the stream's pass, for the streams counted
+-- on from s.
+abbrev pub AreJudgedBy : RunParamsValue → ℕ → List Stream → List View → List Report → Type 0
+AreJudgedBy run_params s streams vs reports =
+    EachOfThree (λ t stream v report. IsJudgedBy (stream_params run_params t) stream v.mine report) s streams vs reports
+
+-- these calls are the events of the one history
+judged_in : (run_params : RunParamsValue) (h : History) (s : ℕ) (streams : List Stream) (vs : List View) (reports : List Report)
+    → AreJudgedBy run_params s streams vs reports → ((k : ℕ) (v : View) → slice_get vs k ≡ Some v → v.mine ≡ own h (s + k))
+    → AreJudgedIn run_params (λ t. true) h s streams reports
+judged_in run_params h s [] [] [] judged calls = tt
+judged_in run_params h s [] [] (r ∷ rs) judged calls = absurd judged
+judged_in run_params h s [] (v ∷ vs) rs judged calls = absurd judged
+judged_in run_params h s (t ∷ ts) [] rs judged calls = absurd judged
+judged_in run_params h s (t ∷ ts) (v ∷ vs) [] judged calls = absurd judged
+judged_in run_params h s (t ∷ ts) (v ∷ vs) (r ∷ rs) judged calls =
+    let here : s + 0 ≡ s = omega arith in
+    let mine : v.mine ≡ own h s = subst (λ (n : ℕ). v.mine ≡ own h n) here (calls 0 v refl) in (
+      λ all. subst (λ (es : History). IsJudgedBy (stream_params run_params s) t es r) mine judged.0,
+      judged_in run_params h (s + 1) ts vs rs judged.1
+          (λ k w at. let next : s + suc k ≡ s + 1 + k = omega arith in subst (λ (n : ℕ). w.mine ≡ own h n) next (calls (suc k) w at)),
+    )
+
+-- the pass is stream s's, has seen the history, and its calls are the stream's events of it
+abbrev HasCalls : Cnf → LayoutValue → History → ℕ → View → Type 0
+HasCalls f p h s v = (v.caller ≡ record { formula = f; layout = p; stream = s }) × (v.seen ≡ h) × (v.mine ≡ own h s)
+
+-- ---- of readers of one kind
+
+module _ {S : Type 0} (view : SourceView S) where
+  are_ready : (store : StoreValue) (f : Cnf) (run_params : RunParamsValue) (s : ℕ) (firsts : List S) (ps : List PassValue)
+      (js : List (JobsValue S))
+      → AreJobs run_params s firsts ps js → AreOpened store f s ps → HaveReadyJobs store f run_params s firsts js
+  are_ready store f run_params s [] [] [] all opened = tt
+  are_ready store f run_params s [] [] (j ∷ js) all opened = absurd all
+  are_ready store f run_params s [] (q ∷ ps) js all opened = absurd all
+  are_ready store f run_params s (e ∷ es) [] js all opened = absurd all
+  are_ready store f run_params s (e ∷ es) (q ∷ ps) [] all opened = absurd all
+  are_ready store f run_params s (e ∷ es) (q ∷ ps) (j ∷ js) all opened = (
+    record { reader_is = all.0.reader_is; checker = all.0.checker; opened = subst (IsOpened store f s) (sym all.0.pass) opened.0 },
+    are_ready store f run_params (s + 1) es ps js all.1 opened.1,
+  )
+
+  -- the same of a run's jobs, at the passes that its store has opened
+  pub run_ready : {store : StoreValue} {f : Cnf} {n : ℕ} (run_params : RunParamsValue) (p : LayoutValue) (firsts : List S)
+      (passes : List PassValue) (js : List (JobsValue S)) → n ≡ length passes → n ≡ p.streams
+      → ((s : ℕ) (pass : PassValue) → IsStream p s → slice_get passes (s - 1) ≡ Some pass → IsOpened store f s pass)
+      → AreJobs run_params 1 firsts passes js → HaveReadyJobs store f run_params 1 firsts js
+  run_ready {store = store} {f = f} run_params p firsts passes js are count opened jobs =
+      are_ready store f run_params 1 firsts passes js jobs (are_opened store f p passes (sym are ∙ count) opened)
+
+  -- the first byte may be taken where nothing was called yet
+  ready_can : (f : Cnf) (run_params : RunParamsValue) (store : StoreValue) (s : ℕ) (first : S) (j : JobsValue S)
+      → Fits run_params.layout f → store.layout ≡ run_params.layout → HasReadyJobs store f run_params s first j → CanBegin store j
+  ready_can f run_params store s first j fits same ready =
+      let opened = ready.opened in
+      let params = ready.checker.params in
+      let layout : j.pass.view.caller.layout ≡ run_params.layout = ap (λ (c : Caller). c.layout) opened.caller ∙ same in
+      let stream : j.pass.view.caller.stream ≡ s = ap (λ (c : Caller). c.stream) opened.caller in
+      let formula : j.pass.view.caller.formula ≡ f = ap (λ (c : Caller). c.formula) opened.caller in
+      record {
+        here = opened.store;
+        ready = record {
+          at = record {
+            layout = layout ∙ sym (ap (λ (c : StreamParams). c.layout) params);
+            stream = stream ∙ sym (ap (λ (c : StreamParams). c.stream) params);
+          };
+          vacant = λ id owns above.
+              let here = subst (λ (n : ℕ). Owns run_params.layout n id) stream
+              (subst (λ (q : LayoutValue). Owns q j.pass.view.caller.stream id) layout owns) in
+              ap₂ (λ (g : Cnf) (h : History). state g h id) formula opened.mine ∙ opening-owned f run_params.layout s id fits here;
+        };
+      }
+
+  pub all_can_begin : (f : Cnf) (run_params : RunParamsValue) (store : StoreValue) → Fits run_params.layout f
+      → store.layout ≡ run_params.layout
+      → (s : ℕ) (firsts : List S) (js : List (JobsValue S)) → HaveReadyJobs store f run_params s firsts js
+      → AllByRecursion (CanBegin store) js
+  all_can_begin f run_params store fits same s [] [] ready = tt
+  all_can_begin f run_params store fits same s [] (j ∷ js) ready = absurd ready
+  all_can_begin f run_params store fits same s (e ∷ es) [] ready = absurd ready
+  all_can_begin f run_params store fits same s (e ∷ es) (j ∷ js) ready =
+      (ready_can f run_params store s e j fits same ready.0, all_can_begin f run_params store fits same (s + 1) es js ready.1)
+
+  pub ready_count : (store : StoreValue) (f : Cnf) (run_params : RunParamsValue) (s : ℕ) (firsts : List S) (js : List (JobsValue S))
+      → HaveReadyJobs store f run_params s firsts js → length js ≡ length firsts
+  ready_count store f run_params s firsts js ready = each_count _ s firsts js ready
+
+  -- the jobs of the first streams
+  pub ready_take : (store : StoreValue) (f : Cnf) (run_params : RunParamsValue) (s n : ℕ) (firsts : List S) (js : List (JobsValue S))
+      → HaveReadyJobs store f run_params s firsts js → HaveReadyJobs store f run_params s (take n firsts) (take n js)
+  ready_take store f run_params s n firsts js ready = each_take _ n s firsts js ready
+
+  -- ---- what was found, and the passes when all have met
+
+  pub finish_of : (store : StoreValue) (js : List (JobsValue S)) (fs : List (FoundValue S))
+      → AllByRecursion (CanBegin store) js → AllFinish view js fs → AreOf store (map (λ x. x.pass) fs)
+  finish_of store [] [] begin all = tt
+  finish_of store [] (x ∷ fs) begin all = absurd all
+  finish_of store (j ∷ js) [] begin all = absurd all
+  finish_of store (j ∷ js) (x ∷ fs) begin all = (all.0.store ∙ begin.0.here, finish_of store js fs begin.1 all.1)
+
+  pub begin_take : (store : StoreValue) (n : ℕ) (js : List (JobsValue S)) → AllByRecursion (CanBegin store) js
+      → AllByRecursion (CanBegin store) (take n js)
+  begin_take store zero [] begin = tt
+  begin_take store zero (j ∷ js) begin = tt
+  begin_take store (suc n) [] begin = tt
+  begin_take store (suc n) (j ∷ js) begin = (begin.0, begin_take store n js begin.1)
+
+  pub finish_count : (js : List (JobsValue S)) (fs : List (FoundValue S)) → AllFinish view js fs → length fs ≡ length js
+  finish_count js fs all = zip_count (Finishes view) js fs all
+
+  synced_count : (fs : List (FoundValue S)) (vs : List View) → AreSynced (views (map (λ x. x.pass) fs)) vs → length vs ≡ length fs
+  synced_count [] [] synced = refl
+  synced_count [] (v ∷ vs) synced = absurd synced
+  synced_count (x ∷ fs) [] synced = absurd synced
+  synced_count (x ∷ fs) (v ∷ vs) synced = omega (arith, synced_count fs vs synced.2)
+
+  ends : (f : Cnf) (p : LayoutValue) (store : StoreValue) (s : ℕ) (j : JobsValue S) (x : FoundValue S) (v : View)
+      → store.layout ≡ p → IsOpened store f s j.pass → (fin : Finishes view j x) → PassMoves x.pass.view v [] → IsFair v
+      → Ends f p s (joined fin.blocks) v
+  ends f p store s j x v same opened fin synced fair = record {
+    caller = synced.caller ∙ fin.moves.caller ∙ opened.caller
+        ∙ ap (λ (l : LayoutValue). record { formula = f; layout = l; stream = s }) same;
+    mine = synced.mine ∙ append-nil x.pass.view.mine ∙ fin.moves.mine ∙ ap (λ (es : History). es ++ joined fin.blocks) opened.mine;
+    fair = fair;
+  }
+
+  have_calls : (f : Cnf) (run_params : RunParamsValue) (store : StoreValue) (h : History) → store.layout ≡ run_params.layout
+      → (s : ℕ) (firsts : List S) (js : List (JobsValue S)) (fs : List (FoundValue S)) (vs : List View)
+      → HaveReadyJobs store f run_params s firsts js → AllFinish view js fs → AreSynced (views (map (λ x. x.pass) fs)) vs → AllSaw h vs
+      → (k : ℕ) (w : View) → slice_get vs k ≡ Some w → HasCalls f run_params.layout h (s + k) w
+  have_calls f run_params store h same s [] [] [] [] ready all synced saw k w at = absurd (cc)
+  have_calls f run_params store h same s [] [] [] (v ∷ vs) ready all synced saw k w at = absurd synced
+  have_calls f run_params store h same s [] [] (x ∷ fs) vs ready all synced saw k w at = absurd all
+  have_calls f run_params store h same s [] (j ∷ js) fs vs ready all synced saw k w at = absurd ready
+  have_calls f run_params store h same s (e ∷ es) [] fs vs ready all synced saw k w at = absurd ready
+  have_calls f run_params store h same s (e ∷ es) (j ∷ js) [] vs ready all synced saw k w at = absurd all
+  have_calls f run_params store h same s (e ∷ es) (j ∷ js) (x ∷ fs) [] ready all synced saw k w at = absurd synced
+  have_calls f run_params store h same s (e ∷ es) (j ∷ js) (x ∷ fs) (v ∷ vs) ready all synced saw zero w at =
+      let end = ends f run_params.layout store s j x v same ready.0.opened all.0 synced.0 synced.1 in
+      let this : v ≡ w = cc in
+      let here : s ≡ s + 0 = omega arith in
+      subst (λ (n : ℕ). HasCalls f run_params.layout h n w) here
+      (subst (HasCalls f run_params.layout h s) this
+      (end.caller, saw.0, ends_own f run_params.layout s (joined all.0.blocks) h v end saw.0))
+  have_calls f run_params store h same s (e ∷ es) (j ∷ js) (x ∷ fs) (v ∷ vs) ready all synced saw (suc k) w at =
+      let next : s + 1 + k ≡ s + suc k = omega arith in
+      subst (λ (n : ℕ). HasCalls f run_params.layout h n w) next
+      (have_calls f run_params store h same (s + 1) es js fs vs ready.1 all.1 synced.2 saw.1 k w at)
+
+  have_legal : (f : Cnf) (run_params : RunParamsValue) (store : StoreValue) (h : History) → store.layout ≡ run_params.layout
+      → (s : ℕ) (firsts : List S) (js : List (JobsValue S)) (fs : List (FoundValue S)) (vs : List View)
+      → HaveReadyJobs store f run_params s firsts js → AllFinish view js fs → AreSynced (views (map (λ x. x.pass) fs)) vs
+      → AllSaw h vs → 0 < length js
+      → IsLegal f run_params.layout h
+  have_legal f run_params store h same s firsts [] fs vs ready all synced saw some = absurd (omega arith)
+  have_legal f run_params store h same s [] (j ∷ js) fs vs ready all synced saw some = absurd ready
+  have_legal f run_params store h same s (e ∷ es) (j ∷ js) [] vs ready all synced saw some = absurd all
+  have_legal f run_params store h same s (e ∷ es) (j ∷ js) (x ∷ fs) [] ready all synced saw some = absurd synced
+  have_legal f run_params store h same s (e ∷ es) (j ∷ js) (x ∷ fs) (v ∷ vs) ready all synced saw some =
+      ends_legal f run_params.layout s (joined all.0.blocks) h v
+      (ends f run_params.layout store s j x v same ready.0.opened all.0 synced.0 synced.1) saw.0
+
+  -- all passes of a run have one history
+  pub one_history : (f : Cnf) (run_params : RunParamsValue) (store : StoreValue) (firsts : List S) (js : List (JobsValue S))
+      (fs : List (FoundValue S)) (vs : List View)
+      → IsLayout run_params.layout → store.layout ≡ run_params.layout → length js ≡ run_params.layout.streams
+      → HaveReadyJobs store f run_params 1 firsts js → AllFinish view js fs → AreSynced (views (map (λ x. x.pass) fs)) vs → ShareHistory vs
+      → HaveOneHistory f run_params.layout (seen_by vs) vs
+  one_history f run_params store firsts js fs vs is same count ready all synced one =
+      let each : length vs ≡ run_params.layout.streams = synced_count fs vs synced ∙ finish_count js fs all ∙ count in
+      let seen : one.0 ≡ seen_by vs = first_saw one.0 vs one.1 (omega (arith, is.some_stream, each)) in
+      let saw : AllSaw (seen_by vs) vs = subst (λ (h : History). AllSaw h vs) seen one.1 in
+      record {
+        legal = have_legal f run_params store (seen_by vs) same 1 firsts js fs vs ready all synced saw
+            (omega (arith, is.some_stream, count));
+        count = each;
+        calls = λ s v at.
+            let first = at.0 in
+            let here : 1 + (s - 1) ≡ s = omega (arith, first) in
+            subst (λ (n : ℕ). HasCalls f run_params.layout (seen_by vs) n v) here
+            (have_calls f run_params store (seen_by vs) same 1 firsts js fs vs ready all synced saw (s - 1) v at.1);
+      }
+
+  -- the calls of the pass at each place
+  mine_at : (f : Cnf) (p : LayoutValue) (vs : List View) → HaveOneHistory f p (seen_by vs) vs
+      → (k : ℕ) (v : View) → slice_get vs k ≡ Some v → v.mine ≡ own (seen_by vs) (1 + k)
+  mine_at f p vs one k v at =
+      let place : k ≡ 1 + k - 1 = omega arith in
+      (one.calls (1 + k) v (omega arith, subst (λ (n : ℕ). slice_get vs n ≡ Some v) place at)).2
+
+  -- ---- the reports
+
+  -- The streams that match what is observed of the readers, and that their reads gave, by which the reports and the dropped identities
+  -- hold.
+  pub record Judged (run_params : RunParamsValue) (s : ℕ) (firsts : List S) (fs : List (FoundValue S)) (vs : List View) : Type 0 where
+    pub streams : List Stream
+    pub out : AllByRecursion (λ stream. IsSome stream.end) streams
+    pub told : AllZip MatchesInput (observations view firsts (map (λ x. x.reader) fs)) streams
+    pub judged : AreJudgedBy run_params s streams vs (map (λ x. x.report) fs)
+    pub read : AreRead S view.reads firsts (map (λ x. x.reader) fs) streams
+    pub dropped : HaveDropped run_params s streams (map (λ x. x.report) fs) (map (λ x. x.dropped.ids) fs)
+
+  pub judged_by : (f : Cnf) (run_params : RunParamsValue) (store : StoreValue) → store.layout ≡ run_params.layout
+      → (s : ℕ) (firsts : List S) (js : List (JobsValue S)) (fs : List (FoundValue S)) (vs : List View)
+      → HaveReadyJobs store f run_params s firsts js → AllFinish view js fs → AreSynced (views (map (λ x. x.pass) fs)) vs
+      → Judged run_params s firsts fs vs
+  judged_by f run_params store same s [] [] [] [] ready all synced = record {
+    streams = [];
+    out = tt;
+    told = tt;
+    judged = tt;
+    read = tt;
+    dropped = tt;
+  }
+  judged_by f run_params store same s [] [] [] (v ∷ vs) ready all synced = absurd synced
+  judged_by f run_params store same s [] [] (x ∷ fs) vs ready all synced = absurd all
+  judged_by f run_params store same s [] (j ∷ js) fs vs ready all synced = absurd ready
+  judged_by f run_params store same s (e ∷ es) [] fs vs ready all synced = absurd ready
+  judged_by f run_params store same s (e ∷ es) (j ∷ js) [] vs ready all synced = absurd all
+  judged_by f run_params store same s (e ∷ es) (j ∷ js) (x ∷ fs) [] ready all synced = absurd synced
+  judged_by f run_params store same s (e ∷ es) (j ∷ js) (x ∷ fs) (v ∷ vs) ready all synced =
+      let here = ready.0 in
+      let fresh = subst (λ (n : ℕ). ReachesState j.checker.params [] [] (checker_state j.checker n))
+      (opened_room f run_params.layout store s j.pass same here.opened) here.checker.left in
+      let one = all.0.judged fresh in
+      let of = subst (λ (r : S). IsStreamOf view r x.reader one.0) here.reader_is one.2 in
+      let calls = (ends f run_params.layout store s j x v same here.opened all.0 synced.0 synced.1).mine in
+      let judged = subst (λ (c : StreamParams). JudgesStream c one.0 all.0.blocks x.report) here.checker.params one.3 in
+      let dropped = subst (λ (c : StreamParams). HasDropped c one.0.bytes x.report x.dropped.ids) here.checker.params
+      (job_drops j.checker (pass_caller_view j.pass.view).room one.0.bytes all.0.blocks x.report x.dropped.ids fresh one.4) in
+      let more = judged_by f run_params store same (s + 1) es js fs vs ready.1 all.1 synced.2 in
+      record {
+        streams = one.0 ∷ more.streams;
+        out = (one.1, more.out);
+        told = (of.0, more.told);
+        judged = ((all.0.blocks, calls, judged), more.judged);
+        read = (of.1, more.read);
+        dropped = (dropped, more.dropped);
+      }
+
+  -- By a legal history that has their calls, it is a run as far as these streams go.
+  abbrev first_run : (f : Cnf) (run_params : RunParamsValue) (h : History) (firsts : List S) (fs : List (FoundValue S)) (vs : List View)
+      → (j : Judged run_params 1 firsts fs vs) → IsLegal f run_params.layout h
+      → ((k : ℕ) (v : View) → slice_get vs k ≡ Some v → v.mine ≡ own h (1 + k))
+      → IsRunOfFirst (length firsts) f run_params (observations view firsts (map (λ x. x.reader) fs)) (map (λ x. x.report) fs)
+  first_run f run_params h firsts fs vs j legal calls = record {
+    streams = j.streams;
+    match_inputs = j.told;
+    count = observed_count _ _ j.told ∙ observed_as_many view firsts (map (λ x. x.reader) fs) j.streams j.read;
+    history = h;
+    legal = legal;
+    judged = judged_in run_params h 1 j.streams vs (map (λ x. x.report) fs) j.judged calls;
+  }
+
+  -- Of the first streams alone, whose passes have met: so by the history that they have.
+  pub were_judged : (f : Cnf) (run_params : RunParamsValue) (store : StoreValue) → store.layout ≡ run_params.layout
+      → (firsts : List S) (js : List (JobsValue S)) (fs : List (FoundValue S)) (vs : List View)
+      → HaveReadyJobs store f run_params 1 firsts js → AllFinish view js fs → AreSynced (views (map (λ x. x.pass) fs)) vs → ShareHistory vs
+      → WereJudged view f run_params firsts
+  were_judged f run_params store same [] [] [] vs ready all synced one = record {
+    lasts = [];
+    reports = [];
+    run = record {
+      streams = [];
+      match_inputs = tt;
+      count = refl;
+      history = [];
+      legal = record { events = tt; room = λ s. omega arith };
+      judged = tt;
+    };
+    ended = tt;
+    read = tt;
+  }
+  were_judged f run_params store same [] [] (x ∷ fs) vs ready all synced one = absurd all
+  were_judged f run_params store same [] (j ∷ js) fs vs ready all synced one = absurd ready
+  were_judged f run_params store same (e ∷ es) [] fs vs ready all synced one = absurd ready
+  were_judged f run_params store same (e ∷ es) (j ∷ js) fs vs ready all synced one =
+      let so = judged_by f run_params store same 1 (e ∷ es) (j ∷ js) fs vs ready all synced in
+      let calls = have_calls f run_params store one.0 same 1 (e ∷ es) (j ∷ js) fs vs ready all synced one.1 in
+      let legal = have_legal f run_params store one.0 same 1 (e ∷ es) (j ∷ js) fs vs ready all synced one.1 (omega arith) in
+      record {
+        lasts = map (λ x. x.reader) fs;
+        reports = map (λ x. x.report) fs;
+        run = first_run f run_params one.0 (e ∷ es) fs vs so legal (λ k v at. (calls k v at).2);
+        ended = so.out;
+        read = so.read;
+      }
+
+  -- ---- the run as a whole
+
+  begun_count : {f : Cnf} {run_params : RunParamsValue} {store : StoreValue} {firsts : List S} {js : List (JobsValue S)}
+      → IsBegun f run_params store firsts js → length js ≡ run_params.layout.streams
+  begun_count begun = ready_count _ _ _ _ _ _ begun.ready ∙ begun.count
+
+  pub can_begin : {f : Cnf} {run_params : RunParamsValue} {store : StoreValue} {firsts : List S} {js : List (JobsValue S)}
+      → IsBegun f run_params store firsts js → AllByRecursion (CanBegin store) js
+  can_begin begun = all_can_begin _ _ _ begun.fits begun.store_is _ _ _ begun.ready
+
+  -- one of so many jobs is one of the streams
+  pub stream_within : {f : Cnf} {run_params : RunParamsValue} {store : StoreValue} {firsts : List S} {js : List (JobsValue S)}
+      → IsBegun f run_params store firsts js → (s : ℕ) → (0 < s) × (s ≤ length js) → IsStream run_params.layout s
+  stream_within begun s within = (omega (arith, within.0), omega (arith, within.1, begun_count begun))
+
+  pub run_history : {f : Cnf} {run_params : RunParamsValue} {store : StoreValue} {firsts : List S} {js : List (JobsValue S)}
+      → IsBegun f run_params store firsts js
+      → (vs : List View) (reports : List Report) (lasts : List S) (dropped : List DroppedValue)
+      → AreGathered view js vs reports lasts dropped → HaveOneHistory f run_params.layout (seen_by vs) vs
+  run_history {f} {run_params} begun vs reports lasts dropped so =
+      one_history f run_params _ _ _ so.found vs begun.is begun.store_is (begun_count begun) begun.ready so.finish so.synced so.one
+
+  -- the outcome's lists are those of what was found
+  gathered : (f : Cnf) (run_params : RunParamsValue) (store : StoreValue) (firsts : List S) (js : List (JobsValue S))
+      → IsBegun f run_params store firsts js
+      → (vs : List View) (fs : List (FoundValue S)) → AllFinish view js fs → AreSynced (views (map (λ x. x.pass) fs)) vs
+      → HaveOneHistory f run_params.layout (seen_by vs) vs
+      → (reports : List Report) (lasts : List S) (dropped : List DroppedValue) → reports ≡ map (λ x. x.report) fs
+      → lasts ≡ map (λ x. x.reader) fs → map (λ d. d.ids) dropped ≡ map (λ x. x.dropped.ids) fs
+      → (ran : IsRunOf InThreads view f run_params firsts lasts reports dropped) × (ran.run.history ≡ seen_by vs)
+  gathered f run_params store firsts js begun vs fs finish synced one reports lasts dropped reports_are lasts_are dropped_are =
+      let j = judged_by f run_params store begun.store_is 1 firsts js fs vs begun.ready finish synced in
+      let run = first_run f run_params (seen_by vs) firsts fs vs j one.legal (mine_at f run_params.layout vs one) in
+      let told : AllZip MatchesInput (observations view firsts lasts) j.streams =
+      subst (λ (ls : List S). AllZip MatchesInput (observations view firsts ls) j.streams) (sym lasts_are) j.told in (
+        record {
+          run = record {
+            streams = j.streams;
+            match_inputs = told;
+            count = run.count ∙ begun.count;
+            history = seen_by vs;
+            legal = one.legal;
+            judged = subst (AreJudgedIn run_params (λ s. true) (seen_by vs) 1 j.streams) (sym reports_are) run.judged;
+          };
+          way = j.out;
+          read = subst (λ (ls : List S). AreRead S view.reads firsts ls j.streams) (sym lasts_are) j.read;
+          have_dropped = rw dropped_are (rw reports_are j.dropped);
+        },
+        refl,
+      )
+
+  pub run_reports : {f : Cnf} {run_params : RunParamsValue} {store : StoreValue} {firsts : List S} {js : List (JobsValue S)}
+      → IsBegun f run_params store firsts js
+      → (vs : List View) (reports : List Report) (lasts : List S) (dropped : List DroppedValue)
+      → AreGathered view js vs reports lasts dropped
+      → (ran : IsRunOf InThreads view f run_params firsts lasts reports dropped) × (ran.run.history ≡ seen_by vs)
+  run_reports {f} {run_params} {store} {firsts} {js} begun vs reports lasts dropped so =
+      let gone : map (λ (d : DroppedValue). d.ids) dropped ≡ map (λ (x : FoundValue S). x.dropped.ids) so.found =
+      ap (map (λ (d : DroppedValue). d.ids)) so.dropped_are
+      ∙ map-map (λ (d : DroppedValue). d.ids) (λ (x : FoundValue S). x.dropped) so.found in
+      gathered f run_params store firsts js begun vs so.found so.finish so.synced (run_history begun vs reports lasts dropped so)
+      reports lasts
+      dropped so.reports_are so.readers_are gone
+
+  -- the streams before the one that a ring's fault names
+  pub run_before : {f : Cnf} {run_params : RunParamsValue} {store : StoreValue} {firsts : List S} {js : List (JobsValue S)}
+      → IsBegun f run_params store firsts js → (n : ℕ) → WereGathered view (take n js)
+      → WereJudged view f run_params (take n firsts)
+  run_before {f} {run_params} begun n (vs, reports, lasts, dropped, so) =
+      were_judged f run_params _ begun.store_is _ _ so.found vs (ready_take _ _ _ _ n _ _ begun.ready) so.finish so.synced so.one
+
+  -- whose mark was missed was read out
+  pub read_out_of : (one : Option (JobsValue S)) → IsSomeAnd one (λ j. MissesMark view j.reader)
+      → IsSomeAnd one (λ j. WasReadOut view j.reader)
+  read_out_of None missed = absurd missed
+  read_out_of (Some j) missed = record { last = missed.last; stream = missed.stream; ended = missed.ended; read = missed.read }
+
+  reader_read_out : (f : Cnf) (run_params : RunParamsValue) (store : StoreValue) (s : ℕ) (firsts : List S) (js : List (JobsValue S)) (n : ℕ)
+      → HaveReadyJobs store f run_params s firsts js → IsSomeAnd (slice_get js n) (λ one. WasReadOut view one.reader)
+      → IsSomeAnd (slice_get firsts n) (WasReadOut view)
+  reader_read_out f run_params store s [] [] n ready read = absurd read
+  reader_read_out f run_params store s [] (j ∷ js) n ready read = absurd ready
+  reader_read_out f run_params store s (e ∷ es) [] n ready read = absurd ready
+  reader_read_out f run_params store s (e ∷ es) (j ∷ js) zero ready read = subst (WasReadOut view) ready.0.reader_is read
+  reader_read_out f run_params store s (e ∷ es) (j ∷ js) (suc n) ready read =
+      reader_read_out f run_params store (s + 1) es js n ready.1 read
+
+  -- and that one's reader was read out
+  pub run_read_out : {f : Cnf} {run_params : RunParamsValue} {store : StoreValue} {firsts : List S} {js : List (JobsValue S)}
+      → IsBegun f run_params store firsts js → (n : ℕ) → IsSomeAnd (slice_get js n) (λ one. WasReadOut view one.reader)
+      → IsSomeAnd (slice_get firsts n) (WasReadOut view)
+  run_read_out begun n read = reader_read_out _ _ _ _ _ _ n begun.ready read
+
+-- ---- 'unsatisfiable'
+
+-- where one of the reports says 'empty', no assignment makes every clause of the formula true
+sound_by : (f : Cnf) (run_params : RunParamsValue) (h : History) → IsLegal f run_params.layout h
+    → (s : ℕ) (streams : List Stream) (reports : List Report)
+    → AreJudgedIn run_params (λ t. true) h s streams reports → list_any (λ report. report.empty) reports ≡ true → IsUnsatisfiable f
+sound_by f run_params h legal s [] [] judged is = absurd (let no : false ≡ true = is in cc)
+sound_by f run_params h legal s [] (r ∷ rs) judged is = absurd judged
+sound_by f run_params h legal s (t ∷ ts) [] judged is = absurd judged
+sound_by f run_params h legal s (t ∷ ts) (r ∷ rs) judged is =
+    let this = judged.0 refl in
+    elim (or_cases r.empty (list_any (λ (report : Report). report.empty) rs) is) [
+      | inl here ↦ sound f run_params.layout h (stream_params run_params s) t this.0 r legal this.1 this.2 here
+      | inr later ↦ sound_by f run_params h legal (s + 1) ts rs judged.1 later
+    ]
+
+some_empty : (a b : Bool) → (if a then Unsatisfiable else if b then UnsatisfiableUnder else Unknown) ≡ Unsatisfiable → a ≡ true
+some_empty true b is = refl
+some_empty false true is = absurd (let no : UnsatisfiableUnder ≡ Unsatisfiable = is in cc)
+some_empty false false is = absurd (let no : Unknown ≡ Unsatisfiable = is in cc)
+
+-- the verdict 'unsatisfiable' is that of a report
+pub is_empty : (reports : List Report) (verdict : Verdict) → verdict ≡ verdict_of reports → verdict ≡ Unsatisfiable
+    → list_any (λ report. report.empty) reports ≡ true
+is_empty reports verdict of is =
+    some_empty (list_any (λ (report : Report). report.empty) reports) (list_any (λ (report : Report). report.within) reports) (sym of ∙ is)
+
+-- so it is true
+pub sound_run : (f : Cnf) (run_params : RunParamsValue) (observed : List InputObservation) (reports : List Report) (verdict : Verdict)
+    → IsRun f run_params observed reports → verdict ≡ verdict_of reports → verdict ≡ Unsatisfiable → IsUnsatisfiable f
+sound_run f run_params observed reports verdict run of is =
+    sound_by f run_params run.history run.legal 1 run.streams reports run.judged (is_empty reports verdict of is)

@@ -1,0 +1,13 @@
+-- What is left of a clause where some literals are false (this project's own).
+use Rattle.std.specs.Prelude.{ℤ, List}
+use Rattle.lrup_model.specs.Clause.{Clause}
+use Rattle.lrup_model.specs.Propagation.{IsConflict, IsUnit}
+use Rattle.propagate.specs.declared.marks.ClauseStatus.{ClauseStatus}
+use Rattle.propagate.specs.declared.marks.ClauseStatus.TheVariants.{Nothing, One, More}
+
+-- nothing, one literal that is neither true nor false, or more than that
+abbrev pub HasStatus : List ℤ → Clause → ClauseStatus → Type 0
+HasStatus falses clause Nothing = IsConflict falses clause
+HasStatus falses clause (One literal) = IsUnit falses clause literal
+HasStatus falses clause More =
+    (¬ IsConflict falses clause) × ((literal : ℤ) → ¬ IsUnit falses clause literal)

@@ -1,0 +1,93 @@
+-- Streams that are valid together, by turns, on one thread.
+use Rattle.std.proofs.Common.{◌≡◌, ℕ, ◌-◌, List, [], ◌++◌, length, map, Option, refl, sym, ap, subst, ◌∙◌, arith}
+use Rattle.std.specs.List.{flat_map}
+use Rattle.std.specs.Io.KnownBytes.{Consumes}
+use Rattle.std.proofs.lemmas.Option.{slice_get_within}
+use Rattle.lrup_model.specs.Formula.{Cnf}
+use Rattle.lrup_text.specs.Laws.{EmptyCut, OneCut}
+use Rattle.lrup_text.specs.Lines.{line_text}
+use Rattle.lrup_text.specs.declared.device.StreamEnd.TheVariants as stream_ends
+use Rattle.stream_check.specs.declared.report.Ending.TheVariants as endings
+use Rattle.stream_check.specs.declared.report.Report.{Report}
+use Rattle.stream_check.specs.Judging.{JudgesBlocks}
+use Rattle.stream_check.specs.Laws.{BlocksGoAlike, DecidedBeforeFailure, EndJudged, FreshLeft, GoodLineTaken, IsOfMemory}
+use Rattle.stream_check.specs.Laws.{LegalNeverFork, OneReport}
+use Rattle.runs.specs.Closed.{IsOfStream}
+use Rattle.runs.specs.Streams.{Block, blocks_of, RunParamsValue, stream_params}
+use Rattle.runs.specs.lemmas.StreamLemmas.{judged_out, observed_count}
+use Rattle.runs.specs.Turns.{IsByTurns, IsOrderedByTurns}
+use Rattle.run_laws.specs.Valid.{valid_report}
+use Rattle.run_laws.specs.Together.{Step, lines_by}
+use Rattle.run_laws.specs.TurnsLaws.{ValidByTurns}
+use Rattle.run_laws.proofs.Places.{has_place}
+use Rattle.run_laws.proofs.RunLemmas.{judged_to, observed_at}
+use Rattle.run_laws.proofs.TogetherLemmas.{each_from, each_count, each_own, at_stream, text_stream, IsOrderOf, valid_ordered}
+use Rattle.run_laws.proofs.TurnsLemmas.{own_at, reports_same}
+
+-- a valid report isn't of memory
+not_memory : (run_params : RunParamsValue) (steps : List Step) (t : ℕ) (report : Report)
+    → valid_report run_params t (lines_by t steps) ≡ report
+    → ¬ IsOfMemory report
+not_memory run_params steps t report is memory =
+    let no : endings.Ended ≡ endings.Memory memory.0 = ap (λ (r : Report). r.ending) is ∙ memory.1 in cc
+
+-- what is valid has an order by turns
+valid_order_by_turns : (f : Cnf) (run_params : RunParamsValue) (steps : List Step) (order : List Block) → IsOrderOf f run_params steps order
+    → IsByTurns (map (λ step. step.stream) steps)
+    → IsOrderedByTurns f run_params (each_from run_params.layout.streams 1 (text_stream steps)) (each_from run_params.layout.streams 1
+    (λ t. valid_report run_params t (lines_by t steps)))
+valid_order_by_turns f run_params steps order is turns = record {
+  order = record {
+    blocks = order;
+    within = is.within;
+    legal = is.legal;
+    judged =
+        each_own run_params (λ t. blocks_of t order) run_params.layout.streams 1 (text_stream steps)
+        (λ t. valid_report run_params t (lines_by t steps))
+        (λ t. judged_out (stream_params run_params t) (flat_map line_text (lines_by t steps)) [] stream_ends.Ended (blocks_of t order)
+        (valid_report run_params t (lines_by t steps)) (is.judged t));
+  };
+  turns = subst IsByTurns (sym is.streams) turns;
+}
+
+pub valid_by_turns : GoodLineTaken → FreshLeft → EndJudged → EmptyCut → OneCut
+    → DecidedBeforeFailure → OneReport → LegalNeverFork → BlocksGoAlike → ValidByTurns
+unfolding valid_order_by_turns
+valid_by_turns taken fresh ends empty_cut one_cut decided one forks alike f run_params steps observed reports s report cnf fits
+    valid turns texts x a fine says =
+    let n = run_params.layout.streams in
+    let said : ℕ → Report = λ t. valid_report run_params t (lines_by t steps) in
+    let found = valid_ordered taken fresh ends empty_cut one_cut f run_params steps cnf fits valid in
+    let b = valid_order_by_turns f run_params steps found.0 found.1 turns in
+    let many : length x.streams ≡ n = x.count in
+    let count : length observed ≡ n = sym (observed_count observed x.streams x.match_inputs) ∙ many in
+    let same : reports ≡ each_from n 1 said =
+    reports_same alike forks one f run_params x.streams (each_from n 1 (text_stream steps)) reports (each_from n 1 said) a b many
+    (each_count n 1 (text_stream steps))
+    (λ t stream other its other_report at there tells also.
+    let first = at.0 in
+    let c = stream_params run_params t in
+    let within = slice_get_within x.streams (t - 1) stream at.1 in
+    let here = has_place observed t first (omega (arith, within, many, count, first)) in
+    let is = observed_at observed x.streams t here.0 stream x.match_inputs here.1 at in
+    let whole = flat_map line_text (lines_by t steps) in
+    let its_valid : valid_report run_params t (lines_by t steps) ≡ other_report = at_stream n t said other_report also in
+    let cut = fine t its tells in (
+      record {
+        bytes = whole;
+        end = stream_ends.Ended;
+        report = its;
+        other = other_report;
+        first =
+            judged_to decided c stream.end stream.bytes stream.unneeded whole here.0.left here.0.has_failed (blocks_of t a.order.blocks) its
+            (subst (λ (e : Option (List ℕ)). Consumes e here.0.left (stream.bytes ++ stream.unneeded)) (texts t here.0 here.1) is.consumes)
+            is.ends is.needed cut.1
+            (own_at run_params (λ k. blocks_of k a.order.blocks) t x.streams reports stream its a.order.judged at tells);
+        second = subst (λ (r : Report). JudgesBlocks c whole stream_ends.Ended (blocks_of t found.0) r) its_valid (found.1.judged t);
+        memory = cut.0;
+        none = not_memory run_params steps t other_report its_valid;
+      },
+      refl,
+      refl,
+    )) in
+    sym (at_stream n s said report (subst (λ (rs : List Report). IsOfStream rs s report) same says))

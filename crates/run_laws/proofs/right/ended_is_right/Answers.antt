@@ -1,5 +1,0 @@
-use Rattle.run_laws.proofs.RightExactly.{ended_is_right as lemma}
-use Rattle.run_laws.proofs.right.ended_is_right.Goals as goal
-
-pub returns : goal.returns
-returns c = lemma c.over_stays.ensures c.a_stream_is_cut_in_one_way.ensures c.no_bytes_have_no_lines.ensures

@@ -1,5 +1,0 @@
-use Rattle.run_laws.proofs.RightCites.{right_cite_within as lemma}
-use Rattle.run_laws.proofs.right.right_cite_within.Goals as goal
-
-pub returns : goal.returns
-returns c = lemma c.no_bytes_have_no_lines.ensures

@@ -1,0 +1,8 @@
+use Rattle.run_laws.proofs.ValidLemmas.{valid_reported as lemma}
+use Rattle.run_laws.proofs.valid.valid_reported.Goals as goal
+
+pub returns : goal.returns
+returns c = lemma c.good_line_taken.ensures c.fresh_left.ensures c.end_judged.ensures
+    c.no_bytes_have_no_lines.ensures c.a_stream_is_cut_in_one_way.ensures
+    c.valid_cite_within.ensures c.beginnings_within.ensures c.closed_is_group.ensures c.alone_decides.ensures
+    c.decided_before_failure.ensures

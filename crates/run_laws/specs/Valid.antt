@@ -1,0 +1,136 @@
+-- Valid proofs: what a stream that cites only its own clauses and the formula's has to write. The lines are replayed over a
+-- database of clauses, as LRAT proofs are (Cruz-Filipe et al., CADE 2017), without RAT. This project's own are identities by
+-- residue, each above those before it, room and imports; and that no hint comes after the conflict, and nothing is deleted that
+-- isn't there. All is read off the lines: there is no history here, and no checker.
+use Rattle.std.specs.Prelude.{◌≡◌, ◌⊎◌, ◌↔◌, ◌≤◌, ◌-◌, ◌==◌, ◌&&◌, ◌++◌, ℕ, ℤ, nat_lt, nat_le, false, IsTrue, List, [], ◌∷◌, length, Option, None, Some, IsSome, if◌then◌else◌}
+use Rattle.std.specs.List.{AllByRecursion, AllZip, Any, flat_map}
+use Rattle.lrup_model.specs.Clause.{Clause, Has}
+use Rattle.lrup_model.specs.Distinct.{distinct}
+use Rattle.lrup_model.specs.Formula.{Cnf, clause_at}
+use Rattle.lrup_model.specs.Layout.{LayoutValue, Owns}
+use Rattle.lrup_text.specs.Lines.{StreamLine, Addition, Deletion, Import, IsWithinLimits, line_text}
+use Rattle.stream_check.specs.declared.report.Ending.TheVariants as endings
+use Rattle.stream_check.specs.declared.report.Report.{Report}
+use Rattle.stream_check.specs.Additions.{AdditionContext, IsValidAddition}
+use Rattle.stream_check.specs.StreamContext.{is_among}
+use Rattle.stream_check.specs.Judging.{report_of}
+use Rattle.runs.specs.Streams.{RunParamsValue, stream_params}
+
+-- What the lines so far leave: the clauses that may be cited, imported and deleted, by identity; the greatest identity that was
+-- added, or the formula's last one; and the room that is left, in literals.
+pub record Database : Type 0 where
+  pub clauses : ℕ → Option Clause
+  pub last : ℕ
+  pub free : ℕ
+
+-- before the first line: the formula's clauses, from 1 on
+abbrev pub first_database : Cnf → LayoutValue → Database
+first_database formula layout = record {
+  clauses = λ id.
+      if nat_lt 0 id && nat_le id (length formula.clauses) then Some (clause_at formula id)
+      else None;
+  last = layout.clauses;
+  free = layout.room;
+}
+
+-- after a line: an addition puts its clause at its identity, each literal once; a deletion takes clauses away; an import changes
+-- nothing
+abbrev pub after_line : Database → StreamLine → Database
+after_line base (Addition id lits hints) = record {
+  clauses = λ j. if j == id then Some (distinct lits) else base.clauses j;
+  last = id;
+  free = base.free - length (distinct lits);
+}
+after_line base (Deletion lead ids) = record {
+  clauses = λ j. if is_among ids j then None else base.clauses j;
+  last = base.last;
+  free = base.free;
+}
+after_line base (Import id lits) = base
+
+-- what an addition after these lines stands on: its hints name the clauses that are there
+abbrev pub database_context : Database → AdditionContext
+database_context base = record {
+  last = base.last;
+  free = base.free;
+  Names = AllZip (λ hint clause. base.clauses hint ≡ Some clause);
+}
+
+-- no number stands twice
+abbrev pub AreDistinct : List ℕ → Type 0
+AreDistinct [] = Unit {0}
+AreDistinct (id ∷ ids) = (is_among ids id ≡ false) × AreDistinct ids
+
+-- A deletion is valid: each of its identities has a clause, and none stands twice.
+pub record IsValidDeletion (base : Database) (ids : List ℕ) : Type 0 where
+  pub there : AllByRecursion (λ id. IsSome (base.clauses id)) ids
+  pub once : AreDistinct ids
+
+-- An import is valid: its identity isn't the stream's own, and the clause that is there has its literals, in whatever order and
+-- however often each is written.
+pub record IsValidImport (layout : LayoutValue) (s : ℕ) (base : Database) (id : ℕ)
+    (lits : List ℤ) : Type 0 where
+  pub other : ¬ Owns layout s id
+  pub clause : Clause
+  pub there : base.clauses id ≡ Some clause
+  pub same : (l : ℤ) → Has clause l ↔ Has lits l
+
+-- a line of stream s is valid, after lines that left this database
+abbrev pub IsValidLine : LayoutValue → ℕ → Database → StreamLine → Type 0
+IsValidLine layout s base (Addition id lits hints) =
+    IsValidAddition layout s (database_context base) id lits hints
+IsValidLine layout s base (Deletion lead ids) = IsValidDeletion base ids
+IsValidLine layout s base (Import id lits) = IsValidImport layout s base id lits
+
+-- each line is valid after those before it
+abbrev pub AreValid : LayoutValue → ℕ → Database → List StreamLine → Type 0
+AreValid layout s base [] = Unit {0}
+AreValid layout s base (line ∷ lines) =
+    IsValidLine layout s base line × AreValid layout s (after_line base line) lines
+
+-- The bytes are a valid proof, as stream s, by these lines: they are the lines' texts and nothing else, and each line is valid.
+pub record IsValidProof (formula : Cnf) (layout : LayoutValue) (s : ℕ) (bytes : List ℕ)
+    (lines : List StreamLine) : Type 0 where
+  pub text : bytes ≡ flat_map line_text lines
+  pub fits : AllByRecursion IsWithinLimits lines
+  pub valid : AreValid layout s (first_database formula layout) lines
+
+-- The bytes begin with a valid proof, as stream s, by these lines: with the lines' texts, and each line is valid. Nothing is asked of what
+-- comes behind them.
+pub record IsValidPrefix (formula : Cnf) (layout : LayoutValue) (s : ℕ) (bytes : List ℕ)
+    (lines : List StreamLine) : Type 0 where
+  pub more : List ℕ
+  pub text : bytes ≡ flat_map line_text lines ++ more
+  pub fits : AllByRecursion IsWithinLimits lines
+  pub valid : AreValid layout s (first_database formula layout) lines
+
+-- the line adds the empty clause
+abbrev pub AddsEmpty : StreamLine → Type 0
+AddsEmpty (Addition id lits hints) = lits ≡ []
+AddsEmpty (Deletion lead ids) = ⊥
+AddsEmpty (Import id lits) = ⊥
+
+-- The bytes are a valid refutation of the formula, as stream s: they begin with valid lines, one of which adds the empty clause. What
+-- comes behind these lines may be anything.
+pub record IsValidRefutation (formula : Cnf) (layout : LayoutValue) (s : ℕ)
+    (bytes : List ℕ) : Type 0 where
+  pub lines : List StreamLine
+  pub valid : IsValidPrefix formula layout s bytes lines
+  pub empty : Any AddsEmpty lines
+
+-- The report of a valid proof: that it ended; what was added and deleted, as counted off the lines; and whether a line adds the
+-- empty clause, or one within the cube.
+abbrev pub valid_report : RunParamsValue → ℕ → List StreamLine → Report
+valid_report run_params s lines = report_of (stream_params run_params s) lines 0 endings.Ended
+
+-- the report tells at least what the other does, whatever its ending is
+pub record TellsAtLeast (report least : Report) : Type 0 where
+  pub added : least.added ≤ report.added
+  pub deleted : least.deleted ≤ report.deleted
+  pub empty : IsTrue least.empty → IsTrue report.empty
+  pub within : IsTrue least.within → IsTrue report.within
+
+-- memory ran out, or a read failed, in one of the first lines, so many
+abbrev pub IsCutOffIn : ℕ → Report → Type 0
+IsCutOffIn count report = (line : ℕ) × (line ≤ count)
+    × ((report.ending ≡ endings.Memory line) ⊎ (report.ending ≡ endings.ReadFailed line))

@@ -1,0 +1,94 @@
+-- Laws of valid proofs. Each is the contract of a function of laws.
+use Rattle.std.specs.Prelude.{◌≡◌, ◌⊎◌, ◌↔◌, ℕ, Bool, IsTrue, List, length, Some}
+use Rattle.std.specs.List.{AllByRecursion, Any, sum_by}
+use Rattle.lrup_model.specs.Formula.{Cnf, IsCnf}
+use Rattle.lrup_model.specs.Layout.{LayoutValue, IsLayout, Fits, IsStream}
+use Rattle.lrup_text.specs.Lines.{StreamLine, Cut}
+use Rattle.lrup_text.specs.declared.device.StreamEnd.TheVariants as stream_ends
+use Rattle.stream_check.specs.declared.report.Ending.TheVariants as endings
+use Rattle.stream_check.specs.declared.report.Report.{Report}
+use Rattle.stream_check.specs.Laws.{IsOfMemory, IsOfFailure}
+use Rattle.stream_check.specs.StreamContext.{deleted_by}
+use Rattle.runs.specs.Closed.{IsOfStream, IsOwnedWithin, CiteWithin}
+use Rattle.runs.specs.Streams.{InputObservation, RunParamsValue}
+use Rattle.run_laws.specs.Groups.{one, IsReportAlone, IsRun}
+use Rattle.run_laws.specs.Valid.{AddsEmpty, IsCutOffIn, IsValidPrefix, IsValidProof, TellsAtLeast, valid_report}
+
+-- a valid proof cites and imports no clause of another stream
+abbrev pub ValidCiteWithin : Type 0
+ValidCiteWithin = (f : Cnf) (p : LayoutValue) (s : ℕ) (bytes : List ℕ) (lines : List StreamLine)
+    → Fits p f → IsValidProof f p s bytes lines → CiteWithin p (one s) bytes
+
+-- Valid proofs are accepted: alone, a valid proof may have the report that it ended, with its additions and deletions counted.
+abbrev pub ValidAccepted : Type 0
+ValidAccepted =
+    (f : Cnf) (run_params : RunParamsValue) (s : ℕ) (bytes : List ℕ) (lines : List StreamLine)
+    → IsCnf f → Fits run_params.layout f → IsStream run_params.layout s
+    → IsValidProof f run_params.layout s bytes lines
+    → IsReportAlone f run_params s bytes stream_ends.Ended (valid_report run_params s lines)
+
+-- Alone, a valid proof has no other report.
+abbrev pub ValidHasOneReport : Type 0
+ValidHasOneReport = (f : Cnf) (run_params : RunParamsValue) (s : ℕ) (bytes : List ℕ)
+    (lines : List StreamLine) (report : Report)
+    → IsCnf f → Fits run_params.layout f → IsStream run_params.layout s
+    → IsValidProof f run_params.layout s bytes lines
+    → IsReportAlone f run_params s bytes stream_ends.Ended report
+    → report ≡ valid_report run_params s lines
+
+-- A valid proof has this report in every run in which its reader has these bytes, unless memory ran out or a read failed: whatever
+-- the other streams are, and however the threads ran.
+abbrev pub ValidReported : Type 0
+ValidReported =
+    (f : Cnf) (run_params : RunParamsValue) (s : ℕ) (bytes : List ℕ) (lines : List StreamLine)
+    (observed : List InputObservation) (observation : InputObservation) (reports : List Report)
+    (report : Report)
+    → IsCnf f → Fits run_params.layout f → IsStream run_params.layout s
+    → IsValidProof f run_params.layout s bytes lines
+    → IsRun f run_params observed reports → IsOfStream observed s observation
+    → observation.entry ≡ Some bytes
+    → IsOfStream reports s report → ¬ IsOfMemory report → ¬ IsOfFailure report
+    → report ≡ valid_report run_params s lines
+
+-- Where the bytes only begin with a valid proof, the report tells at least what these lines do, whatever comes behind them; unless
+-- memory ran out, or a read failed, in these lines.
+abbrev pub ValidBegins : Type 0
+ValidBegins =
+    (f : Cnf) (run_params : RunParamsValue) (s : ℕ) (bytes : List ℕ) (lines : List StreamLine)
+    (observed : List InputObservation) (observation : InputObservation) (reports : List Report)
+    (report : Report)
+    → IsCnf f → Fits run_params.layout f → IsStream run_params.layout s
+    → IsValidPrefix f run_params.layout s bytes lines
+    → IsRun f run_params observed reports → IsOfStream observed s observation
+    → observation.entry ≡ Some bytes
+    → IsOfStream reports s report
+    → TellsAtLeast report (valid_report run_params s lines) ⊎ IsCutOffIn (length lines) report
+
+-- A valid proof's count of deletions is that of all identities that its lines delete: 64 bits suffice for it
+abbrev pub ValidCounted : Type 0
+ValidCounted =
+    (f : Cnf) (run_params : RunParamsValue) (s : ℕ) (bytes : List ℕ) (lines : List StreamLine)
+    → IsCnf f → IsLayout run_params.layout → Fits run_params.layout f → IsStream run_params.layout s
+    → IsValidProof f run_params.layout s bytes lines
+    → (valid_report run_params s lines).deleted ≡ sum_by (λ line. length (deleted_by line)) lines
+
+-- no line that the bytes are cut into deletes an identity that a stream outside the set owns
+pub record DeleteWithin (p : LayoutValue) (set : ℕ → Bool) (bytes : List ℕ) : Type 0 where
+  pub lines : List StreamLine
+  pub rest : List ℕ
+  pub cut : Cut bytes lines rest
+  pub within : AllByRecursion (λ line. AllByRecursion (IsOwnedWithin p set) (deleted_by line)) lines
+
+-- Conversely, a stream that cites, imports and deletes only its own clauses and the formula's is valid if it may have, alone, a
+-- report that it ended. (One that deletes what another stream never had may end too, and isn't valid.)
+abbrev pub EndedIsValid : Type 0
+EndedIsValid = (f : Cnf) (run_params : RunParamsValue) (s : ℕ) (bytes : List ℕ) (report : Report)
+    → Fits run_params.layout f
+    → CiteWithin run_params.layout (one s) bytes → DeleteWithin run_params.layout (one s) bytes
+    → IsReportAlone f run_params s bytes stream_ends.Ended report → report.ending ≡ endings.Ended
+    → (lines : List StreamLine) × IsValidProof f run_params.layout s bytes lines
+
+-- the report says 'empty' exactly if some line adds the empty clause
+abbrev pub ValidEmpty : Type 0
+ValidEmpty = (run_params : RunParamsValue) (s : ℕ) (lines : List StreamLine)
+    → IsTrue (valid_report run_params s lines).empty ↔ Any AddsEmpty lines

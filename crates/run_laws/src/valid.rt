@@ -1,0 +1,138 @@
+//! Laws of valid proofs. Each function does nothing; its contract is the law, which holds of every formula, layout, stream and run.
+ghost use Rattle.run_laws.specs.AnyRun.{ValidInAnyRun};
+ghost use Rattle.run_laws.specs.Together.{ValidTogether, TogetherBegins};
+ghost use Rattle.run_laws.specs.ValidLaws.{ValidCiteWithin, ValidAccepted, ValidHasOneReport, ValidReported, ValidBegins, ValidCounted, EndedIsValid, ValidEmpty};
+
+use crate::groups::{alone_has_one_report, beginnings_within, closed_is_group};
+use lrup_text::laws::{
+    a_refused_text_holds_no_line, a_stream_is_cut_in_one_way, a_text_has_one_fault,
+    bytes_begin_with_one_line, no_bytes_have_no_lines, no_bytes_may_become_a_line,
+};
+use stream_check::laws::{
+    alone_decides, cited_fetched, counts_within, decided_before_failure, end_judged, fresh_left,
+    good_line_taken, over_stays,
+};
+
+/// A valid proof cites only its own clauses and the formula's.
+pub fn valid_cite_within()
+    ensures { ValidCiteWithin }
+{
+    no_bytes_have_no_lines();
+}
+
+/// Alone, a valid proof may have the report that it ended, with its additions and deletions counted.
+pub fn valid_accepted()
+    ensures { ValidAccepted }
+{
+    good_line_taken();
+    fresh_left();
+    end_judged();
+    no_bytes_have_no_lines();
+    a_stream_is_cut_in_one_way();
+}
+
+/// Alone, a valid proof has no other report.
+pub fn valid_has_one_report()
+    ensures { ValidHasOneReport }
+{
+    valid_accepted();
+    alone_has_one_report();
+}
+
+/// In every run a valid proof has this report, unless memory ran out or a read failed.
+pub fn valid_reported()
+    ensures { ValidReported }
+{
+    good_line_taken();
+    fresh_left();
+    end_judged();
+    no_bytes_have_no_lines();
+    a_stream_is_cut_in_one_way();
+    valid_cite_within();
+    beginnings_within();
+    closed_is_group();
+    alone_decides();
+    decided_before_failure();
+}
+
+/// In every run the report of a stream that begins with valid lines tells at least what these do, whatever comes behind them;
+/// unless memory ran out, or a read failed, in these lines.
+pub fn valid_begins()
+    ensures { ValidBegins }
+{
+    good_line_taken();
+    fresh_left();
+    end_judged();
+    no_bytes_have_no_lines();
+    a_stream_is_cut_in_one_way();
+    bytes_begin_with_one_line();
+    a_refused_text_holds_no_line();
+}
+
+/// All identities that a valid proof deletes are counted.
+pub fn valid_counted()
+    ensures { ValidCounted }
+{
+    good_line_taken();
+    fresh_left();
+    end_judged();
+    no_bytes_have_no_lines();
+    a_stream_is_cut_in_one_way();
+    counts_within();
+}
+
+/// A stream that cites, imports and deletes only its own clauses and the formula's, and that may end alone, is valid.
+pub fn ended_is_valid()
+    ensures { EndedIsValid }
+{
+    over_stays();
+    a_stream_is_cut_in_one_way();
+    no_bytes_have_no_lines();
+}
+
+/// The report of a valid proof says 'empty' exactly if some line adds the empty clause.
+pub fn valid_empty()
+    ensures { ValidEmpty }
+{}
+
+/// Where some legal history judges a closed set of streams, and one of them ended there, it has the same report in every run in which
+/// its reader has the same bytes, and the set's other readers have at least theirs, unless memory ran out or a read failed; or a line
+/// of it cites a clause of another stream that wasn't there, or wasn't any more.
+pub fn valid_in_any_run()
+    ensures { ValidInAnyRun }
+{
+    bytes_begin_with_one_line();
+    a_refused_text_holds_no_line();
+    a_text_has_one_fault();
+    no_bytes_may_become_a_line();
+    cited_fetched();
+}
+
+/// Where lines of a set of streams have a valid order, the report of each tells at least what its lines do, in every run in which the
+/// readers begin with them, unless memory ran out, or a read failed, in these lines; or one of them cites a clause of another stream
+/// that wasn't there, or wasn't any more.
+pub fn together_begins()
+    ensures { TogetherBegins }
+{
+    good_line_taken();
+    fresh_left();
+    end_judged();
+    no_bytes_have_no_lines();
+    a_stream_is_cut_in_one_way();
+    bytes_begin_with_one_line();
+    a_refused_text_holds_no_line();
+    cited_fetched();
+}
+
+/// Where nothing comes behind a stream's lines, it ended, as its valid report says, unless memory ran out or a read failed; or a line
+/// of it cites a clause of another stream that wasn't there, or wasn't any more.
+pub fn valid_together()
+    ensures { ValidTogether }
+{
+    good_line_taken();
+    fresh_left();
+    end_judged();
+    no_bytes_have_no_lines();
+    a_stream_is_cut_in_one_way();
+    valid_in_any_run();
+}

@@ -1,5 +1,0 @@
-use Rattle.run_laws_tests.proofs.WorkedLemmas.{shared_is_right}
-use Rattle.run_laws_tests.proofs.worked.streams_are_right_together.Goals as goal
-
-pub returns : goal.returns
-returns c = shared_is_right

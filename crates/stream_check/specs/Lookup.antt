@@ -1,0 +1,39 @@
+-- How an identity is looked up that a hint or an import names, and how often it is fetched (this project's own).
+use Rattle.std.specs.Prelude.{◌≡◌, ◌⊎◌, ◌≤◌, ◌++◌, ℕ, Bool, true, false, [], ◌∷◌, replicate, Result, Ok, Err}
+use Rattle.lrup_model.specs.Clause.{Clause}
+use Rattle.lrup_model.specs.Event.{History, Reply, vacant, live, retired, fetch}
+use Rattle.stream_check.specs.declared.fault.Fault.{Fault}
+use Rattle.stream_check.specs.declared.fault.Fault.TheVariants as faults
+use Rattle.stream_check.specs.declared.params.Ownership.{Ownership}
+use Rattle.stream_check.specs.declared.params.Ownership.TheVariants as ownerships
+use Rattle.stream_check.specs.StreamParams.{StreamParams, ownership_of}
+
+-- k vacant fetches of one identity and one last fetch, k at most `most`; if the last is vacant too, k is `most`
+abbrev pub FetchesUpTo : ℕ → ℕ → ℕ → History → Reply → Type 0
+FetchesUpTo most s id history reply = (k : ℕ) × (k ≤ most) × (reply ≡ vacant → k ≡ most)
+    × (history ≡ replicate k (fetch s id vacant) ++ fetch s id reply ∷ [])
+
+-- own identities and the formula's are fetched once, another stream's until it isn't vacant, and what is no identity never
+abbrev pub AsksAt : Ownership → StreamParams → ℕ → History → Reply → Type 0
+AsksAt ownerships.Formula params id history reply = history ≡ fetch params.stream id reply ∷ []
+AsksAt ownerships.Own params id history reply = history ≡ fetch params.stream id reply ∷ []
+AsksAt ownerships.Foreign params id history reply =
+    FetchesUpTo params.tries params.stream id history reply
+AsksAt ownerships.Outside params id history reply = (history ≡ []) × (reply ≡ vacant)
+
+-- the events of a hint, or of an import's identity, and the last reply, which is taken as vacant if there is no event
+abbrev pub Asks : StreamParams → ℕ → History → Reply → Type 0
+Asks params id history reply = AsksAt (ownership_of params id) params id history reply
+
+-- what the last reply comes to: the clause of a live identity, or the fault of a missing or a retired one
+abbrev pub answer_of : ℕ → Reply → Result Clause Fault
+answer_of id vacant = Err (faults.Missing id)
+answer_of id (live clause) = Ok clause
+answer_of id retired = Err (faults.Retired id)
+
+-- What a look-up comes to: an identity that the stream dropped isn't fetched, and is a fault; of another the last reply decides.
+abbrev pub LooksUp : StreamParams → (ℕ → Bool) → ℕ → History → Result Clause Fault → Type 0
+LooksUp params gone id history answer =
+    ((gone id ≡ true) × (history ≡ []) × (answer ≡ Err (faults.Dropped id)))
+    ⊎ ((gone id ≡ false) × (reply : Reply) × Asks params id history reply
+    × (answer ≡ answer_of id reply))
