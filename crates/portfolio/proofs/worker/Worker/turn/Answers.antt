@@ -16,7 +16,7 @@ loop-init g c = record {
   ready = c.requires.ready;
   params = refl;
   holds = (
-    g.synced.M.ClauseMap.moves_none c.args.map.now,
+    g.met.M.ClauseMap.moves_none c.args.map.now,
     worker_none (readers_view g.R.Source) c.args.self.now
         (g.M.ClauseMap.caller_view c.args.map.now).room,
   );
@@ -32,7 +32,7 @@ returns-then-ne-clause-holds g c =
     let room = (g.M.ClauseMap.caller_view mid).room in
     let differs : c.feed.result ≢ turns.More = search rules in (
       fed.0,
-      g.synced.M.ClauseMap.moves_append start mid end [] (joined fed.0) old.0 fed.1,
+      g.met.M.ClauseMap.moves_append start mid end [] (joined fed.0) old.0 fed.1,
       turn_blocks c.feed.result c.feed.new.self.checker.ending fed.0 differs c.feed.ensures.over fed.2,
       worker_turn (readers_view g.R.Source) c.args.self.now c.loop.self
           c.read.new.self c.feed.new.self (g.M.ClauseMap.caller_view start).room room (g.M.ClauseMap.caller_view end).room [] fed.0 old.1
@@ -73,7 +73,7 @@ loop-preserved g c =
       params = c.feed.ensures.params ∙ c.read.ensures.params ∙ c.loop.invariant.params;
       holds = (
         subst (λ (bs : List History). g.M.ClauseMap.moves start end (joined bs)) none
-            (g.synced.M.ClauseMap.moves_append start mid end [] (joined fed.0) old.0 fed.1),
+            (g.met.M.ClauseMap.moves_append start mid end [] (joined fed.0) old.0 fed.1),
         subst (λ (bs : List History). WorkerStep view c.args.self.now (g.M.ClauseMap.caller_view start).room bs c.feed.new.self
             (g.M.ClauseMap.caller_view end).room) none
             (worker_turn view c.args.self.now c.loop.self c.read.new.self c.feed.new.self (g.M.ClauseMap.caller_view start).room room
