@@ -94,7 +94,7 @@ pub report_alone : ReadersClosed → ToldIsReading → {S : Type 0} (view : Sour
     → IsIsolated view firsts lasts reports four two_terms → CiteWithin layout_of_two (one 1) bytes
     → IsOfStream (map view.left firsts) 1 (Some bytes) → IsOfStream (map view.has_failed lasts) 1 false
     → IsOfStream reports 1 report → ¬ IsOfMemory report → IsOnlyReport bytes report
-report_alone closes reads view firsts lasts bytes reports report (isolated, run, read) cites entry fine says memory =
+report_alone closes reads view firsts lasts bytes reports report (isolated, (run, read)) cites entry fine says memory =
     let tells = tellings view firsts lasts in
     let first = first_told view firsts lasts run.streams bytes read entry fine in
     let closed = closes layout_of_two (one 1) tells run.streams run.are_told
@@ -147,7 +147,7 @@ order_says streams reports verdict (order, comes) is = record {
 -- A run's verdict is that of an order of its lines, by what it promises.
 pub has_order : (told : List Telling) (reports : List Report) (h : History) (verdict : Verdict) → HasOrdered told reports h four two_terms
     → verdict ≡ verdict_of reports → FoundStays four layout_of_two (λ s. true) h → HasOrder verdict
-has_order told reports h verdict (serializable, run, same) is stays =
+has_order told reports h verdict (serializable, (run, same)) is stays =
     order_says run.streams reports verdict
     ((serializable run).1 (subst (FoundStays four layout_of_two (λ s. true)) (sym same) stays)) is
 
