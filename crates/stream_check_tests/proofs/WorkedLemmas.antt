@@ -1,10 +1,9 @@
 -- Lemmas for the worked example.
-use Rattle.std.proofs.Common.{◌≤◌, ℕ, ℤ, nat_abs, [], ◌∷◌, List, Ok, Err, refl, inr, arith}
-use Rattle.std.specs.List.{AllByRecursion}
+use Rattle.std.proofs.Common.{ℕ, [], ◌∷◌, List, Ok, Err, refl, inr, arith}
 use Rattle.lrup_model.specs.Event.{History, vacant, live}
 use Rattle.test_support.specs.Worked.{first, second, unit}
 use Rattle.test_support.specs.WorkedLemmas.{unit_is_proper}
-use Rattle.lrup_text.specs.Lines.{Addition, Import}
+use Rattle.lrup_text.specs.Lines.{Addition}
 use Rattle.stream_check.specs.declared.fault.Fault.{Fault}
 use Rattle.stream_check.specs.declared.fault.Fault.TheVariants as faults
 use Rattle.stream_check.specs.Verdicts.{Bad}

@@ -1,4 +1,4 @@
-use Rattle.std.proofs.Common.{◌≡◌, ℤ, pos, negsuc, [], ◌∷◌, inl, inr, refl, arith}
+use Rattle.std.proofs.Common.{◌≡◌, pos, negsuc, inl, inr, refl, arith}
 use Rattle.test_support.specs.Worked.{first}
 use Rattle.stream_check_tests.proofs.WorkedLemmas.{first_looked, six_looked}
 use Rattle.test_support.specs.WorkedLemmas.{same_first}
