@@ -5,7 +5,8 @@
 
 In specs/ stands what contracts of public functions say, laws among them: what they cite, and what that rests on; in specs/internal/
 what only contracts of private functions say; in specs/lemmas/ the lemmas, which other crates' proofs may cite. A definition that no
-contract cites stands in one of the last two. Lib.antt lists `internal` and `lemmas` last. The status is 1 if something is listed.
+contract cites stands in one of the last two. Each list of modules has a module behind those that it uses, and Lib.antt has `internal`
+and `lemmas` last. The status is 1 if something is listed.
 
 A contract is a clause, the value that contracts see in place of a type, or a member of a trait. How a type's value comes from its
 fields, and what holds of them, is private. What another crate's contracts cite is public, whosever they are. Crates of tests have no
@@ -144,14 +145,28 @@ def misplaced(public: Set[Key], private: Set[Key]) -> Iterator[str]:
                     yield f"{path.relative_to(ROOT)}:{line}: {name} belongs in {wanted}: {why}"
 
 
+def lists(crate: str) -> Iterator[Tuple[Path, str, List[str]]]:
+    """The files of a crate's specs that list modules, each with the module that it is and the names that it lists."""
+    folder = CRATES / crate / "specs"
+    for name in ("Lib", "internal", "lemmas"):
+        path = folder / f"{name}.antt"
+        if path.exists():
+            yield path, "" if name == "Lib" else name + ".", antt.read(path).modules
+
+
 def unordered() -> Iterator[str]:
-    """Lists of modules where `internal` and `lemmas` don't come last, in this order."""
+    """Modules that are listed before one that they use; and lists where `internal` and `lemmas` don't come last, in this order."""
     for crate in ALL_CRATES:
-        path = CRATES / crate / "specs" / "Lib.antt"
-        listed = antt.read(path).modules if path.exists() else []
-        last = [name for name in ("internal", "lemmas") if name in listed]
-        if last and listed[-len(last):] != last:
-            yield f"{path.relative_to(ROOT)}: {' and '.join(last)} come last"
+        for path, above, listed in lists(crate):
+            last = [name for name in ("internal", "lemmas") if name in listed]
+            if last != listed[len(listed) - len(last):]:
+                yield f"{path.relative_to(ROOT)}: {' and '.join(last)} come last"
+            for at, name in enumerate(listed):
+                source = path.parent / (above + name).replace(".", "/")
+                uses = antt.read(source.with_suffix(".antt")).uses if name not in last else []
+                found = {match[1] for line in uses for match in [re.match(rf"use Rattle\.{crate}\.specs\.{re.escape(above)}(\w+)", line)] if match}
+                for later in sorted(found.intersection(listed[at + 1:])):
+                    yield f"{path.relative_to(ROOT)}: {name} uses {later}, and is listed before it"
 
 
 def main() -> None:

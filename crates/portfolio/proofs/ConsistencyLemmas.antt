@@ -31,10 +31,11 @@ use Rattle.portfolio.specs.declared.outcome.RunFault.{RunFault}
 use Rattle.portfolio.specs.declared.outcome.RunFault.TheVariants.{Layout, Memory, Ring, Spawn}
 use Rattle.portfolio.specs.declared.outcome.Verdict.{Verdict}
 use Rattle.portfolio.specs.declared.outcome.Verdict.TheVariants.{Unsatisfiable, UnsatisfiableUnder, Unknown}
-use Rattle.portfolio.specs.Dropping.{HasDropped, HaveDropped, WasReadOut, WereJudged}
+use Rattle.portfolio.specs.Dropping.{HasDropped, HaveDropped}
 use Rattle.portfolio.specs.Outcomes.{OptionsValue, layout_of, run_params_of, verdict_of}
 use Rattle.portfolio.specs.Histories.{InThreads, IsRunOf}
 use Rattle.portfolio.specs.internal.Threads.{AreGathered, HaveReadyJobs, IsBegun, HasReadyJobs, WereGathered}
+use Rattle.portfolio.specs.RingStops.{WasReadOut, WereJudged}
 use Rattle.runs.specs.Each.{EachOfThree}
 use Rattle.runs.specs.lemmas.EachLemmas.{each_count, each_take, zip_count}
 use Rattle.runs.specs.lemmas.StreamLemmas.{IsJudgedBy, observed_as_many, observed_count}

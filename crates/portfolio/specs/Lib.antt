@@ -2,6 +2,7 @@ pub mod Outcomes
 pub mod ReportText
 pub mod Saving
 pub mod Dropping
+pub mod RingStops
 pub mod Histories
 pub mod internal
 pub mod lemmas

@@ -12,7 +12,7 @@ ghost use Rattle.runs.specs.SequentialConsistency.{HaveOneHistory, seen_by};
 ghost use Rattle.portfolio.specs.Histories.{InThreads, IsRunOf};
 ghost use Rattle.portfolio.specs.Outcomes.{layout_of, run_params_of, verdict_of};
 ghost use Rattle.portfolio.specs.internal.Threads.{AreGathered, IsBegun, WereGathered};
-ghost use Rattle.portfolio.specs.Dropping.{StopsAtRing, WasReadOut};
+ghost use Rattle.portfolio.specs.RingStops.{StopsAtRing, WasReadOut};
 ghost use Rattle.runs.specs.Streams.{observations};
 ghost use Rattle.run_laws.specs.Groups.{AreIsolated};
 ghost use Rattle.run_laws.specs.Serializable.{IsSerializable};

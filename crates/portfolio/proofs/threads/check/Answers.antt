@@ -2,7 +2,7 @@ use Rattle.std.proofs.Common.{◌≡◌, ◌+◌, ◌-◌, ℕ, length, take, su
 use Rattle.std.specs.Prelude.{IsSomeAnd, slice_get}
 use Rattle.stream_threads.specs.Faults.{IsFaultWithin, IsFirstFault, fault_stream}
 use Rattle.runs.specs.Readings.{readers_view}
-use Rattle.portfolio.specs.Dropping.{WasReadOut}
+use Rattle.portfolio.specs.RingStops.{WasReadOut}
 use Rattle.portfolio.specs.internal.Threads.{WereGathered}
 use Rattle.portfolio.proofs.ConsistencyLemmas.{begin_take, finish_of, finish_count, read_out_of}
 use Rattle.portfolio.proofs.threads.check.Goals as goal
