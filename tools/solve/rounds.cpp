@@ -32,8 +32,8 @@ std::string Rounds::bytes_of_row() const { return counted(rows.memory, "byte") +
 bool Rounds::size(uint64_t clauses, uint64_t literals) {
     Shared *shared = teams.shared;
     uint64_t streams = std::max<uint64_t>(1, shared->streams), wanted = 0;
-    for (size_t k = 0; k < teams.size(); k++) wanted = std::max(wanted, LOAD(teams.part(k).wanted));
-    Row used = { teams.all(&Part::lines) - lines_before, teams.all(&Part::literals) - literals_before };
+    for (size_t k = 0; k < teams.size(); k++) wanted = std::max(wanted, LOAD(teams.engine_status(k).wanted));
+    Row used = { teams.all(&EngineStatus::lines) - lines_before, teams.all(&EngineStatus::literals) - literals_before };
     if (!rows_size(&rows, streams, clauses, literals, used, wanted)) return false;
     STORE(shared->most_lines, rows.row.lines);
     STORE(shared->most_literals, rows.row.room);
@@ -51,8 +51,8 @@ void Rounds::begin(const std::string &program) {
 Row Rounds::needed_row() const {
     Row needed = { 0, 0 };
     for (size_t k = 0; k < teams.size(); k++) {
-        needed.lines = std::max(needed.lines, LOAD(teams.part(k).round_lines));
-        needed.room = std::max(needed.room, LOAD(teams.part(k).round_literals));
+        needed.lines = std::max(needed.lines, LOAD(teams.engine_status(k).round_lines));
+        needed.room = std::max(needed.room, LOAD(teams.engine_status(k).round_literals));
     }
     return needed;
 }
@@ -125,10 +125,10 @@ void Rounds::start_checker(Row wanted) {
 void Rounds::feed(bool is_last) {
     if (!checker.child.pid) return;
     for (size_t k = 0; k < teams.size(); k++) {
-        uint64_t stream = LOAD(teams.part(k).stream);
+        uint64_t stream = LOAD(teams.engine_status(k).stream);
         if (stream == 0) continue;
         bool is_empty = state == MAPPING || teams[k].silent;
-        bool fed = checker.feed(stream - 1, is_empty ? 0 : LOAD(teams.part(k).bytes), !inputs.options.proofs);
+        bool fed = checker.feed(stream - 1, is_empty ? 0 : LOAD(teams.engine_status(k).bytes), !inputs.options.proofs);
         teams.tell_fed(k, checker.fed(stream - 1));
         if (fed && (is_last || state == SAVING)) checker.end_stream(stream - 1);
     }
@@ -142,16 +142,16 @@ void Rounds::end_streams() {
 // From round to round. The first lrupd starts once streams aren't short any more.
 std::string Rounds::look() {
     uint64_t least = test_hooks.first_words ? 1 : SHORT_STREAMS;
-    if (!checker.child.pid && teams.all(&Part::bytes) >= least) start_checker(rows.row);
+    if (!checker.child.pid && teams.all(&EngineStatus::bytes) >= least) start_checker(rows.row);
     for (size_t k = 0; k < teams.size() && state == OPEN; k++)
-        if (LOAD(teams.part(k).ended_round) == number) end_round();
-    if (state == ENDING && teams.have_all(&Part::ended_round, number)) {
+        if (LOAD(teams.engine_status(k).ended_round) == number) end_round();
+    if (state == ENDING && teams.have_all(&EngineStatus::ended_round, number)) {
         if (!checker.child.pid) start_checker(rows.row);
         checker.expect_round(Folder::name() + "/" + name_of_round(number + 1));
         state = SAVING;
     }
     std::string cause = state == SAVING && checker.awaits_sizes() ? map_round() : "";
-    if (state == MAPPING && cause.empty() && teams.have_all(&Part::mapped_round, number - 1)) go_on();
+    if (state == MAPPING && cause.empty() && teams.have_all(&EngineStatus::mapped_round, number - 1)) go_on();
     return cause;
 }
 
@@ -185,8 +185,8 @@ std::string Rounds::map_round() {
 
 void Rounds::begin_round() {
     number++;
-    lines_before = teams.all(&Part::lines);
-    literals_before = teams.all(&Part::literals);
+    lines_before = teams.all(&EngineStatus::lines);
+    literals_before = teams.all(&EngineStatus::literals);
     teams.open_streams(number);
     keep_sizes();
     checker.begin_round(rows.row, teams.stream_files());
@@ -206,7 +206,7 @@ void Rounds::go_on() {
 
 // Of the round that lrupd has saved.
 std::string Rounds::words() const {
-    uint64_t lines = teams.all(&Part::lines) - lines_before, literals = teams.all(&Part::literals) - literals_before;
+    uint64_t lines = teams.all(&EngineStatus::lines) - lines_before, literals = teams.all(&EngineStatus::literals) - literals_before;
     uint64_t taken = rows.formula + teams.shared->streams * (rows.row.lines + rows.row.room);
     return format("round %llu: %s with %s, in a row of %s; %s carried over", (unsigned long long)number,
                   counted(lines, "clause").c_str(), counted(literals, "literal").c_str(), counted(taken, "word").c_str(),

@@ -120,7 +120,7 @@ void Run::look_at_teams() {
 // The proof is written once the filter has written its last line; what the engine says counts for nothing.
 void Run::look_at_team(size_t k) {
     Team &team = teams[k];
-    Part &facts = teams.part(k);
+    EngineStatus &facts = teams.engine_status(k);
     if (LOAD(facts.unwritten) && team.filter.ended()) refuse("cannot write " + teams.stream_path(k, rounds.number) + ": " + facts.cause);
     if (LOAD(facts.refuted)) {
         if (teams.answered == 0) teams.answered = now();
