@@ -181,7 +181,7 @@ def stops(formula: str, proof: Text, cause: str, lines: str, words: List[str], w
     """At the line or the byte that has the cause; the lines before it are out."""
     text, said, status = exact([*words, written(formula, work)], proof)
     want((text, status), (lines, 1), "what came out")
-    if not said.startswith("exact: ") or cause not in said or said.count("\n") != 1:
+    if not said.startswith("lrup-exact: ") or cause not in said or said.count("\n") != 1:
         raise Failure(f"wanted a word on '{cause}', and not\n{said}")
 
 
@@ -251,8 +251,8 @@ def held_hints(program: str, count: int, work: Path) -> None:
 def compressed(name: str, words: List[str], work: Path) -> None:
     """A formula or a proof that is compressed: what unpacks it is told."""
     formula, packed = written(FOUR, work), written(COMPRESSED[name] + b"\0" * 100, work, "packed")
-    want(exact([*words, packed, "/dev/null"])[:], ("", f"exact: {packed}: compressed: {name} it\n", 1), "what is said of the formula")
-    want(exact([*words, formula, packed])[:], ("", f"exact: byte 1: compressed: {name} it\n", 1), "what is said of the proof")
+    want(exact([*words, packed, "/dev/null"])[:], ("", f"lrup-exact: {packed}: compressed: {name} it\n", 1), "what is said of the formula")
+    want(exact([*words, formula, packed])[:], ("", f"lrup-exact: byte 1: compressed: {name} it\n", 1), "what is said of the proof")
 
 
 def bad_other(line: str, work: Path) -> None:
@@ -282,7 +282,7 @@ def another(program: str, work: Path) -> None:
 
 def summary(work: Path) -> None:
     text, said, status = exact(["--help"])
-    want((text[:7], said, status), ("usage: ", "", 0), "the summary")
+    want((text[:18], said, status), ("usage: lrup-exact ", "", 0), "the summary")
 
 
 TOLD = "o 9 -1 -2 0\no 20 2 1 0\no 7 2 -1 0\no 1 1 -2 0\n"     # the four clauses, in another order
@@ -326,9 +326,6 @@ def refusals() -> List[Row]:
         ("no header", "1 2 0\n", "", "formula.cnf, line 1: no header", "", []),
         ("a formula that is too short", "p cnf 2 5\n1 2 0\n", FIRST, "formula.cnf, line 3: the end, after 1 of the 5 clauses", "", []),
         ("a formula with a variable too many", "p cnf 1 1\n1 2 0\n", FIRST, "formula.cnf, line 2: variable 2, above the 1 of", "", []),
-        ("a stream above their number", FOUR, FIRST, "the streams are 1 to N", "", ["--stream", "3", "--streams", "2"]),
-        ("an option without a stream's number", FOUR, FIRST, "no T=STREAM", "", ["--other", "x=/dev/null"]),
-        ("an option without a file", FOUR, FIRST, "no T=STREAM", "", ["--other", "2="]),
         ("a clause of another's file that isn't there", "p cnf 2 1\n1 2 0\n", "2 1 2 0 1 0\n4 1 0 3 0\n", "line 2: no conflict",
          "2 1 2 0 1 0\n", ONE_OF_TWO + ["--other", "2=/dev/null"]),
     ]
@@ -536,7 +533,7 @@ def hopeless(words: str, source: str, cause: str, work: Path) -> None:
     formula = written(FOUR, work)
     limit = lambda: resource.setrlimit(resource.RLIMIT_AS, (MEMORY, MEMORY))
     done = run(["sh", "-c", f"{source} | exec \"$@\"", "sh", FILTER, *words.format(formula=formula).split()], limit=60, preexec_fn=limit)
-    want(done[:], (FIRST if "line 2" in cause else "", f"exact: {cause}\n", 1), "what comes out, and what is said")
+    want(done[:], (FIRST if "line 2" in cause else "", f"lrup-exact: {cause}\n", 1), "what comes out, and what is said")
 
 
 def long_line(work: Path) -> None:
@@ -601,7 +598,7 @@ def live(form: str, options: List[str], work: Path) -> None:
 def fails(proof: str, out: Any, work: Path) -> None:
     """A stream that can't be written: one line, and status 1."""
     done = run([FILTER, written(FOUR, work)], proof, stdout=out)
-    want((done.status, done.err.count("\n"), done.err[:7]), (1, 1, "exact: "), "the status and the lines")
+    want((done.status, done.err.count("\n"), done.err[:12]), (1, 1, "lrup-exact: "), "the status and the lines")
 
 
 def full(proof: str, work: Path) -> None:
@@ -623,13 +620,14 @@ def unreadable(words: List[str], work: Path) -> None:
     """One line, and status 1."""
     formula = written(FOUR, work)
     text, said, status = exact([word.format(formula=formula, work=work) for word in words])
-    want((text, status, said.count("\n"), said[:7]), ("", 1, 1, "exact: "), f"what is said of {words}")
+    want((text, status, said.count("\n"), said[:12]), ("", 1, 1, "lrup-exact: "), f"what is said of {words}")
 
 
-def usage(words: List[str], work: Path) -> None:
+def usage(words: List[str], cause: str, work: Path) -> None:
+    """A mistake in the command line: by the name under which the program is installed."""
     formula = written(FOUR, work)
     text, said, status = exact([word.format(formula=formula) for word in words])
-    want((text, status, "usage: " in said), ("", 2, True), f"what is said of {words}")
+    want((text, status, said[:18], said.splitlines()[-1]), ("", 2, "usage: lrup-exact ", f"lrup-exact: error: {cause}"), f"{words}")
 
 
 def limits(program: str) -> List[Row]:
@@ -667,9 +665,16 @@ def pipes_and_files() -> List[Row]:
              ("a reader that goes away", left), ("standard input closed", closed_input)]
     for words in ("{work}/none", "{work}", "{formula} {work}/none", "{formula} {work}", "--other 2={work}/none {formula}"):
         runs.append((words, unreadable, words.split()))
-    for words in ("", "--help-me {formula}", "--format dimacs {formula}", "{formula} - -", "--stream", "--stream x {formula}",
-                  "{formula} --format"):
-        runs.append((f"exact {words}", usage, words.split()))
+    for words, cause in (("", "no FORMULA"), ("--help-me {formula}", "no such option: --help-me"),
+                         ("--format dimacs {formula}", "no form of a proof: dimacs"), ("{formula} x y", "one word too many: y"),
+                         ("{formula} -", "no such option: -"),
+                         ("--stream", "no value after --stream"), ("--stream x {formula}", "no number of a stream: x"),
+                         ("--stream 3 --streams 2 {formula}", "--stream takes 1 to the number of --streams"),
+                         ("--stream 2 {formula}", "--stream takes 1 to the number of --streams"),
+                         ("--stream 0 {formula}", "--stream takes 1 to the number of --streams"),
+                         ("--other x=/dev/null {formula}", "no T=STREAM: x=/dev/null"), ("--other 2= {formula}", "no T=STREAM: 2="),
+                         ("{formula} --format", "no value after --format")):
+        runs.append((f"lrup-exact {words}", usage, words.split(), cause))
     return runs
 
 
