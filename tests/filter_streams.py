@@ -287,6 +287,7 @@ def summary(work: Path) -> None:
 
 TOLD = "o 9 -1 -2 0\no 20 2 1 0\no 7 2 -1 0\no 1 1 -2 0\n"     # the four clauses, in another order
 ONE_OF_TWO = ["--stream", "1", "--streams", "2"]
+NO_CLAUSE = "no conflict by unit propagation, and the step cites the clause"
 
 
 def refusals() -> List[Row]:
@@ -295,6 +296,15 @@ def refusals() -> List[Row]:
         ("a RAT step with hints", FOUR, FIRST + "6 1 0 -3 4 0\n", "line 2: a RAT step", FIRST, []),
         ("a RAT step without hints", "p cnf 2 1\n1 2 0\n", "1 2 0\n1 0\n",
          "line 2: no conflict by unit propagation: a RAT step", "2 1 2 0 1 0\n", []),
+        ("a clause of another stream", FOUR, "5 0 6 3 4 0\n",
+         f"line 1: {NO_CLAUSE} 6 of stream 2: it wants an import, or --other 2=STREAM\n", "", ONE_OF_TWO),
+        ("a clause of another stream, which isn't in its file", FOUR, "5 0 6 3 4 0\n",
+         f"line 1: {NO_CLAUSE} 6, which isn't in --other 2\n", "", ONE_OF_TWO + ["--other", "2=/dev/null"]),
+        ("a clause of another stream, of one", FOUR, "5 0 6 3 4 0\n",
+         f"line 1: {NO_CLAUSE} 6, which isn't there: one of another stream wants --streams and --other\n", "", []),
+        ("a clause that was deleted", FOUR, "5 d 1 0\n6 2 0 1 2 0\n", f"line 2: {NO_CLAUSE} 1, which isn't there\n", "1 d 1 0\n", []),
+        ("an import that was deleted", FOUR, "6 i 2 0\n5 d 6 0\n5 0 6 3 4 0\n", f"line 3: {NO_CLAUSE} 6, which isn't there\n",
+         "6 i 2 0\n1 d 6 0\n", ONE_OF_TWO),
         ("both kinds", FOUR, FIRST + "0\n", "line 2: a step of DRUP or DRAT text", FIRST, []),
         ("a line of PicoSAT's that isn't the first", FOUR, "2 0\n%RUPD32 2 4\n", "line 2: ", FIRST, []),
         ("not text", FOUR, FIRST + "a\x02\x04\x00", "line 2: ", FIRST, []),
@@ -326,7 +336,7 @@ def refusals() -> List[Row]:
         ("no header", "1 2 0\n", "", "formula.cnf, line 1: no header", "", []),
         ("a formula that is too short", "p cnf 2 5\n1 2 0\n", FIRST, "formula.cnf, line 3: the end, after 1 of the 5 clauses", "", []),
         ("a formula with a variable too many", "p cnf 1 1\n1 2 0\n", FIRST, "formula.cnf, line 2: variable 2, above the 1 of", "", []),
-        ("a clause of another's file that isn't there", "p cnf 2 1\n1 2 0\n", "2 1 2 0 1 0\n4 1 0 3 0\n", "line 2: no conflict",
+        ("a clause of another's file that isn't there", "p cnf 2 1\n1 2 0\n", "2 1 2 0 1 0\n4 1 0 3 0\n", f"line 2: {NO_CLAUSE} 3,",
          "2 1 2 0 1 0\n", ONE_OF_TWO + ["--other", "2=/dev/null"]),
     ]
 
@@ -339,6 +349,7 @@ def refusals_of_frat() -> List[Row]:
         ("FRAT, a derived clause as one of the formula's", FOUR, late + "o 11 2 0\n", "line 6: ", FIRST, []),
         ("FRAT, an identity twice", FOUR, late + "a 10 0 l 10 1 9 0\n", "line 6: the identity 10", FIRST, []),
         ("FRAT, an identity of the formula's twice", FOUR, late + "a 9 0 l 10 1 9 0\n", "line 6: the identity 9", FIRST, []),
+        ("FRAT, a clause that isn't there", FOUR, TOLD + "a 10 0 l 99 20 0\n", f"line 5: {NO_CLAUSE} 99, which isn't there\n", "", []),
         ("FRAT, a variable that isn't there", FOUR, late + "a 11 -1 3 0\n", "line 6: a variable", FIRST, []),
         ("FRAT, a negative hint", FOUR, late + "a 11 1 0 l -7 0\n", "line 6: a RAT step", FIRST, []),
         ("FRAT, a clause that doesn't follow", "p cnf 2 1\n1 2 0\n", "o 1 1 2 0\na 2 1 0\n", "line 2: no conflict", "", []),
