@@ -119,12 +119,15 @@ void Display::details() const {
     if (teams.answered > 0) tell(format("the verdict came %.2f s after an engine's answer", now() - teams.answered));
 }
 
-void Display::causes(const std::string &cause) const {
-    bool verbose = inputs.options.verbose;
-    for (size_t k = 0; k < teams.size() && !verbose && inputs.contradiction().empty(); k++)
+// With -v that was told as they were lost.
+void Display::lost() const {
+    for (size_t k = 0; k < teams.size() && !inputs.options.verbose && inputs.contradiction().empty(); k++)
         if (teams[k].told) tell(format("engine %zu is lost: %s%s", k + 1, teams[k].cause.c_str(),
                                        teams.is_solver(k) ? "; -v shows its standard error" : ""));
-    if (!checker.last_line().empty() && !verbose) tell(checker.last_line());
+}
+
+void Display::causes(const std::string &cause) const {
+    if (!checker.last_line().empty() && !inputs.options.verbose) tell(checker.last_line());
     const std::string &report = checker.report;
     size_t begin = 0;
     for (size_t end; (end = report.find('\n', begin)) != std::string::npos; begin = end + 1)
@@ -134,9 +137,15 @@ void Display::causes(const std::string &cause) const {
 
 void Display::summary() const {
     double engines = 0, filters = 0, lrupd = front.checking(), wall = now() - started;
-    for (size_t k = 0; k < teams.size(); k++) engines += teams[k].engine.seconds, filters += teams[k].filter.seconds;
+    size_t left = 0;
+    for (size_t k = 0; k < teams.size(); k++) {
+        engines += teams[k].engine.seconds;
+        filters += teams[k].filter.seconds;
+        left += !teams[k].told;
+    }
+    std::string left_of = left < teams.size() && inputs.contradiction().empty() ? std::to_string(left) + " of " : "";
     std::string of_rounds = format("%llu rounds with %.1f %% of pauses, ", (unsigned long long)rounds.number, 100 * rounds.paused / wall);
-    tell(format("%.2f s, %s, %s%s checked; %.2f s of processor time: engines %.2f, filters %.2f, lrupd %.2f", wall,
+    tell(format("%.2f s, %s%s, %s%s checked; %.2f s of processor time: engines %.2f, filters %.2f, lrupd %.2f", wall, left_of.c_str(),
                 counted(uint64_t(inputs.options.engines), "engine").c_str(), rounds.number > 1 ? of_rounds.c_str() : "",
                 counted(teams.all(&EngineStatus::lines), "clause").c_str(), engines + filters + lrupd, engines, filters, lrupd));
 }
