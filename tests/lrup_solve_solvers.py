@@ -232,7 +232,7 @@ def wrong(command: str, cause: str, work: Path) -> None:
 
 def missing(work: Path) -> None:
     """Beside a good one: that it is lost is told, and the summary counts who is left."""
-    answer = solve([*by([CADICAL, "no-such-solver %formula %proof"]), given("random 120 5", work)])
+    answer = solve([*by(["sleep 1; " + CADICAL, "no-such-solver %formula %proof"]), given("random 120 5", work)])
     want_answer(answer, 20)
     said = "engine 2 is lost: the engine ended with status 127; -v shows its standard error"
     want((answer.comments[0], ", 1 of 2 engines, " in answer.comments[-1]), (said, True), f"what is told in\n{answer.out}")
@@ -332,7 +332,8 @@ def rows() -> List[Row]:
             found += [(f"{title}, {name}", answers_of, name, status, commands, words) for name, status in LARGER]
         found.append((f"{title} in rounds", in_rounds, "random 150 1", commands, []))
     found += [("rounds beside engines", in_rounds, "random 170 4", [CADICAL, CRYPTOMINISAT], ["-j", "2"]),
-              ("rounds of the example solver", in_rounds, "random 150 1", [], []), ("names", names), ("told", told), ("missing", missing), ("sealed", sealed)]
+              ("rounds of the example solver", in_rounds, "random 150 1", [], []), ("names", names), ("told", told),
+              ("missing", missing), ("sealed", sealed)]
     found += [("gaps", gaps), ("outboxes beside a solver", goes_on_sharing)]
     found += [(f"late {form}", late, form) for form in ("DRAT", "DRUP", "FRAT", "LRAT", "PicoSAT")]
     found += [(f"the example solver, {name}", by_example, name, status) for name, status in LARGER]

@@ -72,28 +72,43 @@ static std::string word_in_command(const std::string &path, int number, std::str
     return OPEN_FILES + std::to_string(number);
 }
 
-// Of round 1, with names that a record's streams have, from whatever folder it is run.
-std::string Rounds::command_of(Row sizes) const {
-    std::string opened, line, record = teams.shared->record;
-    if (!is_utf8(record)) line = "cd " + quoted(record) + " && ";
-    size_t left_out = is_utf8(record) ? 0 : record.size();
-    line += quoted(checker_program);
-    std::string formula = word_in_command(absolute(inputs.formula_path), 3, opened);
-    std::string assume = inputs.options.assume ? word_in_command(absolute(inputs.assume_path), 4, opened) : "";
+// Without the folder, where it is in that.
+static std::string within(const std::string &folder, const std::string &path) {
+    if (folder.empty() || path.compare(0, folder.size(), folder) != 0) return path;
+    return (path[folder.size()] == '-' ? "./" : "") + path.substr(folder.size());
+}
+
+// Of round 1, with names that a record's streams have, as they are from this folder.
+std::string Rounds::command_of(Row sizes, const std::string &folder) const {
+    std::string opened, line = quoted(checker_program);
+    std::string formula = word_in_command(within(folder, absolute(inputs.formula_path)), 3, opened);
+    std::string assume = inputs.options.assume ? word_in_command(within(folder, absolute(inputs.assume_path)), 4, opened) : "";
     for (const std::string &word : checker_words(sizes, "")) line += " " + (word.empty() ? assume : quoted(word));
     line += " " + formula;
-    for (size_t k = 0; k < teams.size(); k++) line += " " + quoted(teams.stream_path(k, 1).substr(left_out));
+    for (size_t k = 0; k < teams.size(); k++) line += " " + quoted(within(folder, teams.stream_path(k, 1)));
     return line + opened;
 }
 
-// Of all rounds, of the formula that was read. lrupd leaves what it saves.
+// Of all rounds, of the formula that was read, from the record's own folder: it may have moved. lrupd leaves what it saves.
+static const char CHECK_AGAIN[] = R"sh(case $0 in */*) CDPATH= cd -- "${0%/*}/" || exit 1 ;; esac
+for file in formula.sha256 round-1.stream-1 ASSUME FORMULA; do
+    case $file in /*) ;; *) file=$PWD/$file ;; esac
+    [ -r "$file" ] || { printf "%s isn't there, or can't be read\n" "$file" >&2; exit 1; }
+done
+read -r digest name < formula.sha256
+if command -v sha256sum > /dev/null && [ "$(sha256sum < "$file")" != "${digest#\\}  -" ]; then
+    printf "%s isn't the formula of this record, or was changed since\n" "$file" >&2
+    exit 1
+fi
+)sh";
+
 std::string Rounds::command_again() const {
-    std::string folder = absolute(inputs.options.proofs), here = is_utf8(folder) ? quoted(folder) : ".";
-    std::string changed = absolute(inputs.formula_path) + " isn't the formula of this record, or was changed since";
-    std::string check = "command -v sha256sum > /dev/null && ! sha256sum -c " + quoted(folder + "/formula.sha256") + " > /dev/null && " +
-                        "{ printf '%s\\n' " + quoted(changed) + " >&2; exit 1; }; ";
-    if (number == 1) return check + command;
-    return check + command + " --rounds " + here + "; status=$?; rm -f " + here + "/round-[0-9]*.cnf; exit $status";
+    std::string folder = teams.shared->record, text = CHECK_AGAIN;
+    std::string assume = inputs.options.assume ? quoted(within(folder, absolute(inputs.assume_path))) + " " : "";
+    text.replace(text.find("ASSUME "), 7, assume);
+    text.replace(text.find("FORMULA;"), 7, quoted(within(folder, absolute(inputs.formula_path))));
+    if (number == 1) return text + command;
+    return text + command + " --rounds .\nstatus=$?\nrm -f ./round-[0-9]*.cnf\nexit $status";
 }
 
 // In the record.
@@ -115,9 +130,10 @@ std::string Rounds::keep_report() const {
 
 void Rounds::start_checker(Row wanted) {
     rows.row = wanted;
-    command = command_of(wanted);
+    std::string record = teams.shared->record;
+    command = command_of(wanted, record);
     keep_sizes();
-    display.tell_more(command);
+    display.tell_more(is_utf8(record) ? command_of(wanted, "") : "cd " + quoted(record) + " && " + command);
     checker.start(wanted, teams.stream_files());
 }
 
