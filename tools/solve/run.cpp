@@ -151,10 +151,10 @@ bool Run::look_at_end(size_t k) {
     return true;
 }
 
-// Of all, once one of them has the answer: from now on they are ended.
+// Of all, once one of them has the answer: from now on they are ended. A filter that has the proof ends before its engine.
 void Run::look_at_ends() {
     for (size_t k = 0; k < teams.size(); k++)
-        if (!teams[k].told) look_at_end(k);
+        if (!teams[k].told && !LOAD(teams.engine_status(k).refuted)) look_at_end(k);
 }
 
 void Run::tell_lost(size_t k, const std::string &why) {
