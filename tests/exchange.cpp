@@ -44,7 +44,7 @@ struct Process {
         Literals literals = { items.data(), length, length };
         uint64_t &end = staged[engine - 1];
         for (; count > 0; count--) outbox_put(shared.get(), words[engine - 1].data(), engine, &end, 7, &literals);
-        STORE(shared->parts[engine - 1].outbox_used, end);
+        STORE(shared->engine_statuses[engine - 1].outbox_used, end);
     }
 
     void clear() {
@@ -80,9 +80,10 @@ void place(Process &process, Message message, const std::string &wanted) {
     process.exchange.place(message);
     const Traffic &all = process.exchange.traffic;
     int there = 0;
-    for (int k = 0; k < THIRD; k++)
-        for (uint64_t at = 0; next_gift(process.shared.get(), process.words[k].data(), &at, process.shared->parts[k].outbox_used);)
-            there++;
+    for (int k = 0; k < THIRD; k++) {
+        uint64_t end = process.shared->engine_statuses[k].outbox_used;
+        for (uint64_t at = 0; next_gift(process.shared.get(), process.words[k].data(), &at, end);) there++;
+    }
     want(std::to_string(all.in) + " " + std::to_string(all.dropped) + " " + std::to_string(there), wanted);
 }
 
@@ -96,7 +97,7 @@ int main() {
     Message first = collected(one, "1: 10 of 1 20 of 3 732 of 4");      // 2998 literals, of 1500 for each engine
     want(std::to_string(one.exchange.traffic.left_out), "268");
     collected(one, "1:");                           // nor later
-    for (int k = 0; k < THIRD; k++) want(std::to_string(one.shared->parts[THIRD].floors[k]), std::to_string(one.staged[k]));
+    for (int k = 0; k < THIRD; k++) want(std::to_string(one.shared->engine_statuses[THIRD].floors[k]), std::to_string(one.staged[k]));
     place(other, first, "762 0 762");
     STORE(other.shared->saved_round, 1);
     place(other, first, "762 762 762");

@@ -430,8 +430,19 @@ FAULTS = [
      "  why: 9 is above 7, the last identity\n       --lines 5 would do for it\n"),
     ("differs", ["2 i -1 -2 0\n"], "", "stream 1 (f1), line 1: differs 2\n  states   -1 -2\n"
      "  why: 2 is -1 2 (clause 2 of the formula)\n       the import leaves out 2\n       the import has, and the clause hasn't, -2\n"),
-    ("an import that is missing", ["6 i 2 0\n", ""], "", "stream 1 (f1), line 1: missing 6\n  states   2\n"
+    ("an import that is missing", ["6 i 2 0\n", "8 2 0 1 2 0\n"], "", "stream 1 (f1), line 1: missing 6\n  states   2\n"
      "  why: 6 is of stream 2, and no line of it derives it\n"),
+    ("an import of a stream without lines", ["6 i 2 0\n", ""], "", "stream 1 (f1), line 1: missing 6\n  states   2\n"
+     "  why: 6 is of stream 2, and no line of it derives it\n       stream 2 has no lines: was it left out?\n"),
+    ("one of four streams", ["5 2 0 1 6 0\n9 2 0 1 2 0\n13 2 0 1 2 0\n"], "", "stream 1 (f1), line 1: missing 6\n" + ONE_FALSE
+     + row(6, "BAD", "-", "stream 1, no such line so far") + "  why: 6 is of stream 1, this one, and no line of it derives it\n"
+     "       the identities of stream 1 go up by 4, as of 4 streams, and 1 is given: was one left out?\n" + RIGHT),
+    ("one stream with a gap", ["5 2 0 1 7 0\n6 2 0 1 2 0\n9 2 0 1 2 0\n"], "", "stream 1 (f1), line 1: missing 7\n" + ONE_FALSE
+     + row(7, "BAD", "-", "stream 1, no such line so far") + "  why: 7 is of stream 1, this one, and no line of it derives it\n" + RIGHT),
+    ("two of three streams", [FIRST, "7 2 0 1 2 0\n10 2 0 1 2 0\n16 2 0 1 2 0\n"], "", "stream 2 (f2), line 1: identity\n  derives  2\n"
+     "  why: 7 is of stream 1, of 2 that take turns above 4\n"
+     "       the identities of stream 2 go up by 3, as of 3 streams, and 2 are given: was one left out?\n"
+     "       right here: 6, or after a gap 8, 10 and so on\n"),
     ("an import that was dropped", ["1 d 2 0\n2 i -1 2 0\n"], "", "stream 1 (f1), line 2: dropped 2\n  states   -1 2\n"
      "  why: this stream deleted 2 in its line 1, for itself\n"),
 ]

@@ -176,7 +176,7 @@ def wide(count: int, refuted: bool, work: Path) -> None:
     formula = written(f"p cnf {count} {count + 1}\n{units}" + " ".join(f"-{variable}" for variable in range(1, count + 1)) + " 0\n", work)
     text, said, status = run([FILTER, "--format", "drat", formula], "0\n")
     if not refuted:
-        return want((text, said, status), ("", "exact: line 1: longer than a line may be\n", 1), "the end")
+        return want((text, said, status), ("", "lrup-exact: line 1: longer than a line may be\n", 1), "the end")
     want((said, status, longest_line(text) <= MOST), ("", 0, True), "the end")
     check(formula, text, work)
 
@@ -185,7 +185,7 @@ def without_identities(work: Path) -> None:
     """Of two streams of LRAT, which may cite each other."""
     formula = make(work, "units", MOST + 1)
     words = ["--stream", "1", "--streams", "2", formula]
-    said = "exact: line 1: longer than a line may be\n"
+    said = "lrup-exact: line 1: longer than a line may be\n"
     want(run([FILTER, *words], f"{MOST + 3} 0 0\n")[:], ("", said, 1), "the end")
     check(formula, filtered(["--format", "drat", *words], "0\n"), work, 1, 2)
 

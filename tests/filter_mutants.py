@@ -192,7 +192,7 @@ def report_of(program: str, mutant: Mutant, text: bytes, work: Path) -> Optional
 def formula_fault(program: str, mutant: Mutant, said: str) -> Optional[str]:
     """The filter refuses just the formulas that the program refuses."""
     done = run([program, mutant.formula, "/dev/null"], limit=SECONDS)
-    if said.startswith(f"exact: {mutant.formula}") == (done.status == 4):
+    if said.startswith(f"lrup-exact: {mutant.formula}") == (done.status == 4):
         return None
     return f"of the formula the program says {done.err or done.out}, and the filter {said}"
 
@@ -203,7 +203,7 @@ def fault_of(program: str, mutant: Mutant, work: Path) -> Optional[str]:
                                env={**os.environ, **SANITIZING})
     except subprocess.TimeoutExpired:
         return f"no end after {SECONDS} seconds"
-    one_line = err.startswith("exact: ") and err.count("\n") == 1 and err.endswith("\n")
+    one_line = err.startswith("lrup-exact: ") and err.count("\n") == 1 and err.endswith("\n")
     if status not in (0, 1) or (not one_line if status == 1 else err):
         return f"status {status}\n{err[:3000]}"
     text = out.encode(errors="surrogateescape")

@@ -184,7 +184,7 @@ def behind(work: Path) -> None:
     (work / "d" / "round-2.cnf").unlink()
     checked = check(formula, proof + "3 0\n", ["--memory", "1K"], work)
     want((checked.status, checked.filter_status, checked.filter_said),
-         (0, 1, "exact: line 1003: a variable that the formula doesn't have\n"), "the end of one with a wrong line there")
+         (0, 1, "lrup-exact: line 1003: a variable that the formula doesn't have\n"), "the end of one with a wrong line there")
 
 
 def rows_grow(work: Path) -> None:
@@ -234,18 +234,18 @@ def wrong(form: str, at: int, work: Path) -> None:
     want((checked.status, checked.ends(), checked.filter_status), (3, {"ended"}, 1), "the end")
     count = sum(step.kind == "a" for step in steps[:at])
     want((checked.added(), len(checked.rounds) > 2), (count, True), "additions before it, in more than two rounds")
-    if not checked.filter_said.startswith(f"exact: {place}: no conflict"):
+    if not checked.filter_said.startswith(f"lrup-exact: {place}: no conflict"):
         raise Failure(f"wanted a word on {place}, and not\n{checked.filter_said}")
 
 
 def no_room(work: Path) -> None:
     """At the beginning, for what is carried over, and for one clause."""
     checked = check(example("bmc.cnf"), "", ["--memory", "2K"], work)
-    said = "exact: the formula leaves no room in a row of 2000 bytes: --memory says how large it is\n"
+    said = "lrup-exact: the formula leaves no room in a row of 2000 bytes: --memory says how large it is\n"
     want((checked, left(work)), (Checked([], "", "", None, said, 1), []), "the end")
     proof = "".join(line for line in example("bmc.lrup").read_text().splitlines(True) if " d " not in line)
     checked = check(example("bmc.cnf"), proof, ["--memory", "32K"], work)
-    found = re.fullmatch(r"exact: line (\d+): " + NO_ROOM.format(32000) + "\n", checked.filter_said)
+    found = re.fullmatch(r"lrup-exact: line (\d+): " + NO_ROOM.format(32000) + "\n", checked.filter_said)
     want((checked.status, checked.filter_status, found and int(found[1])), (3, 1, checked.added() + 1), checked.filter_said)
 
 
@@ -253,7 +253,7 @@ def no_room_for_one(work: Path) -> None:
     literals = " ".join(map(str, range(1, 201)))
     formula = written(f"p cnf 201 2\n{literals} 201 0\n-201 0\n", work)
     checked = check(formula, f"{literals} 0\n", ["--memory", "3K"], work)
-    said = "exact: line 1: a clause of 200 literals has no room in the row: --memory says how large it is\n"
+    said = "lrup-exact: line 1: a clause of 200 literals has no room in the row: --memory says how large it is\n"
     want((checked.status, checked.filter_status, checked.filter_said), (3, 1, said), "the end")
     shutil.rmtree(work / "d")
     fits = check(formula, f"{literals} 0\n", ["--memory", "5K"], work)
@@ -263,7 +263,7 @@ def no_room_for_one(work: Path) -> None:
 def imported(work: Path) -> None:
     """As for lrup-solve, of a solver that is alone."""
     checked = check(written(FOUR, work), "1 i 1 2 0\n", [], work)
-    want((checked.status, checked.filter_said), (3, "exact: line 1: an import, of a solver that shares nothing\n"), "the end")
+    want((checked.status, checked.filter_said), (3, "lrup-exact: line 1: an import, of a solver that shares nothing\n"), "the end")
 
 
 # The folder, and words.
@@ -274,7 +274,7 @@ def in_the_way(name: str, work: Path) -> None:
     (work / "d").mkdir()
     path = written("mine", work / "d", name)
     checked = check(written(FOUR, work), "0\n", [], work)
-    said = f"exact: --rounds takes a folder without files of rounds; there is d/{name}\n"
+    said = f"lrup-exact: --rounds takes a folder without files of rounds; there is d/{name}\n"
     want((checked, path.read_text(), left(work)), (Checked([], "", "", None, said, 1), "mine", [name]), "the end, and the file")
 
 
@@ -291,7 +291,7 @@ def others_write(mode: int, taken: bool, work: Path) -> None:
     (work / "d").mkdir()
     (work / "d").chmod(mode)
     checked = check(written(FOUR, work), "2 0\n0\n", [], work)
-    wanted = (0, "", 0) if taken else (None, "exact: others may write to the folder d\n", 1)
+    wanted = (0, "", 0) if taken else (None, "lrup-exact: others may write to the folder d\n", 1)
     want((checked.status, checked.filter_said, checked.filter_status), wanted, "the ends")
 
 
@@ -313,7 +313,7 @@ def put_in_place(how: str, work: Path) -> None:
         place.unlink()
         {"link": lambda: place.symlink_to(mine), "file": lambda: os.link(mine, place)}[how]()
         end = running.stderr.read().decode(), running.wait(LIMIT)
-    want(end, ("exact: somebody has put another file in the place of d/round-1.stream-1\n", 1), "the end")
+    want(end, ("lrup-exact: somebody has put another file in the place of d/round-1.stream-1\n", 1), "the end")
     want(mine.read_text(), "mine", "what the file has")
 
 
@@ -332,24 +332,24 @@ def locked(work: Path) -> None:
     with in_a_round(work) as sides:
         for name in ("d", "link"):
             done = run([FILTER, "--rounds", name, example("bmc.cnf"), "/dev/null"], cwd=work)
-            want(done[:], ("", f"exact: another run that goes on has its files in {name}\n", 1), "what is said while it goes on")
+            want(done[:], ("", f"lrup-exact: another run that goes on has its files in {name}\n", 1), "what is said while it goes on")
         sides.running.kill()
         sides.running.wait(LIMIT)
         said = run([FILTER, "--rounds", "d", example("bmc.cnf"), "/dev/null"], cwd=work).err
-        want(said[:54], "exact: --rounds takes a folder without files of rounds", "what is said once it was killed")
+        want(said[:59], "lrup-exact: --rounds takes a folder without files of rounds", "what is said once it was killed")
 
 
 def no_folder(work: Path) -> None:
     formula = written(FOUR, work, "d")
-    want(check(formula, "0\n", [], work)[4:], ("exact: cannot read the folder d\n", 1), "where a file has the name")
+    want(check(formula, "0\n", [], work)[4:], ("lrup-exact: cannot read the folder d\n", 1), "where a file has the name")
     done = run([FILTER, "--rounds", "a/b", formula], cwd=work)
-    want(done[:], ("", "exact: cannot make the folder a/b\n", 1), "where the folder above isn't there")
+    want(done[:], ("", "lrup-exact: cannot make the folder a/b\n", 1), "where the folder above isn't there")
 
 
 def usage(words: str, cause: str, work: Path) -> None:
     formula = written(FOUR, work)
     done = run([FILTER, *(formula if word == "FORMULA" else word for word in words.split())], cwd=work)
-    want((done.out, done.err.splitlines()[-1], done.status), ("", f"exact: error: {cause}", 2), "what is said")
+    want((done.out, done.err.splitlines()[-1], done.status), ("", f"lrup-exact: error: {cause}", 2), "what is said")
     want((done.err[:7], (work / "d").exists()), ("usage: ", False), "what it begins with, and whether there is a folder")
 
 
@@ -377,7 +377,7 @@ def lrupd_ends(body: str, status: int, awaited: int, work: Path) -> None:
     lrupd = in_place_of_lrupd(f"for stream; do :; done; {body}", work)
     checked = check(example("bmc.cnf"), proof, ["--memory", "48K", "--format", word], work, lrupd=lrupd)
     want((checked.status, checked.filter_status), (status, 1), "the ends")
-    if not re.fullmatch("exact: (byte [0-9]+: )?" + gone(awaited), checked.filter_said):
+    if not re.fullmatch("lrup-exact: (byte [0-9]+: )?" + gone(awaited), checked.filter_said):
         raise Failure(f"wanted '{gone(awaited)}', and not\n{checked.filter_said}")
     want(left(work), [], "files that are left")
 
@@ -431,7 +431,7 @@ def lrupd_killed(work: Path) -> None:
         sides.go_on()
         said, status, filter_said, filter_status = sides.ends()
     want((said, status, filter_status), ("", -signal.SIGKILL, 1), f"the ends, after\n{filter_said}")
-    if not re.fullmatch(rf"exact: (cannot write the stream: Broken pipe|byte \d+: {GONE}d/round-\d+\.stream-1)\n", filter_said):
+    if not re.fullmatch(rf"lrup-exact: (cannot write the stream: Broken pipe|byte \d+: {GONE}d/round-\d+\.stream-1)\n", filter_said):
         raise Failure(f"what the filter says: {filter_said}")
 
 
@@ -480,7 +480,7 @@ def nobody(work: Path) -> None:
         running.stdout.readline()
         time.sleep(0.2)
         want(running.poll(), None, "whether it has ended before")
-        want((end_of(running), left(work)), (("exact: " + gone(1), 1), []), "the end, and what is left")
+        want((end_of(running), left(work)), (("lrup-exact: " + gone(1), 1), []), "the end, and what is left")
 
 
 def without_a_pipe(work: Path) -> None:
@@ -528,7 +528,7 @@ def rows_sanitized() -> Iterator[Row]:
 
 EMPTY = "p cnf 2 2\n1 2 0\n0\n"
 FEW = [("no clauses", "p cnf 0 0\n", "", 3, ""), ("no clauses, and a step", "p cnf 1 0\n", "1 0\n", 3,
-        "exact: line 1: no conflict by unit propagation: a RAT step, which lrupd doesn't check, or a clause that doesn't follow\n"),
+        "lrup-exact: line 1: no conflict by unit propagation: a RAT step, which lrupd doesn't check, or a clause that doesn't follow\n"),
        ("an empty clause, and no step", EMPTY, "", 3, ""), ("an empty clause", EMPTY, "0\n", 0, ""),
        ("the empty clause alone", "p cnf 0 1\n0\n", "0\n", 0, ""), ("four clauses", FOUR, "2 0\n0\n", 0, ""),
        ("no step", FOUR, "", 3, ""), ("one step", FOUR, "2 0\n", 3, "")]

@@ -181,7 +181,7 @@ def stops(formula: str, proof: Text, cause: str, lines: str, words: List[str], w
     """At the line or the byte that has the cause; the lines before it are out."""
     text, said, status = exact([*words, written(formula, work)], proof)
     want((text, status), (lines, 1), "what came out")
-    if not said.startswith("exact: ") or cause not in said or said.count("\n") != 1:
+    if not said.startswith("lrup-exact: ") or cause not in said or said.count("\n") != 1:
         raise Failure(f"wanted a word on '{cause}', and not\n{said}")
 
 
@@ -251,8 +251,8 @@ def held_hints(program: str, count: int, work: Path) -> None:
 def compressed(name: str, words: List[str], work: Path) -> None:
     """A formula or a proof that is compressed: what unpacks it is told."""
     formula, packed = written(FOUR, work), written(COMPRESSED[name] + b"\0" * 100, work, "packed")
-    want(exact([*words, packed, "/dev/null"])[:], ("", f"exact: {packed}: compressed: {name} it\n", 1), "what is said of the formula")
-    want(exact([*words, formula, packed])[:], ("", f"exact: byte 1: compressed: {name} it\n", 1), "what is said of the proof")
+    want(exact([*words, packed, "/dev/null"])[:], ("", f"lrup-exact: {packed}: compressed: {name} it\n", 1), "what is said of the formula")
+    want(exact([*words, formula, packed])[:], ("", f"lrup-exact: byte 1: compressed: {name} it\n", 1), "what is said of the proof")
 
 
 def bad_other(line: str, work: Path) -> None:
@@ -282,11 +282,12 @@ def another(program: str, work: Path) -> None:
 
 def summary(work: Path) -> None:
     text, said, status = exact(["--help"])
-    want((text[:7], said, status), ("usage: ", "", 0), "the summary")
+    want((text[:18], said, status), ("usage: lrup-exact ", "", 0), "the summary")
 
 
 TOLD = "o 9 -1 -2 0\no 20 2 1 0\no 7 2 -1 0\no 1 1 -2 0\n"     # the four clauses, in another order
 ONE_OF_TWO = ["--stream", "1", "--streams", "2"]
+NO_CLAUSE = "no conflict by unit propagation, and the step cites the clause"
 
 
 def refusals() -> List[Row]:
@@ -295,6 +296,15 @@ def refusals() -> List[Row]:
         ("a RAT step with hints", FOUR, FIRST + "6 1 0 -3 4 0\n", "line 2: a RAT step", FIRST, []),
         ("a RAT step without hints", "p cnf 2 1\n1 2 0\n", "1 2 0\n1 0\n",
          "line 2: no conflict by unit propagation: a RAT step", "2 1 2 0 1 0\n", []),
+        ("a clause of another stream", FOUR, "5 0 6 3 4 0\n",
+         f"line 1: {NO_CLAUSE} 6 of stream 2: it wants an import, or --other 2=STREAM\n", "", ONE_OF_TWO),
+        ("a clause of another stream, which isn't in its file", FOUR, "5 0 6 3 4 0\n",
+         f"line 1: {NO_CLAUSE} 6, which isn't in --other 2\n", "", ONE_OF_TWO + ["--other", "2=/dev/null"]),
+        ("a clause of another stream, of one", FOUR, "5 0 6 3 4 0\n",
+         f"line 1: {NO_CLAUSE} 6, which isn't there: one of another stream wants --streams and --other\n", "", []),
+        ("a clause that was deleted", FOUR, "5 d 1 0\n6 2 0 1 2 0\n", f"line 2: {NO_CLAUSE} 1, which isn't there\n", "1 d 1 0\n", []),
+        ("an import that was deleted", FOUR, "6 i 2 0\n5 d 6 0\n5 0 6 3 4 0\n", f"line 3: {NO_CLAUSE} 6, which isn't there\n",
+         "6 i 2 0\n1 d 6 0\n", ONE_OF_TWO),
         ("both kinds", FOUR, FIRST + "0\n", "line 2: a step of DRUP or DRAT text", FIRST, []),
         ("a line of PicoSAT's that isn't the first", FOUR, "2 0\n%RUPD32 2 4\n", "line 2: ", FIRST, []),
         ("not text", FOUR, FIRST + "a\x02\x04\x00", "line 2: ", FIRST, []),
@@ -326,10 +336,7 @@ def refusals() -> List[Row]:
         ("no header", "1 2 0\n", "", "formula.cnf, line 1: no header", "", []),
         ("a formula that is too short", "p cnf 2 5\n1 2 0\n", FIRST, "formula.cnf, line 3: the end, after 1 of the 5 clauses", "", []),
         ("a formula with a variable too many", "p cnf 1 1\n1 2 0\n", FIRST, "formula.cnf, line 2: variable 2, above the 1 of", "", []),
-        ("a stream above their number", FOUR, FIRST, "the streams are 1 to N", "", ["--stream", "3", "--streams", "2"]),
-        ("an option without a stream's number", FOUR, FIRST, "no T=STREAM", "", ["--other", "x=/dev/null"]),
-        ("an option without a file", FOUR, FIRST, "no T=STREAM", "", ["--other", "2="]),
-        ("a clause of another's file that isn't there", "p cnf 2 1\n1 2 0\n", "2 1 2 0 1 0\n4 1 0 3 0\n", "line 2: no conflict",
+        ("a clause of another's file that isn't there", "p cnf 2 1\n1 2 0\n", "2 1 2 0 1 0\n4 1 0 3 0\n", f"line 2: {NO_CLAUSE} 3,",
          "2 1 2 0 1 0\n", ONE_OF_TWO + ["--other", "2=/dev/null"]),
     ]
 
@@ -342,6 +349,7 @@ def refusals_of_frat() -> List[Row]:
         ("FRAT, a derived clause as one of the formula's", FOUR, late + "o 11 2 0\n", "line 6: ", FIRST, []),
         ("FRAT, an identity twice", FOUR, late + "a 10 0 l 10 1 9 0\n", "line 6: the identity 10", FIRST, []),
         ("FRAT, an identity of the formula's twice", FOUR, late + "a 9 0 l 10 1 9 0\n", "line 6: the identity 9", FIRST, []),
+        ("FRAT, a clause that isn't there", FOUR, TOLD + "a 10 0 l 99 20 0\n", f"line 5: {NO_CLAUSE} 99, which isn't there\n", "", []),
         ("FRAT, a variable that isn't there", FOUR, late + "a 11 -1 3 0\n", "line 6: a variable", FIRST, []),
         ("FRAT, a negative hint", FOUR, late + "a 11 1 0 l -7 0\n", "line 6: a RAT step", FIRST, []),
         ("FRAT, a clause that doesn't follow", "p cnf 2 1\n1 2 0\n", "o 1 1 2 0\na 2 1 0\n", "line 2: no conflict", "", []),
@@ -536,7 +544,7 @@ def hopeless(words: str, source: str, cause: str, work: Path) -> None:
     formula = written(FOUR, work)
     limit = lambda: resource.setrlimit(resource.RLIMIT_AS, (MEMORY, MEMORY))
     done = run(["sh", "-c", f"{source} | exec \"$@\"", "sh", FILTER, *words.format(formula=formula).split()], limit=60, preexec_fn=limit)
-    want(done[:], (FIRST if "line 2" in cause else "", f"exact: {cause}\n", 1), "what comes out, and what is said")
+    want(done[:], (FIRST if "line 2" in cause else "", f"lrup-exact: {cause}\n", 1), "what comes out, and what is said")
 
 
 def long_line(work: Path) -> None:
@@ -601,7 +609,7 @@ def live(form: str, options: List[str], work: Path) -> None:
 def fails(proof: str, out: Any, work: Path) -> None:
     """A stream that can't be written: one line, and status 1."""
     done = run([FILTER, written(FOUR, work)], proof, stdout=out)
-    want((done.status, done.err.count("\n"), done.err[:7]), (1, 1, "exact: "), "the status and the lines")
+    want((done.status, done.err.count("\n"), done.err[:12]), (1, 1, "lrup-exact: "), "the status and the lines")
 
 
 def full(proof: str, work: Path) -> None:
@@ -623,13 +631,14 @@ def unreadable(words: List[str], work: Path) -> None:
     """One line, and status 1."""
     formula = written(FOUR, work)
     text, said, status = exact([word.format(formula=formula, work=work) for word in words])
-    want((text, status, said.count("\n"), said[:7]), ("", 1, 1, "exact: "), f"what is said of {words}")
+    want((text, status, said.count("\n"), said[:12]), ("", 1, 1, "lrup-exact: "), f"what is said of {words}")
 
 
-def usage(words: List[str], work: Path) -> None:
+def usage(words: List[str], cause: str, work: Path) -> None:
+    """A mistake in the command line: by the name under which the program is installed."""
     formula = written(FOUR, work)
     text, said, status = exact([word.format(formula=formula) for word in words])
-    want((text, status, "usage: " in said), ("", 2, True), f"what is said of {words}")
+    want((text, status, said[:18], said.splitlines()[-1]), ("", 2, "usage: lrup-exact ", f"lrup-exact: error: {cause}"), f"{words}")
 
 
 def limits(program: str) -> List[Row]:
@@ -667,9 +676,16 @@ def pipes_and_files() -> List[Row]:
              ("a reader that goes away", left), ("standard input closed", closed_input)]
     for words in ("{work}/none", "{work}", "{formula} {work}/none", "{formula} {work}", "--other 2={work}/none {formula}"):
         runs.append((words, unreadable, words.split()))
-    for words in ("", "--help-me {formula}", "--format dimacs {formula}", "{formula} - -", "--stream", "--stream x {formula}",
-                  "{formula} --format"):
-        runs.append((f"exact {words}", usage, words.split()))
+    for words, cause in (("", "no FORMULA"), ("--help-me {formula}", "no such option: --help-me"),
+                         ("--format dimacs {formula}", "no form of a proof: dimacs"), ("{formula} x y", "one word too many: y"),
+                         ("{formula} -", "no such option: -"),
+                         ("--stream", "no value after --stream"), ("--stream x {formula}", "no number of a stream: x"),
+                         ("--stream 3 --streams 2 {formula}", "--stream takes 1 to the number of --streams"),
+                         ("--stream 2 {formula}", "--stream takes 1 to the number of --streams"),
+                         ("--stream 0 {formula}", "--stream takes 1 to the number of --streams"),
+                         ("--other x=/dev/null {formula}", "no T=STREAM: x=/dev/null"), ("--other 2= {formula}", "no T=STREAM: 2="),
+                         ("{formula} --format", "no value after --format")):
+        runs.append((f"lrup-exact {words}", usage, words.split(), cause))
     return runs
 
 

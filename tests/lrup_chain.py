@@ -70,7 +70,10 @@ def ends() -> Iterator[Named]:
     yield chain("refuted in one round", 0, [REFUTING.replace("7", "6")], report(["2 added, 0 deleted, ended"], 0))
     yield chain("a round that is left out", 3, ROUNDS[:1], report([FOUND], 3), saved={2: SAVED[0]},
                 others={"d/round-3.stream-1": ROUNDS[2]})
-    yield chain("no stream", 5, [], "", "lrupd: cannot open stream 1\n")
+    unopened = "lrupd: cannot open stream 1\nlrup-chain: no "
+    yield chain("no folder", 5, [], "", unopened + "folder: d\n")
+    yield chain("no stream", 5, [], "", unopened + "stream: d/round-1.stream-1 isn't there\n", others={"d/round-1.sizes": "1 1 1\n"})
+    yield "a formula that is refused, and no stream", Wanted(["x", "d"], 4, err="lrupd: formula refused: no header\n", files={"x": ""})
     cube = {"cube": "-2 0\n"}
     yield chain("under assumptions", 8, ROUNDS, report([FOUND], 8), saved={2: SAVED[0]}, words=["--assume", "cube"], others=cube)
     yield chain("under assumptions in the last round", 8, [ROUNDS[1].replace("4 2", "1 3"), "5 2 0 4 1 0\n"],
@@ -95,6 +98,10 @@ def sizes() -> Iterator[Named]:
     yield chain("sizes by words", 0, ROUNDS, REFUTED, words=["--lines", "1", "--room=1", "--tries", "0", "--serial"])
     yield chain("too large", 2, ROUNDS, "", "lrupd: row too long\n", others={"d/round-1.sizes": "1 268435456 1"})
     yield chain("of an earlier lrup-chain", 2, ROUNDS, "", NO_SIZES, others={"d/round-1.sizes": "250 2000\n"})
+    for words in (["--lines", "1"], ["--lines=1"], ["--room", "1"], ["--tries", "1", "--room=1", "--serial"]):
+        option = next(word for word in words if word[2:6] in ("line", "room")).split("=")[0]
+        yield chain(f"sizes and {' '.join(words)}", 2, ROUNDS, "", f"lrup-chain: no {option} beside d/round-1.sizes, which has it\n",
+                    words=words, others={"d/round-1.sizes": "1 1 1\n"})
     yield chain("no sizes", 2, ROUNDS, "", NO_SIZES, others={"d/round-1.sizes": ""})
     yield "fewer streams", Wanted(["formula", "d"], 0, last(2, ["1 added, 0 deleted, ended"], 0), left=left(),
                                   files=files([ROUNDS[0], "6 0 5 3 4 0\n"], {"d/round-1.stream-2": "", "d/round-2.sizes": "1 1 0\n"}))
@@ -167,13 +174,6 @@ def words() -> Iterator[Named]:
     del many["a b/round-1.stream-3"]
     yield "streams up to the third", Wanted(["formula", "a b"], 3, report(["1 added, 0 deleted, ended"] * 2, 3),
                                             files={"formula": FOUR, **many})
-
-
-def sizes_twice(shell: str, script: Path, work: Path) -> None:
-    """In a word and in a file: lrupd refuses that."""
-    lay(work, others={"d/round-1.sizes": "1 1 1\n"})
-    done = run([shell, script, "--lrupd", PROGRAM, "--lines", "1", "formula", "d"], cwd=work)
-    want((done.out, done.status), ("", 2), "the answer")
 
 
 def where(shell: str, script: Path, work: Path) -> None:
@@ -340,6 +340,10 @@ WRONG = [("exec \"$lrupd\" \"$@\"", 'exec "$lrupd" "$@" 2> /dev/null', "another 
          ('--lines="$lines" --room="$room"', "--lines=$lines --room=$room", "sizes '1 1 1 --serial'"),
          ("read -r _ lines room", "read -r lines room _", "no line"),
          ('[ -n "$room" ] ||', "[ -n 1 ] ||", "of an earlier lrup-chain"),
+         ('sized=${1%%=*}', 'sized=$1', "sizes and --lines=1"), ('[ -z "$sized" ] ||', "true ||", "sizes and --lines 1"),
+         ('[ "$status" -eq 5 ] && [ ! -e "$folder/round-1.stream-1" ]', '[ "$status" -eq 5 ]', "a formula that isn't there"),
+         ('[ "$status" -eq 5 ] &&', "", "a formula that is refused, and no stream"),
+         ('[ -d "$folder" ]', "true", "no folder"),
          ('[ "$status" -ne 0 ] ||', "[ 1 -eq 1 ] ||", "three rounds"),
          ('[ "$status" -ne 0 ] ||', "", "two rounds"),
          ('rm -f -- "$folder/round-$((last + 1)).cnf"', 'rm -f "$folder"/round-*.cnf', "round-5.cnf is there"),
@@ -390,8 +394,7 @@ def rows_of(shell: str) -> List[Row]:
     found += [(f"lrupd killed by {by} in round {number}", killed, number, by)
               for number in (1, 2, 3) for by in (signal.SIGKILL, signal.SIGTERM, signal.SIGINT)]
     found += [(f"{name} forged", forged, *rest) for name, *rest in FORGED]
-    found += [("a full disk in round 2", torn), ("sizes twice", sizes_twice), ("where lrupd is", where),
-              ("another lrupd", impostor), ("pipes", live)]
+    found += [("a full disk in round 2", torn), ("where lrupd is", where), ("another lrupd", impostor), ("pipes", live)]
     found += [(f"no verdict: {body}", no_verdict, body, out) for body, out in (("", ""), ("echo s UNKNOWN", "s UNKNOWN\n"))]
     found += [(f"sizes of {source}", endless_sizes, source) for source in ("/dev/zero", "yes 1 | tr -d '\\n'", "yes '1 ' | tr -d '\\n'")]
     return [(*row, shell, LRUP_CHAIN) for row in found]

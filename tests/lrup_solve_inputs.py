@@ -294,7 +294,8 @@ def refused_by_all(text: Text, fault: str, line: int, known: str, work: Path) ->
     """A formula that lrupd refuses, and so do the filter and lrup-solve, which know more of it."""
     formula = written(text, work, "a formula")
     want(run([PROGRAM, formula, "/dev/null"]), Ran("", f"lrupd: formula refused: {fault}\n", 4), "lrupd's answer")
-    want(run([FILTER, "--format", "drat", formula, "/dev/null"]), Ran("", f"exact: {formula}, line {line}: {known}\n", 1), "the filter's")
+    said = f"lrup-exact: {formula}, line {line}: {known}\n"
+    want(run([FILTER, "--format", "drat", formula, "/dev/null"]), Ran("", said, 1), "the filter's")
     refused_by_lrupd(text, [], f"{{name}}, line {line}: {known}", work)
 
 

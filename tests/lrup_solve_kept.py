@@ -18,7 +18,7 @@ from pathlib import Path
 from typing import Dict, List, Optional, Sequence
 
 sys.dont_write_bytecode = True
-from harness import FOUR, Row, generated, run, until, want, words_given, written
+from harness import FOUR, Ran, Row, generated, run, until, want, words_given, written
 from lrat import lrat_fault
 from proof_forms import Clause, read_formula
 from solving import PROGRAM, SOLVE, Answer, before_lrupd, check_again, run_built, solve
@@ -157,6 +157,34 @@ def another_formula(piped: bool, work: Path) -> None:
     want(done.err.splitlines()[-1], f"{read} isn't the formula of this record, or was changed since", "what is said")
 
 
+def moved(words: str, piped: bool, tested: Optional[Dict[str, object]], work: Path) -> None:
+    """A record has names from its own folder: it is checked again wherever it is, from whatever folder, also by its script's name alone."""
+    formula, options = generated(words, work), ["-j", 2, "--proofs", "d"]
+    given = {"given": formula.read_text()} if piped else {}
+    want(solve([*options, *([] if piped else [formula])], tested=tested, cwd=work, **given).status, 20, "the status")
+    want(len(list((work / "d").glob("round-*.sizes"))) > 1, tested is not None, "whether there are several rounds")
+    (work / "another folder").mkdir()
+    kept = (work / "d").rename(work / "another folder" / "it's moved")
+    check_again(kept)
+    done = run(["sh", "command"], cwd=kept, env={**os.environ, "CDPATH": str(work)})
+    want((done.out.splitlines()[-1], done.status), (PROVED, 0), "the streams, checked in the folder")
+    if piped:
+        (kept / "formula.cnf").write_text("p cnf 1 1\n1 0\n")
+        wanted = f"{kept / 'formula.cnf'} isn't the formula of this record, or was changed since\n"
+        want(run(["sh", kept / "command"], cwd=work), Ran("", wanted, 1), "what is said of another formula")
+
+
+def not_there(name: str, piped: bool, work: Path) -> None:
+    """A file that is missing is told as that."""
+    formula, words = generated("pigeons 5", work), ["-j", 1, "--proofs", "d"]
+    answer = solve(words, given=formula.read_text(), cwd=work) if piped else solve([*words, formula], cwd=work)
+    want(answer.status, 20, "the status")
+    missing = work / (name or formula.name)
+    missing.rename(work / "elsewhere")
+    for cwd in work, "/":
+        want(run(["sh", work / "d" / "command"], cwd=cwd), Ran("", f"{missing} isn't there, or can't be read\n", 1), "what is said")
+
+
 def strange_name(work: Path) -> None:
     """Of a name with a backslash and an LF in it sha256sum writes others."""
     formula = written(generated("pigeons 5", work).read_bytes(), work, "a\\ b\nc.cnf")
@@ -190,6 +218,10 @@ def rows() -> List[Row]:
     found += [(f"{option} alone", one_alone, option) for option in ("--core", "--lrat")]
     found += [(name, with_another, tools, said) for name, tools, said in ANOTHERS]
     found += [(f"another formula, {'by a pipe' if piped else 'a file'}", another_formula, piped) for piped in (False, True)]
+    found += [(f"moved, {words}{', by a pipe' if piped else ''}{', rounds' if tested else ''}", moved, words, piped, tested)
+              for words, piped, tested in (("pigeons 5", False, None), ("pigeons 5", True, None), ("random 180 3", True, SMALL))]
+    found += [(f"not there: {name or 'the formula'}", not_there, name, piped) for name, piped in (
+        ("", False), ("d/formula.cnf", True), ("d/round-1.stream-1", False), ("d/formula.sha256", False))]
     found += [("a strange name", strange_name)]
     return found + [(f"a bad line, {'with' if record else 'without'} a record", explained, record) for record in (True, False)]
 

@@ -209,6 +209,12 @@ def bad_formula(work: Path) -> None:
     want((answer.out, answer.said, answer.status), ("", said, 1), "what is said")
 
 
+def not_started(body: str, end: str, work: Path) -> None:
+    """MPI's command ends before any process is there, as mpirun does where it takes no superuser."""
+    answer = Answer(run(command(["--mpi", f"sh -c '{body}' sh", written(FOUR, work)])))
+    want((answer.out, answer.said, answer.status), (f"c MPI's command ended {end}\ns UNKNOWN\n", "why\n", 0), "the answer")
+
+
 # Deaths.
 
 
@@ -344,6 +350,8 @@ def refusals() -> List[Row]:
             ("no formula", refused, 3, ["-j", "1", "--", "{work}/none"], program + "one word too many: formula.cnf\n", []),
             ("a solver", refused, 2, ["--solver", "cadical %formula %proof"],
              program + "--solver and --mpi: a solver shares nothing with engines elsewhere\n", []),
+            ("MPI's command ends with 1", not_started, "echo why >&2; exit 1", "with status 1"),
+            ("MPI's command is killed", not_started, "echo why >&2; kill -KILL $$", "by a signal: Killed"),
             ("help", shows, "--help", "usage: lrup-solve "), ("version", shows, "--version", "lrup-solve "),
             ("a formula that lrupd refuses", bad_formula)]
 
@@ -378,8 +386,8 @@ def small_rows() -> List[Row]:
             ("a core and LRAT", cores, 2, "pigeons 6", None),
             ending(0, "lrupd", "killed", signal.SIGKILL, "lrupd ended by a signal: Killed"),
             ending(1, "run", "killed", signal.SIGKILL, "Terminated"),
-            ending(0, "run", "killed", signal.SIGKILL, "lrup-engines ended with status "),
-            ending(0, "mpirun", "killed", signal.SIGKILL, "lrup-engines ended by a signal: Killed"),
+            ending(0, "run", "killed", signal.SIGKILL, "MPI's command ended with status "),
+            ending(0, "mpirun", "killed", signal.SIGKILL, "MPI's command ended by a signal: Killed"),
             ending(0, "front", "killed", signal.SIGKILL, "")]
 
 

@@ -230,6 +230,14 @@ def wrong(command: str, cause: str, work: Path) -> None:
     want_answer(solve(["-j", "2", *by([command]), formula]), 20)
 
 
+def missing(work: Path) -> None:
+    """Beside a good one: that it is lost is told, and the summary counts who is left."""
+    answer = solve([*by(["sleep 1; " + CADICAL, "no-such-solver %formula %proof"]), given("random 120 5", work)])
+    want_answer(answer, 20)
+    said = "engine 2 is lost: the engine ended with status 127; -v shows its standard error"
+    want((answer.comments[0], ", 1 of 2 engines, " in answer.comments[-1]), (said, True), f"what is told in\n{answer.out}")
+
+
 def after_a_model(work: Path) -> None:
     """A wrong one is found out, and the others go on; the right one counts, whoever has it. What it leaves out is false."""
     formula = written("p cnf 3 3\n1 2 0\n-1 2 0\n-3 1 0\n", work)
@@ -324,7 +332,8 @@ def rows() -> List[Row]:
             found += [(f"{title}, {name}", answers_of, name, status, commands, words) for name, status in LARGER]
         found.append((f"{title} in rounds", in_rounds, "random 150 1", commands, []))
     found += [("rounds beside engines", in_rounds, "random 170 4", [CADICAL, CRYPTOMINISAT], ["-j", "2"]),
-              ("rounds of the example solver", in_rounds, "random 150 1", [], []), ("names", names), ("told", told), ("sealed", sealed)]
+              ("rounds of the example solver", in_rounds, "random 150 1", [], []), ("names", names), ("told", told),
+              ("missing", missing), ("sealed", sealed)]
     found += [("gaps", gaps), ("outboxes beside a solver", goes_on_sharing)]
     found += [(f"late {form}", late, form) for form in ("DRAT", "DRUP", "FRAT", "LRAT", "PicoSAT")]
     found += [(f"the example solver, {name}", by_example, name, status) for name, status in LARGER]

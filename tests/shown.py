@@ -6,7 +6,8 @@
 A command stands behind '$ ' in a block that is indented by four spaces or more. If its line ends with a backslash, a bar or '&&', it
 goes on in the next one. What stands below is what it has to write, standard error too: a line '..' stands for any lines, and in a line
 with the time that lrup-solve took each number for any other. If nothing stands below, it may write what it likes. Some commands aren't
-run, since they'd prove the program: NOT_RUN has them. It shows what is off; the last line is 'N passed, M failed'.
+run, since they'd prove the program: NOT_RUN has them. Then the examples' scripts get words, files and answers that are wrong. It shows what
+is off; the last line is 'N passed, M failed'.
 """
 import os
 import re
@@ -17,7 +18,7 @@ from pathlib import Path
 from typing import Iterator, List, NamedTuple, Sequence, Tuple
 
 sys.dont_write_bytecode = True
-from harness import EXAMPLES, EXPLAIN, FILTER, LRUP_CHAIN, ROOT, TRIM, Failure, Row, generated, needs, run
+from harness import EXAMPLES, EXPLAIN, FILTER, LRUP_CHAIN, ROOT, TRIM, Failure, Row, generated, needs, run, want
 from solving import PROGRAM, SOLVE, run_built
 
 LIMIT = 120  # seconds, for all of a page
@@ -116,8 +117,42 @@ def unknown(text: str, work: Path) -> None:
     raise Failure(f"no page shows {text}")
 
 
+# Scripts of examples, with what is wrong: one line, and nothing on standard output.
+
+
+def refused(script: str, words: Sequence[str], given: bytes, said: str, status: int, work: Path) -> None:
+    done = run([EXAMPLES / script, *words], given, cwd=work)
+    want((done.out, done.err, done.status), ("", f"{said}\n", status), f"what is said of {words}")
+
+
+def wrong_answers(script: str, words: Sequence[str], what: str) -> Iterator[Row]:
+    """To a question that has an assignment. None at all is of any formula, and one that is too short of another one."""
+    name, other = Path(script).name, "the answer is of another formula"
+    for given, cause in ((b"s UNSATISFIABLE\n", "the answer says s UNSATISFIABLE"), (b"", "the answer says nothing"),
+                         (b"c time is up\ns UNKNOWN\n", "the answer says s UNKNOWN"),
+                         (b"\0garbage\n\377", "the answer says nothing"), (b"s SATISFIABLE\nv 1 2 0\n", other)):
+        yield f"{name}, {given!r}", refused, script, ["--show", *words], given, f"{name}: no {what}: {cause}", 1
+
+
+def scripts() -> Iterator[Row]:
+    lemma, plan = "lemma/lemma.py", "planning/plan.py"
+    domain, problem = (str(EXAMPLES / "planning" / name) for name in ("gripper.pddl", "four-balls.pddl"))
+    yield from wrong_answers(lemma, ["8", "a <= b"], "counterexample")
+    yield from wrong_answers(plan, [domain, problem, "11"], "plan")
+    for words in ([], ["--show"], ["8"], ["0", "a <= b"], ["x", "a <= b"], ["8", "a <= b", "c"]):
+        yield f"lemma.py {words}", refused, lemma, words, b"", "usage: lemma.py [--show] WIDTH LEMMA", 2
+    yield "lemma.py, a name", refused, lemma, ["8", "a <= e"], b"", "lemma.py: no LEMMA: name 'e' is not defined", 1
+    for words in ([], ["--show"], [domain, problem], [domain, problem, "x"], [domain, problem, "-1"], [domain, problem, "1", "2"]):
+        yield f"plan.py {words}", refused, plan, words, b"", "usage: plan.py [--show] DOMAIN PROBLEM STEPS", 2
+    for words, cause in (([domain, "none"], "none: No such file or directory"),
+                         ([problem, domain], f"{problem}: no PDDL that defines a domain"),
+                         ([domain, domain], f"{domain}: no PDDL that defines a problem"),
+                         ([domain, "/dev/null"], "/dev/null: no PDDL that defines a problem")):
+        yield f"plan.py {words}", refused, plan, [*words, "3"], b"", f"plan.py: {cause}", 1
+
+
 def rows() -> List[Row]:
-    return [(name, shown, name, files, packages) for name, files, packages in PAGES] + all_known()
+    return [(name, shown, name, files, packages) for name, files, packages in PAGES] + all_known() + list(scripts())
 
 
 sys.exit(run_built(rows(), for_tests=False))

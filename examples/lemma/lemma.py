@@ -63,18 +63,41 @@ def both(one, other): return gate(lambda x, y: x & y, [one, other])
 def when(one, other): return gate(lambda x, y: not x or y, [one, other])
 
 
+def negation(lemma, names):
+    """The literal that is true if the lemma is false."""
+    try:
+        return -eval(lemma, {"both": both, "when": when, **names})
+    except Exception as fault:
+        sys.exit(f"lemma.py: no LEMMA: {fault}")
+
+
+def true_literals(answer):
+    """Of a solver's answer that gives an assignment, one of this lemma's formula."""
+    verdict = next((line for line in answer if line.startswith("s ")), "nothing")
+    if verdict != "s SATISFIABLE":
+        sys.exit(f"lemma.py: no counterexample: the answer says {verdict}")
+    said = set(" ".join(line for line in answer if line.startswith("v ")).split())
+    if not all(any(str(x) in said for x in clause) for clause in clauses):
+        sys.exit("lemma.py: no counterexample: the answer is of another formula")
+    return said
+
+
 def main(shows, width, lemma):
     Vector.width = width
     names = {}
     for name in "abcd":
         names[name] = Vector(list(range(fresh[0] + 1, fresh[0] + 1 + width)))
         fresh[0] += width
+    clauses.append([negation(lemma, names)])
     if shows:
-        said = set(" ".join(line for line in sys.stdin if line.startswith("v ")).split())
+        said = true_literals(open(0, errors="replace").read().splitlines())
         return print(*(f"{name} = {sum((str(x) in said) << k for k, x in enumerate(names[name].bits))}" for name in names if re.search(rf"\b{name}\b", lemma)))
-    clauses.append([-eval(lemma, {"both": both, "when": when, **names})])
     print(f"p cnf {fresh[0]} {len(clauses)}", *(" ".join(map(str, clause)) + " 0" for clause in clauses), sep="\n")
 
 
 words = sys.argv[1:]
-main(words[0] == "--show", int(words[-2]), words[-1])
+shows = words[:1] == ["--show"]
+if len(words) != 2 + shows or not re.fullmatch("[1-9][0-9]*", words[-2]):
+    print("usage: lemma.py [--show] WIDTH LEMMA", file=sys.stderr)
+    sys.exit(2)
+main(shows, int(words[-2]), words[-1])

@@ -10,17 +10,24 @@ import re
 import sys
 
 
-def read(path):
-    """The nested lists of the last expression of a file."""
+def read(path, kind):
+    """The nested lists of a file's last expression, (define (domain ..) ..) or (define (problem ..) ..)."""
+    try:
+        text = open(path, errors="replace").read().lower()
+    except OSError as fault:
+        sys.exit(f"plan.py: {path}: {fault.strerror}")
     stack = [[]]
-    for token in re.findall(r"[()]|[^\s()]+", re.sub(r";.*", "", open(path).read().lower())):
+    for token in re.findall(r"[()]|[^\s()]+", re.sub(r";.*", "", text)):
         if token == "(":
             stack.append([])
-        elif token == ")":
-            stack[-2].append(stack.pop())
-        else:
+        elif token != ")":
             stack[-1].append(token)
-    return stack[0][-1]
+        elif len(stack) > 1:
+            stack[-2].append(stack.pop())
+    last = stack[0][-1] if stack[0] and isinstance(stack[0][-1], list) else []
+    if len(stack) != 1 or last[:1] != ["define"] or last[1:2] == [] or last[1][0] != kind:
+        sys.exit(f"plan.py: {path}: no PDDL that defines a {kind}")
+    return last
 
 
 def parts(expression):
@@ -48,8 +55,22 @@ def ground(domain, problem):
     return facts, {tuple(fact) for fact in parts(goal[0])}, actions
 
 
+def true_literals(answer, clauses):
+    """Of a solver's answer that gives an assignment, one of this formula."""
+    verdict = next((line for line in answer if line.startswith("s ")), "nothing")
+    if verdict != "s SATISFIABLE":
+        sys.exit(f"plan.py: no plan: the answer says {verdict}")
+    said = set(" ".join(line for line in answer if line.startswith("v ")).split())
+    if not all(any(str(x) in said for x in clause) for clause in clauses):
+        sys.exit("plan.py: no plan: the answer is of another formula")
+    return said
+
+
 def main(shows, domain, problem, steps):
-    facts, goal, actions = ground(read(domain), read(problem))
+    try:
+        facts, goal, actions = ground(read(domain, "domain"), read(problem, "problem"))
+    except (LookupError, TypeError, ValueError) as fault:
+        sys.exit(f"plan.py: {domain}, {problem}: not STRIPS alone: {fault}")
     fluents = sorted(goal.union(*(wants + adds + deletes for _, wants, adds, deletes in actions)))
     count = len(fluents) + len(actions)
 
@@ -59,9 +80,6 @@ def main(shows, domain, problem, steps):
     def done(action, step):
         return step * count + len(fluents) + action + 1
 
-    if shows:
-        said = set(" ".join(line for line in sys.stdin if line.startswith("v ")).split())
-        return print("\n".join(actions[a][0] for step in range(steps) for a in range(len(actions)) if str(done(a, step)) in said))
     clauses = [[holds(fact, 0) if fact in facts else -holds(fact, 0)] for fact in fluents]
     clauses += [[holds(fact, steps)] for fact in sorted(goal)]
     for step in range(steps):
@@ -73,8 +91,16 @@ def main(shows, domain, problem, steps):
         for fact in fluents:        # what changes was changed by an action
             clauses.append([holds(fact, step), -holds(fact, step + 1)] + [done(a, step) for a, x in enumerate(actions) if fact in x[2]])
             clauses.append([-holds(fact, step), holds(fact, step + 1)] + [done(a, step) for a, x in enumerate(actions) if fact in x[3]])
+    if shows:
+        said = true_literals(open(0, errors="replace").read().splitlines(), clauses)
+        plan = [actions[a][0] for step in range(steps) for a in range(len(actions)) if str(done(a, step)) in said]
+        return print(*plan, sep="\n", end="\n" * bool(plan))
     print(f"p cnf {(steps + 1) * count} {len(clauses)}", *(" ".join(map(str, clause)) + " 0" for clause in clauses), sep="\n")
 
 
 words = sys.argv[1:]
-main(words[0] == "--show", words[-3], words[-2], int(words[-1]))
+shows = words[:1] == ["--show"]
+if len(words) != 3 + shows or not re.fullmatch("[0-9]+", words[-1]):
+    print("usage: plan.py [--show] DOMAIN PROBLEM STEPS", file=sys.stderr)
+    sys.exit(2)
+main(shows, words[-3], words[-2], int(words[-1]))

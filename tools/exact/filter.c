@@ -159,12 +159,30 @@ static void write_addition(Filter *filter, const Addition *addition, Found found
     write_line(filter);
 }
 
+// Most likely for want of a clause that the step cites, if it cites one that isn't there.
+static _Noreturn void stop_without_conflict(const Filter *filter, const Addition *addition) {
+    static const char none[] = "no conflict by unit propagation";
+    int64_t missing = 0;
+    for (size_t k = addition->hinted; k-- > 0;)
+        if (clauses_named(&filter->clauses, (uint64_t)addition->hints[k]) == 0) missing = addition->hints[k];
+    if (missing == 0) stop("%s: a RAT step, which lrupd doesn't check, or a clause that doesn't follow", none);
+    long long name = missing;
+    bool may_be_shared = !filter->frat && !filter->hooks && missing > (int64_t)filter->formula.clauses;
+    unsigned long long stream = may_be_shared ? owner(filter, (uint64_t)missing) : filter->stream;
+    if (may_be_shared && filter->streams == 1)
+        stop("%s, and the step cites the clause %lld, which isn't there: one of another stream wants --streams and --other", none, name);
+    if (stream == filter->stream || clauses_named(&filter->dropped, (uint64_t)missing) != 0)
+        stop("%s, and the step cites the clause %lld, which isn't there", none, name);
+    if (others_find(&filter->others, stream))
+        stop("%s, and the step cites the clause %lld, which isn't in --other %llu", none, name, stream);
+    stop("%s, and the step cites the clause %lld of stream %llu: it wants an import, or --other %llu=STREAM", none, name, stream, stream);
+}
+
 // A chain by unit propagation. A round may end at each line that comes before it.
-static void look_for_chain(Filter *filter, bool has_lemmas) {
+static void look_for_chain(Filter *filter, const Addition *addition, bool has_lemmas) {
     Propagation *propagation = &filter->propagation;
     ClauseRef conflict = propagation_conflict(propagation, &filter->literals);
-    if (conflict == 0)
-        stop("no conflict by unit propagation: a RAT step, which lrupd doesn't check, or a clause that doesn't follow");
+    if (conflict == 0) stop_without_conflict(filter, addition);
     if (filter->literals.length > LITERALS_OF_A_LINE) stop("longer than a line may be");
     if (!has_lemmas) {
         propagation_trace_all(propagation, &filter->literals, conflict, &filter->chain);
@@ -188,7 +206,7 @@ static Found find_chain(Filter *filter, const Addition *addition) {
     if (found == NO_CHAIN || (hints > IDENTITIES_OF_A_LINE && has_lemmas)) {
         propagation_settle(&filter->propagation);
         if (has_lemmas && filter->propagation.conflict != 0) return lemmas_refute(filter), NO_CHAIN;
-        look_for_chain(filter, has_lemmas);
+        look_for_chain(filter, addition, has_lemmas);
         found = SOME_CHAIN;
         hints = filter->chain.length;
     }

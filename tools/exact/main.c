@@ -1,8 +1,8 @@
 // Unverified, and nothing here is trusted: lrupd checks what comes out as it checks any stream. Makes a stream for lrupd of a proof
 // whose hints are missing, or not exact.
 //
-//     exact [--stream S --streams N] [--other T=STREAM]... [--format FORM] FORMULA [PROOF]
-//     exact --rounds DIR [--memory SIZE] [--format FORM] FORMULA [PROOF]
+//     lrup-exact [--stream S --streams N] [--other T=STREAM]... [--format FORM] FORMULA [PROOF]
+//     lrup-exact --rounds DIR [--memory SIZE] [--format FORM] FORMULA [PROOF]
 //
 // PROOF, or standard input, is LRAT, DRUP, DRAT or FRAT text, or binary LRAT or DRAT. The stream goes to standard output, with
 // the identities of stream S of N (1 of 1). The hints that are given are tried first, in any order. Where they don't do, a chain is
@@ -28,21 +28,21 @@
 // What was written before goes out first.
 static void end(const char *cause) {
     write_flush();
-    fprintf(stderr, "exact: %s\n", cause);
+    fprintf(stderr, "lrup-exact: %s\n", cause);
     exit(1);
 }
 
 // The command line.
 
 static const char usage[] =
-    "usage: exact [--stream S --streams N] [--other T=STREAM]... [--format FORM] FORMULA [PROOF]\n"
-    "       exact --rounds DIR [--memory SIZE] [--format FORM] FORMULA [PROOF]\n"
+    "usage: lrup-exact [--stream S --streams N] [--other T=STREAM]... [--format FORM] FORMULA [PROOF]\n"
+    "       lrup-exact --rounds DIR [--memory SIZE] [--format FORM] FORMULA [PROOF]\n"
     "FORM is lrat, drat, frat, binary-lrat or binary-drat; without it the first bytes of the proof tell the form.\n"
     "lrupd --rounds DIR FORMULA DIR/round-1.stream-1 reads what --rounds writes; SIZE is the most that lrupd may take for a round,\n"
     "as 500M or 2G.\n";
 
 static _Noreturn void refuse(const char *cause, const char *word) {
-    fprintf(stderr, "%sexact: error: %s %s\n", usage, cause, word);
+    fprintf(stderr, "%slrup-exact: error: %s %s\n", usage, cause, word);
     exit(2);
 }
 
@@ -54,12 +54,29 @@ static Form form_named(const char *word) {
     refuse("no form of a proof:", word);
 }
 
-static uint64_t number_of(const char *word) {
-    uint64_t number = 0;
-    const char *at = word;
-    while (*at >= '0' && *at <= '9' && at - word < 9) number = 10 * number + (uint64_t)(*at++ - '0');
-    if (at == word || *at != 0) refuse("no number of a stream:", word);
+// What stands behind the number, of nine digits at most; NULL where there is none.
+static char *behind_number(char *word, uint64_t *number) {
+    char *at = word;
+    *number = 0;
+    while (*at >= '0' && *at <= '9' && at - word < 9) *number = 10 * *number + (uint64_t)(*at++ - '0');
+    return at == word ? NULL : at;
+}
+
+static uint64_t number_of(char *word) {
+    uint64_t number;
+    const char *rest = behind_number(word, &number);
+    if (!rest || *rest != 0) refuse("no number of a stream:", word);
     return number;
+}
+
+typedef struct { uint64_t number; const char *path; } OtherStream;
+
+static OtherStream other_of(char *word) {
+    OtherStream other;
+    const char *rest = behind_number(word, &other.number);
+    if (!rest || rest[0] != '=' || rest[1] == 0) refuse("no T=STREAM:", word);
+    other.path = rest + 1;
+    return other;
 }
 
 static uint64_t memory_of(const char *word) {
@@ -73,7 +90,7 @@ typedef struct {
     uint64_t stream, streams, memory;
     const char *rounds;         // a folder, or NULL
     Form form;
-    char **others;              // ends with NULL
+    OtherStream *others;
     size_t others_length;
     const char *files[2];       // the formula, the proof
     size_t files_length;
@@ -96,7 +113,7 @@ static void read_word(CommandLine *given, char ***words) {
     }
     if ((value = value_of(words, "--stream")) != NULL) given->stream = number_of(value);
     else if ((value = value_of(words, "--streams")) != NULL) given->streams = number_of(value);
-    else if ((value = value_of(words, "--other")) != NULL) given->others[given->others_length++] = value;
+    else if ((value = value_of(words, "--other")) != NULL) given->others[given->others_length++] = other_of(value);
     else if ((value = value_of(words, "--format")) != NULL) given->form = form_named(value);
     else if ((value = value_of(words, "--rounds")) != NULL) given->rounds = value;
     else if ((value = value_of(words, "--memory")) != NULL) given->memory = memory_of(value);
@@ -111,7 +128,7 @@ static void check(const CommandLine *given) {
     if (given->rounds && given->rounds[0] == 0) refuse("no folder after", "--rounds");
     if (given->rounds && given->others_length > 0) refuse("--rounds takes one stream, and no", "--other");
     if (given->rounds && (given->stream != 1 || given->streams != 1)) refuse("--rounds takes", "one stream");
-    if (given->stream < 1 || given->stream > given->streams) fail("the streams are 1 to", "N");
+    if (given->stream < 1 || given->stream > given->streams) refuse("--stream takes 1 to the number of", "--streams");
 }
 
 static void run(Filter *filter, Input *input, Form form) {
@@ -147,7 +164,8 @@ int main(int count, char **words) {
     if (given.rounds) chain_open(given.rounds);
     input_open(&input, given.files[1]);
     formula_read(&filter.formula, given.files[0]);
-    for (size_t k = 0; k < given.others_length; k++) others_open(&filter.others, given.others[k], filter.formula.variables);
+    for (size_t k = 0; k < given.others_length; k++)
+        others_open(&filter.others, given.others[k].number, given.others[k].path, filter.formula.variables);
     filter.stream = given.stream;
     filter.streams = given.streams;
     if (given.rounds) chain_begin(&filter, given.memory);

@@ -4,15 +4,11 @@
 #include "errors.h"
 #include "others.h"
 
-enum { DEAD_WORDS = 1 << 15, MOST_DIGITS = 9 };
+enum { DEAD_WORDS = 1 << 15 };
 
-// "T=STREAM"
-void others_open(Others *others, const char *word, int variables) {
-    Other other = { .variables = variables };
-    const char *at = word;
-    while (*at >= '0' && *at <= '9' && at - word < MOST_DIGITS) other.number = 10 * other.number + (uint64_t)(*at++ - '0');
-    if (at == word || *at != '=' || at[1] == 0) fail("no T=STREAM:", word);
-    input_open(&other.input, at + 1);
+void others_open(Others *others, uint64_t number, const char *path, int variables) {
+    Other other = { .number = number, .variables = variables };
+    input_open(&other.input, path);
     PUSH(others, other);
 }
 

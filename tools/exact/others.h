@@ -20,7 +20,7 @@ typedef struct {
 
 typedef struct { Other *items; size_t length, capacity; } Others;
 
-void others_open(Others *others, const char *word, int variables);
+void others_open(Others *others, uint64_t number, const char *path, int variables);
 Other *others_find(const Others *others, uint64_t number);
 ClauseRef other_clause(Other *other, Clauses *clauses, uint64_t identity);
 

@@ -89,6 +89,39 @@ static uint32_t number_of_owner(const Replay *replay, uint64_t identity) {
     return (uint32_t)((identity - replay->clauses - 1) % replay->count) + 1;
 }
 
+// The next line from there on that can be read and derives a clause. False at the end.
+static bool next_addition(const Stream *stream, unsigned char **at, Reading *reading) {
+    for (unsigned char *end; (end = memchr(*at, '\n', (size_t)(stream->end - *at))) != NULL;) {
+        Line line = { *at, end, true };
+        *at = end + 1;
+        if (!line_read(line, reading) && reading->kind == 'a') return true;
+    }
+    return false;
+}
+
+// The greatest number of which all differences of its identities are multiples; 0 where it has less than three, and chance decides.
+static uint64_t step_of(const Stream *stream) {
+    uint64_t step = 0, last = 0, count = 0;
+    Reading reading;
+    for (unsigned char *at = stream->start; next_addition(stream, &at, &reading); last = reading.identity, count++) {
+        uint64_t rest = reading.identity > last ? reading.identity - last : last - reading.identity;
+        while (last != 0 && rest != 0) {
+            uint64_t next = step % rest;
+            step = rest;
+            rest = next;
+        }
+    }
+    return count < 3 ? 0 : step;
+}
+
+// Identities are numbered by how many streams there are.
+static void tell_left_out(const Replay *replay, const Stream *stream) {
+    uint64_t step = step_of(stream);
+    if (step > replay->count && step <= STREAMS)
+        printf("       the identities of stream %u go up by %llu, as of %llu streams, and %u %s given: was one left out?\n", stream->number,
+               (Printed)step, (Printed)step, replay->count, replay->count == 1 ? "is" : "are");
+}
+
 static void tell_right_identity(const Replay *replay, const Stream *stream) {
     uint64_t next = next_identity(replay, stream);
     if (next > replay->last) {
@@ -113,6 +146,7 @@ static void why_identity(const Replay *replay, const Stream *stream) {
     } else if (number_of_owner(replay, identity) != stream->number) {
         printf("  why: %llu is of stream %u, of %u that take turns above %llu\n", (Printed)identity, number_of_owner(replay, identity),
                replay->count, (Printed)replay->clauses);
+        tell_left_out(replay, stream);
     } else if (identity > replay->last) {
         printf("  why: %llu is above %llu, the last identity with --lines %llu\n", (Printed)identity, (Printed)replay->last,
                (Printed)replay->row.lines);
@@ -155,8 +189,7 @@ static void why_tautology(const Replay *replay) {
 static uint64_t literals_of_stream(const Stream *stream) {
     uint64_t literals = 0;
     Reading reading;
-    for (unsigned char *at = stream->start, *end; (end = memchr(at, '\n', (size_t)(stream->end - at))) != NULL; at = end + 1)
-        if (!line_read((Line){ at, end, true }, &reading) && reading.kind == 'a') literals += reading.length;
+    for (unsigned char *at = stream->start; next_addition(stream, &at, &reading);) literals += reading.length;
     return literals;
 }
 
@@ -199,6 +232,9 @@ static void why_missing(const Replay *replay, const Stream *stream, uint64_t hin
         printf(", whose line %llu waits for %llu, in a circle that comes back to this line\n", (Printed)owner->lines + 1,
                (Printed)owner->awaited);
     else printf(", which derives it in its line %llu, and with --serial only later: threads wait for it\n", (Printed)later);
+    if (later || is_cut_off(owner, hint)) return;
+    if (owner->start == owner->end) printf("       stream %u has no lines: was it left out?\n", owner->number);
+    else tell_left_out(replay, owner);
 }
 
 static void why_deleted(const Replay *replay, const Stream *stream, uint64_t hint) {

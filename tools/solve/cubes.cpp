@@ -15,9 +15,13 @@ int end_of_engines(const Shared &shared, const Options &options) {
     return std::min(shared.first_here + shared.engines_here, options.engines - int(options.solvers.size()));
 }
 
-bool has_cube(const Part &part) { return part.cube_number != 0 && LOAD(part.refuted_cube) != part.cube_number; }
+bool has_cube(const EngineStatus &engine_status) {
+    return engine_status.cube_number != 0 && LOAD(engine_status.refuted_cube) != engine_status.cube_number;
+}
 
-std::vector<int> cube_of(const Part &part) { return { part.cube, part.cube + part.cube_length }; }
+std::vector<int> cube_of(const EngineStatus &engine_status) {
+    return { engine_status.cube, engine_status.cube + engine_status.cube_length };
+}
 
 }
 
@@ -28,7 +32,8 @@ bool has_cubes(const Shared &shared, const Options &options) {
 // An engine's part.
 
 Cubes::Cubes(const Engine &given, CaDiCaL::Solver &its_solver)
-    : engine(given), solver(its_solver), part(given.shared->parts[given.number - 1]), takes(has_cubes(*given.shared, *given.options)) {
+    : engine(given), solver(its_solver), engine_status(given.shared->engine_statuses[given.number - 1]),
+      takes(has_cubes(*given.shared, *given.options)) {
     if (takes && is_first()) scores.assign(size_t(engine.formula->variables) + 1, 0);
 }
 
@@ -38,9 +43,9 @@ void Cubes::count_conflict() { bump *= BUMP; }
 
 void Cubes::look(const std::vector<unsigned char> &gone) {
     if (!takes) return;
-    if (looks() && (part.conflicts >= LEARNING || test_hooks.slice)) tell_variables(gone);
+    if (looks() && (engine_status.conflicts >= LEARNING || test_hooks.slice)) tell_variables(gone);
     if (LOAD(engine.shared->variable_count) == 0) return;
-    if (!part.ready) get_ready(gone);
+    if (!engine_status.ready) get_ready(gone);
     tell_usable();
     events_advance(&engine.shared->events);
     if (!is_first()) take();
@@ -72,18 +77,18 @@ void Cubes::tell_usable() {
     uint64_t usable = kept;
     for (uint64_t k = 0; k < engine.shared->variable_count; k++)
         if (kept >> k & 1 && solver.fixed(engine.shared->variables[k]) != 0) usable &= ~(uint64_t(1) << k);
-    STORE(part.usable, usable);
-    STORE(part.ready, 1);
+    STORE(engine_status.usable, usable);
+    STORE(engine_status.ready, 1);
 }
 
 // Where the first process writes another one meanwhile that is taken after the next slice.
 void Cubes::take() {
-    uint64_t found = LOAD(part.cube_number);
+    uint64_t found = LOAD(engine_status.cube_number);
     idle = found == number ? std::max(0, idle - 1) : 0;
     if (found == number) return;
     literals.clear();
-    for (int k = 0, length = LOAD(part.cube_length); k < length; k++) literals.push_back(LOAD(part.cube[k]));
-    number = LOAD(part.cube_number) == found ? found : 0;
+    for (int k = 0, length = LOAD(engine_status.cube_length); k < length; k++) literals.push_back(LOAD(engine_status.cube[k]));
+    number = LOAD(engine_status.cube_number) == found ? found : 0;
     if (number == 0) literals.clear();
 }
 
@@ -94,8 +99,8 @@ bool Cubes::is_refuted() const {
 void Cubes::tell_refuted() {
     literals.clear();
     idle = 2;
-    STORE(part.refuted_cubes, part.refuted_cubes + 1);
-    STORE(part.refuted_cube, number);
+    STORE(engine_status.refuted_cubes, engine_status.refuted_cubes + 1);
+    STORE(engine_status.refuted_cube, number);
     events_advance(&engine.shared->events);
 }
 
@@ -107,20 +112,21 @@ void Dealer::deal(Shared &shared, const Options &options) {
     int end = end_of_engines(shared, options);
     uint64_t usable = ~uint64_t(0);
     for (int k = shared.first_here; k < end; k++) {
-        if (LOAD(shared.parts[k].gone)) continue;
-        if (!LOAD(shared.parts[k].ready)) return;
-        usable &= LOAD(shared.parts[k].usable);
+        if (LOAD(shared.engine_statuses[k].gone)) continue;
+        if (!LOAD(shared.engine_statuses[k].ready)) return;
+        usable &= LOAD(shared.engine_statuses[k].usable);
     }
     for (int k = shared.first_here + 1; k < end; k++)
-        if (!LOAD(shared.parts[k].gone) && !has_cube(shared.parts[k])) deal_to(shared, end, shared.parts[k], usable);
+        if (!LOAD(shared.engine_statuses[k].gone) && !has_cube(shared.engine_statuses[k]))
+            deal_to(shared, end, shared.engine_statuses[k], usable);
 }
 
 // At first one has the whole.
-void Dealer::deal_to(Shared &shared, int end, Part &idle, uint64_t usable) {
-    Part *oldest = nullptr;
+void Dealer::deal_to(Shared &shared, int end, EngineStatus &idle, uint64_t usable) {
+    EngineStatus *oldest = nullptr;
     if (dealt == 0) return give(idle, {});
     for (int k = shared.first_here + 1; k < end; k++) {
-        Part &other = shared.parts[k];
+        EngineStatus &other = shared.engine_statuses[k];
         if (!has_cube(other)) continue;
         if (LOAD(other.gone)) {
             give(idle, cube_of(other));
@@ -134,7 +140,7 @@ void Dealer::deal_to(Shared &shared, int end, Part &idle, uint64_t usable) {
     if (oldest) halve(shared, *oldest, idle, usable);
 }
 
-void Dealer::halve(const Shared &shared, Part &oldest, Part &idle, uint64_t usable) {
+void Dealer::halve(const Shared &shared, EngineStatus &oldest, EngineStatus &idle, uint64_t usable) {
     std::vector<int> cube = cube_of(oldest);
     for (uint64_t k = 0; k < shared.variable_count; k++) {
         int variable = shared.variables[k];
@@ -148,9 +154,9 @@ void Dealer::halve(const Shared &shared, Part &oldest, Part &idle, uint64_t usab
 }
 
 // Its number says that it is whole.
-void Dealer::give(Part &part, const std::vector<int> &cube) {
-    STORE(part.cube_number, 0);
-    for (size_t k = 0; k < cube.size(); k++) STORE(part.cube[k], cube[k]);
-    STORE(part.cube_length, int(cube.size()));
-    STORE(part.cube_number, ++dealt);
+void Dealer::give(EngineStatus &engine_status, const std::vector<int> &cube) {
+    STORE(engine_status.cube_number, 0);
+    for (size_t k = 0; k < cube.size(); k++) STORE(engine_status.cube[k], cube[k]);
+    STORE(engine_status.cube_length, int(cube.size()));
+    STORE(engine_status.cube_number, ++dealt);
 }

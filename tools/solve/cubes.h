@@ -33,7 +33,7 @@ public:
 private:
     const Engine &engine;
     CaDiCaL::Solver &solver;
-    Part &part;
+    EngineStatus &engine_status;
     const bool takes;
     int idle = 0;                       // looks until it isn't idle any more
     std::vector<int> literals;
@@ -56,9 +56,9 @@ public:
     void deal(Shared &shared, const Options &options);
 
 private:
-    void deal_to(Shared &shared, int end, Part &idle, uint64_t usable);
-    void halve(const Shared &shared, Part &oldest, Part &idle, uint64_t usable);
-    void give(Part &part, const std::vector<int> &cube);
+    void deal_to(Shared &shared, int end, EngineStatus &idle, uint64_t usable);
+    void halve(const Shared &shared, EngineStatus &oldest, EngineStatus &idle, uint64_t usable);
+    void give(EngineStatus &engine_status, const std::vector<int> &cube);
 };
 
 #endif

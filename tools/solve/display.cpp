@@ -81,49 +81,53 @@ void Display::tell_more(const std::string &line) const {
 double Display::fullness() const {
     double fullest = 0;
     for (size_t k = 0; k < teams.size(); k++) {
-        const Part &part = teams.part(k);
-        fullest = std::max(fullest, double(LOAD(part.round_lines)) / double(std::max<uint64_t>(1, rounds.rows.row.lines)));
-        fullest = std::max(fullest, double(LOAD(part.round_literals)) / double(std::max<uint64_t>(1, rounds.rows.row.room)));
+        const EngineStatus &engine_status = teams.engine_status(k);
+        fullest = std::max(fullest, double(LOAD(engine_status.round_lines)) / double(std::max<uint64_t>(1, rounds.rows.row.lines)));
+        fullest = std::max(fullest, double(LOAD(engine_status.round_literals)) / double(std::max<uint64_t>(1, rounds.rows.row.room)));
     }
     return fullest;
 }
 
 std::string Display::progress() const {
     double time = now() - started;
-    uint64_t bytes = teams.all(&Part::bytes), lines = teams.all(&Part::round_lines), read = 0;
+    uint64_t bytes = teams.all(&EngineStatus::bytes), lines = teams.all(&EngineStatus::round_lines), read = 0;
     for (size_t k = 0; k < teams.size() && checker.child.pid; k++)
-        if (uint64_t number = LOAD(teams.part(k).stream)) read += checker.read_of(number - 1);
+        if (uint64_t number = LOAD(teams.engine_status(k).stream)) read += checker.read_of(number - 1);
     double share = bytes > 0 ? std::min(1.0, double(read) / double(bytes)) : 0;
     uint64_t checked = rounds.lines_before + uint64_t(share * double(lines));
     return format("%.1f s, %s conflicts/s, %s checked, %s kB behind, round %llu at %.0f %%", time,
-                  grouped(uint64_t(double(teams.all(&Part::conflicts)) / time)).c_str(), grouped(checked).c_str(),
-                  grouped(teams.all(&Part::behind) / 1000).c_str(), (unsigned long long)rounds.number, 100 * fullness());
+                  grouped(uint64_t(double(teams.all(&EngineStatus::conflicts)) / time)).c_str(), grouped(checked).c_str(),
+                  grouped(teams.all(&EngineStatus::behind) / 1000).c_str(), (unsigned long long)rounds.number, 100 * fullness());
 }
 
 // In the end.
 
 void Display::details() const {
     for (size_t k = 0; k < teams.size(); k++) {
-        const Part &part = teams.part(k);
-        uint64_t lines = LOAD(part.lines);
+        const EngineStatus &engine_status = teams.engine_status(k);
+        uint64_t lines = LOAD(engine_status.lines);
         tell(format("engine %zu: %.2f s, its filter %.2f s; %s conflicts; clauses: %s taken over, %s refused, %s given away; "
                     "%s, %.0f %% of them cite another stream",
-                    k + 1, teams[k].engine.seconds, teams[k].filter.seconds, grouped(LOAD(part.conflicts)).c_str(),
-                    grouped(LOAD(part.taken)).c_str(), grouped(LOAD(part.refused)).c_str(), grouped(LOAD(part.given)).c_str(),
-                    counted(lines, "line").c_str(), lines ? 100.0 * double(LOAD(part.citing_others)) / double(lines) : 0));
+                    k + 1, teams[k].engine.seconds, teams[k].filter.seconds, grouped(LOAD(engine_status.conflicts)).c_str(),
+                    grouped(LOAD(engine_status.taken)).c_str(), grouped(LOAD(engine_status.refused)).c_str(),
+                    grouped(LOAD(engine_status.given)).c_str(), counted(lines, "line").c_str(),
+                    lines ? 100.0 * double(LOAD(engine_status.citing_others)) / double(lines) : 0));
     }
     if (teams.dealer.dealt > 0)
         tell(format("cubes: %s dealt out, %s refuted, %s of lost engines handed on", grouped(teams.dealer.dealt).c_str(),
-                    grouped(teams.all(&Part::refuted_cubes)).c_str(), grouped(teams.dealer.handed_on).c_str()));
+                    grouped(teams.all(&EngineStatus::refuted_cubes)).c_str(), grouped(teams.dealer.handed_on).c_str()));
     if (teams.answered > 0) tell(format("the verdict came %.2f s after an engine's answer", now() - teams.answered));
 }
 
-void Display::causes(const std::string &cause) const {
-    bool verbose = inputs.options.verbose;
-    for (size_t k = 0; k < teams.size() && !verbose && inputs.contradiction().empty(); k++)
+// With -v that was told as they were lost.
+void Display::lost() const {
+    for (size_t k = 0; k < teams.size() && !inputs.options.verbose && inputs.contradiction().empty(); k++)
         if (teams[k].told) tell(format("engine %zu is lost: %s%s", k + 1, teams[k].cause.c_str(),
                                        teams.is_solver(k) ? "; -v shows its standard error" : ""));
-    if (!checker.last_line().empty() && !verbose) tell(checker.last_line());
+}
+
+void Display::causes(const std::string &cause) const {
+    if (!checker.last_line().empty() && !inputs.options.verbose) tell(checker.last_line());
     const std::string &report = checker.report;
     size_t begin = 0;
     for (size_t end; (end = report.find('\n', begin)) != std::string::npos; begin = end + 1)
@@ -133,11 +137,17 @@ void Display::causes(const std::string &cause) const {
 
 void Display::summary() const {
     double engines = 0, filters = 0, lrupd = front.checking(), wall = now() - started;
-    for (size_t k = 0; k < teams.size(); k++) engines += teams[k].engine.seconds, filters += teams[k].filter.seconds;
+    size_t left = 0;
+    for (size_t k = 0; k < teams.size(); k++) {
+        engines += teams[k].engine.seconds;
+        filters += teams[k].filter.seconds;
+        left += !teams[k].told;
+    }
+    std::string left_of = left < teams.size() && inputs.contradiction().empty() ? std::to_string(left) + " of " : "";
     std::string of_rounds = format("%llu rounds with %.1f %% of pauses, ", (unsigned long long)rounds.number, 100 * rounds.paused / wall);
-    tell(format("%.2f s, %s, %s%s checked; %.2f s of processor time: engines %.2f, filters %.2f, lrupd %.2f", wall,
+    tell(format("%.2f s, %s%s, %s%s checked; %.2f s of processor time: engines %.2f, filters %.2f, lrupd %.2f", wall, left_of.c_str(),
                 counted(uint64_t(inputs.options.engines), "engine").c_str(), rounds.number > 1 ? of_rounds.c_str() : "",
-                counted(teams.all(&Part::lines), "clause").c_str(), engines + filters + lrupd, engines, filters, lrupd));
+                counted(teams.all(&EngineStatus::lines), "clause").c_str(), engines + filters + lrupd, engines, filters, lrupd));
 }
 
 void tell_model(const std::vector<signed char> &model) {

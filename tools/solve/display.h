@@ -24,7 +24,8 @@ public:
     void tell(const std::string &line) const;           // a comment
     void tell_more(const std::string &line) const;      // with -v alone
     void details() const;
-    void causes(const std::string &cause) const;        // why there is no answer: of each engine that was lost, and of lrupd
+    void lost() const;                  // of each engine that was lost, why
+    void causes(const std::string &cause) const;        // why there is no answer
     void summary() const;
     void hide() const;                  // progress
 

@@ -35,7 +35,8 @@ enum { OUT_OF_MEMORY = 3, NO_PROOF = 4 };       // statuses of the process
 
 class Worker : CaDiCaL::Learner, CaDiCaL::WitnessIterator {
 public:
-    explicit Worker(const Engine &given) : engine(given), part(given.shared->parts[given.number - 1]), cubes(given, solver) {}
+    explicit Worker(const Engine &given)
+        : engine(given), engine_status(given.shared->engine_statuses[given.number - 1]), cubes(given, solver) {}
 
     int run() {
         open();
@@ -43,14 +44,14 @@ public:
         if (status == 10) write_model();
         if (status == 20) write_end();
         if (fflush(proof) != 0 || ferror(proof)) return NO_PROOF;
-        STORE(part.answer, status);
+        STORE(engine_status.answer, status);
         events_advance(&engine.shared->events);
         return status;
     }
 
 private:
     const Engine &engine;
-    Part &part;
+    EngineStatus &engine_status;
     CaDiCaL::Solver solver;
     Cubes cubes;
     int learned = 0;                        // literals of what is learned that don't contradict the cube
@@ -66,7 +67,7 @@ private:
     // CaDiCaL asks right before it traces a clause that conflict analysis learned. Its literals aren't kept: a mark in the proof
     // says that the next line may be given away, and the filter, which names that line, does so.
     bool learning(int size) override {
-        STORE(part.conflicts, part.conflicts + 1);
+        STORE(engine_status.conflicts, engine_status.conflicts + 1);
         learned = size;
         if (cubes.looks()) cubes.count_conflict();
         return shares() && size >= 2 && (cubes.looks() || size <= engine.options->share_size + int(cubes.cube().size()));
@@ -148,7 +149,7 @@ private:
     void assume() {
         for (Literal literal : *engine.assumed) solver.assume(as_written(literal));
         for (int literal : cubes.cube()) solver.assume(literal);
-        if (engine.number == 1 && part.slices > 0) solver.assume(engine.formula->variables + 1);
+        if (engine.number == 1 && engine_status.slices > 0) solver.assume(engine.formula->variables + 1);
     }
 
     // The clause is given away, however long it is.
@@ -180,7 +181,7 @@ private:
             if ((status != 0 && !(status == 20 && refutes_cube())) || !shares()) return status;
             double factor = SLICE / std::max(now() - begin, 1e-6);
             if (is_whole && status == 0) conflicts = within_limits(conflicts * std::min(2.0, std::max(0.5, factor)));
-            STORE(part.slices, part.slices + 1);
+            STORE(engine_status.slices, engine_status.slices + 1);
             take_over();
             cubes.look(gone);
             if (fflush(proof) != 0) return 0;
@@ -225,16 +226,16 @@ private:
         for (size_t k = 0; k < length; k++) {
             int literal = as_written(literals[k]);
             if (gone[size_t(std::abs(literal))] && !test_hooks.without_guard) {
-                STORE(part.refused, part.refused + 1);
+                STORE(engine_status.refused, engine_status.refused + 1);
                 return;
             }
             if (solver.fixed(literal) > 0) {
-                STORE(part.satisfied, part.satisfied + 1);
+                STORE(engine_status.satisfied, engine_status.satisfied + 1);
                 return;
             }
             clause.push_back(literal);
         }
-        STORE(part.taken, part.taken + 1);
+        STORE(engine_status.taken, engine_status.taken + 1);
         if (test_hooks.without_order) add_clause();
         put_step('i', other, position);
         put_clause();
@@ -247,7 +248,7 @@ private:
         look_for_witnesses();
         int left = MOST_TAKEN;
         for (int other = 0; other < engine.options->engines; other++) {
-            uint64_t end = LOAD(engine.shared->parts[other].outbox_used), at = read[size_t(other)];
+            uint64_t end = LOAD(engine.shared->engine_statuses[other].outbox_used), at = read[size_t(other)];
             while (const uint32_t *gift = next_gift(engine.shared, engine.outboxes[other], &at, end)) {
                 size_t length = gift[0];
                 if (other + 1 == engine.number) is_new(literals_of(gift), length);

@@ -20,7 +20,7 @@
 enum { MOST_AHEAD = 1 << 25 };      // bytes of a stream that lrupd hasn't got
 
 static const Filtering *own;
-static Part *part;
+static EngineStatus *engine_status;
 static Filter filter;
 static Input input;
 static unsigned char *assumed;      // by literal
@@ -33,7 +33,7 @@ static bool refuted;
 
 static _Noreturn void leave(const char *cause) {
     bool over = LOAD(own->shared->over);        // then the engine was ended within a step
-    if (cause && !over) snprintf(part->cause, sizeof part->cause, "%s", cause);
+    if (cause && !over) snprintf(engine_status->cause, sizeof engine_status->cause, "%s", cause);
     _exit(cause && !over);
 }
 
@@ -52,9 +52,9 @@ static void tell(uint64_t *field, uint64_t value) {
 // Until the first process has written as much there, or wants no more.
 static void await(const uint64_t *field, uint64_t wanted) {
     for (;;) {
-        uint64_t seen = events_so_far(&part->events);
+        uint64_t seen = events_so_far(&engine_status->events);
         if (LOAD(*field) >= wanted || LOAD(own->shared->over)) return;
-        events_await(&part->events, seen, -1);
+        events_await(&engine_status->events, seen, -1);
     }
 }
 
@@ -66,7 +66,7 @@ static uint64_t waiting(int file) {
 }
 
 static _Noreturn void leave_unwritten(const char *cause) {
-    STORE(part->unwritten, 1);
+    STORE(engine_status->unwritten, 1);
     leave(cause);
 }
 
@@ -75,12 +75,12 @@ static _Noreturn void leave_unwritten(const char *cause) {
 // missing, after a minute of waiting. A slow lrupd slows filters, and they the engines: of a stream there is never much in memory.
 static void out(const char *bytes, size_t length) {
     if (!write_whole(own->stream, bytes, length)) leave_unwritten(strerror(errno));
-    STORE(part->bytes, part->bytes + length);
-    STORE(part->outbox_used, staged);
-    STORE(part->behind, waiting(own->proof) + (input.length - input.at));
+    STORE(engine_status->bytes, engine_status->bytes + length);
+    STORE(engine_status->outbox_used, staged);
+    STORE(engine_status->behind, waiting(own->proof) + (input.length - input.at));
     events_advance(&own->shared->events);
     uint64_t ahead = hooked(test_hooks.ahead, MOST_AHEAD);
-    if (part->bytes > ahead) await(&part->fed, part->bytes - ahead);
+    if (engine_status->bytes > ahead) await(&engine_status->fed, engine_status->bytes - ahead);
 }
 
 // Rounds.
@@ -89,7 +89,7 @@ static void out(const char *bytes, size_t length) {
 static void keep_for_imports(void) {
     uint64_t formula = filter.formula.clauses;
     for (int k = 0; k < own->shared->engines; k++) {
-        uint64_t at = part->floors[k], end = LOAD(own->shared->parts[k].outbox_used);
+        uint64_t at = engine_status->floors[k], end = LOAD(own->shared->engine_statuses[k].outbox_used);
         if (k == own->engine - 1 || test_hooks.without_floor) continue;
         for (uint32_t *gift; (gift = next_gift(own->shared, own->outboxes[k], &at, end)) != NULL;) {
             uint64_t identity = gift_identity(gift);
@@ -130,17 +130,17 @@ static void next_round(void) {
     keep_for_imports();
     round_delete(&filter, &kept);
     write_flush();
-    tell(&part->ended_round, round_number);
+    tell(&engine_status->ended_round, round_number);
     await_round(&own->shared->saved_round, round_number);
     checkpoint_read(&checkpoint, own->shared->checkpoint);
-    round_begin(&filter, &checkpoint, part->stream, own->shared->streams);
+    round_begin(&filter, &checkpoint, engine_status->stream, own->shared->streams);
     if (!test_hooks.without_renewal) outbox_renew(own->shared, own->outboxes[own->engine - 1], own->engine, &checkpoint);
     checkpoint_free(&checkpoint);
     kept.length = 0;
-    STORE(part->bytes, 0);
-    STORE(part->round_lines, 0);
-    STORE(part->round_literals, 0);
-    tell(&part->mapped_round, round_number);
+    STORE(engine_status->bytes, 0);
+    STORE(engine_status->round_lines, 0);
+    STORE(engine_status->round_literals, 0);
+    tell(&engine_status->mapped_round, round_number);
     await_round(&own->shared->round, ++round_number);
     open_stream();
 }
@@ -156,19 +156,19 @@ static bool ends(void) {
 // Until the engine has written more, or has ended. Meanwhile rounds may end.
 static void await_proof(int file) {
     for (bool is_readable = false; !is_readable;) {
-        uint64_t seen = events_so_far(&part->events);
+        uint64_t seen = events_so_far(&engine_status->events);
         if (is_ending()) next_round();
-        else is_readable = events_await(&part->events, seen, file);
+        else is_readable = events_await(&engine_status->events, seen, file);
     }
 }
 
 static bool has_room(uint64_t literals) {
     Row row = { LOAD(own->shared->most_lines), LOAD(own->shared->most_literals) };
-    return row_holds(row, (Row){ part->round_lines, part->round_literals }, literals);
+    return row_holds(row, (Row){ engine_status->round_lines, engine_status->round_literals }, literals);
 }
 
 static void next_round_for(uint64_t literals) {
-    STORE(part->wanted, literals);
+    STORE(engine_status->wanted, literals);
     next_round();
 }
 
@@ -180,9 +180,9 @@ static void derives(const Filter *one) { round_make_room(one, has_room, next_rou
 static void give(void) {
     if (!outbox_put(own->shared, own->outboxes[own->engine - 1], own->engine, &staged, filter.last, &filter.literals)) return;
     PUSH(&kept, filter.last);
-    STORE(part->given, part->given + 1);
-    if (test_hooks.without_flush) STORE(part->outbox_used, staged);
-    if (test_hooks.last_gift && own->engine == 1 && part->given == test_hooks.last_gift) _exit(1);
+    STORE(engine_status->given, engine_status->given + 1);
+    if (test_hooks.without_flush) STORE(engine_status->outbox_used, staged);
+    if (test_hooks.last_gift && own->engine == 1 && engine_status->given == test_hooks.last_gift) _exit(1);
 }
 
 // Streams of one host follow each other, as its engines do.
@@ -190,7 +190,7 @@ static bool is_elsewhere(uint64_t stream) {
     const Shared *shared = own->shared;
     int first = shared->first_here;
     for (int k = first; k < first + shared->engines_here; k++)
-        if (shared->parts[k].stream == stream) return false;
+        if (shared->engine_statuses[k].stream == stream) return false;
     return true;
 }
 
@@ -202,13 +202,13 @@ static void count(void) {
         others++;
         elsewhere += is_elsewhere(stream);
     }
-    STORE(part->lines, part->lines + 1);
-    STORE(part->literals, part->literals + filter.literals.length);
-    STORE(part->round_lines, part->round_lines + 1);
-    STORE(part->round_literals, part->round_literals + filter.literals.length);
-    STORE(part->hints, part->hints + filter.chain.length);
-    STORE(part->citing_others, part->citing_others + (others > 0));
-    STORE(part->citing_elsewhere, part->citing_elsewhere + (elsewhere > 0));
+    STORE(engine_status->lines, engine_status->lines + 1);
+    STORE(engine_status->literals, engine_status->literals + filter.literals.length);
+    STORE(engine_status->round_lines, engine_status->round_lines + 1);
+    STORE(engine_status->round_literals, engine_status->round_literals + filter.literals.length);
+    STORE(engine_status->hints, engine_status->hints + filter.chain.length);
+    STORE(engine_status->citing_others, engine_status->citing_others + (others > 0));
+    STORE(engine_status->citing_elsewhere, engine_status->citing_elsewhere + (elsewhere > 0));
 }
 
 // The clause is empty, or contradicts the assumed literals.
@@ -240,7 +240,7 @@ static uint64_t gift(uint64_t engine, uint64_t position) {
     return identity;
 }
 
-static void passed(uint64_t engine, uint64_t position) { STORE(part->floors[engine_of(engine)], position); }
+static void passed(uint64_t engine, uint64_t position) { STORE(engine_status->floors[engine_of(engine)], position); }
 
 // A round may end before the first bytes are there, so the filter is open by then. A binary proof that may be either is DRAT.
 static Form form_found(const Formula *formula) {
@@ -260,7 +260,7 @@ static void read_proof(const Formula *formula) {
 
 // Where a solver says 20, and hasn't written the empty clause.
 static void end_proof(void) {
-    if (refuted || LOAD(own->shared->over) || own->form != UNKNOWN_FORM || LOAD(part->answer) != 20) return;
+    if (refuted || LOAD(own->shared->over) || own->form != UNKNOWN_FORM || LOAD(engine_status->answer) != 20) return;
     propagation_settle(&filter.propagation);
     if (filter.propagation.conflict == 0) leave("the proof ends without the empty clause");
     filter_add(&filter, &(Addition){0});
@@ -272,7 +272,7 @@ void filter_process(const Filtering *filtering, const void *formula) {
     static const Hooks hooks = { .ends = ends, .derives = derives, .derived = derived, .gift = gift, .passed = passed };
     own = filtering;
     errors_handle(end);
-    part = &own->shared->parts[own->engine - 1];
+    engine_status = &own->shared->engine_statuses[own->engine - 1];
     round_number = 1;
     input_open(&input, NULL);
     input.file = own->proof;
@@ -288,6 +288,6 @@ void filter_process(const Filtering *filtering, const void *formula) {
     read_proof(formula);
     end_proof();
     write_flush();
-    if (refuted) STORE(part->refuted, 1);
+    if (refuted) STORE(engine_status->refuted, 1);
     leave(NULL);
 }

@@ -29,7 +29,7 @@ void Exchange::open(Shared *all, const std::vector<uint32_t *> &boxes) {
 // In place of the engines elsewhere, which read this outbox no further. Of those elsewhere they have others.
 void Exchange::pass(int engine, uint64_t position) {
     for (int k = 0; k < int(outboxes.size()); k++)
-        if (!is_here(k)) STORE(shared->parts[k].floors[engine], position);
+        if (!is_here(k)) STORE(shared->engine_statuses[k].floors[engine], position);
 }
 
 // Of the round and all that was given away since the last time.
@@ -73,7 +73,7 @@ void Exchange::place(Message &message) {
         bool placed = (!late || test_hooks.without_lateness) &&
                       outbox_put(shared, outboxes[sent.engine], int(sent.engine) + 1, &place, sent.identity, &list);
         ++(placed ? traffic.in : traffic.dropped);
-        STORE(shared->parts[sent.engine].outbox_used, place);
+        STORE(shared->engine_statuses[sent.engine].outbox_used, place);
     }
 }
 
@@ -86,7 +86,7 @@ void Exchange::begin_round() {
 // Also once lrupd has saved: then filters give what is there the identities of the next round, before that begins.
 void Exchange::pass_over() {
     for (int k = first; k < end; k++) {
-        read[size_t(k)] = cleared[size_t(k)] = LOAD(shared->parts[k].outbox_used);
+        read[size_t(k)] = cleared[size_t(k)] = LOAD(shared->engine_statuses[k].outbox_used);
         pass(k, read[size_t(k)]);
     }
 }

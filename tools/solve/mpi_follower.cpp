@@ -124,8 +124,8 @@ private:
         STORE(shared->most_lines, control.most_lines);
         STORE(shared->most_literals, control.most_literals);
         for (size_t k = 0; k < teams.size(); k++) {
-            STORE(teams.part(k).stream, control.parts[k].stream);
-            STORE(teams.part(k).fed, control.parts[k].fed);
+            STORE(teams.engine_status(k).stream, control.of_engines[k].stream);
+            STORE(teams.engine_status(k).fed, control.of_engines[k].fed);
         }
         if (control.ending_round > LOAD(shared->ending_round)) end_round(control.ending_round);
         if (control.saved_round > LOAD(shared->saved_round)) take_saved(control.saved_round);
@@ -197,8 +197,8 @@ private:
         for (size_t k = 0; k < teams.size(); k++) {
             if (!teams.is_here(k)) continue;
             Team &team = teams[k];
-            if (team.filter.ended()) STORE(teams.part(k).gone, 1);
-            if (told[k].facts.of_filter.ended && LOAD(teams.part(k).answer) == 0) team.engine.signal(SIGKILL);
+            if (team.filter.ended()) STORE(teams.engine_status(k).gone, 1);
+            if (told[k].facts.of_filter.ended && LOAD(teams.engine_status(k).answer) == 0) team.engine.signal(SIGKILL);
         }
         bool is_late = now() >= ending;
         if (is_late) ending = INFINITY;
@@ -209,15 +209,15 @@ private:
     // What it says. Of what follows from a stream others hear when all of it is sent.
 
     bool send_stream(size_t k) {
-        Part &part = teams.part(k);
+        EngineStatus &engine_status = teams.engine_status(k);
         Told &one = told[k];
         uint64_t round_on = LOAD(teams.shared->round);
-        if (LOAD(part.mapped_round) + 1 != round_on || LOAD(teams.shared->saved_round) >= round_on) return true;
-        uint64_t used = LOAD(part.outbox_used), bytes = LOAD(part.bytes);
+        if (LOAD(engine_status.mapped_round) + 1 != round_on || LOAD(teams.shared->saved_round) >= round_on) return true;
+        uint64_t used = LOAD(engine_status.outbox_used), bytes = LOAD(engine_status.bytes);
         static std::vector<char> piece(PIECE_OF_A_STREAM);
-        bool is_whole = teams[k].filter.ended() || LOAD(part.ended_round) == round_on;
+        bool is_whole = teams[k].filter.ended() || LOAD(engine_status.ended_round) == round_on;
         uint64_t pieces = test_hooks.late_lines ? is_whole : UINT64_MAX;
-        for (; pieces > 0 && one.sent < bytes && one.sent < LOAD(part.fed) + WINDOW && !link.is_full(); pieces--) {
+        for (; pieces > 0 && one.sent < bytes && one.sent < LOAD(engine_status.fed) + WINDOW && !link.is_full(); pieces--) {
             size_t wanted = std::min<uint64_t>(piece.size(), bytes - one.sent);
             ssize_t count = pread(teams[k].stream, piece.data(), wanted, off_t(one.sent));
             if (count <= 0) refuse("cannot read a stream again: " + (count < 0 ? error_text() : "it is cut"));
@@ -259,16 +259,16 @@ private:
 
     // Rounds first: what a filter writes before it ends one is there then.
     Facts facts_of(size_t k) const {
-        const Part &part = teams.part(k);
+        const EngineStatus &engine_status = teams.engine_status(k);
         Facts facts = {};
         facts.engine = int32_t(k);
         facts.of_engine = end_of(teams[k].engine);
         facts.of_filter = end_of(teams[k].filter);
-        facts.refuted = LOAD(part.refuted);
-        facts.answer = LOAD(part.answer);
-        facts.unwritten = LOAD(part.unwritten);
-        if (facts.of_filter.ended) memcpy(facts.cause, part.cause, sizeof facts.cause);
-        for (size_t n = COUNTS; n-- > 0;) facts.counts[n] = LOAD(part.*COUNTED[n]);
+        facts.refuted = LOAD(engine_status.refuted);
+        facts.answer = LOAD(engine_status.answer);
+        facts.unwritten = LOAD(engine_status.unwritten);
+        if (facts.of_filter.ended) memcpy(facts.cause, engine_status.cause, sizeof facts.cause);
+        for (size_t n = COUNTS; n-- > 0;) facts.counts[n] = LOAD(engine_status.*COUNTED[n]);
         return facts;
     }
 

@@ -81,15 +81,15 @@ private:
 
     void take_facts(const Facts &facts) {
         if (!is_elsewhere(facts.engine)) return;
-        Part &part = run.teams.part(size_t(facts.engine));
-        uint64_t mapped = LOAD(part.mapped_round);
-        for (size_t k = 0; k < COUNTS; k++) STORE(part.*COUNTED[k], facts.counts[k]);
-        if (LOAD(part.mapped_round) > mapped) STORE(part.bytes, 0);
-        memcpy(part.cause, facts.cause, sizeof part.cause);
-        part.cause[sizeof part.cause - 1] = 0;
-        STORE(part.unwritten, facts.unwritten);
-        STORE(part.answer, facts.answer);
-        STORE(part.refuted, facts.refuted);
+        EngineStatus &engine_status = run.teams.engine_status(size_t(facts.engine));
+        uint64_t mapped = LOAD(engine_status.mapped_round);
+        for (size_t k = 0; k < COUNTS; k++) STORE(engine_status.*COUNTED[k], facts.counts[k]);
+        if (LOAD(engine_status.mapped_round) > mapped) STORE(engine_status.bytes, 0);
+        memcpy(engine_status.cause, facts.cause, sizeof engine_status.cause);
+        engine_status.cause[sizeof engine_status.cause - 1] = 0;
+        STORE(engine_status.unwritten, facts.unwritten);
+        STORE(engine_status.answer, facts.answer);
+        STORE(engine_status.refuted, facts.refuted);
         take_end(run.teams[size_t(facts.engine)].engine, facts.of_engine);
         take_end(run.teams[size_t(facts.engine)].filter, facts.of_filter);
     }
@@ -97,15 +97,15 @@ private:
     void take_stream(Message &message) {
         int32_t k = -1;
         if (!message.take(k) || !is_elsewhere(k)) return;
-        Part &part = run.teams.part(size_t(k));
+        EngineStatus &engine_status = run.teams.engine_status(size_t(k));
         const char *bytes = message.rest();
         for (size_t left = message.left(); left > 0;) {
-            ssize_t count = pwrite(run.teams[size_t(k)].stream, bytes, left, off_t(part.bytes));
+            ssize_t count = pwrite(run.teams[size_t(k)].stream, bytes, left, off_t(engine_status.bytes));
             if (count < 0 && errno != EINTR) refuse("cannot write " + run.teams.stream_path(size_t(k), run.rounds.number) + ": " + error_text());
             if (count <= 0) continue;
             bytes += count;
             left -= size_t(count);
-            STORE(part.bytes, part.bytes + uint64_t(count));
+            STORE(engine_status.bytes, engine_status.bytes + uint64_t(count));
         }
     }
 
@@ -154,16 +154,17 @@ private:
         words.most_lines = LOAD(shared->most_lines);
         words.most_literals = LOAD(shared->most_literals);
         for (size_t k = 0; k < run.teams.size(); k++) {
-            words.parts[k].stream = LOAD(shared->parts[k].stream);
-            words.parts[k].fed = LOAD(shared->parts[k].fed);
+            words.of_engines[k].stream = LOAD(shared->engine_statuses[k].stream);
+            words.of_engines[k].fed = LOAD(shared->engine_statuses[k].fed);
         }
         return words;
     }
 
     static bool is_news(const Control &one, const Control &other) {
         for (size_t k = 0; k < MOST_ENGINES; k++)
-            if (one.parts[k].fed > other.parts[k].fed + WINDOW / 8 || one.parts[k].stream != other.parts[k].stream) return true;
-        return memcmp(&one, &other, offsetof(Control, parts)) != 0;
+            if (one.of_engines[k].fed > other.of_engines[k].fed + WINDOW / 8 ||
+                one.of_engines[k].stream != other.of_engines[k].stream) return true;
+        return memcmp(&one, &other, offsetof(Control, of_engines)) != 0;
     }
 
     void say() {
@@ -181,7 +182,7 @@ private:
     std::string look() {
         peer.look();
         for (size_t k = 0; k < run.teams.size(); k++)
-            if (run.teams.is_here(k)) peer.exchange.clear(int(k), LOAD(run.teams.part(k).outbox_used));
+            if (run.teams.is_here(k)) peer.exchange.clear(int(k), LOAD(run.teams.engine_status(k).outbox_used));
         if (link.carrier.ended()) return "MPI's process here " + link.carrier.end();
         if (peer.silent_process() >= 0) return format("process %d has said nothing for %.0f seconds", peer.silent_process(), SILENCE);
         say();
@@ -195,8 +196,8 @@ private:
             uint64_t lines = 0, citing = 0;
             double each = one.exchanges ? 1e-6 * double(one.nanoseconds) / double(one.exchanges) : 0;
             for (size_t end = k + size_t(link.engines[process]); k < end; k++) {
-                lines += LOAD(run.teams.part(k).lines);
-                citing += LOAD(run.teams.part(k).citing_elsewhere);
+                lines += LOAD(run.teams.engine_status(k).lines);
+                citing += LOAD(run.teams.engine_status(k).citing_elsewhere);
             }
             run.display.tell(format("process %zu: %s; clauses: %s sent, %s came, %s beyond the budget, %s late; %s out, %s in; %.1f ms each; "
                         "%.0f %% of lines cite another process; %s of streams",

@@ -5,10 +5,11 @@
 
 #include "mpi_run.h"
 
-uint64_t Part::*const COUNTED[COUNTS] = {
-    &Part::conflicts, &Part::slices, &Part::taken, &Part::refused, &Part::satisfied, &Part::lines, &Part::literals, &Part::hints,
-    &Part::given, &Part::citing_others, &Part::citing_elsewhere, &Part::round_lines, &Part::round_literals, &Part::behind,
-    &Part::wanted, &Part::ended_round, &Part::mapped_round,
+uint64_t EngineStatus::*const COUNTED[COUNTS] = {
+    &EngineStatus::conflicts, &EngineStatus::slices, &EngineStatus::taken, &EngineStatus::refused, &EngineStatus::satisfied,
+    &EngineStatus::lines, &EngineStatus::literals, &EngineStatus::hints, &EngineStatus::given, &EngineStatus::citing_others,
+    &EngineStatus::citing_elsewhere, &EngineStatus::round_lines, &EngineStatus::round_literals, &EngineStatus::behind,
+    &EngineStatus::wanted, &EngineStatus::ended_round, &EngineStatus::mapped_round,
 };
 
 namespace {
@@ -117,7 +118,8 @@ bool Peer::is_due(const Message &message) const {
 bool Peer::holds_back() const {
     if (!test_hooks.late_saved || link.process != 0 || !exchange.has_begun()) return false;
     for (size_t k = 0; k < teams.size(); k++)
-        if (teams.is_here(k) && teams[k].filter.running && LOAD(teams.part(k).mapped_round) < LOAD(teams.shared->round)) return true;
+        if (teams.is_here(k) && teams[k].filter.running &&
+            LOAD(teams.engine_status(k).mapped_round) < LOAD(teams.shared->round)) return true;
     return false;
 }
 

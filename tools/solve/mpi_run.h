@@ -139,7 +139,7 @@ struct Facts {
 struct Control {
     uint64_t over;
     uint64_t round, ending_round, saved_round, streams, most_lines, most_literals;
-    struct { uint64_t stream, fed; } parts[MOST_ENGINES];
+    struct { uint64_t stream, fed; } of_engines[MOST_ENGINES];
 };
 
 // What a process has in common with the others, whether it leads or follows: mpi_run.cpp.
@@ -177,7 +177,7 @@ private:
 int lead(const Options &options, Link &link);       // mpi_leader.cpp
 int follow(const Options &options, Link &link);     // mpi_follower.cpp
 
-extern uint64_t Part::*const COUNTED[COUNTS];
+extern uint64_t EngineStatus::*const COUNTED[COUNTS];
 
 const double SILENCE = 8;               // seconds, after which a process is given up
 const double PULSE = 0.25;              // seconds, after which something is said at the latest

@@ -8,8 +8,8 @@
 static uint64_t least_floor(const Shared *shared, int engine, uint64_t end, bool with_own) {
     uint64_t least = end;
     for (int k = 0; k < shared->engines; k++) {
-        uint64_t floor = LOAD(shared->parts[k].floors[engine - 1]);
-        if (floor < least && !LOAD(shared->parts[k].gone) && (with_own || k != engine - 1)) least = floor;
+        uint64_t floor = LOAD(shared->engine_statuses[k].floors[engine - 1]);
+        if (floor < least && !LOAD(shared->engine_statuses[k].gone) && (with_own || k != engine - 1)) least = floor;
     }
     return least;
 }
@@ -39,7 +39,7 @@ bool outbox_put(const Shared *shared, uint32_t *outbox, int engine, uint64_t *st
 // The identities of the next round. One that has its own already is left alone: a filter may have died on its way. One that wasn't
 // saved gets 0.
 void outbox_renew(const Shared *shared, uint32_t *outbox, int engine, const Checkpoint *checkpoint) {
-    uint64_t end = LOAD(shared->parts[engine - 1].outbox_used), round = LOAD(shared->round);
+    uint64_t end = LOAD(shared->engine_statuses[engine - 1].outbox_used), round = LOAD(shared->round);
     uint64_t at = least_floor(shared, engine, end, false);
     for (uint32_t *gift; (gift = next_gift(shared, outbox, &at, end)) != NULL;) {
         uint32_t identity = gift_identity(gift);

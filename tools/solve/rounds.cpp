@@ -32,8 +32,8 @@ std::string Rounds::bytes_of_row() const { return counted(rows.memory, "byte") +
 bool Rounds::size(uint64_t clauses, uint64_t literals) {
     Shared *shared = teams.shared;
     uint64_t streams = std::max<uint64_t>(1, shared->streams), wanted = 0;
-    for (size_t k = 0; k < teams.size(); k++) wanted = std::max(wanted, LOAD(teams.part(k).wanted));
-    Row used = { teams.all(&Part::lines) - lines_before, teams.all(&Part::literals) - literals_before };
+    for (size_t k = 0; k < teams.size(); k++) wanted = std::max(wanted, LOAD(teams.engine_status(k).wanted));
+    Row used = { teams.all(&EngineStatus::lines) - lines_before, teams.all(&EngineStatus::literals) - literals_before };
     if (!rows_size(&rows, streams, clauses, literals, used, wanted)) return false;
     STORE(shared->most_lines, rows.row.lines);
     STORE(shared->most_literals, rows.row.room);
@@ -51,8 +51,8 @@ void Rounds::begin(const std::string &program) {
 Row Rounds::needed_row() const {
     Row needed = { 0, 0 };
     for (size_t k = 0; k < teams.size(); k++) {
-        needed.lines = std::max(needed.lines, LOAD(teams.part(k).round_lines));
-        needed.room = std::max(needed.room, LOAD(teams.part(k).round_literals));
+        needed.lines = std::max(needed.lines, LOAD(teams.engine_status(k).round_lines));
+        needed.room = std::max(needed.room, LOAD(teams.engine_status(k).round_literals));
     }
     return needed;
 }
@@ -72,28 +72,43 @@ static std::string word_in_command(const std::string &path, int number, std::str
     return OPEN_FILES + std::to_string(number);
 }
 
-// Of round 1, with names that a record's streams have, from whatever folder it is run.
-std::string Rounds::command_of(Row sizes) const {
-    std::string opened, line, record = teams.shared->record;
-    if (!is_utf8(record)) line = "cd " + quoted(record) + " && ";
-    size_t left_out = is_utf8(record) ? 0 : record.size();
-    line += quoted(checker_program);
-    std::string formula = word_in_command(absolute(inputs.formula_path), 3, opened);
-    std::string assume = inputs.options.assume ? word_in_command(absolute(inputs.assume_path), 4, opened) : "";
+// Without the folder, where it is in that.
+static std::string within(const std::string &folder, const std::string &path) {
+    if (folder.empty() || path.compare(0, folder.size(), folder) != 0) return path;
+    return (path[folder.size()] == '-' ? "./" : "") + path.substr(folder.size());
+}
+
+// Of round 1, with names that a record's streams have, as they are from this folder.
+std::string Rounds::command_of(Row sizes, const std::string &folder) const {
+    std::string opened, line = quoted(checker_program);
+    std::string formula = word_in_command(within(folder, absolute(inputs.formula_path)), 3, opened);
+    std::string assume = inputs.options.assume ? word_in_command(within(folder, absolute(inputs.assume_path)), 4, opened) : "";
     for (const std::string &word : checker_words(sizes, "")) line += " " + (word.empty() ? assume : quoted(word));
     line += " " + formula;
-    for (size_t k = 0; k < teams.size(); k++) line += " " + quoted(teams.stream_path(k, 1).substr(left_out));
+    for (size_t k = 0; k < teams.size(); k++) line += " " + quoted(within(folder, teams.stream_path(k, 1)));
     return line + opened;
 }
 
-// Of all rounds, of the formula that was read. lrupd leaves what it saves.
+// Of all rounds, of the formula that was read, from the record's own folder: it may have moved. lrupd leaves what it saves.
+static const char CHECK_AGAIN[] = R"sh(case $0 in */*) CDPATH= cd -- "${0%/*}/" || exit 1 ;; esac
+for file in formula.sha256 round-1.stream-1 ASSUME FORMULA; do
+    case $file in /*) ;; *) file=$PWD/$file ;; esac
+    [ -r "$file" ] || { printf "%s isn't there, or can't be read\n" "$file" >&2; exit 1; }
+done
+read -r digest name < formula.sha256
+if command -v sha256sum > /dev/null && [ "$(sha256sum < "$file")" != "${digest#\\}  -" ]; then
+    printf "%s isn't the formula of this record, or was changed since\n" "$file" >&2
+    exit 1
+fi
+)sh";
+
 std::string Rounds::command_again() const {
-    std::string folder = absolute(inputs.options.proofs), here = is_utf8(folder) ? quoted(folder) : ".";
-    std::string changed = absolute(inputs.formula_path) + " isn't the formula of this record, or was changed since";
-    std::string check = "command -v sha256sum > /dev/null && ! sha256sum -c " + quoted(folder + "/formula.sha256") + " > /dev/null && " +
-                        "{ printf '%s\\n' " + quoted(changed) + " >&2; exit 1; }; ";
-    if (number == 1) return check + command;
-    return check + command + " --rounds " + here + "; status=$?; rm -f " + here + "/round-[0-9]*.cnf; exit $status";
+    std::string folder = teams.shared->record, text = CHECK_AGAIN;
+    std::string assume = inputs.options.assume ? quoted(within(folder, absolute(inputs.assume_path))) + " " : "";
+    text.replace(text.find("ASSUME "), 7, assume);
+    text.replace(text.find("FORMULA;"), 7, quoted(within(folder, absolute(inputs.formula_path))));
+    if (number == 1) return text + command;
+    return text + command + " --rounds .\nstatus=$?\nrm -f ./round-[0-9]*.cnf\nexit $status";
 }
 
 // In the record.
@@ -115,9 +130,10 @@ std::string Rounds::keep_report() const {
 
 void Rounds::start_checker(Row wanted) {
     rows.row = wanted;
-    command = command_of(wanted);
+    std::string record = teams.shared->record;
+    command = command_of(wanted, record);
     keep_sizes();
-    display.tell_more(command);
+    display.tell_more(is_utf8(record) ? command_of(wanted, "") : "cd " + quoted(record) + " && " + command);
     checker.start(wanted, teams.stream_files());
 }
 
@@ -125,10 +141,10 @@ void Rounds::start_checker(Row wanted) {
 void Rounds::feed(bool is_last) {
     if (!checker.child.pid) return;
     for (size_t k = 0; k < teams.size(); k++) {
-        uint64_t stream = LOAD(teams.part(k).stream);
+        uint64_t stream = LOAD(teams.engine_status(k).stream);
         if (stream == 0) continue;
         bool is_empty = state == MAPPING || teams[k].silent;
-        bool fed = checker.feed(stream - 1, is_empty ? 0 : LOAD(teams.part(k).bytes), !inputs.options.proofs);
+        bool fed = checker.feed(stream - 1, is_empty ? 0 : LOAD(teams.engine_status(k).bytes), !inputs.options.proofs);
         teams.tell_fed(k, checker.fed(stream - 1));
         if (fed && (is_last || state == SAVING)) checker.end_stream(stream - 1);
     }
@@ -142,16 +158,16 @@ void Rounds::end_streams() {
 // From round to round. The first lrupd starts once streams aren't short any more.
 std::string Rounds::look() {
     uint64_t least = test_hooks.first_words ? 1 : SHORT_STREAMS;
-    if (!checker.child.pid && teams.all(&Part::bytes) >= least) start_checker(rows.row);
+    if (!checker.child.pid && teams.all(&EngineStatus::bytes) >= least) start_checker(rows.row);
     for (size_t k = 0; k < teams.size() && state == OPEN; k++)
-        if (LOAD(teams.part(k).ended_round) == number) end_round();
-    if (state == ENDING && teams.have_all(&Part::ended_round, number)) {
+        if (LOAD(teams.engine_status(k).ended_round) == number) end_round();
+    if (state == ENDING && teams.have_all(&EngineStatus::ended_round, number)) {
         if (!checker.child.pid) start_checker(rows.row);
         checker.expect_round(Folder::name() + "/" + name_of_round(number + 1));
         state = SAVING;
     }
     std::string cause = state == SAVING && checker.awaits_sizes() ? map_round() : "";
-    if (state == MAPPING && cause.empty() && teams.have_all(&Part::mapped_round, number - 1)) go_on();
+    if (state == MAPPING && cause.empty() && teams.have_all(&EngineStatus::mapped_round, number - 1)) go_on();
     return cause;
 }
 
@@ -185,8 +201,8 @@ std::string Rounds::map_round() {
 
 void Rounds::begin_round() {
     number++;
-    lines_before = teams.all(&Part::lines);
-    literals_before = teams.all(&Part::literals);
+    lines_before = teams.all(&EngineStatus::lines);
+    literals_before = teams.all(&EngineStatus::literals);
     teams.open_streams(number);
     keep_sizes();
     checker.begin_round(rows.row, teams.stream_files());
@@ -206,7 +222,7 @@ void Rounds::go_on() {
 
 // Of the round that lrupd has saved.
 std::string Rounds::words() const {
-    uint64_t lines = teams.all(&Part::lines) - lines_before, literals = teams.all(&Part::literals) - literals_before;
+    uint64_t lines = teams.all(&EngineStatus::lines) - lines_before, literals = teams.all(&EngineStatus::literals) - literals_before;
     uint64_t taken = rows.formula + teams.shared->streams * (rows.row.lines + rows.row.room);
     return format("round %llu: %s with %s, in a row of %s; %s carried over", (unsigned long long)number,
                   counted(lines, "clause").c_str(), counted(literals, "literal").c_str(), counted(taken, "word").c_str(),

@@ -47,7 +47,7 @@ private:
     void go_on();
     std::string words() const;
     std::vector<std::string> checker_words(Row sizes, const std::string &assume) const;
-    std::string command_of(Row sizes) const;
+    std::string command_of(Row sizes, const std::string &folder) const;
     std::string command_again() const;
     void keep_sizes() const;
 };

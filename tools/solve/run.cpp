@@ -120,10 +120,11 @@ void Run::look_at_teams() {
 // The proof is written once the filter has written its last line; what the engine says counts for nothing.
 void Run::look_at_team(size_t k) {
     Team &team = teams[k];
-    Part &facts = teams.part(k);
+    EngineStatus &facts = teams.engine_status(k);
     if (LOAD(facts.unwritten) && team.filter.ended()) refuse("cannot write " + teams.stream_path(k, rounds.number) + ": " + facts.cause);
     if (LOAD(facts.refuted)) {
         if (teams.answered == 0) teams.answered = now();
+        look_at_ends();
         ending = now() + ENDING;
         phase = ENDING_STREAMS;
         return display.tell_more(format("engine %zu has the proof", k + 1));
@@ -133,14 +134,27 @@ void Run::look_at_team(size_t k) {
     if (team.filter.ended()) STORE(facts.gone, 1);
     if (phase != SOLVING || team.told || said == SATISFIABLE) return;
     bool both_ended = team.engine.ended() && team.filter.ended_with(0);
-    if (said == 0 && !facts.cause[0] && (both_ended || (team.engine.ended() && !team.engine.ended_with(0)))) {
-        bool unfounded = LOAD(facts.unfounded);
-        tell_lost(k, unfounded ? "it says 'satisfiable', and gives no assignment in lines v" : "the engine " + team.engine.end());
-        if (LOAD(facts.group)) kill(-LOAD(facts.group), SIGKILL);       // where not even its process could do that
-    } else if (team.filter.ended() && (both_ended || !team.filter.ended_with(0))) {
-        tell_lost(k, "its filter " + (facts.cause[0] ? std::string("stopped: ") + facts.cause : team.filter.end()));
-        team.engine.signal(SIGKILL);
-    }
+    if (look_at_end(k) || !team.filter.ended() || !(both_ended || !team.filter.ended_with(0))) return;
+    tell_lost(k, "its filter " + (facts.cause[0] ? std::string("stopped: ") + facts.cause : team.filter.end()));
+    team.engine.signal(SIGKILL);
+}
+
+// Whether an engine has ended without an answer, which isn't its filter's fault.
+bool Run::look_at_end(size_t k) {
+    Team &team = teams[k];
+    const EngineStatus &facts = teams.engine_status(k);
+    bool has_ended = team.engine.ended() && (team.filter.ended_with(0) || !team.engine.ended_with(0));
+    if (LOAD(facts.answer) != 0 || facts.cause[0] || !has_ended) return false;
+    bool unfounded = LOAD(facts.unfounded);
+    tell_lost(k, unfounded ? "it says 'satisfiable', and gives no assignment in lines v" : "the engine " + team.engine.end());
+    if (LOAD(facts.group)) kill(-LOAD(facts.group), SIGKILL);       // where not even its process could do that
+    return true;
+}
+
+// Of all, once one of them has the answer: from now on they are ended. A filter that has the proof ends before its engine.
+void Run::look_at_ends() {
+    for (size_t k = 0; k < teams.size(); k++)
+        if (!teams[k].told && !LOAD(teams.engine_status(k).refuted)) look_at_end(k);
 }
 
 void Run::tell_lost(size_t k, const std::string &why) {
@@ -156,6 +170,7 @@ void Run::look_at_model(size_t k) {
     if (inputs.is_model(values)) {
         model.assign(values, values + inputs.formula.variables);
         display.tell_more(format("engine %zu has an assignment", k + 1));
+        look_at_ends();
         return finish(SATISFIABLE, "");
     }
     teams[k].wrong = true;
@@ -232,6 +247,7 @@ void Run::send_answer() {
     display.hide();
     if (inputs.options.verbose) display.details();
     if (inputs.options.verbose && others) others->details();
+    display.lost();
     if (answer == UNKNOWN_ANSWER) display.causes(cause);
     display.summary();
     if (answer == SATISFIABLE) tell_model(model);

@@ -54,6 +54,8 @@ private:
     void look_at_solving();
     void look_at_teams();
     void look_at_team(size_t k);
+    bool look_at_end(size_t k);
+    void look_at_ends();
     void look_at_model(size_t k);
     void tell_lost(size_t k, const std::string &why);
     void look_at_checker();

@@ -59,9 +59,9 @@ typedef struct {
     EventCount events;          // for the filter, of what the first process writes here and below
     uint64_t cube_number;       // that it has, or has had; 0: none, or another one is being written
     int cube_length, cube[MOST_OF_A_CUBE];
-} Part;
+} EngineStatus;
 
-// The first process writes all of it but the parts; and the first engine of the host the variables of cubes.
+// The first process writes all of it but the statuses of engines; and the first engine of the host the variables of cubes.
 typedef struct {
     int engines;
     int first_here, engines_here;       // from 0; others are on other hosts
@@ -77,7 +77,7 @@ typedef struct {
     char checkpoint[LONGEST_PATH];
     char record[LONGEST_PATH];          // the folder of the streams, with a slash, where they are kept
     EventCount events;                  // for the first process, of what engines and filters write
-    Part parts[MOST_ENGINES];
+    EngineStatus engine_statuses[MOST_ENGINES];
 } Shared;
 
 #define LOAD(field) __atomic_load_n(&(field), __ATOMIC_ACQUIRE)

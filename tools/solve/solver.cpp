@@ -165,12 +165,12 @@ void solver_process(const Engine &engine, const std::string &command, const std:
     if (pid == 0) run_shell(command, files, out.write);
     if (pid < 0) _exit(127);
     setpgid(pid, pid);
-    STORE(engine.shared->parts[engine.number - 1].group, pid);
+    STORE(engine.shared->engine_statuses[engine.number - 1].group, pid);
     close_file(out.write);
     int status = wait_for_solver(pid, signals, out.read, printed);
     int exited = WIFEXITED(status) ? WEXITSTATUS(status) : 0, answer = printed.answer(exited);
-    if (printed.is_unfounded(exited)) STORE(engine.shared->parts[engine.number - 1].unfounded, 1);
-    if (answer != 0) STORE(engine.shared->parts[engine.number - 1].answer, answer);
+    if (printed.is_unfounded(exited)) STORE(engine.shared->engine_statuses[engine.number - 1].unfounded, 1);
+    if (answer != 0) STORE(engine.shared->engine_statuses[engine.number - 1].answer, answer);
     if (WIFEXITED(status)) _exit(WEXITSTATUS(status));
     signal(WTERMSIG(status), SIG_DFL);
     sigset_t none;

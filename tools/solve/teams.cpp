@@ -35,18 +35,18 @@ std::string name_of_round(uint64_t number) { return "round-" + std::to_string(nu
 // What is known.
 
 bool Teams::is_lost(size_t k) const {
-    return list[k].wrong || (list[k].told && list[k].filter.ended() && LOAD(part(k).answer) != SATISFIABLE);
+    return list[k].wrong || (list[k].told && list[k].filter.ended() && LOAD(engine_status(k).answer) != SATISFIABLE);
 }
 
-uint64_t Teams::all(uint64_t Part::*field) const {
+uint64_t Teams::all(uint64_t EngineStatus::*field) const {
     uint64_t sum = 0;
-    for (size_t k = 0; k < list.size(); k++) sum += LOAD(part(k).*field);
+    for (size_t k = 0; k < list.size(); k++) sum += LOAD(engine_status(k).*field);
     return sum;
 }
 
-bool Teams::have_all(uint64_t Part::*field, uint64_t wanted) const {
+bool Teams::have_all(uint64_t EngineStatus::*field, uint64_t wanted) const {
     for (size_t k = 0; k < list.size(); k++)
-        if (list[k].filter.running && LOAD(part(k).*field) != wanted) return false;
+        if (list[k].filter.running && LOAD(engine_status(k).*field) != wanted) return false;
     return true;
 }
 
@@ -68,9 +68,9 @@ void Teams::open() {
     if (options.proofs) copy_name(shared->record, absolute(options.proofs) + "/");
     list.resize(size_t(options.engines));
     for (size_t k = 0; k < list.size(); k++) {
-        STORE(part(k).stream, k + 1);
-        part(k).events.file = event_file();
-        if (is_solver(k)) std::fill_n(part(k).floors, MOST_ENGINES, UINT64_MAX);
+        STORE(engine_status(k).stream, k + 1);
+        engine_status(k).events.file = event_file();
+        if (is_solver(k)) std::fill_n(engine_status(k).floors, MOST_ENGINES, UINT64_MAX);
         list[k].stream = options.proofs ? create_file(stream_path(k, 1)) : file_in_memory();
         outboxes.push_back(shared_memory<uint32_t>(shared->outbox_words));
     }
@@ -103,7 +103,7 @@ void Teams::start_others() {
 // Not while the filter of the first engine reads its answer.
 double Teams::next_start() const {
     if (others_start == 0) return INFINITY;
-    return list[0].told ? 0 : LOAD(part(0).answer) == 0 ? others_start : INFINITY;
+    return list[0].told ? 0 : LOAD(engine_status(0).answer) == 0 ? others_start : INFINITY;
 }
 
 // No other child gets these pipes: one that is stopped as it starts would hold their ends. Those of other hosts start there.
@@ -162,7 +162,7 @@ void Teams::look() {
     pause_others();
 }
 
-bool Teams::has_refuted(size_t k) const { return LOAD(part(k).answer) == UNSATISFIABLE && list[k].filter.running; }
+bool Teams::has_refuted(size_t k) const { return LOAD(engine_status(k).answer) == UNSATISFIABLE && list[k].filter.running; }
 
 // While the filter of an engine that has refuted the formula catches up, the others leave the cores to it. They go on where it
 // stops. Those on other hosts have cores of their own.
@@ -202,47 +202,47 @@ bool Teams::end_streams(bool is_late) {
 }
 
 void Teams::tell_filters() const {
-    for (size_t k = 0; k < list.size(); k++) events_advance(&part(k).events);
+    for (size_t k = 0; k < list.size(); k++) events_advance(&engine_status(k).events);
 }
 
 void Teams::tell_fed(size_t k, uint64_t bytes) const {
-    if (LOAD(part(k).fed) == bytes) return;
-    STORE(part(k).fed, bytes);
-    events_advance(&part(k).events);
+    if (LOAD(engine_status(k).fed) == bytes) return;
+    STORE(engine_status(k).fed, bytes);
+    events_advance(&engine_status(k).events);
 }
 
 // Streams.
 
 std::string Teams::stream_path(size_t k, uint64_t round) const {
-    return std::string(shared->record) + name_of_round(round) + ".stream-" + std::to_string(LOAD(part(k).stream));
+    return std::string(shared->record) + name_of_round(round) + ".stream-" + std::to_string(LOAD(engine_status(k).stream));
 }
 
 std::vector<int> Teams::stream_files() const {
     std::vector<int> files;
     for (size_t k = 0; k < list.size(); k++)
-        if (LOAD(part(k).stream)) files.push_back(list[k].stream);
+        if (LOAD(engine_status(k).stream)) files.push_back(list[k].stream);
     return files;
 }
 
 // Engines that were lost are left out.
 void Teams::number_streams() {
     uint64_t count = 0;
-    for (size_t k = 0; k < list.size(); k++) STORE(part(k).stream, list[k].filter.running ? ++count : 0);
+    for (size_t k = 0; k < list.size(); k++) STORE(engine_status(k).stream, list[k].filter.running ? ++count : 0);
     STORE(shared->streams, count);
 }
 
 void Teams::open_streams(uint64_t round) {
     for (size_t k = 0; k < list.size(); k++) {
-        STORE(part(k).fed, 0);
+        STORE(engine_status(k).fed, 0);
         if (!inputs.options.proofs) cut_stream(k, 0);
         if (inputs.options.proofs) close_file(list[k].stream);
-        if (inputs.options.proofs && LOAD(part(k).stream)) list[k].stream = create_file(stream_path(k, round));
+        if (inputs.options.proofs && LOAD(engine_status(k).stream)) list[k].stream = create_file(stream_path(k, round));
     }
 }
 
 // A filter that died may have left lines in a record that lrupd wasn't fed, and part of one.
 void Teams::cut_streams() {
-    for (size_t k = 0; k < list.size() && inputs.options.proofs; k++) cut_stream(k, list[k].silent ? 0 : LOAD(part(k).bytes));
+    for (size_t k = 0; k < list.size() && inputs.options.proofs; k++) cut_stream(k, list[k].silent ? 0 : LOAD(engine_status(k).bytes));
 }
 
 void Teams::cut_stream(size_t k, uint64_t bytes) {
@@ -252,7 +252,7 @@ void Teams::cut_stream(size_t k, uint64_t bytes) {
 // Clauses that a filter gave away which has died, or is on another host, may still be taken over.
 void Teams::renew_outboxes(const Checkpoint &saved, uint64_t round) {
     for (size_t k = 0; k < list.size(); k++) {
-        list[k].silent = LOAD(part(k).mapped_round) != round - 1;
+        list[k].silent = LOAD(engine_status(k).mapped_round) != round - 1;
         if (list[k].filter.ended() || !is_here(k)) outbox_renew(shared, outboxes[k], int(k) + 1, &saved);
     }
 }

@@ -29,12 +29,12 @@ public:
     size_t size() const { return list.size(); }
     Team &operator[](size_t k) { return list[k]; }
     const Team &operator[](size_t k) const { return list[k]; }
-    Part &part(size_t k) const { return shared->parts[k]; }
+    EngineStatus &engine_status(size_t k) const { return shared->engine_statuses[k]; }
     bool is_solver(size_t k) const { return k + inputs.options.solvers.size() >= list.size(); }
     bool is_here(size_t k) const { return int(k) >= shared->first_here && int(k) < shared->first_here + shared->engines_here; }
     bool is_lost(size_t k) const;       // it has no assignment, and nobody reads its proof; and it is known why
-    uint64_t all(uint64_t Part::*field) const;                      // the sum
-    bool have_all(uint64_t Part::*field, uint64_t wanted) const;    // all filters that are at work have come so far
+    uint64_t all(uint64_t EngineStatus::*field) const;                      // the sum
+    bool have_all(uint64_t EngineStatus::*field, uint64_t wanted) const;    // all filters that are at work have come so far
     std::vector<Child *> children();
 
     void open();                        // before the formula is read

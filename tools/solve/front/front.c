@@ -132,8 +132,9 @@ static int answer(void) {
     bool is_read = ends[PROBE] == UNKNOWN, is_refused = WIFEXITED(ends[PROBE]) && !is_read;     // the formula, by lrupd
     bool is_model = !verdict() && is_whole && is_read && satisfies(formula, true) && (!assume || satisfies(assume, false));
     if (is_refused && !has_refused && !verdict() && !ended_by) errx(1, "lrupd took no formula");
-    if (WIFSIGNALED(end) && !value['q']) printf("c lrup-engines ended by a signal: %s\n", strsignal(WTERMSIG(end)));
-    if (WIFEXITED(end) && end != 0 && !has_refused && !value['q']) printf("c lrup-engines ended with status %d\n", WEXITSTATUS(end));
+    const char *started = value['m'] ? "MPI's command" : "lrup-engines";        // which has become that command
+    if (WIFSIGNALED(end) && !value['q']) printf("c %s ended by a signal: %s\n", started, strsignal(WTERMSIG(end)));
+    if (WIFEXITED(end) && end != 0 && !has_refused && !value['q']) printf("c %s ended with status %d\n", started, WEXITSTATUS(end));
     if (is_model) print_model();
     else if (verdict() || !has_refused) puts(verdict() ? verdict() : "s UNKNOWN");
     if (fflush(stdout) != 0 || ferror(stdout)) err(1, "cannot write the answer");

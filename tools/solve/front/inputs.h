@@ -3,7 +3,7 @@
 static const char *value['z'];      // of the option with that letter; of 'f' the formula
 static const struct option options[] = {
     { "assume", 1, NULL, 'a' }, { "core", 1, NULL, 'k' }, { "engines", 1, NULL, 'e' }, { "help", 0, NULL, 'h' }, { "lrat", 1, NULL, 'k' },
-    { "lrupd", 1, NULL, 'l' }, { "memory", 1, NULL, 'o' }, { "mpi", 1, NULL, 'o' }, { "no-share", 0, NULL, 'o' },
+    { "lrupd", 1, NULL, 'l' }, { "memory", 1, NULL, 'o' }, { "mpi", 1, NULL, 'm' }, { "no-share", 0, NULL, 'o' },
     { "proofs", 1, NULL, 'o' }, { "quiet", 0, NULL, 'q' }, { "re-hint", 0, NULL, 'o' }, { "seed", 1, NULL, 'o' },
     { "share-size", 1, NULL, 'o' }, { "solver", 1, NULL, 'o' }, { "time", 1, NULL, 't' }, { "verbose", 0, NULL, 'v' },
     { "version", 0, NULL, 'h' }, { NULL, 0, NULL, 0 } };
