@@ -298,7 +298,8 @@ their calls through the passes that the run gives back is a clause below `run`: 
 PassMoves jobs.pass.view found.pass.view (joined blocks)]]. There is no other way to make or copy a pass: its fields are
 private."""
 
-ISOLATION_TOP = """[[fn run.isolated]] and [[fn run_serial.isolated]]:"""
+ISOLATION_TOP = """[[fn run.isolated]] and [[fn run_serial.isolated]], of every run that has the reports; [[fn run.reports]] and
+[[fn run_serial.ordered]] promise one:"""
 
 ISOLATION_ROWS: Rows = [
     ("Streams are a closed set if they hint and import only clauses of each other and the formula.", """[[IsClosed]]:
@@ -318,7 +319,7 @@ ISOLATION_ROWS: Rows = [
      and [[law same_bytes_agree]] say it of two runs. The assumptions have to be the same list."""),
 ]
 
-SERIALIZABLE_TOP = """[[fn run.serializable]]. Of all streams [[fn run_serial.ordered]] has it without the premise."""
+SERIALIZABLE_TOP = """[[fn run.serializable]], of every run that has the reports; [[fn run.reports]] promises one. Of all streams [[fn run_serial.ordered]] has it without the premise."""
 
 SERIALIZABLE_ROWS: Rows = [
     ("Premise: no stream of a closed set retires (deletes for all) a clause that another one found.", """[[FoundStays]]: if a

@@ -47,8 +47,8 @@ pub record IsRunOf {S : Type 0} (Checked : Way) (view : SourceView S) (formula :
   pub read : AreRead S view.reads firsts lasts run.streams
   pub have_dropped : HaveDropped run_params 1 run.streams reports (map (λ d. d.ids) dropped)
 
--- What became of the saving of a run's clauses to a sink that was the first and is the last: those that its history leaves live, but for
--- those that all streams dropped, and no others, were saved, as the result says.
+-- What became of the saving of a run's clauses to a sink that was the first and is the last: those that a history leaves live by
+-- which it is a run with these reports, but for those that all streams dropped, and no others, were saved, as the result says.
 pub record SavesRun {S W : Type 0} (view : SourceView S) (written : W → Option (List ℕ))
     (serial : Bool) (formula : Cnf) (run_params : RunParamsValue) (firsts : List S)
     (reports : List Report)
@@ -59,8 +59,9 @@ pub record SavesRun {S W : Type 0} (view : SourceView S) (written : W → Option
   pub saves : SavesState written result (state formula ran.run.history) run_params.layout
       (is_wanted dropped) first last
 
--- What became of the carrying of a run's clauses to a later round, by a sink that was the first and is the last: those that its history
--- leaves live, but for those that all streams dropped, and no others, were carried, as the result says.
+-- What became of the carrying of a run's clauses to a later round, by a sink that was the first and is the last: those that a history
+-- leaves live by which it is a run with these reports, but for those that all streams dropped, and no others, were carried, as the
+-- result says.
 pub record CarriesRun {S W : Type 0} (view : SourceView S) (written : W → Option (List ℕ))
     (serial : Bool) (formula : Cnf) (run_params : RunParamsValue) (firsts : List S)
     (reports : List Report)

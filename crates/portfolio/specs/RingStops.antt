@@ -26,7 +26,8 @@ pub record WereJudged {S : Type 0} (view : SourceView S) (formula : Cnf)
   pub ended : AllByRecursion (λ stream. IsSome stream.end) run.streams
   pub read : AreRead S view.reads firsts lasts run.streams
 
--- A run that the ring of this stream stopped: the streams before it were judged, and its own reader was read out.
+-- A run that the ring of this stream stopped: the readers before it were read out, and there are reports that would be right for
+-- their streams; and its own reader was read out.
 pub record StopsAtRing {S : Type 0} (view : SourceView S) (formula : Cnf)
     (run_params : RunParamsValue) (firsts : List S) (stream : ℕ) : Type 0 where
   pub is_stream : IsStream run_params.layout stream

@@ -38,7 +38,7 @@ use stream_threads::{
 /// was read, against one store of clauses, and says whether one derived a clause that contradicts the cube. As many gates are
 /// wanted as readers. All memory is taken before the first thread starts, but for the identities that streams drop. No reader is
 /// read before all threads have been started. It returns when all threads have ended, so it blocks while a reader does. A fault of a
-/// ring names the first stream that wasn't judged; those before it were, by events of one legal history.
+/// ring names a stream that was read out, and so were those before it.
 pub fn run<T: Threads + Wait + Sync, R: Source + Send + Drop, G: Gate + Send + Drop>(
     threads: &T,
     alloc: Global,

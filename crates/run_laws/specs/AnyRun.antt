@@ -1,4 +1,4 @@
--- Streams that are valid in one history are so in any run, and the law that says so.
+-- Which reports streams that are valid in one history may have in any run, and the law that says so.
 use Rattle.std.specs.Prelude.{◌≡◌, ◌⊎◌, ◌≤◌, ◌++◌, ℕ, Bool, IsTrue, List, length, Some}
 use Rattle.lrup_model.specs.Formula.{Cnf}
 use Rattle.lrup_model.specs.Layout.{Fits}

@@ -82,9 +82,9 @@ pub record IsReportAlone (formula : Cnf) (run_params : RunParamsValue) (s : ℕ)
   pub reads : IsReadingOf whole end stream
   pub says : IsOfStream reports s report
 
--- The reports are isolated. In every run that has them each closed set of streams, none of whose reports tells that memory ran out,
--- has such reports as it may have alone. And a stream that is a closed set by itself, and whose report doesn't tell that memory ran
--- out, has no other report than it may have alone, with all bytes and any end of which the stream is a reading.
+-- The reports are isolated. In every run of these readers that has them each closed set of streams, none of whose reports tells that
+-- memory ran out, has such reports as it may have alone. And if a stream is a closed set by itself, and its report doesn't tell that
+-- memory ran out, each report that it may have alone, with all bytes and any end of which the stream is a reading, is this report.
 pub record AreIsolated (formula : Cnf) (run_params : RunParamsValue)
     (observed : List InputObservation)
     (reports : List Report) : Type 0 where

@@ -20,10 +20,10 @@ pub record ComeToVerdict (cube : CubeValue) (history : History)
   pub within : list_any (λ report. report.within) reports
       ≡ list_any (λ entry. is_within cube entry.1) (published history)
 
--- The lines are serializable: in every run that has these reports, and for every closed set of its streams, of which none found an
--- identity of another stream live that the run's history leaves retired, the set's lines have one order in which a checker of one
--- thread gives the same reports; and where this holds of all streams together, they have one that comes to the verdict of the
--- reports besides.
+-- The lines are serializable: in every run of these readers that has these reports, and for every closed set of its streams, of which
+-- none found an identity of another stream live that the run's history leaves retired, the set's lines have one order in which a
+-- checker of one thread gives the same reports; and if this holds of all streams together, they have one that comes to the verdict of
+-- the reports besides.
 abbrev pub IsSerializable : Cnf → RunParamsValue → List InputObservation → List Report → Type 0
 IsSerializable formula run_params observed reports =
     (run : IsRun formula run_params observed reports)
