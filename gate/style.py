@@ -351,7 +351,7 @@ def unknown_names():
             yield f"{shown(path)}:{number}: there is no `{word}`" + (f", of `{span}`" if word != span else "")
 
 
-# Edits that the gate leaves out. rt looks at the others.
+# Edits. rt looks at those of the gate, too, once the proofs are done.
 
 
 def changed(edit, crate):
@@ -374,9 +374,10 @@ def changed(edit, crate):
 
 
 def misfits():
-    for edit in files(r"gate/edits/.*"):
-        crate = ROOT / "crates" / edit.parent.name
-        why = "it is in the gate, too" if (crate / "must-fail" / edit.name).exists() else changed(edit, crate)
+    for edit in files(r"gate/edits/.*") + files(r"crates/\w+/must-fail/.*"):
+        in_gate = edit.parent.name == "must-fail"
+        crate = edit.parent.parent if in_gate else ROOT / "crates" / edit.parent.name
+        why = "it is in the gate, too" if not in_gate and (crate / "must-fail" / edit.name).exists() else changed(edit, crate)
         if why:
             yield f"{shown(edit)}: {why}"
 
