@@ -126,11 +126,9 @@ def refused(script: str, words: Sequence[str], given: bytes, said: str, status: 
 
 
 def wrong_answers(script: str, words: Sequence[str], what: str) -> Iterator[Row]:
-    """To a question that has an assignment. None at all is of any formula, and one that is too short of another one."""
-    name, other = Path(script).name, "the answer is of another formula"
-    for given, cause in ((b"s UNSATISFIABLE\n", "the answer says s UNSATISFIABLE"), (b"", "the answer says nothing"),
-                         (b"c time is up\ns UNKNOWN\n", "the answer says s UNKNOWN"),
-                         (b"\0garbage\n\377", "the answer says nothing"), (b"s SATISFIABLE\nv 1 2 0\n", other)):
+    """To a question that has an assignment. One that is too short isn't of its formula."""
+    name, cause = Path(script).name, "the answer isn't s SATISFIABLE with an assignment of this formula"
+    for given in (b"s UNSATISFIABLE\n", b"", b"c time is up\ns UNKNOWN\n", b"\0garbage\n\377", b"s SATISFIABLE\nv 1 2 0\n"):
         yield f"{name}, {given!r}", refused, script, ["--show", *words], given, f"{name}: no {what}: {cause}", 1
 
 
@@ -141,14 +139,22 @@ def scripts() -> Iterator[Row]:
     yield from wrong_answers(plan, [domain, problem, "11"], "plan")
     for words in ([], ["--show"], ["8"], ["0", "a <= b"], ["x", "a <= b"], ["8", "a <= b", "c"]):
         yield f"lemma.py {words}", refused, lemma, words, b"", "usage: lemma.py [--show] WIDTH LEMMA", 2
-    yield "lemma.py, a name", refused, lemma, ["8", "a <= e"], b"", "lemma.py: no LEMMA: name 'e' is not defined", 1
+    for said, cause in (("a <= e", "name 'e' is not defined"),
+                        ("a <= b <= c", "a LEMMA has no 'and', 'or', 'not', '!=', and no chain a < b < c")):
+        yield f"lemma.py {said}", refused, lemma, ["8", said], b"", f"lemma.py: LEMMA or answer can't be read: {cause}", 1
+    for given in (b"s UNKNOWN\nv 1 2 -3 -4 -5 6 -7 0\n", b"s SATISFIABLE\nv 1 -1 2 -2 3 -3 4 -4 5 -5 6 -6 7 -7 0\n"):
+        yield (f"lemma.py, {given!r}", refused, lemma, ["--show", "1", "a <= b"], given,
+               "lemma.py: no counterexample: the answer isn't s SATISFIABLE with an assignment of this formula", 1)
     for words in ([], ["--show"], [domain, problem], [domain, problem, "x"], [domain, problem, "-1"], [domain, problem, "1", "2"]):
         yield f"plan.py {words}", refused, plan, words, b"", "usage: plan.py [--show] DOMAIN PROBLEM STEPS", 2
-    for words, cause in (([domain, "none"], "none: No such file or directory"),
-                         ([problem, domain], f"{problem}: no PDDL that defines a domain"),
-                         ([domain, domain], f"{domain}: no PDDL that defines a problem"),
-                         ([domain, "/dev/null"], "/dev/null: no PDDL that defines a problem")):
-        yield f"plan.py {words}", refused, plan, [*words, "3"], b"", f"plan.py: {cause}", 1
+    for words, given, cause in (
+            ([domain, "none"], b"", "DOMAIN, PROBLEM or answer can't be read: [Errno 2] No such file or directory: 'none'"),
+            ([domain, "/dev/stdin"], b"(define (problem empty))", "DOMAIN, PROBLEM or answer can't be read: ':init'"),
+            (["/dev/stdin", problem], b"(define (domain d) (:predicates (p ?x - t)))", "/dev/stdin: no domain in PDDL with STRIPS alone"),
+            ([problem, domain], b"", f"{problem}: no domain in PDDL with STRIPS alone"),
+            ([domain, domain], b"", f"{domain}: no problem in PDDL with STRIPS alone"),
+            ([domain, "/dev/null"], b"", "/dev/null: no problem in PDDL with STRIPS alone")):
+        yield f"plan.py {words}", refused, plan, [*words, "3"], given, f"plan.py: {cause}", 1
 
 
 def rows() -> List[Row]:

@@ -5,29 +5,19 @@
     plan.py --show DOMAIN PROBLEM STEPS < answer    prints the plan that the lines `v` of an answer stand for
 
 DOMAIN and PROBLEM are PDDL with STRIPS alone: conjunctions, and `not` in effects; no types, no equality."""
+import ast
 import itertools
 import re
 import sys
 
 
 def read(path, kind):
-    """The nested lists of a file's last expression, (define (domain ..) ..) or (define (problem ..) ..)."""
-    try:
-        text = open(path, errors="replace").read().lower()
-    except OSError as fault:
-        sys.exit(f"plan.py: {path}: {fault.strerror}")
-    stack = [[]]
-    for token in re.findall(r"[()]|[^\s()]+", re.sub(r";.*", "", text)):
-        if token == "(":
-            stack.append([])
-        elif token != ")":
-            stack[-1].append(token)
-        elif len(stack) > 1:
-            stack[-2].append(stack.pop())
-    last = stack[0][-1] if stack[0] and isinstance(stack[0][-1], list) else []
-    if len(stack) != 1 or last[:1] != ["define"] or last[1:2] == [] or last[1][0] != kind:
-        sys.exit(f"plan.py: {path}: no PDDL that defines a {kind}")
-    return last
+    """The nested lists of a file that is (define (domain ..) ..) or (define (problem ..) ..), by way of Python's notation of lists."""
+    text = re.sub(r";.*", "", open(path, errors="replace").read().lower())
+    if not re.match(rf"\s*\(\s*define\s*\(\s*{kind}\s", text) or re.search(r"\s-\s|\(\s*=\s", text):
+        sys.exit(f"plan.py: {path}: no {kind} in PDDL with STRIPS alone")
+    lists = re.sub(r"[^\s()]+", lambda word: f"{word[0]!r},", text).replace("(", "[").replace(")", "],")
+    return ast.literal_eval(f"[{lists}]")[0]
 
 
 def parts(expression):
@@ -37,13 +27,13 @@ def parts(expression):
 def ground(domain, problem):
     """The initial facts, the goal's, and of each action its name, and what it wants, adds and deletes. Facts that no action changes
     have to hold initially, and are dropped."""
-    objects, start, goal = ([entry[1:] for entry in problem[2:] if entry[0] == key][0] for key in (":objects", ":init", ":goal"))
+    sections = {entry[0]: entry[1:] for entry in problem[2:]}
     schemas = [dict(zip(entry[2::2], entry[3::2]), name=entry[1]) for entry in domain[2:] if entry[0] == ":action"]
     changing = {fact[1][0] if fact[0] == "not" else fact[0] for schema in schemas for fact in parts(schema[":effect"])}
-    facts = {tuple(fact) for fact in start}
+    facts = {tuple(fact) for fact in sections[":init"]}
     actions = []
     for schema in schemas:
-        for values in itertools.product(objects, repeat=len(schema[":parameters"])):
+        for values in itertools.product(sections[":objects"], repeat=len(schema[":parameters"])):
             bound = dict(zip(schema[":parameters"], values))
             effect = parts(schema[":effect"])
             wants, adds, deletes = ([tuple(bound.get(word, word) for word in fact) for fact in found] for found in (
@@ -52,55 +42,39 @@ def ground(domain, problem):
             if all(fact in facts for fact in wants if fact[0] not in changing):
                 wants = [fact for fact in wants if fact[0] in changing]
                 actions.append((" ".join([schema["name"], *values]), wants, adds, [fact for fact in deletes if fact not in adds]))
-    return facts, {tuple(fact) for fact in parts(goal[0])}, actions
-
-
-def true_literals(answer, clauses):
-    """Of a solver's answer that gives an assignment, one of this formula."""
-    verdict = next((line for line in answer if line.startswith("s ")), "nothing")
-    if verdict != "s SATISFIABLE":
-        sys.exit(f"plan.py: no plan: the answer says {verdict}")
-    said = set(" ".join(line for line in answer if line.startswith("v ")).split())
-    if not all(any(str(x) in said for x in clause) for clause in clauses):
-        sys.exit("plan.py: no plan: the answer is of another formula")
-    return said
+    return facts, {tuple(fact) for fact in parts(sections[":goal"][0])}, actions
 
 
 def main(shows, domain, problem, steps):
-    try:
-        facts, goal, actions = ground(read(domain, "domain"), read(problem, "problem"))
-    except (LookupError, TypeError, ValueError) as fault:
-        sys.exit(f"plan.py: {domain}, {problem}: not STRIPS alone: {fault}")
+    facts, goal, actions = ground(read(domain, "domain"), read(problem, "problem"))
     fluents = sorted(goal.union(*(wants + adds + deletes for _, wants, adds, deletes in actions)))
-    count = len(fluents) + len(actions)
-
-    def holds(fact, step):
-        return step * count + fluents.index(fact) + 1
-
-    def done(action, step):
-        return step * count + len(fluents) + action + 1
-
-    clauses = [[holds(fact, 0) if fact in facts else -holds(fact, 0)] for fact in fluents]
-    clauses += [[holds(fact, steps)] for fact in sorted(goal)]
-    for step in range(steps):
+    fresh = itertools.count(1)      # at each step a variable for each fact, and for each action's number
+    at = [{what: next(fresh) for what in [*fluents, *range(len(actions))]} for _ in range(steps + 1)]
+    clauses = [[at[0][fact] if fact in facts else -at[0][fact]] for fact in fluents] + [[at[steps][fact]] for fact in sorted(goal)]
+    for now, later in zip(at, at[1:]):
         for a, (_, wants, adds, deletes) in enumerate(actions):
-            clauses += [[-done(a, step), holds(fact, step)] for fact in wants]
-            clauses += [[-done(a, step), holds(fact, step + 1)] for fact in adds]
-            clauses += [[-done(a, step), -holds(fact, step + 1)] for fact in deletes]
-            clauses += [[-done(a, step), -done(other, step)] for other in range(a)]
+            clauses += [[-now[a], now[fact]] for fact in wants]
+            clauses += [[-now[a], later[fact]] for fact in adds]
+            clauses += [[-now[a], -later[fact]] for fact in deletes]
+            clauses += [[-now[a], -now[other]] for other in range(a)]
         for fact in fluents:        # what changes was changed by an action
-            clauses.append([holds(fact, step), -holds(fact, step + 1)] + [done(a, step) for a, x in enumerate(actions) if fact in x[2]])
-            clauses.append([-holds(fact, step), holds(fact, step + 1)] + [done(a, step) for a, x in enumerate(actions) if fact in x[3]])
+            clauses.append([now[fact], -later[fact]] + [now[a] for a, x in enumerate(actions) if fact in x[2]])
+            clauses.append([-now[fact], later[fact]] + [now[a] for a, x in enumerate(actions) if fact in x[3]])
     if shows:
-        said = true_literals(open(0, errors="replace").read().splitlines(), clauses)
-        plan = [actions[a][0] for step in range(steps) for a in range(len(actions)) if str(done(a, step)) in said]
-        return print(*plan, sep="\n", end="\n" * bool(plan))
-    print(f"p cnf {(steps + 1) * count} {len(clauses)}", *(" ".join(map(str, clause)) + " 0" for clause in clauses), sep="\n")
+        lines = open(0, errors="replace").read().splitlines()
+        said = set({abs(x): x for line in lines if line.startswith("v ") for x in map(int, line[2:].split())}.values())
+        if "s SATISFIABLE" not in lines or any(said.isdisjoint(clause) for clause in clauses):
+            sys.exit("plan.py: no plan: the answer isn't s SATISFIABLE with an assignment of this formula")
+        return print(*(f"{actions[a][0]}\n" for now in at[:-1] for a in range(len(actions)) if now[a] in said), sep="", end="")
+    print(f"p cnf {next(fresh) - 1} {len(clauses)}", *(" ".join(map(str, clause)) + " 0" for clause in clauses), sep="\n")
 
 
-words = sys.argv[1:]
-shows = words[:1] == ["--show"]
-if len(words) != 3 + shows or not re.fullmatch("[0-9]+", words[-1]):
+shows = sys.argv[1:2] == ["--show"]
+words = sys.argv[1 + shows:]
+if len(words) != 3 or not re.fullmatch("[0-9]+", words[2]):
     print("usage: plan.py [--show] DOMAIN PROBLEM STEPS", file=sys.stderr)
     sys.exit(2)
-main(shows, words[-3], words[-2], int(words[-1]))
+try:
+    main(shows, words[0], words[1], int(words[2]))
+except Exception as fault:
+    sys.exit(f"plan.py: DOMAIN, PROBLEM or answer can't be read: {fault}")
