@@ -174,7 +174,7 @@ refutation_is_valid = record {
       above = omega arith;
       literals = (omega arith, tt);
       room = omega arith;
-      hinted = first ∷ second ∷ [];
+      clauses = first ∷ second ∷ [];
       named = (refl, (refl, tt));
       shown = unit_is_shown;
     },
@@ -184,7 +184,7 @@ refutation_is_valid = record {
         above = omega arith;
         literals = tt;
         room = omega arith;
-        hinted = unit ∷ third ∷ fourth ∷ [];
+        clauses = unit ∷ third ∷ fourth ∷ [];
         named = (refl, (refl, (refl, tt)));
         shown = empty_is_shown;
       },
@@ -267,7 +267,7 @@ shared_is_valid = record {
       above = omega arith;
       literals = (omega arith, tt);
       room = omega arith;
-      hinted = first ∷ second ∷ [];
+      clauses = first ∷ second ∷ [];
       named = (refl, (refl, tt));
       shown = unit_is_shown;
     },
@@ -279,7 +279,7 @@ shared_is_valid = record {
           above = omega arith;
           literals = tt;
           room = omega arith;
-          hinted = unit ∷ third ∷ fourth ∷ [];
+          clauses = unit ∷ third ∷ fourth ∷ [];
           named = (refl, (refl, (refl, tt)));
           shown = empty_is_shown;
         },

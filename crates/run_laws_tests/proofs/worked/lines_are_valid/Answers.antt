@@ -10,7 +10,7 @@ returns-clause-swapped c = record {
   above = omega arith;
   literals = (omega arith, tt);
   room = omega arith;
-  hinted = second ∷ first ∷ [];
+  clauses = second ∷ first ∷ [];
   named = (refl, (refl, tt));
   shown = unit_is_shown_swapped;
 }
@@ -21,7 +21,7 @@ returns-clause-repeated c = record {
   above = omega arith;
   literals = (omega arith, (omega arith, tt));
   room = omega arith;
-  hinted = first ∷ second ∷ [];
+  clauses = first ∷ second ∷ [];
   named = (refl, (refl, tt));
   shown = unit_is_shown;
 }
@@ -32,7 +32,7 @@ returns-clause-gap c = record {
   above = omega arith;
   literals = (omega arith, tt);
   room = omega arith;
-  hinted = first ∷ second ∷ [];
+  clauses = first ∷ second ∷ [];
   named = (refl, (refl, tt));
   shown = unit_is_shown;
 }

@@ -9,7 +9,7 @@ returns-clause-room c = record {
   above = omega arith;
   literals = (omega arith, tt);
   room = omega arith;
-  hinted = unit ∷ [];
+  clauses = unit ∷ [];
   named = (refl, tt);
   shown = (unit_is_proper, λ l h. h);
 }

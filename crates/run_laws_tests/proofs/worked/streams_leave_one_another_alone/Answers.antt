@@ -40,7 +40,7 @@ returns c = record {
       above = omega arith;
       literals = (omega arith, tt);
       room = omega arith;
-      hinted = third ∷ fourth ∷ [];
+      clauses = third ∷ fourth ∷ [];
       named = (refl, (refl, tt));
       shown = negated_is_shown;
     },
@@ -50,7 +50,7 @@ returns c = record {
         above = omega arith;
         literals = (omega arith, tt);
         room = omega arith;
-        hinted = first ∷ second ∷ [];
+        clauses = first ∷ second ∷ [];
         named = (refl, (refl, tt));
         shown = unit_is_shown;
       },
@@ -62,7 +62,7 @@ returns c = record {
             above = omega arith;
             literals = tt;
             room = omega arith;
-            hinted = unit ∷ third ∷ fourth ∷ [];
+            clauses = unit ∷ third ∷ fourth ∷ [];
             named = (refl, (refl, (refl, tt)));
             shown = empty_is_shown;
           },
