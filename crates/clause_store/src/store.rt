@@ -83,7 +83,7 @@ impl Store {
         pass.seat.room()
     }
 
-    /// What the store has under an identity, by one load.
+    /// Loads the word of an identity once, and answers what the store had there at that moment.
     #[inline]
     #[tactic(auto, using(crate::proofs::LiteralsRead::start_read))]
     pub fn fetch(&self, pass: &mut Pass, id: Id) -> Fetched

@@ -1,11 +1,11 @@
-//! A stream's place at the row.
+//! A stream's right to make steps at the row.
 ghost use Rattle.std.specs.Prelude.{◌≡◌};
 ghost use Rattle.lrup_model.specs.Pass.{pass_caller_view};
 
 use crate::rule::Token;
 use std::marker::Model;
 
-/// A stream's place at the row. It can't be copied.
+/// A stream's right to make steps at the row, and to write its own part of it. It can't be copied.
 #[derive(Drop)]
 pub struct Seat {
     pub(crate) token: Token,

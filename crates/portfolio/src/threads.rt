@@ -34,11 +34,11 @@ use stream_threads::{
     Room, StartSignal, StreamJobs, StreamResult, ThreadFault, check_all, jobs_of,
 };
 
-/// Checks the streams that the readers give, each in two threads of its own, one that reads it to its end and one that checks what
-/// was read, against one store of clauses, and says whether one derived a clause that contradicts the cube. As many gates are
-/// wanted as readers. All memory is taken before the first thread starts, but for the identities that streams drop. No reader is
-/// read before all threads have been started. It returns when all threads have ended, so it blocks while a reader does. A fault of a
-/// ring names a stream that was read out, and so were those before it.
+/// Starts two threads for each stream: one reads its bytes to the end, and one checks them, against one store of clauses. The verdict
+/// says whether a stream derived a clause that is false under the cube. The caller passes one gate for each reader. All memory is
+/// taken before the first thread starts, but for the identities that streams drop. No reader is read before all threads have started.
+/// `run` returns when all threads have ended, so it blocks while a reader does. If the ring between a stream's two threads fails, the
+/// readers up to that stream's were read out.
 pub fn run<T: Threads + Wait + Sync, R: Source + Send + Drop, G: Gate + Send + Drop>(
     threads: &T,
     alloc: Global,
@@ -50,12 +50,12 @@ pub fn run<T: Threads + Wait + Sync, R: Source + Send + Drop, G: Gate + Send + D
 ) -> Result<Outcome<R>, RunFault>
     requires gates { vec_len gates ≡ vec_len readers }
     requires running { AllByRecursion (λ r. R.has_failed r ≡ false) readers.items }
-    // `Layout` is answered exactly where these numbers have no layout, whatever is read.
+    // `Layout` is answered exactly if these numbers have no layout.
     ensures layout { (fault : LayoutFault) → (result ≡ Err (RunFault.Layout fault))
         ↔ IsFault (layout_of options formula.now (length readers.items)) fault }
     ensures spawn { (stream : ℕ) → result ≡ Err (RunFault.Spawn stream)
         → IsStream (layout_of options formula.now (length readers.items)) stream }
-    // Each stream before it was judged, as in a run with an outcome; and its own reader was read out.
+    // At a ring's fault there are reports that are right for the streams before its own, and its own reader was read out.
     ensures ring { let run_params = run_params_of options cube.now formula.now
         (length readers.items) in
         (stream : ℕ) → result ≡ Err (RunFault.Ring stream)
@@ -95,6 +95,7 @@ pub fn run<T: Threads + Wait + Sync, R: Source + Send + Drop, G: Gate + Send + D
     let layout = options.layout(formula, readers.len())?;
     let run_params = RunParams::new(&layout, cube, options.tries());
     let Opened { store, jobs } = open(alloc, formula, &run_params, readers, gates)?;
+    // Laws: they do nothing when the program runs.
     run_isolated();
     run_serializable();
     check(threads, alloc, store, jobs)
@@ -128,7 +129,7 @@ fn open<R: Source + Drop, G: Gate + Drop>(
     Ok(Opened { store, jobs })
 }
 
-/// Checks the streams of these jobs, and gathers what was found of each; at a fault of a ring, of the streams before its own.
+/// Checks the streams of these jobs, and gathers what was found of each. At a ring's fault it answers the stream's number alone.
 fn check<T: Threads + Wait + Sync, R: Source + Send + Drop, G: Gate + Send + Drop>(
     threads: &T,
     alloc: Global,
@@ -167,6 +168,7 @@ fn check<T: Threads + Wait + Sync, R: Source + Send + Drop, G: Gate + Send + Dro
         Err(ThreadFault::Spawn(stream)) => Err(RunFault::Spawn(stream)),
         Err(ThreadFault::Ring(found)) => {
             let stream = found.len() as u64 + 1;
+            // It is dropped: what was found of the streams before shows what the fault promises of them.
             let _before = outcome_of(store, found, reports, synced, readers, dropped);
             Err(RunFault::Ring(stream))
         }

@@ -74,7 +74,8 @@ impl Checker {
         })
     }
 
-    /// Takes bytes of a piece: through the end of a line that is good, through the byte that ends the reading, or all of them.
+    /// Takes bytes of a piece: through the end of one line, through the first byte that no line can have there, or all of them. After a
+    /// good line the caller feeds the rest. If the line is bad, the gate is told.
     pub fn feed<M: ClauseMap, G: Gate>(
         &mut self,
         map: &mut M,

@@ -223,6 +223,7 @@ fn start_and_join<
         let _ = signal.set(threads, false);
         return Err(ThreadFault::Spawn(stream));
     }
+    // A run's own signal was never set before.
     let Ok(told) = tell_to_start(threads, signal) else {
         if started.is_empty() {
             return Ok(found);
