@@ -1,5 +1,5 @@
-//! `lrupd [--tries N] [--lines N] [--room N] [--assume FILE] [--checkpoint FILE] [--serial] [--watch] FORMULA STREAM...`: checks
-//! the proofs of SAT solvers that share their clauses, while the solvers write them.
+//! `lrupd [--tries N] [--lines N] [--room N] [--assume FILE] [--checkpoint FILE | --rounds DIR] [--serial] [--watch] FORMULA STREAM...`:
+//! checks the proofs of SAT solvers that share their clauses, while the solvers write them.
 #![tactic(auto)]
 
 use command::{Files, Machine, OpenFault, command_with_arguments};

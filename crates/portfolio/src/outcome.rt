@@ -47,7 +47,7 @@ pub enum RunFault {
     /// A thread of this stream, from 1 on, couldn't be started. No stream was read.
     #[error("worker {0} not started")]
     Spawn(u64),
-    /// The thread that checks this stream, the first such one from 1 on, found its reading thread gone before the mark.
+    /// The mark for the end of this stream, from 1 on, got lost in the ring between its two threads, though the stream was read out.
     #[error("ring of stream {0}")]
     Ring(u64),
 }
