@@ -35,7 +35,7 @@ pub enum CommandFault {
     Layout(LayoutFault),
     /// A thread of this stream, from 1 on, couldn't be started.
     Spawn(u64),
-    /// The thread that checks this stream, from 1 on, found its reading thread gone before the mark.
+    /// The mark for the end of this stream, from 1 on, got lost in the ring between its two threads, though the stream was read out.
     Ring(u64),
     /// Out of memory.
     Memory,

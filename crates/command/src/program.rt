@@ -46,7 +46,7 @@ use std::time::Clock;
 /// | 3 | the report says `s UNKNOWN` |
 /// | 4 | the formula or the assumptions were refused for another cause than memory |
 /// | 5 | the file of the formula, of the assumptions or of a round's sizes wasn't opened or read; a stream's wasn't opened; the checkpoint's wasn't created |
-/// | 6 | out of memory, outside a report and the saving; a thread couldn't be started; a stream's reading thread was gone before its mark |
+/// | 6 | out of memory, outside a report and the saving; a thread couldn't be started; a stream's end got lost between its two threads |
 /// | 7 | the report couldn't be written |
 /// | 8 | the report says `s UNSATISFIABLE UNDER ASSUMPTIONS` |
 /// | 9 | in place of 3 and 8, where the checkpoint wasn't saved |
