@@ -1,4 +1,4 @@
--- What a call of the row tells the pass that makes it (this project's own).
+-- What a stream knows after a call of the row (this project's own).
 use Rattle.std.specs.Prelude.{◌≡◌, ◌+◌, ◌/◌, ◌%◌, ◌++◌, ℕ, ℤ, List, [], ◌∷◌, Some, length, slice_get}
 use Rattle.lrup_model.specs.Clause.{Clause}
 use Rattle.lrup_model.specs.Event.{Event, History}
@@ -22,8 +22,8 @@ pub record Calls (old new : View) (event : Event) : Type 0 where
   pub fair : IsFair new
   pub within : LieWithin (row_words new.caller.layout) new.spelt
 
--- where the place is that of a literal of a stored clause, the word has the literal's code in its half: 0 for an even place among the clause's
--- literals, 1 for an odd one
+-- If a stored clause has a literal at this place of the row, the word has the literal's code in one half: in the lower, 0, if the literal's
+-- place in the clause is even, else in the upper, 1.
 abbrev pub IsText : List Spelling → ℕ → ℕ → Type 0
 IsText spellings place word =
     (id k : ℕ) (stored : StoredClause) (l : ℤ) → stored_in spellings id ≡ Some stored

@@ -32,7 +32,7 @@ ShowsStored None word = word_state word ≡ 0
 ShowsStored (Some stored) word = (0 < word_state word) × (word_state word < 3)
     × (length_of word ≡ length stored.literals) × (start_of word ≡ stored.start)
 
--- the reply that an identity's word spells, where its clause is kept so
+-- the reply that an identity's word spells, if its clause is kept so
 abbrev pub reply_in : Option StoredClause → ℕ → Reply
 reply_in stored word =
     if word_state word == 0 then vacant

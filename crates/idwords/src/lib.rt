@@ -1,6 +1,5 @@
-//! The row of words that all streams share, without a lock. Each call of this crate is a few steps on single words; its
-//! rule says, between any two steps of any threads, what the words spell. Contracts see a seat as its stream's pass: a
-//! call moves it by its event, and leaves it fair.
+//! The row of words that all streams share, without a lock. Each call takes a few steps on single words, all of them `SeqCst`. The row's
+//! rule says what the words spell between any two steps of any threads.
 #![tactic(auto)]
 
 mod opening;

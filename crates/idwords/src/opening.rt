@@ -10,7 +10,7 @@ use crate::word::{live_word, pair_word};
 use lrup_model::{Formula, Layout, Lit};
 use std::alloc::{AllocError, Global};
 
-/// All words, in one pass over the formula. They take 8 bytes each.
+/// Makes all words of the row, 8 bytes each, in two passes over the formula: word 0, the words of identities, those of literals.
 pub(crate) fn all_words(
     alloc: Global,
     formula: &Formula,
@@ -29,7 +29,7 @@ pub(crate) fn all_words(
     Ok(words)
 }
 
-/// The words of the formula's identities; the literals of the first clause lie from this place on.
+/// Adds the words of the formula's identities. The literals of the first clause will lie from the place `first` on.
 fn add_clauses(words: &mut Vec<u64>, formula: &Formula, first: u64) -> Result<(), AllocError>
     requires { first + formula_literals formula.now < 2 ^ 41 }
     ensures words { OnOk result
@@ -45,7 +45,7 @@ fn add_clauses(words: &mut Vec<u64>, formula: &Formula, first: u64) -> Result<()
     Ok(())
 }
 
-/// The words of the formula's literals.
+/// Adds the words of the formula's literals.
 fn add_literals(words: &mut Vec<u64>, formula: &Formula) -> Result<(), AllocError>
     ensures { OnOk result
         (words.new.items ≡ words.old.items ++ literal_words formula.now.clauses) }
@@ -56,7 +56,7 @@ fn add_literals(words: &mut Vec<u64>, formula: &Formula) -> Result<(), AllocErro
     Ok(())
 }
 
-/// The words of one clause's literals.
+/// Adds the words of one clause's literals.
 fn add_clause(words: &mut Vec<u64>, clause: &[Lit]) -> Result<(), AllocError>
     ensures { OnOk result (words.new.items ≡ words.old.items ++ packed clause.now) }
 {

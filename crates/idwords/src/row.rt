@@ -1,4 +1,8 @@
 //! The row and the steps on it.
+//!
+//! Every step is `SeqCst`, the one ordering that `atomic_table` has: all threads see all steps in one order, and the row's rule
+//! (`rule.rt`) holds between any two steps of it. So a thread that loads a live word also finds the literals that were stored before
+//! the exchange that made it live, and no fence is needed.
 ghost use Rattle.std.specs.Prelude.{◌≡◌, ◌↔◌, ◌+◌, ◌-◌, ◌%◌, ◌≤◌, ◌<◌, ◌++◌, ℕ, [], Some, IfOk, length, slice_get, vec_len};
 ghost use Rattle.lrup_model.specs.Event as events;
 ghost use Rattle.lrup_model.specs.History.{IsPublishable};
@@ -22,7 +26,7 @@ use std::alloc::{AllocError, Global};
 use std::marker::Model;
 use std::snapshot::Snapshot;
 
-/// A seat for each stream, from the one that has all thread states.
+/// Makes a seat for each stream, in their order, from the one token that has the thread states of all.
 fn deal(
     alloc: Global,
     table: &Words,
@@ -56,9 +60,9 @@ fn deal(
     Ok(seats)
 }
 
-/// The row of words, which all streams share: word 0, which is always 0, a word for each identity, and as many as there
-/// are literals in the formula and in the streams' room, of which those that are written hold two literals each. Contracts
-/// see it as its name.
+/// The row of words, which all streams share: word 0, which is always 0, a word for each identity, and a word for each literal of
+/// the formula and of the streams' room. A clause takes half of its words only, since a word holds two literals. Contracts know the
+/// row by its name alone.
 #[derive(Drop)]
 pub struct Row {
     table: Words,
@@ -75,8 +79,8 @@ impl Model for Row {
 }
 
 impl Row {
-    /// The row of a formula and a layout that fits it, and a seat for each stream, in their order. It takes 8 bytes a word of
-    /// the row, and as much again until it returns. A refusal leaves nothing behind.
+    /// Makes the row of a formula and a layout that fits it, and a seat for each stream, in their order. It takes 8 bytes a word of
+    /// the row, and as much again until it returns. If memory is refused, nothing is left behind.
     pub fn open(
         alloc: Global,
         formula: &Formula,
@@ -103,7 +107,7 @@ impl Row {
         Ok((Row { table }, seats))
     }
 
-    /// Fetches: one load of the identity's word, which spells the reply.
+    /// Loads the word of an identity, 1 to the last, which spells the reply of a fetch: the event of this one load.
     #[inline]
     pub fn look(&self, seat: &mut Seat, id: u64) -> u64
         requires row { seat.old.table ≡ self.now }
@@ -119,8 +123,8 @@ impl Row {
         shared.load::<Look>(&mut seat.token, id as usize)
     }
 
-    /// The word at a place, by one load, which is no event. At a place of a clause that the pass has seen it has the codes of
-    /// that clause's literals there, for good, also after the clause was retired.
+    /// Loads the word at a place of the row, which is no event. If a clause lies there that the seat's stream has fetched, the word has
+    /// the codes of two of its literals. It never changes, not even when the clause is retired.
     #[inline]
     pub fn word(&self, seat: &mut Seat, place: u64) -> u64
         requires row { seat.old.table ≡ self.now }
@@ -132,7 +136,8 @@ impl Row {
         shared.load::<Read>(&mut seat.token, place as usize)
     }
 
-    /// Adds two literals to the draft, or a last one, by one store at or above the top, where no other caller looks.
+    /// Adds two literals to the draft, or a last one, by one store. Its place is in the stream's own room, behind all published
+    /// clauses, where no other thread loads.
     #[inline]
     pub fn write(&self, seat: &mut Seat, first: Lit, second: Option<Lit>)
         requires row { seat.old.table ≡ self.now }
@@ -148,8 +153,8 @@ impl Row {
         seat.drafted += if second.is_some() { 2 } else { 1 };
     }
 
-    /// Publishes the draft under an identity of the stream's own, by one exchange. The draft is empty then, whatever the
-    /// reply.
+    /// Publishes the draft under an identity of the stream's own: one exchange of its word, from vacant to live. The draft is empty
+    /// then, whatever the reply.
     pub fn claim(&self, seat: &mut Seat, id: u64) -> Published
         requires row { seat.old.table ≡ self.now }
         requires owns { Owns seat.old.view.caller.layout seat.old.view.caller.stream id }
@@ -176,8 +181,8 @@ impl Row {
         }
     }
 
-    /// Retires the clause under an identity of the stream's own: one load, and one exchange where the clause is live, which
-    /// always wins.
+    /// Retires the clause under an identity of the stream's own: one load, and one exchange if the clause is live. The exchange always
+    /// finds the word that was loaded, since no other stream changes it.
     pub fn withdraw(&self, seat: &mut Seat, id: u64) -> Retired
         requires row { seat.old.table ≡ self.now }
         requires owns { Owns seat.old.view.caller.layout seat.old.view.caller.stream id }
@@ -198,8 +203,8 @@ impl Row {
         Retired::Done
     }
 
-    /// Both seats have then seen one history, which begins with what each had seen; where one had seen all that the other
-    /// had, it is that one's. Neither makes a call.
+    /// Lets two seats share what they have seen: both histories become one, which begins with what each had seen. If one had seen all
+    /// that the other had, it is that one's. For contracts alone: the one load changes nothing in the row, and is no event.
     pub fn meet(&self, first: &mut Seat, second: &mut Seat)
         requires first { first.old.table ≡ self.now }
         requires second { second.old.table ≡ self.now }

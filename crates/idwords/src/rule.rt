@@ -1,11 +1,12 @@
-//! The rule of the row, and what each step tells.
+//! The rule of the row, which holds between any two steps of any threads, and a type for each kind of step. The prover shows for each
+//! kind that a step keeps the rule, and what its caller learns.
 use atomic_table::{Join, Play, Split, Table, TableRule};
 use lrup_model::{Formula, Layout};
 use std::alloc::Global;
 use std::marker::{Model, PhantomData};
 use std::snapshot::Snapshot;
 
-/// What a seat at the table knows: a list of thread states. No value of it is made.
+/// What a token knows: the thread states of the streams that it stands for. Contracts alone speak of it; a program makes no value.
 pub struct Knowledge {
     none: PhantomData<u8>,
 }
@@ -19,14 +20,14 @@ impl Model for Knowledge {
     ghost view = { λ _. [] };
 }
 
-/// What the rule is about. The formula takes no bytes here.
+/// The formula and the layout that the rule is about. A `Snapshot` is known to contracts alone, so the formula takes no bytes here.
 #[derive(Drop)]
 pub struct Plan {
     pub formula: Snapshot<Formula>,
     pub layout: Layout,
 }
 
-/// The rule: there is one legal history that the words spell, and each seat's thread states stand in it.
+/// The rule: the words spell one legal history, which begins with what each stream has seen and has its calls in their order.
 pub struct RowInvariant;
 
 impl TableRule<u8, Knowledge, Plan> for RowInvariant {
@@ -37,13 +38,13 @@ impl TableRule<u8, Knowledge, Plan> for RowInvariant {
     ghost first = { λ plan. opening_threads plan.formula.value plan.layout 1 plan.layout.streams };
 }
 
-/// The table. It has no slots.
+/// The table of words. Of what `atomic_table` offers it has no slots, which would hold values of other types.
 pub type Words = Table<u8, Knowledge, Plan, RowInvariant, Global>;
 
-/// A seat at the table.
+/// The right to take steps at the table, which `atomic_table` calls a seat.
 pub type Token = atomic_table::Seat<u8, Knowledge>;
 
-/// A fetch.
+/// The load of a fetch.
 pub struct Look;
 
 impl Play<u8, Knowledge> for Look {
@@ -52,7 +53,7 @@ impl Play<u8, Knowledge> for Look {
     ghost then = { Changes Looks };
 }
 
-/// A load of a word of literals.
+/// The load of a word of literals, which is no event.
 pub struct Read;
 
 impl Play<u8, Knowledge> for Read {
@@ -61,7 +62,7 @@ impl Play<u8, Knowledge> for Read {
     ghost then = { Changes Reads };
 }
 
-/// A store of a word of literals.
+/// The store of a word of literals, which is no event.
 pub struct Write;
 
 impl Play<u8, Knowledge> for Write {
@@ -70,7 +71,7 @@ impl Play<u8, Knowledge> for Write {
     ghost then = { Stores };
 }
 
-/// A publish.
+/// The exchange of a publish, from vacant to live.
 pub struct Claim;
 
 impl Play<u8, Knowledge> for Claim {
@@ -79,7 +80,7 @@ impl Play<u8, Knowledge> for Claim {
     ghost then = { Changes Claims };
 }
 
-/// The load of a retire.
+/// The load of a retire. If it finds no live clause, it is the event, with the reply `NotLive`.
 pub struct Find;
 
 impl Play<u8, Knowledge> for Find {
@@ -88,7 +89,7 @@ impl Play<u8, Knowledge> for Find {
     ghost then = { Changes Finds };
 }
 
-/// The exchange of a retire.
+/// The exchange of a retire, from live to retired.
 pub struct Retire;
 
 impl Play<u8, Knowledge> for Retire {
@@ -97,7 +98,7 @@ impl Play<u8, Knowledge> for Retire {
     ghost then = { Changes (λ id v _ w. Retires id v w) };
 }
 
-/// A load by a seat that has the thread states of two.
+/// The load of a meeting, by a token that has the thread states of two streams.
 pub struct Meet;
 
 impl Play<u8, Knowledge> for Meet {
@@ -106,7 +107,7 @@ impl Play<u8, Knowledge> for Meet {
     ghost then = { Joined };
 }
 
-/// The first thread state goes to a new seat.
+/// A token's first thread state goes to a new token.
 pub struct Deal;
 
 impl Split<Knowledge> for Deal {
@@ -117,7 +118,7 @@ impl Split<Knowledge> for Deal {
     ghost right = { first_only };
 }
 
-/// All thread states go to a new seat.
+/// All thread states of a token go to a new token.
 pub struct Hand;
 
 impl Split<Knowledge> for Hand {
@@ -128,7 +129,7 @@ impl Split<Knowledge> for Hand {
     ghost right = { λ vs. vs };
 }
 
-/// All thread states but the first go to a new seat.
+/// All thread states of a token but the first go to a new token.
 pub struct SplitRest;
 
 impl Split<Knowledge> for SplitRest {
@@ -139,7 +140,7 @@ impl Split<Knowledge> for SplitRest {
     ghost right = { others };
 }
 
-/// A seat takes in the thread states of another.
+/// A token takes over the thread states of another.
 pub struct Unite;
 
 impl Join<Knowledge> for Unite {

@@ -5,7 +5,9 @@ ghost use Rattle.lrup_model.specs.Pass.{pass_caller_view};
 use crate::rule::Token;
 use std::marker::Model;
 
-/// A stream's right to make steps at the row, and to write its own part of it. It can't be copied.
+/// A stream's right to take steps at the row, and to write into its own room there. It can't be copied, so each stream's steps have one
+/// caller. `top` is the place behind the stream's last clause, `drafted` counts the literals stored from there on, and `room` those that
+/// still fit, in literals.
 #[derive(Drop)]
 pub struct Seat {
     pub(crate) token: Token,

@@ -9,7 +9,7 @@ ghost use Rattle.idwords.specs.Words.{word_state, length_of, start_of, half_of};
 
 use lrup_model::Lit;
 
-/// The state of the word of an identity that has no clause, and the whole word.
+/// The state of an identity that has no clause yet; its whole word is 0, too.
 pub const VACANT: u64 = 0;
 
 /// The state of the word of a live clause.

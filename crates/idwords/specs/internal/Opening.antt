@@ -17,7 +17,7 @@ literal_words [] = []
 literal_words (clause ∷ clauses) = packed clause ++ literal_words clauses
 
 -- 0, the formula's identities, the streams' vacant ones, the formula's literals, and zeros to the end of the row: the words that literals two in a
--- word leave, and the streams' rooms, where nothing is written
+-- word leave, and the streams' rooms, in which nothing is written
 abbrev pub opening_words : Cnf → LayoutValue → List ℕ
 opening_words formula layout =
     0 ∷ clause_words (1 + last_identity layout) formula.clauses
