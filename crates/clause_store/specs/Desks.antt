@@ -1,4 +1,4 @@
--- A pass's desk at its store, as a clause map (this project's own).
+-- A desk, which is a pass and its store, as a clause map (this project's own).
 use Rattle.std.specs.Prelude.{◌≡◌}
 use Rattle.lrup_model.specs.Event.{History}
 use Rattle.lrup_model.specs.CallerView.{CallerView}

@@ -7,12 +7,12 @@ use Rattle.lrup_model.specs.Event.{History}
 use Rattle.lrup_model.specs.Formula.{Cnf}
 use Rattle.lrup_model.specs.Pass.{View, IsFair}
 
--- the store's row, by its name, and the layout that it was opened with
+-- the name of the store's row, and the layout that the store was opened with
 pub record StoreValue : Type 0 where
   pub row : Row
   pub layout : LayoutValue
 
--- the row that the pass is of, by its name, and what its stream knows
+-- the name of the row that the pass is of, and what its stream knows
 pub record PassValue : Type 0 where
   pub row : Row
   pub view : View

@@ -1,4 +1,4 @@
-//! A pass's place at its store, as a clause map.
+//! A pass and its store, as a clause map.
 ghost use Rattle.std.specs.Prelude.{◌≡◌};
 ghost use Rattle.clause_store.specs.Passes.{store_of};
 
@@ -6,7 +6,7 @@ use crate::pass::Pass;
 use crate::store::Store;
 use lrup_model::{ClauseMap, Clip, Fetched, Id, Lit, Published, Retired};
 
-/// The clause map of a pass, at the store that the pass is of.
+/// A pass and the store that opened it: the clause map of the pass's stream. Checkers call the store through it.
 #[derive(Drop)]
 pub struct Desk<'a> {
     store: &'a Store,
@@ -15,7 +15,7 @@ pub struct Desk<'a> {
 }
 
 impl<'a> Desk<'a> {
-    /// The desk of a pass of this store.
+    /// The desk of a pass, at the store that opened the pass.
     pub fn new(store: &'a Store, pass: Pass) -> Desk<'a>
         requires { store_of pass ≡ store.now }
         ensures { result.pass ≡ pass }
@@ -23,7 +23,7 @@ impl<'a> Desk<'a> {
         Desk { store, pass }
     }
 
-    /// The desk's pass.
+    /// Gives the desk's pass back.
     pub fn into_pass(self) -> Pass
         ensures { result ≡ self.entry.pass }
     {

@@ -1,4 +1,4 @@
-//! Laws of passes that meet. Each function does nothing; its contract is the law, which holds of all passes.
+//! Laws of passes that meet. Each function is empty: its contract is the law, which holds of all passes.
 ghost use Rattle.clause_store.specs.Laws.{SyncTwice, MeetingKeeps};
 
 /// A pass that meets all others in turn, and then all again, with no other call of these passes between, leaves all at one history.
@@ -6,7 +6,7 @@ pub fn sync_twice()
     ensures { SyncTwice }
 {}
 
-/// Meeting in turn changes nothing else: each pass went on by no call, and is fair.
+/// A pass that meets others one after the other makes no call, nor do they, and all of them are fair then.
 pub fn meeting_keeps()
     ensures { MeetingKeeps }
 {}

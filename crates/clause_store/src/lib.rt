@@ -1,5 +1,5 @@
-//! The map of clauses that all streams share: passes, one a stream, at a store over the row of words. It knows clauses
-//! and clips, and no words. Each call of a pass is one event of a legal history, and a desk is the clause map of a pass.
+//! The clause map that all streams share, without a lock: a store over the row of words, and a pass for each stream, through which the
+//! stream calls it. Each fetch, publish and retire is one event of a legal history. A desk is a pass and its store as one `ClauseMap`.
 #![tactic(auto)]
 
 mod desk;

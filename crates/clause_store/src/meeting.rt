@@ -1,4 +1,4 @@
-//! All passes of a store brought to one history.
+//! How all passes of a store come to have seen one history. It is for contracts alone: a meeting is a load that changes nothing.
 ghost use Rattle.std.specs.Prelude.{◌≡◌};
 ghost use Rattle.lrup_model.specs.Pass.{SyncInTurn, AreSynced, IsFair};
 ghost use Rattle.clause_store.specs.Passes.{store_of, views, AreOf, ShareHistory};
@@ -7,8 +7,8 @@ use crate::pass::Pass;
 use crate::store::Store;
 
 impl Store {
-    /// All passes have then seen one history, which begins with what each had seen: the first meets all others in turn, and
-    /// then all again. It is no event.
+    /// Lets all passes share what they have seen: the first meets all others one after the other, and then all again. All have then seen
+    /// one history, which begins with what each had seen. It is no event.
     #[tactic(auto, using(crate::proofs::MeetingLemmas::rounds_next, crate::proofs::MeetingLemmas::synced_in_rounds, crate::proofs::MeetingLemmas::one_in_rounds))]
     pub fn meet_all(&self, passes: &mut [Pass])
         requires { AreOf self.now passes.old }
@@ -25,7 +25,7 @@ impl Store {
         }
     }
 
-    /// The pass meets each of the others in turn.
+    /// Lets the pass meet each of the others, one after the other.
     fn meet_each(&self, pass: &mut Pass, others: &mut [Pass])
         requires pass { store_of pass.old ≡ self.now }
         requires others { AreOf self.now others.old }
@@ -38,7 +38,7 @@ impl Store {
         for other in others.iter_mut() {
             self.meet(pass, other);
         }
-        // Where there are no others, no call has shown yet that the pass is fair: this one does.
+        // For the proof alone: the contract of `stream` says that the pass is fair, which no call has said if there are no others.
         let _ = pass.stream();
     }
 }

@@ -1,4 +1,4 @@
-//! A stream's place at a store.
+//! A stream's handle at a store.
 ghost use Rattle.std.specs.Prelude.{◌≡◌, ◌+◌, ℕ, IfOk, Some, map, slice_get};
 ghost use Rattle.lrup_model.specs.Pass.{IsFair};
 ghost use Rattle.idwords.specs.Seats.{SeatValue};
@@ -8,7 +8,7 @@ use idwords::Seat;
 use std::alloc::{AllocError, Global};
 use std::marker::Model;
 
-/// A stream's place at the store that opened it, and at no other. It can't be copied.
+/// A stream's handle at the store that opened it, and at no other. It can't be copied, so each stream has one caller.
 #[derive(Drop)]
 pub struct Pass {
     pub(crate) seat: Seat,
@@ -37,7 +37,7 @@ impl Pass {
     }
 }
 
-/// The passes of the streams' seats, which are in the streams' order.
+/// Makes the passes of seats, which are in the streams' order.
 pub(crate) fn passes_of(alloc: Global, seats: Vec<Seat>) -> Result<Vec<Pass>, AllocError>
     requires { (k : ℕ) (seat : SeatValue) → slice_get seats.items k ≡ Some seat
         → IsAtRest seat (k + 1) }

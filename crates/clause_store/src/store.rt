@@ -1,4 +1,4 @@
-//! The store and the calls of its passes.
+//! The store and the calls of its passes. Each call takes a few atomic steps on the row, all of them `SeqCst` (`row.rt` of `idwords`).
 ghost use Rattle.std.specs.Prelude.{◌≡◌, ◌↔◌, ◌+◌, ◌-◌, ◌*◌, ◌≤◌, ◌<◌, ℕ, IfOk, IsTrue, Some, length, slice_get, vec_len};
 ghost use Rattle.lrup_model.specs.Event as events;
 ghost use Rattle.lrup_model.specs.History.{IsPublishable};
@@ -16,8 +16,8 @@ use lrup_model::{Clip, Fetched, Formula, Id, Layout, Lit, Owner, Published, Reti
 use std::alloc::{AllocError, Global};
 use std::marker::Model;
 
-/// The clauses of a formula, live for good, and those that the streams publish and retire. All threads share it, without
-/// a lock; no call but `open` takes memory.
+/// The clauses of a formula, which stay live, and those that the streams publish and retire. All threads share a store without a lock,
+/// and only `open` takes memory. No call waits or tries again.
 #[derive(Drop)]
 pub struct Store {
     row: Row,
@@ -33,9 +33,9 @@ impl Model for Store {
 }
 
 impl Store {
-    /// The store of a formula's clauses and a layout that fits it, and a pass for each stream, in their order. It reserves all
-    /// that it will need, 8 bytes a word of the layout's row, and takes as much again until it returns. A refusal leaves
-    /// nothing behind.
+    /// Opens a store of a formula's clauses, by a layout that fits the formula, and makes a pass for each stream, in their order. It
+    /// reserves all that it will need, 8 bytes a word of the layout's row, and takes as much again until it returns. If memory is
+    /// refused, nothing is left behind.
     pub fn open(
         alloc: Global,
         formula: &Formula,
@@ -60,7 +60,7 @@ impl Store {
         &self.layout
     }
 
-    /// Whether this is an identity: 1 to the last.
+    /// Whether this is an identity: 1 to the layout's last one.
     pub fn covers(&self, id: Id) -> bool
         ensures { IsTrue result ↔ IsIdentity self.now.layout id }
     {
@@ -75,7 +75,7 @@ impl Store {
         self.layout.owner(id) == Owner::Stream(pass.stream())
     }
 
-    /// The room that the pass has left, in literals.
+    /// The room that the pass's stream has left, in literals.
     pub fn room(&self, pass: &Pass) -> u64
         requires { store_of pass.now ≡ self.now }
         ensures { result ≡ (pass_caller_view pass.now.view).room }
@@ -83,7 +83,8 @@ impl Store {
         pass.seat.room()
     }
 
-    /// Loads the word of an identity once, and answers what the store had there at that moment.
+    /// Looks an identity up, 1 to the last: one load of its word, which has the state, the length and the place of the clause. The answer
+    /// is what the store had there at that moment.
     #[inline]
     #[tactic(auto, using(crate::proofs::LiteralsRead::start_read))]
     pub fn fetch(&self, pass: &mut Pass, id: Id) -> Fetched
@@ -102,8 +103,8 @@ impl Store {
         }
     }
 
-    /// Literal `k`, from 0 on, of a clause whose clip the pass has fetched, by one load: in the order in which it was
-    /// published or stands in the formula, also after it was retired.
+    /// Reads literal `k`, from 0 on, of a clause whose clip the pass has fetched, by one load. The order is that in which the clause was
+    /// published, or in which the formula has it. The clause may be retired: its literals stay.
     #[inline]
     pub fn literal(&self, pass: &mut Pass, clip: &Clip, k: u32) -> Lit
         requires store { store_of pass.old ≡ self.now }
@@ -117,8 +118,8 @@ impl Store {
         lit(self.row.word(&mut pass.seat, place), k % 2)
     }
 
-    /// Pair `i`, from 0 on, of a clause whose clip the pass has fetched, by one load: its literals `2 * i` and, if it has that
-    /// one, `2 * i + 1`.
+    /// Reads pair `i`, from 0 on, of a clause whose clip the pass has fetched, by one load: the literals `2 * i` and, if the clause has
+    /// that many, `2 * i + 1`.
     #[inline]
     pub fn pair(&self, pass: &mut Pass, clip: &Clip, i: u32) -> (Lit, Option<Lit>)
         requires store { store_of pass.old ≡ self.now }
@@ -141,8 +142,9 @@ impl Store {
         }
     }
 
-    /// Publishes a clause that follows from the formula, of at most 65,535 literals, under an identity of the pass's own.
-    /// Each literal is written once, in the order given, by one store for two, and then one exchange makes the clause live.
+    /// Publishes a clause that follows from the formula, of at most 65,535 literals and within the room left, under an identity of the
+    /// pass's own. The literals are stored first, two by each store, in the order given. Then one exchange makes the clause live. If
+    /// something was published under the identity before, the answer is `Taken`, and nothing changes.
     pub fn publish(&self, pass: &mut Pass, id: Id, clause: &[Lit]) -> Published
         requires store { store_of pass.old ≡ self.now }
         requires owns { Owns pass.old.view.caller.layout pass.old.view.caller.stream id }
@@ -165,7 +167,8 @@ impl Store {
         self.row.claim(&mut pass.seat, id)
     }
 
-    /// Retires the clause under an identity of the pass's own: one load, and one exchange where it is live.
+    /// Retires the clause under an identity of the pass's own: one load, and one exchange if the clause is live. If it isn't, the answer is
+    /// `NotLive`, and nothing changes.
     pub fn retire(&self, pass: &mut Pass, id: Id) -> Retired
         requires store { store_of pass.old ≡ self.now }
         requires owns { Owns pass.old.view.caller.layout pass.old.view.caller.stream id }
@@ -178,8 +181,8 @@ impl Store {
         self.row.withdraw(&mut pass.seat, id)
     }
 
-    /// Both passes have then seen one history, which begins with what each had seen; where one had seen all that the other
-    /// had, it is that one's. It is no event.
+    /// Lets two passes share what they have seen: both histories become one, which begins with what each had seen. If one had seen all that
+    /// the other had, it is that one's. It is no event, and changes no clause.
     pub fn meet(&self, first: &mut Pass, second: &mut Pass)
         requires first { store_of first.old ≡ self.now }
         requires second { store_of second.old ≡ self.now }
@@ -191,7 +194,7 @@ impl Store {
     }
 }
 
-/// The place of word `k`, from 0 on, of a clip's clause. Each word has two literals.
+/// The place in the row of word `k`, from 0 on, of a clip's clause. Each word has two literals.
 #[inline]
 fn place_of(clip: &Clip, k: u32) -> u64
     ensures { result ≡ clip.now.start + k }
