@@ -26,8 +26,8 @@ pub record StoredClause : Type 0 where
   pub start : ℕ
   pub literals : Clause
 
--- own is what the map has at the identities of this stream; room is what is left of it, in literals; spelt is what is stored of the clauses
--- seen
+-- What a caller knows: own, what the map has at its stream's identities; room, the literals that its stream may still publish; and spelt,
+-- how the clauses are stored that it has seen.
 pub record CallerView : Type 0 where
   pub caller : Caller
   pub own : State

@@ -1,4 +1,4 @@
--- A stream's desk at the clause map of one thread (this project's own).
+-- A stream's desk, through which it calls the clause map of one thread (this project's own).
 use Rattle.std.specs.Prelude.{◌≡◌, ◌+◌, ℕ}
 use Rattle.std.specs.Borrow.{MutBor}
 use Rattle.lrup_model.specs.Event.{History}

@@ -17,7 +17,7 @@ pub record IsPublishable (formula : Cnf) (candidate : Clause) : Type 0 where
   pub length : length candidate ≤ max_line_literals
   pub follows : Follows formula candidate
 
--- The event may be asked for: a fetch of an identity by any stream, the others by its owner alone.
+-- The event is one that the stream may ask for: a fetch of any identity, a publish or retire of its own.
 -- An owned identity is one of 1 to the last.
 abbrev pub IsAllowed : Cnf → LayoutValue → Event → Type 0
 IsAllowed formula layout (fetch s id reply) = IsIdentity layout id
@@ -25,7 +25,7 @@ IsAllowed formula layout (publish s id clause reply) =
     Owns layout s id × IsPublishable formula clause
 IsAllowed formula layout (retire s id reply) = Owns layout s id
 
--- from this state on, each event may be asked for, and answers as the state after the events before it
+-- each event may be asked for, and has the reply that the map gives in the state after the events before it
 abbrev pub LegalFrom : Cnf → LayoutValue → State → History → Type 0
 LegalFrom formula layout slots [] = Unit {0}
 LegalFrom formula layout slots (event ∷ history) =

@@ -47,7 +47,7 @@ IsFound events.vacant = ⊥
 IsFound (events.live c) = Unit {0}
 IsFound events.retired = Unit {0}
 
--- where a stream of the set fetches and finds a clause, no stream outside the set owns the identity
+-- if a stream of the set fetches an identity and finds a clause, no stream outside the set owns it
 abbrev pub FindsWithin : LayoutValue → (ℕ → Bool) → Event → Type 0
 FindsWithin p set (events.fetch s id r) =
     IsTrue (set s) → IsFound r → (t : ℕ) → Owns p t id → IsTrue (set t)

@@ -1,4 +1,4 @@
--- A pass: one stream's place at the shared store, and what fairness, moving and meeting mean there (this project's own).
+-- A pass: one stream's handle at the shared store, and what fairness, moving and meeting mean there (this project's own).
 use Rattle.std.specs.Prelude.{◌≡◌, ◌≢◌, ◌+◌, ◌-◌, ◌==◌, ◌++◌, ℕ, List, [], ◌∷◌, if◌then◌else◌, Option, None, Some}
 use Rattle.std.specs.List.{AllByRecursion}
 use Rattle.lrup_model.specs.Formula.{Cnf}
@@ -38,7 +38,7 @@ pub record IsSpelt (formula : Cnf) (history : History) (spellings : List Spellin
   pub once : IsOncePerIdentity spellings
   pub slots : (id : ℕ) → Spells (state formula history id) (stored_in spellings id)
 
--- Seen is a history, mine are the calls made through the pass, in order. Where a clause lies is the store's choice: spelt is what it chose.
+-- What a pass knows: the history that it has seen; mine, the calls made through it, in order; and spelt, the clauses seen and their places, which the store chose.
 pub record View : Type 0 where
   pub caller : Caller
   pub seen : History
@@ -61,7 +61,7 @@ pass_caller_view view = record {
   spelt = stored_in view.spelt;
 }
 
--- The pass went on by these calls of its own, and by whatever it saw of others. A call leaves it fair, and with none it is as fair as before.
+-- The pass made these calls, and saw whatever others did. After a call it is fair; after none it is fair if it was before.
 pub record PassMoves (old new : View) (history : History) : Type 0 where
   pub caller : new.caller ≡ old.caller
   pub callers : AllByRecursion (λ event. stream_of event ≡ old.caller.stream) history
@@ -74,7 +74,7 @@ pub record PassMoves (old new : View) (history : History) : Type 0 where
   pub fair_after : history ≢ [] → IsFair new
   pub follow : AllFollow (pass_caller_view old) → AllFollow (pass_caller_view new)
 
--- Two passes of one store have met: both have seen one history, which begins with what each had seen, and no more where one had seen all that
+-- Two passes of one store have met: both have seen one history, which begins with what each had seen, and nothing more if one had seen all that
 -- the other had. Neither made a call.
 pub record SyncViews (old old' new new' : View) : Type 0 where
   pub one : new'.seen ≡ new.seen
@@ -93,7 +93,7 @@ SyncInTurn old (other ∷ others) new (other' ∷ others') =
 SyncInTurn old [] new (other' ∷ others') = ⊥
 SyncInTurn old (other ∷ others) new [] = ⊥
 
--- each pass of the one list went on by no call to the one at its place in the other, which is fair
+-- Both lists have the same passes: those of the second made no call since, may have seen more, and are fair.
 abbrev pub AreSynced : List View → List View → Type 0
 AreSynced [] [] = Unit {0}
 AreSynced (old ∷ before) (new ∷ after) = PassMoves old new [] × IsFair new × AreSynced before after

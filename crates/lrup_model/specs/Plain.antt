@@ -16,7 +16,7 @@ pub data PlainSlot : Type 0 where
   live : StoredClause → PlainSlot
   retired : StoredClause → PlainSlot
 
--- stored begins with identity 0, under which there is nothing; free is what is left of each stream's room
+-- stored has what each identity has, from 0 on, under which there is nothing; free is the room left to each stream, in literals
 pub record Plain : Type 0 where
   pub layout : LayoutValue
   pub plain_slots : List PlainSlot
@@ -63,7 +63,7 @@ plain_caller_view plain s = record {
   spelt = λ id. stored_of (plain_slot_at plain id);
 }
 
--- Between the two moments the map went through these events of the stream: each answered as the map after the events before it.
+-- From the first of the two maps these events of the stream lead to the second; each had the reply that the map then gives.
 pub record PlainMoves (old new : Plain) (s : ℕ) (history : History) : Type 0 where
   pub layout : new.layout ≡ old.layout
   pub formula : formula_of new ≡ formula_of old

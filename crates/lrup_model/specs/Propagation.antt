@@ -3,7 +3,7 @@
 use Rattle.std.specs.Prelude.{◌≡◌, ◌⊎◌, ℤ, neg_ℤ, List, [], ◌∷◌, ◌++◌}
 use Rattle.lrup_model.specs.Clause.{Clause, Has, IsTautology}
 
--- where these literals are false: the clause is a conflict if it has no other
+-- if these literals are false: the clause is a conflict if it has no other
 abbrev pub IsConflict : List ℤ → Clause → Type 0
 IsConflict falses clause = (literal : ℤ) → Has clause literal → Has falses literal
 

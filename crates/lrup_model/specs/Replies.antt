@@ -14,7 +14,7 @@ reply_of view fetched.Vacant = vacant
 reply_of view (fetched.Live clip) = live (clip_clause view clip)
 reply_of view fetched.Retired = retired
 
--- a live clause comes under its clip, which is known; a retired one is stored, and of a vacant identity nothing is
+-- The answer is right in the view: a live clause has a known clip, a retired one is stored, and under a vacant identity nothing is.
 abbrev pub IsFetched : CallerView → ℕ → Fetched → Type 0
 IsFetched view id fetched.Vacant = view.spelt id ≡ None
 IsFetched view id (fetched.Live clip) = (clip.id ≡ id) × IsKnown view clip

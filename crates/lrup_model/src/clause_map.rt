@@ -11,7 +11,7 @@ use crate::Id;
 use crate::lit::Lit;
 use std::marker::Model;
 
-/// A clause at one clause map: its identity, the count of its literals and the place of the first.
+/// A handle of a clause at one clause map: its identity, the count of its literals and the place of the first at the map.
 #[derive(Clone, Copy, Debug, PartialEq, Eq)]
 pub struct Clip {
     id: Id,
@@ -30,7 +30,7 @@ impl Model for Clip {
 }
 
 impl Clip {
-    /// The clip of these three. A clip is used only where it is known, as those that a fetch gave are.
+    /// The clip of these three. A map takes only clips that its caller knows, as those that a fetch at that map gave.
     pub fn new(id: Id, len: u32, start: u32) -> Clip
         ensures { result ≡ record { id = id; len = len; start = start } }
     {
@@ -51,7 +51,7 @@ impl Clip {
         self.len
     }
 
-    /// The count of pairs of literals, the last of which may be a single one.
+    /// The count of pairs of literals. If the clause has an odd count, the last pair is a single one.
     #[inline]
     pub fn pairs(&self) -> u32
         ensures { result ≡ (self.now.len + 1) / 2 }
@@ -66,7 +66,7 @@ impl Clip {
         self.len == 0
     }
 
-    /// The place of the first literal at the map.
+    /// The place of the first literal at the map: of the row a word, of a plain map a literal.
     pub fn start(&self) -> u32
         ensures { result ≡ self.now.start }
     {
@@ -79,7 +79,7 @@ impl Clip {
 pub enum Fetched {
     /// Nothing was published under the identity.
     Vacant,
-    /// A clause of the formula, or one that was published and not retired.
+    /// The clause can be used: it is the formula's, or was published and not retired.
     Live(Clip),
     /// The clause was retired.
     Retired,
@@ -88,9 +88,9 @@ pub enum Fetched {
 /// What a publish answers.
 #[derive(Clone, Copy, Debug, PartialEq, Eq)]
 pub enum Published {
-    /// The clause is live under the identity, and has taken its room.
+    /// The clause is live under the identity from now on, and the caller's room has shrunk by its length.
     Done,
-    /// Something had been published under the identity before; nothing changed.
+    /// A clause had been published under the identity before. Nothing changed.
     Taken,
 }
 
@@ -99,11 +99,12 @@ pub enum Published {
 pub enum Retired {
     /// The clause was live, and is retired from now on.
     Done,
-    /// The identity isn't live; nothing changed.
+    /// No live clause is under the identity. Nothing changed.
     NotLive,
 }
 
-/// A clause map, as one caller sees it. Each call of fetch, publish and retire is one event; no call takes memory.
+/// A clause map (the clause database) as one stream calls it. Each call of fetch, publish and retire is one event; no call takes memory.
+/// The other calls are no events.
 pub trait ClauseMap {
     /// What the caller knows here.
     ghost caller_view: { Self → CallerView };
@@ -124,12 +125,13 @@ pub trait ClauseMap {
         ensures { IsTrue result
             ↔ Owns (caller_view self.now).caller.layout (caller_view self.now).caller.stream id };
 
-    /// The room that the caller has left, in literals: a publish with Done takes the clause's length, and nothing gives any back.
+    /// The room that the caller has left, in literals: a publish with `Done` takes the clause's length, and nothing gives any back.
     fn room(&self) -> u64
         ensures { result ≡ (caller_view self.now).room };
 
-    /// What the map has under an identity. A formula's clause is always live, and the caller's own identities have what its
-    /// calls left there. The layout has the formula's variables, and every clause that the caller has seen follows from it.
+    /// Looks up what the map has under an identity, 1 to the last, now. A formula's clause is always live, the caller's own identities
+    /// have what its calls left there, and other streams may change theirs at any time. Each clause that a fetch finds follows from the
+    /// formula.
     fn fetch(&mut self, id: Id) -> Fetched
         requires { IsIdentity (caller_view self.old).caller.layout id }
         ensures event { moves self.old self.new
@@ -144,8 +146,8 @@ pub trait ClauseMap {
             ≡ (caller_view self.new).caller.layout.vars }
         ensures follow { AllFollow (caller_view self.new) };
 
-    /// Literal `k`, from 0 on, of a clause whose clip is known here, in the order in which the map keeps the clause, which
-    /// never changes.
+    /// Reads literal `k`, from 0 on, of a clause whose clip is known here, in the order in which the map keeps the clause. It never
+    /// changes.
     fn literal(&mut self, clip: &Clip, k: u32) -> Lit
         requires known { IsKnown (caller_view self.old) clip.now }
         requires within { k < clip.now.len }
@@ -153,8 +155,8 @@ pub trait ClauseMap {
         ensures event { moves self.old self.new [] }
         ensures stays { caller_view self.new ≡ caller_view self.old };
 
-    /// Pair `i`, from 0 on, of a clause whose clip is known here: its literals `2 * i` and, if it has that one, `2 * i + 1`, as
-    /// two calls of `literal` give them.
+    /// Reads pair `i`, from 0 on, of a clause whose clip is known here: its literals `2 * i` and, if there is one, `2 * i + 1`, as two
+    /// calls of `literal` give them.
     #[inline]
     fn pair(&mut self, clip: &Clip, i: u32) -> (Lit, Option<Lit>)
         requires known { IsKnown (caller_view self.old) clip.now }
@@ -176,7 +178,8 @@ pub trait ClauseMap {
         }
     }
 
-    /// Publishes a clause that follows from the formula, of at most 65,535 literals, under an identity of the caller's own.
+    /// Publishes a clause under an identity of the caller's own. The clause follows from the formula, and has at most 65,535 literals,
+    /// each once, and no more than there is room.
     fn publish(&mut self, id: Id, clause: &[Lit]) -> Published
         requires owns { Owns (caller_view self.old).caller.layout
             (caller_view self.old).caller.stream id }
@@ -186,7 +189,7 @@ pub trait ClauseMap {
             (publish (caller_view self.old).caller.stream id clause.now result ∷ []) }
         ensures done { (result ≡ Published.Done) ↔ ((caller_view self.old).own id ≡ absent) };
 
-    /// Retires the clause under an identity of the caller's own.
+    /// Retires the clause under an identity of the caller's own: no later fetch finds it live.
     fn retire(&mut self, id: Id) -> Retired
         requires { Owns (caller_view self.old).caller.layout
             (caller_view self.old).caller.stream id }

@@ -49,7 +49,7 @@ impl Cube {
         }
     }
 
-    /// The same cube once more, in memory of its own.
+    /// Makes a copy of the cube, in memory of its own.
     pub fn try_clone(&self) -> Result<Cube, AllocError>
         ensures { IfOk result (λ cube. cube ≡ self.now) }
     {
@@ -58,7 +58,7 @@ impl Cube {
         })
     }
 
-    /// Whether the literal is in the cube. The time is that of a binary search.
+    /// Whether the literal is in the cube, by a binary search.
     pub fn has(&self, literal: Lit) -> bool
         ensures { IsTrue result ↔ Has self.now literal }
     {
@@ -66,8 +66,8 @@ impl Cube {
         self.codes.as_slice().binary_search(&code).is_ok()
     }
 
-    /// Whether the complement of each literal of the clause is in the cube, so that the cube makes the clause false. It
-    /// ends at the first literal whose complement isn't there. With the empty cube it is one test.
+    /// Whether the cube makes the clause false: the complement of each of its literals is in the cube. The search ends at the first
+    /// literal whose complement isn't there. With the empty cube it is one test.
     pub fn refutes(&self, clause: &[Lit]) -> bool
         ensures { IsTrue result ↔ Within clause.now self.now }
     {
@@ -77,7 +77,7 @@ impl Cube {
         clause.iter().all(|literal| self.has(literal.complement()))
     }
 
-    /// The greatest variable of the cube's literals, or 0 where there are none.
+    /// The greatest variable of the cube's literals, or 0 if there are none.
     pub fn vars(&self) -> u32
         ensures { (n : ℕ) → IsCubeOver n self.now ↔ (result ≤ n) }
     {

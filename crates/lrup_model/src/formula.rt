@@ -49,7 +49,7 @@ impl Formula {
     }
 
     /// Adds the next clause: at most 1,048,575 literals, each once, over the formula's variables. There are at most 16,777,215
-    /// clauses. Where memory runs out, nothing changes.
+    /// clauses. If memory is refused, nothing changes.
     pub fn push(&mut self, clause: &[Lit]) -> Result<(), AllocError>
         requires count { length self.old.clauses < max_clauses }
         requires clause { IsFormulaClause self.old.vars clause.now }
@@ -104,7 +104,7 @@ impl Formula {
     }
 }
 
-/// Where piece `i`, from 0 on, begins: at the end of the one before it.
+/// Where clause `i`, here from 0 on, begins: at the end of the one before it.
 fn start(ends: &[usize], i: usize) -> usize
     requires { i < length ends.now }
     ensures { result ≡ slice_index (0 ∷ ends.now) i }
@@ -112,7 +112,7 @@ fn start(ends: &[usize], i: usize) -> usize
     if i == 0 { 0 } else { ends[i - 1] }
 }
 
-/// The literals of piece `i`, from 0 on.
+/// The literals of clause `i`, here from 0 on.
 fn part<'a>(literals: &'a [Lit], ends: &[usize], i: usize) -> &'a [Lit]
     requires ends { AreEnds 0 ends.now (length literals.now) }
     requires within { i < length ends.now }

@@ -1,5 +1,4 @@
-//! Laws of the definitions. Each function does nothing; its contract is the law, which holds of every formula, layout,
-//! history and pass.
+//! Laws of the definitions. Each function is empty: its contract is the law, which holds of every formula, layout, history and pass.
 ghost use Rattle.lrup_model.specs.Laws.{PassSteps, KnownStays, EntriesAdvance};
 
 /// An entry goes from absent to live to retired, with one clause.

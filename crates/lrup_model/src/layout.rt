@@ -9,18 +9,18 @@ use std::error::Error;
 use std::fmt;
 use std::marker::Model;
 
-/// Whose an identity is.
+/// Who owns an identity.
 #[derive(Clone, Copy, Debug, PartialEq, Eq)]
 pub enum Owner {
     /// It is a clause of the formula; nobody owns it.
     Formula,
-    /// A stream, from 1 on.
+    /// The stream of this number, from 1 on, owns it.
     Stream(u64),
     /// It is no identity: 0, or above the last one.
     Outside,
 }
 
-/// Why there is no layout of some numbers. Where several hold it is the first.
+/// Why there is no layout of some numbers. If several faults hold, it is the first of these.
 #[derive(Clone, Copy, Debug, PartialEq, Eq)]
 pub enum LayoutFault {
     /// More than 16,777,215 variables.
@@ -90,7 +90,7 @@ impl Layout {
     ) -> Result<Layout, LayoutFault>
         ensures layout { let layout = layout_value vars clauses literals streams lines room in
             IfOk result (λ given. (given ≡ layout) × IsLayout layout) }
-        // The first that holds, in the order of the list.
+        // The tests stand in the order of the faults, so that the first fault is the answer.
         ensures fault { IfErr result
             (IsFault (layout_value vars clauses literals streams lines room)) }
     {
@@ -125,7 +125,7 @@ impl Layout {
             && self.literals as usize == formula.literals()
     }
 
-    /// Whose the identity is.
+    /// Who owns the identity: behind the formula's identities the streams take one each in turn, stream 1 first.
     pub fn owner(&self, id: u64) -> Owner
         ensures { result ≡ owner self.now id }
     {

@@ -1,6 +1,5 @@
-//! What the checker is about: literals, clauses, formulas, cubes and entailment, identities and their owners, the clause map
-//! of one thread with its events and histories, hinted propagation. The other crates' contracts are stated in these
-//! words. The code here is small: the types, and a plain clause map for one thread.
+//! The words that all crates' contracts use: literals, clauses, formulas, cubes and entailment; identities and their owners; clause maps,
+//! their events and histories; hinted propagation. The code is small: the types, the trait `ClauseMap`, and the clause map of one thread.
 #![tactic(auto)]
 
 mod clause_map;

@@ -81,7 +81,7 @@ impl Lit {
         }
     }
 
-    /// The literal of the same variable that is true where this one is false.
+    /// The literal of the same variable that is true if this one is false.
     #[inline]
     pub fn complement(self) -> Lit
         ensures { result ≡ neg_ℤ self }

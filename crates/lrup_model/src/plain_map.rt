@@ -17,7 +17,7 @@ use crate::lit::Lit;
 use std::alloc::{AllocError, Global};
 use std::marker::Model;
 
-/// What stands under an identity, with the place of the clause's first literal and the count of its literals. 12 bytes.
+/// What the map has under an identity: of a clause the place of its first literal, and the count of its literals. It takes 12 bytes.
 #[derive(Clone, Copy)]
 enum Entry {
     Vacant,
@@ -50,8 +50,8 @@ impl Model for PlainMap {
 const _: () = prove!(size_of::<Entry>() == 12);
 
 impl PlainMap {
-    /// What a fetch of the identity answers. That every clause follows is the same for each stream, so the contract takes
-    /// the first.
+    /// What a fetch of the identity answers. That each clause follows from the formula is the same for all streams, so the contract speaks
+    /// of the first.
     fn look(&self, id: Id) -> Fetched
         requires { id ≤ last_identity self.now.layout }
         ensures answer { result ≡ fetched_of id (plain_slot_at self.now id) }
@@ -65,8 +65,8 @@ impl PlainMap {
         }
     }
 
-    /// Literal `k` of the clause that is stored under the clip's identity. What is known of a clip is the same for each
-    /// stream, so the contract takes the first.
+    /// Literal `k`, from 0 on, of the clause that is stored under the clip's identity. What is known of a clip is the same for all
+    /// streams, so the contract speaks of the first.
     fn literal_of(&self, clip: &Clip, k: u32) -> Lit
         requires known { IsKnown (plain_caller_view self.now 1) clip.now }
         requires within { k < clip.now.len }
@@ -75,7 +75,7 @@ impl PlainMap {
         self.literals[clip.start() as usize + k as usize]
     }
 
-    /// Stores the clause under an identity of the stream at this place in the list of rooms, where it is vacant.
+    /// Stores the clause under an identity of stream `index + 1`, if it is vacant.
     fn publish_at(&mut self, index: u32, id: Id, clause: &[Lit]) -> Published
         requires owns { Owns self.old.layout (index + 1) id }
         requires clause { IsPublishable (formula_of self.old) clause.now }
@@ -95,7 +95,7 @@ impl PlainMap {
         Published::Done
     }
 
-    /// Retires what is stored under an identity of the stream at this place, where it is live.
+    /// Retires what is stored under an identity of stream `index + 1`, if it is live.
     fn retire_at(&mut self, index: u32, id: Id) -> Retired
         requires { Owns self.old.layout (index + 1) id }
         ensures { AfterRetire self.old self.new id result }
@@ -146,19 +146,19 @@ impl PlainMap {
         &self.layout
     }
 
-    /// The room that the stream at this place in the list of rooms has left; 0 where the list has no such place.
+    /// The room that stream `index + 1` has left, in literals; 0 if there is no such stream.
     fn room_at(&self, index: u32) -> u64
         ensures { result ≡ slice_index self.now.free index }
     {
         self.free.get(index as usize).copied().unwrap_or(0)
     }
 
-    /// The place of stream `s`, from 1 on, at this map.
+    /// The clause map of stream `s`, from 1 on, which lends this map.
     pub fn desk(&mut self, s: u64) -> PlainDesk<'_>
         requires { IsStream self.old.layout s }
         ensures { IsDesk self.entry s result }
     {
-        // A look at the layout, which has at most 64 streams, shows the prover that the cast below loses nothing.
+        // For the proof alone: a layout has at most 64 streams, so that the cast below loses nothing.
         let _ = &self.layout;
         PlainDesk {
             map: self,
@@ -167,7 +167,7 @@ impl PlainMap {
     }
 }
 
-/// The whole room of each stream.
+/// The room of each stream before it publishes anything, in literals.
 fn rooms(alloc: Global, layout: &Layout) -> Result<Vec<u64>, AllocError>
     ensures rooms { IfOk result
         (λ free. free.items ≡ replicate layout.now.streams layout.now.room) }
@@ -176,7 +176,7 @@ fn rooms(alloc: Global, layout: &Layout) -> Result<Vec<u64>, AllocError>
     vec![in alloc; layout.room(); layout.streams() as usize]
 }
 
-/// Keeps the formula's clauses, live.
+/// Adds the formula's clauses, as live entries.
 fn keep_clauses(formula: &Formula, entries: &mut Vec<Entry>, literals: &mut Vec<Lit>)
     requires none { literals.old.items ≡ [] }
     requires entries { vec_len entries.old + length formula.now.clauses ≤ vec_capacity entries.old }
@@ -209,7 +209,7 @@ fn keep_vacant(count: usize, entries: &mut Vec<Entry>)
     }
 }
 
-/// A stream's place at the clause map of one thread. It holds the map until it is dropped.
+/// The clause map of one thread, lent, and a stream that calls it: the stream's `ClauseMap`. It holds the map until it is dropped.
 pub struct PlainDesk<'a> {
     map: &'a mut PlainMap,
     index: u32,

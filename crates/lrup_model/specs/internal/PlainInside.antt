@@ -75,7 +75,7 @@ entries_from from [] = []
 entries_from from (clause ∷ clauses) =
     entries.Live from (length clause) ∷ entries_from (from + length clause) clauses
 
--- what a fetch of the identity answers where this is stored
+-- what a fetch of the identity answers if this is stored
 abbrev pub fetched_of : ℕ → PlainSlot → Fetched
 fetched_of id vacant = fetched.Vacant
 fetched_of id (live stored) =
