@@ -63,7 +63,7 @@ IsTextFault IsOne bytes TooLong = BeginsNone IsOne bytes (BeginsOneLifted IsOne)
 IsTextFault IsOne bytes Range = ⊥
 IsTextFault IsOne bytes Memory = ⊥
 
--- the first fault of the bytes, of a cube over the variables 1 to vars; memory runs out only where they have none
+-- the first fault of the bytes, of a cube over the variables 1 to vars; memory runs out only if they have none
 abbrev pub IsCubeFault : ℕ → List ℕ → CubeFault → Type 0
 IsCubeFault vars bytes Spelling = IsTextFault IsCubeLine bytes Spelling
 IsCubeFault vars bytes TooLong = IsTextFault IsCubeLine bytes TooLong

@@ -38,13 +38,13 @@ SpellsNumber most [] = ⊥
 SpellsNumber most (byte ∷ bytes) =
     (49 ≤ byte) × (byte ≤ 57) × AllByRecursion IsDigit bytes × (length bytes < most)
 
--- lit, where 45 is the byte `-`
+-- lit; 45 is the byte `-`
 abbrev pub SpellsLiteral : ℕ → List ℕ → Type 0
 SpellsLiteral most [] = ⊥
 SpellsLiteral most (byte ∷ bytes) =
     SpellsNumber most (byte ∷ bytes) ⊎ ((byte ≡ 45) × SpellsNumber most bytes)
 
--- a hint: num, or lit where hints are signed
+-- a hint: num, or lit if hints are signed
 abbrev pub SpellsHint : Limits → List ℕ → Type 0
 SpellsHint limits word =
     MatchBool limits.signed (SpellsLiteral limits.digits word) (SpellsNumber limits.digits word)

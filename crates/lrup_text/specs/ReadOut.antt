@@ -5,7 +5,7 @@ use Rattle.lrup_text.specs.declared.device.StreamEnd.{StreamEnd}
 use Rattle.lrup_text.specs.declared.device.StreamEnd.TheVariants as stream_ends
 use Rattle.lrup_text.specs.Reads.{Gave, ReadsOf}
 
--- what is known of each source: the bytes left, where the device tells them, and whether a read has failed; and what a read does
+-- What contracts know of each source: the bytes left, if the device tells them; whether a read has failed; and what a read does.
 pub record SourceView (S : Type 0) : Type 1 where
   pub left : S → Option (List ℕ)
   pub has_failed : S → Bool
@@ -17,7 +17,7 @@ abbrev pub source_view : {S : Type 0} → (S → Option (List ℕ)) → (S → B
 source_view left has_failed reads =
     record { left = left; has_failed = has_failed; reads = reads }
 
--- At the end of a stream no byte is left; and the source has failed where the stream ended at a failure, and only there.
+-- A source that is left so ends a stream in this way: at its end no byte is left, and it has failed exactly if a failed read ended the stream.
 abbrev pub EndsSo : StreamEnd → Option (List ℕ) → Bool → Type 0
 EndsSo stream_ends.Ended left has_failed = IsAtEnd left × (has_failed ≡ false)
 EndsSo stream_ends.Failed left has_failed = has_failed ≡ true

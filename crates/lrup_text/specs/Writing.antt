@@ -1,4 +1,4 @@
--- What goes out to a sink, where the device tells its bytes, while some bytes are still held back.
+-- What goes out to a sink, if the device tells its bytes, while some bytes are still held back.
 use Rattle.std.specs.Prelude.{◌≡◌, List, ℕ, ◌++◌, Option, Result, MatchResult}
 use Rattle.std.specs.Io.KnownBytes.{Appends}
 

@@ -1,4 +1,4 @@
-//! Where streams come from and go to.
+//! Devices: sources of bytes, and sinks. What a trait has as `ghost` is known to contracts alone.
 ghost use Rattle.std.specs.Prelude.{◌≡◌, ◌<◌, ◌≤◌, ℕ, List, Bool, false, Option, IfOk, is_err, length, option_map, take};
 ghost use Rattle.std.specs.Io.KnownBytes.{ReadConsumes, WriteAppends};
 ghost use Rattle.std.specs.Result.{result_ok};
@@ -14,12 +14,12 @@ pub const PIECE: usize = 65_536;
 #[error("read failed")]
 pub struct ReadFault;
 
-/// How a stream ended.
+/// How the reading of a stream ended.
 #[derive(Clone, Copy, Debug, PartialEq, Eq)]
 pub enum StreamEnd {
-    /// After its last byte.
+    /// A read gave no more bytes: the end of the stream.
     Ended,
-    /// At a read that failed.
+    /// A read failed.
     Failed,
 }
 
@@ -28,21 +28,21 @@ pub enum StreamEnd {
 #[error("write failed")]
 pub struct WriteFault;
 
-/// Bytes to be read.
+/// A device that gives bytes.
 pub trait Source {
-    /// The bytes left, where the device tells them.
+    /// The bytes left, if the device tells them.
     ghost left: { Self → Option (List ℕ) };
 
     /// Whether a read has failed.
     ghost has_failed: { Self → Bool };
 
-    /// What a read does: the source before it, how long the buffer is, the bytes given or none after a fault, and the source after
-    /// it. A source that doesn't say allows any.
+    /// What a read does: it relates the source before, the buffer's length, the bytes given, or none after a fault, and the source
+    /// after. A source that doesn't say allows anything.
     ghost reads: { Self → ℕ → Option (List ℕ) → Self → Type 0 } = { λ _ _ _ _. Unit {0} };
 
-    /// Reads bytes into the front of a buffer, and returns how many. 0 bytes into a buffer that isn't empty are the end.
+    /// Reads bytes into the front of a buffer, and returns how many. 0 bytes, if the buffer isn't empty, are the end.
     ///
-    /// A fault reads nothing, and there is no read after it.
+    /// A read that fails gives no bytes, and the caller reads no more.
     fn read(&mut self, buffer: &mut [u8]) -> Result<usize, ReadFault>
         requires { has_failed self.old ≡ false }
         ensures bound { IfOk result (λ count. count ≤ length buffer.new) }
@@ -56,17 +56,17 @@ pub trait Source {
         ensures { result ≡ has_failed self.now };
 }
 
-/// A place for bytes.
+/// A device that takes bytes.
 pub trait Sink {
-    /// The bytes written, where the device tells them.
+    /// The bytes written, if the device tells them.
     ghost written: { Self → Option (List ℕ) };
 
     /// Whether a write has failed.
     ghost has_failed: { Self → Bool };
 
-    /// Writes bytes from the front of a slice, and returns how many: at least one, where the slice isn't empty.
+    /// Writes bytes from the front of a slice, and returns how many: at least one, if the slice isn't empty.
     ///
-    /// A fault writes nothing, and there is no write after it.
+    /// A write that fails writes nothing, and the caller writes no more.
     fn write(&mut self, bytes: &[u8]) -> Result<usize, WriteFault>
         requires { has_failed self.old ≡ false }
         ensures bound { IfOk result (λ count. count ≤ length bytes.now) }

@@ -1,4 +1,4 @@
-//! Reads a whole line at once, and long lists.
+//! The fast path of the line reader: a whole line at once, and long lists.
 ghost use Rattle.std.specs.Prelude.{◌≡◌, ◌<◌, ◌≤◌, ◌+◌, get_or, length, IfSome};
 ghost use Rattle.lrup_text.specs.internal.Kernel.{EndsLine, EndsWord, ReadsNumber, ReadsLiterals, ReadsItems, ReadsList, ReadsClause, IsWhole};
 
@@ -18,7 +18,7 @@ const LETTER_D: u8 = b'd';
 
 const LETTER_I: u8 = b'i';
 
-/// What a line holds beside its lists.
+/// What a line that was read at once holds beside its lists.
 #[derive(Clone, Copy)]
 pub struct Whole {
     /// The line's first number.
@@ -33,8 +33,8 @@ pub struct Whole {
     pub identity_count: usize,
 }
 
-/// Reads a slice that is a line's text, its lists to the front of buffers. `None` leaves it open whether it is one:
-/// then the caller reads it byte by byte.
+/// Reads a slice that is a line's text, and puts its lists into the front of the buffers. If it returns `None`, the slice may still be a
+/// line, and the caller reads it byte by byte.
 #[inline(never)]
 pub fn read_line(line: &[u8], literals: &mut [i64], identities: &mut [u64]) -> Option<Whole>
     requires ends { EndsLine line.now }

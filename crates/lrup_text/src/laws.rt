@@ -1,4 +1,4 @@
-//! Laws of lines and streams. Each function does nothing; its contract is the law.
+//! Laws of lines and streams. Each function is empty: its contract is the law.
 ghost use Rattle.lrup_text.specs.Laws.{
   OneText,
   OneLine,
@@ -75,7 +75,7 @@ pub fn a_refused_text_holds_no_line()
     ensures { RefusedStays }
 {}
 
-/// A text has one fault at most, and none where it begins a line.
+/// A text has one fault at most, and none if it begins a line.
 pub fn a_text_has_one_fault()
     ensures { OneFault }
 {}

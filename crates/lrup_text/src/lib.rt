@@ -79,19 +79,19 @@ fn are_few_identities(ids: &[u64]) -> bool
     ids.len() <= MAX_IDENTITIES && ids.iter().all(|id| is_stream_number(*id))
 }
 
-/// Why a text is no line.
+/// Why a text is no line within the limits of a stream.
 #[derive(Clone, Copy, Debug, PartialEq, Eq, Error)]
 pub enum LineFault {
-    /// It is none of the other three: no line begins so, whatever the limits.
+    /// No line begins as the text does, whatever the limits, and no hint with a sign is the reason.
     #[error("spelling")]
     Spelling,
-    /// Without the limits on digits, literals, hints and identities it would begin a line.
+    /// The text would begin a line if there were no limits on digits, literals, hints and identities.
     #[error("too long")]
     TooLong,
     /// The stream ended inside a line.
     #[error("truncated")]
     Truncated,
-    /// A hint has a sign.
+    /// A hint has a sign, as in RAT lines of LRAT. If hints might have signs, and there were no limits, the text would begin a line.
     #[error("rat hint")]
     RatHint,
 }

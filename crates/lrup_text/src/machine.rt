@@ -1,4 +1,4 @@
-//! Reads one line, in as many pieces as it comes.
+//! The reading of one line, in as many pieces as it comes.
 ghost use Rattle.std.specs.Prelude.{◌≡◌, ◌<◌, ◌+◌, ◌-◌, ◌*◌, ◌^◌, ◌↔◌, [], length, IfOk, IfSome, IfNone, IsTrue, unsigned_abs};
 ghost use Rattle.std.specs.Fmt.{signed_decimal};
 ghost use Rattle.lrup_text.specs.Grammar.{IsDigit};
@@ -104,7 +104,7 @@ impl PartialLine {
             imports: false,
             deletes: false,
             negative: false,
-            // Between lines these hold some number, so that it is always one that fits.
+            // Between lines there is some number here, too, so that it always has the form of one.
             digits: 1,
             number: 1,
             lead: 1,
@@ -149,7 +149,7 @@ impl PartialLine {
         }
     }
 
-    /// Takes bytes of a piece up to the end of the line, or up to the byte that decides that it is none.
+    /// Takes bytes of a piece: through the end of the line, through the byte that decides that it is none, or all of them.
     pub fn read(&mut self, piece: &[u8]) -> BytesRead
         requires { IsPartialLine self.old }
         ensures { StepsThrough self.old piece.now result.used result.step self.new }
@@ -163,9 +163,9 @@ impl PartialLine {
         }
     }
 
-    /// Reads a line that is whole in the piece, where none was begun, and returns how many bytes it has.
+    /// Reads a line at once that lies whole in the piece, and returns how many bytes it has. It tries only if no line was begun.
     ///
-    /// `None` says nothing of the piece. Nothing was read then.
+    /// If it returns `None`, nothing was read, and the piece may still begin with a line.
     fn read_at_once(&mut self, piece: &[u8]) -> Option<usize>
         requires { IsPartialLine self.old }
         ensures whole { IfSome result
@@ -184,7 +184,7 @@ impl PartialLine {
         }
     }
 
-    /// Reads a line that is whole in a slice, and returns whether it did. Where it didn't, nothing was read.
+    /// Reads a line that is the whole slice, and returns whether it did. If it didn't, nothing was read.
     fn read_whole(&mut self, line: &[u8]) -> bool
         requires reads { IsPartialLine self.old }
         requires start { self.old.state ≡ ParserState.Start }
@@ -208,7 +208,7 @@ impl PartialLine {
         true
     }
 
-    /// Takes bytes of a piece as `read` does: many at once inside a list, and else one by one.
+    /// Takes bytes of a piece as `read` does: inside a list many at once, else one by one.
     #[inline(never)]
     fn read_bytes(&mut self, piece: &[u8]) -> BytesRead
         requires { IsPartialLine self.old }

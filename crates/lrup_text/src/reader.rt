@@ -8,27 +8,27 @@ use crate::{Line, LineFault};
 use std::alloc::{AllocError, Global};
 use std::marker::Model;
 
-/// What a piece of a stream gave.
+/// How many bytes of a piece a call of `feed` used, and what they came to.
 #[derive(Clone, Copy, Debug, PartialEq, Eq)]
 pub struct Fed<'a> {
     /// How many bytes of the piece were used.
     pub used: usize,
-    /// What they gave.
+    /// What they came to.
     pub turn: ReaderTurn<'a>,
 }
 
-/// What the bytes used gave.
+/// What the bytes used by a call of `feed` came to.
 #[derive(Clone, Copy, Debug, PartialEq, Eq)]
 pub enum ReaderTurn<'a> {
-    /// They end this line.
+    /// They end a line, which is this one. It is lent until the next call.
     Line(Line<'a>),
     /// All bytes were used, and no line ended.
     NeedMore,
-    /// No line begins so. The last byte used decided it.
+    /// No line within the limits begins as the bytes do. The last byte used decided it.
     Fault(LineFault),
 }
 
-/// How a stream ends.
+/// What the end of a stream is to a reader of lines.
 #[derive(Clone, Copy, Debug, PartialEq, Eq)]
 pub enum End {
     /// The stream ended after its last line.
@@ -37,10 +37,10 @@ pub enum End {
     Fault(LineFault),
 }
 
-/// Reads the lines of a stream that comes in pieces, cut anywhere.
+/// Cuts a stream, which comes in pieces of any length, into lines.
 ///
-/// Contracts see it as the text that it has read of a line, or as the fault that it gave: from then on it gives
-/// that fault and uses nothing.
+/// Contracts see the text that it has read of the next line, or the fault that it gave. After a fault each call gives that fault again,
+/// and uses nothing.
 #[derive(Drop)]
 pub struct LineReader {
     line: PartialLine,
@@ -71,9 +71,8 @@ impl LineReader {
         Ok(LineReader { line, fault: None })
     }
 
-    /// Takes bytes of a piece, up to the end of a line, up to the byte that no line can go on with, or all of them.
-    ///
-    /// A line is lent until the next call.
+    /// Takes bytes of a piece: through the LF of a line, through the first byte with which no line can go on, or all of them. It takes no
+    /// memory.
     pub fn feed(&mut self, piece: &[u8]) -> Fed<'_>
         ensures gives { Feeds self.old piece.now result.used result.turn }
         ensures bound { result.used ≤ length piece.now }
@@ -100,7 +99,7 @@ impl LineReader {
         }
     }
 
-    /// How the stream ends, if it ends here. After `Clean` it may still go on.
+    /// Says what the end of the stream is, if it ends here. After `Clean` the stream may still go on.
     pub fn end(&mut self) -> End
         ensures { ReaderEnds self.old result self.new }
     {

@@ -172,7 +172,7 @@ fn write_number(bytes: &mut [u8], at: usize, number: u64) -> usize
     }
 }
 
-/// The same, of a number that is mostly long.
+/// Writes a number in decimal that is long in most cases.
 fn write_long(bytes: &mut [u8], at: usize, number: u64) -> usize
     requires { at + 20 ≤ length bytes.old }
     ensures end { result ≡ at + length (decimal number) }
@@ -340,7 +340,7 @@ impl WriteBuffer {
         self.put_literal_beyond(literal, sink)
     }
 
-    /// The same, where there may be no room for it.
+    /// Puts a literal and a space, also if there is no room for them before a write.
     #[inline(never)]
     fn put_literal_beyond<W: Sink>(&mut self, literal: i64, sink: &mut W) -> Result<(), WriteFault>
         requires { W.has_failed sink.old ≡ false }

@@ -13,7 +13,7 @@ pub record Propagation : Type 0 where
   pub falses : List ℤ
   pub ready : Bool
 
--- what a hinted clause does
+-- what a hinted clause is, and which literals are false after it
 abbrev pub Steps : Propagation → Clause → Step → Propagation → Type 0
 Steps old clause steps.Unit new =
     (literal : ℤ) × IsUnit old.falses clause literal

@@ -1,6 +1,6 @@
-//! Hinted unit propagation: the literals of a clause are taken as false, and each hinted clause either makes one more
-//! literal false, or ends in a conflict, or is of no use. A mark for each literal answers whether it is false, and a
-//! trail of the false ones undoes the marks, so a line costs what its literals and hints cost.
+//! Hinted unit propagation (reverse unit propagation): the literals of a clause are taken as false, and each hinted clause is unit, which
+//! makes one more literal false, or is a conflict, or is neither. A mark for each literal says whether it is false, and a trail lists the
+//! false ones, so that the next clause clears these marks alone.
 #![tactic(auto)]
 
 pub mod laws;

@@ -1,4 +1,4 @@
-//! The checking of hints one by one.
+//! The checking of hints, one after the other.
 ghost use Rattle.std.specs.Prelude.{◌≡◌, ◌↔◌, ◌≤◌, ◌+◌, ◌*◌, ◌++◌, ℕ, List, [], ◌∷◌, ℤ, Some, slice_get, take, false, true, IsTrue, IsFalse, ◌⊎◌, IfOk, IsErr, OnOk, OnErr};
 ghost use Rattle.std.specs.List.{AllByRecursion};
 ghost use Rattle.lrup_model.specs.Literal.{IsLiteral, max_variable};
@@ -15,29 +15,30 @@ use lrup_model::{ClauseMap, Clip, Lit};
 use std::alloc::{AllocError, Global};
 use std::marker::Model;
 
-/// What a hinted clause does.
+/// What a hinted clause is, if the trail's literals are false.
 #[derive(Clone, Copy, Debug, PartialEq, Eq)]
 pub enum Step {
-    /// All its literals but one were false, and that one was neither false nor true: its complement is false now.
+    /// All its literals but one were false, and that one was neither false nor true. Its complement is false from now on.
     Unit,
     /// All its literals are false.
     Conflict,
-    /// Neither: a literal is true, or two or more are left.
+    /// Neither of the two: a literal is true, or two or more aren't false.
     NotUnit,
 }
 
-/// What is left of a clause, by the literals that were read.
+/// Which literals of a clause aren't false, as far as it was read.
 #[derive(Clone, Copy, Debug, PartialEq, Eq)]
 enum ClauseStatus {
-    /// All literals are false.
+    /// All literals are false: none is left.
     Nothing,
     /// All but this one are false, and this one is neither false nor true.
     One(Lit),
-    /// More than that: a literal is true, or two are left.
+    /// A literal is true, or two aren't false: the clause is neither unit nor a conflict.
     More,
 }
 
-/// One clause at a time and the literals that its hints have made false. It takes no memory once it is made.
+/// A clause whose hints are being checked, and the literals that are false: its own, and those that its hints made false. Only `new` takes
+/// memory.
 #[derive(Drop)]
 pub struct Marks {
     trail: Trail,
@@ -70,8 +71,8 @@ impl Marks {
         })
     }
 
-    /// Takes a clause up and makes its literals, which may repeat, false. It is an error exactly where one stands beside
-    /// its complement; no clause is taken up then.
+    /// Takes up a clause of at most 65,535 literals over the variables: its literals, which may repeat, are false, and no others. It fails
+    /// exactly if a literal stands beside its complement, and then takes no clause up.
     pub fn begin(&mut self, clause: &[Lit]) -> Result<(), Tautology>
         requires { AllByRecursion (IsLiteral self.old.vars) clause.now }
         ensures tautology { IsErr result ↔ IsTautology clause.now }
@@ -85,7 +86,7 @@ impl Marks {
         ensures err { OnErr result
             (self.new ≡ record { vars = self.old.vars; clause = []; falses = []; ready = false }) }
 
-        // The clause that was taken up is the argument's, each literal once.
+        // The clause that is taken up has the argument's literals, each once.
         ensures clause { OnOk result (IsClause self.old.vars self.new.clause) }
         ensures members { OnOk result ((l : ℤ) → Has self.new.clause l ↔ Has clause.now l) }
         ensures consistent { OnOk result (¬ IsTautology self.new.clause) }
@@ -110,7 +111,7 @@ impl Marks {
         self.trail.first(self.clause_len)
     }
 
-    /// Whether a clause is taken up, and every hint since was unit.
+    /// Whether a hint may come: a clause is taken up, and each hint since was unit.
     #[inline]
     pub fn ready(&self) -> bool
         ensures { result ≡ self.now.ready }
@@ -118,7 +119,8 @@ impl Marks {
         self.ready
     }
 
-    /// Tries the clause of a hint, reading each of its literals at most once.
+    /// Says what the clause of a hint is, and if it is unit makes the complement of its last literal false. It reads each literal at most
+    /// once.
     pub fn hint<M: ClauseMap>(&mut self, map: &mut M, clip: &Clip) -> Step
         requires ready { IsTrue self.old.ready }
         requires known { IsKnown (M.caller_view map.old) clip.now }
@@ -131,7 +133,7 @@ impl Marks {
         ensures step { Steps self.old (clip_clause (M.caller_view map.old) clip.now)
             result self.new }
 
-        // At the map it is no event.
+        // These reads are no events.
         ensures event { M.moves map.old map.new [] }
         ensures stays { M.caller_view map.new ≡ M.caller_view map.old }
     {
@@ -151,8 +153,8 @@ impl Marks {
         }
     }
 
-    /// Whether the literals of the clip's clause are those of the list, in which a literal may repeat, and stand beside its
-    /// complement. It reads the clause once. No clause is taken up afterwards.
+    /// Whether the clip's clause has just the literals of the list. In the list a literal may repeat, and stand beside its complement. The
+    /// clause is read once, and no clause is taken up afterwards.
     pub fn same<M: ClauseMap>(&mut self, map: &mut M, clip: &Clip, lits: &[Lit]) -> bool
         requires known { IsKnown (M.caller_view map.old) clip.now }
         requires follow { AllFollow (M.caller_view map.old) }
@@ -163,7 +165,7 @@ impl Marks {
         ensures idle { self.new
             ≡ record { vars = self.old.vars; clause = []; falses = []; ready = false } }
 
-        // At the map it is no event.
+        // These reads are no events.
         ensures event { M.moves map.old map.new [] }
         ensures stays { M.caller_view map.new ≡ M.caller_view map.old }
     {
@@ -174,7 +176,7 @@ impl Marks {
     }
 }
 
-/// What is left of the clause. It stops reading where more than one literal is left.
+/// Reads the clause, pair by pair, until it turns out to be neither unit nor a conflict.
 fn clause_status<M: ClauseMap>(falses: &Trail, map: &mut M, clip: &Clip) -> ClauseStatus
     requires known { IsKnown (M.caller_view map.old) clip.now }
     requires follow { AllFollow (M.caller_view map.old) }
@@ -198,7 +200,7 @@ fn clause_status<M: ClauseMap>(falses: &Trail, map: &mut M, clip: &Clip) -> Clau
     ClauseStatus::Nothing
 }
 
-/// What is left of the clause, where just `lit` is left of its first `pairs` pairs.
+/// Reads on behind the first `pairs` pairs, of which all literals but `lit` are false.
 fn status_after<M: ClauseMap>(
     falses: &Trail,
     map: &mut M,
@@ -225,7 +227,7 @@ fn status_after<M: ClauseMap>(
     ClauseStatus::One(lit)
 }
 
-/// Whether both literals are false, or the one, if there is no other.
+/// Whether the literal is false, and the second one, if there is one.
 #[inline]
 fn are_false(falses: &Trail, first: Lit, second: &Option<Lit>) -> bool
     requires first { IsLiteral falses.now.vars first }
@@ -242,8 +244,7 @@ fn are_false(falses: &Trail, first: Lit, second: &Option<Lit>) -> bool
         }
 }
 
-/// What is left when the next literal is read, or the next two, of a clause that has each once, and whose literals before
-/// them are false.
+/// The status of a clause whose literals so far are false, after the next literal, or the next two. The clause has each literal once.
 #[inline]
 fn status_with_pair(falses: &Trail, first: Lit, second: Option<Lit>) -> ClauseStatus
     requires first { IsLiteral falses.now.vars first }
@@ -260,7 +261,7 @@ fn status_with_pair(falses: &Trail, first: Lit, second: Option<Lit>) -> ClauseSt
     }
 }
 
-/// What is left when one more literal is read, which isn't one of those read before.
+/// The status after one more literal, which isn't one of those before.
 #[inline]
 fn status_with(falses: &Trail, status: ClauseStatus, lit: Lit) -> ClauseStatus
     requires { IsLiteral falses.now.vars lit }

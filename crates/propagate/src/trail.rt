@@ -65,7 +65,7 @@ impl Trail {
         self.literals.push_reserved(lit);
     }
 
-    /// Makes the literals of a clause false, each once. It ends early where one is true already.
+    /// Makes the literals of a clause false, each once. It stops at a literal that is true already, and fails then.
     pub fn add_all(&mut self, clause: &[Lit]) -> Result<(), Tautology>
         requires empty { self.old.literals ≡ [] }
         requires literals { AllByRecursion (IsLiteral self.old.vars) clause.now }
@@ -84,7 +84,7 @@ impl Trail {
         Ok(())
     }
 
-    /// No literal is false any more.
+    /// Makes no literal false any more: it clears the marks that the trail lists.
     pub fn clear(&mut self)
         ensures { self.new ≡ record self.old { literals = [] } }
     {
@@ -92,7 +92,7 @@ impl Trail {
         self.literals.clear();
     }
 
-    /// Whether the literals of the clip's clause are those of the list. No literal is false before, nor afterwards.
+    /// Whether the clip's clause has just the literals of the list. The trail is empty, before and afterwards: only marks are borrowed.
     pub fn same<M: ClauseMap>(&mut self, map: &mut M, clip: &Clip, literals: &[Lit]) -> bool
         requires empty { self.old.literals ≡ [] }
         requires known { IsKnown (M.caller_view map.old) clip.now }
@@ -140,7 +140,8 @@ fn unmark(marks: &mut [bool], literals: &[Lit])
     }
 }
 
-/// Whether the literals of the clip's clause, none of which has a mark, are those of the list. It leaves no mark that wasn't there.
+/// Whether the clip's clause, none of whose literals has a mark, has just the literals of the list. It marks the list's literals, takes
+/// away the marks of the clause's, and looks whether one is left. In the end no mark is left that wasn't there.
 fn is_same<M: ClauseMap>(marks: &mut [bool], map: &mut M, clip: &Clip, literals: &[Lit]) -> bool
     requires known { IsKnown (M.caller_view map.old) clip.now }
     requires follow { AllFollow (M.caller_view map.old) }
@@ -183,7 +184,7 @@ fn any_marked(marks: &[bool], literals: &[Lit]) -> bool
     false
 }
 
-/// Takes the marks of the clip's clause away, up to a literal that has none, and returns whether each had one.
+/// Takes away the marks of the clause's literals, up to one that has none, and returns whether all had one.
 fn take_clause<M: ClauseMap>(marks: &mut [bool], map: &mut M, clip: &Clip) -> bool
     requires known { IsKnown (M.caller_view map.old) clip.now }
     requires follow { AllFollow (M.caller_view map.old) }
@@ -206,8 +207,8 @@ fn take_clause<M: ClauseMap>(marks: &mut [bool], map: &mut M, clip: &Clip) -> bo
     true
 }
 
-/// Takes away the mark of the next literal, or those of the next two, of a clause that has each once, and whose literals before
-/// them were marked, and returns whether these were marked too.
+/// Takes away the mark of a literal, and that of the second, if there is one, and returns whether all had one. The clause has each literal
+/// once.
 #[inline]
 fn take_pair(marks: &mut [bool], first: Lit, second: Option<Lit>) -> bool
     requires first { code_of first < length marks.old }

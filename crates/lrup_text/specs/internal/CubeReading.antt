@@ -10,7 +10,7 @@ use Rattle.lrup_text.specs.Lines.{IsStreamNumber, IsStreamLiteral}
 use Rattle.lrup_text.specs.internal.Rests.{Spot, Tracks}
 use Rattle.lrup_text.specs.Cubes.{IsCubeLine, IsTextFault}
 
--- What stands in front of a cube's text where it is the list of an import: the number 1 and the letter.
+-- What stands in front of a cube's text if it is the list of an import: the number 1 and the letter.
 abbrev pub import_front : List ℕ
 import_front = 49 ∷ space ∷ letter_i ∷ space ∷ []
 
@@ -18,7 +18,7 @@ import_front = 49 ∷ space ∷ letter_i ∷ space ∷ []
 abbrev pub EndsAtSpot : List ℕ → Spot → Type 0
 EndsAtSpot read spot = Tracks (import_front ++ read) spot
 
--- the fault of a rest at spots of some kind, where there is room for one more literal
+-- the fault of a rest at spots of some kind, if there is room for one more literal
 abbrev pub IsRestFault : (ℕ → Spot) → List ℕ → CubeFault → Type 0
 IsRestFault spot_after rest fault =
     (read : List ℕ) (count : ℕ) → count < 65535 → EndsAtSpot read (spot_after count)

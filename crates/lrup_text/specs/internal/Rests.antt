@@ -63,7 +63,7 @@ pub record ImportFollows (limits : Limits) (rest : List ℕ) : Type 0 where
   pub is : rest ≡ letter_i ∷ after
   pub lits : LiteralsFollow limits after
 
--- after so many literals: more of the clause, or, where nothing says yet what the line is, a deletion or an import
+-- after so many literals: more of the clause, or, if nothing says yet what the line is, a deletion or an import
 abbrev pub BodyFollows : Limits → Bool → ℕ → List ℕ → Type 0
 BodyFollows limits imports literals rest =
     ClauseFollows limits imports literals rest
@@ -126,7 +126,7 @@ abbrev pub Blocks : Bool → Spot → ℕ → Type 0
 Blocks signed spot byte = (limits : Limits) → AreLifted signed limits → (rest : List ℕ)
     → ¬ MayComplete limits spot (byte ∷ rest)
 
--- some rest may follow the byte, where the limits are wide enough
+-- some rest may follow the byte, if the limits are wide enough
 pub record Allows (signed : Bool) (spot : Spot) (byte : ℕ) : Type 0 where
   pub limits : Limits
   pub lifted : AreLifted signed limits

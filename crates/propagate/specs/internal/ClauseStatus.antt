@@ -1,4 +1,4 @@
--- What is left of a clause where some literals are false (this project's own).
+-- What is left of a clause if some literals are false (this project's own).
 use Rattle.std.specs.Prelude.{ℤ, List}
 use Rattle.lrup_model.specs.Clause.{Clause}
 use Rattle.lrup_model.specs.Propagation.{IsConflict, IsUnit}
