@@ -10,7 +10,7 @@ use Rattle.stream_check.specs.Judging.{ending_at, JudgesBlocks}
 use Rattle.stream_check.specs.Reaching.{ReachesState}
 use Rattle.stream_ring.specs.Items.{EndsAtMark}
 
--- the ending of a checker that takes this end: one that was over keeps its own
+-- the ending of a checker after this end of its stream; if it was over before, it keeps its ending
 abbrev pub ending_with : Option Ending → StreamEnd → CheckerValue → Ending
 ending_with None end checker = ending_at end checker.pending checker.line
 ending_with (Some ending) end checker = ending
@@ -28,7 +28,7 @@ pub record DropsBy (checker : CheckerValue) (room : ℕ) (bytes : List ℕ) (blo
   pub reports : report ≡ report_of_tally last.tally (ending_with last.ending end last)
 
 -- The items received end at a mark; and the bytes before it, with the end that the mark tells and these blocks of events, are
--- judged so, where no byte had been taken when the checker had this room. The lines drop these identities.
+-- judged so, if no byte had been taken when the checker had this room. The lines drop these identities.
 pub record JudgesAtMark (checker : CheckerValue) (room : ℕ) (items : List ℕ) (blocks : List History)
     (ids : List ℕ) (report : Report) : Type 0 where
   pub bytes : List ℕ

@@ -21,17 +21,17 @@ use stream_check::laws::over_stays;
 use stream_check::{CheckTurn, Checker, Dropped, Gate, Report};
 use stream_ring::{Received, Receiver};
 
-/// The most items that are popped, and the most bytes that are fed, at once.
+/// The most items that one pop takes, and the most bytes that the checker is fed at once.
 const POPPED: usize = PIECE;
 
-/// What a checking thread is given: a stream's checker and its gate, and its end of the ring, from which nothing was received yet.
+/// What a checking thread is given: a stream's checker and its gate, and the receiving end of the ring. Nothing was received yet.
 #[derive(Drop)]
 pub struct CheckingJob<G: Gate + Drop> {
     /// The stream's checker, before its first byte.
     pub checker: Checker,
-    /// The stream's gate, called before its fetches and after its publishes.
+    /// The stream's gate, which is called before each fetch, after each publish, and when the stream is over.
     pub gate: G,
-    /// The end of the ring from which its bytes come.
+    /// The end of the ring from which the stream's bytes come.
     pub receiver: Receiver,
     items: Vec<u16>,
     bytes: Vec<u8>,
@@ -39,20 +39,19 @@ pub struct CheckingJob<G: Gate + Drop> {
     ghost nothing: { received receiver.consumer ≡ [] },
 }
 
-/// What a checking thread gives back: the stream's report, or none where no mark came, what the stream dropped, and its end of the
-/// ring.
+/// What a checking thread gives back: the stream's report, or none if no mark came; what the stream dropped; and the end of the ring.
 #[derive(Drop)]
 pub struct Checked {
-    /// The stream's report. None where the other end was gone before a mark came.
+    /// The stream's report. There is none if the reading thread dropped its end before a mark came.
     pub report: Option<Report>,
     /// The identities that the stream dropped.
     pub dropped: Dropped,
-    /// The end from which all was received, up to the mark.
+    /// The receiving end, from which all was received, through the mark.
     pub consumer: Consumer<u16>,
 }
 
 impl<G: Gate + Drop> CheckingJob<G> {
-    /// The job of stream `stream`, from 1 on, with the memory that it will need, but for the identities that the stream drops.
+    /// The job of stream `stream`, from 1 on. All memory is taken here, except for the identities that the stream drops.
     pub(crate) fn new(
         alloc: Global,
         receiver: Receiver,
@@ -86,9 +85,9 @@ impl<G: Gate + Drop> CheckingJob<G> {
     }
 }
 
-/// Waits for the start signal, and then checks what is received, up to the mark; after a bad line the rest is received, and doesn't
-/// change the report. Where the signal says to leave, nothing is received, and its token is the answer. It blocks while the ring is
-/// empty.
+/// Waits for the start signal, and then checks what is received, through the mark. After a bad line the rest is received, and thrown away.
+/// If the signal says to leave, nothing is received, and the signal's token comes back: it shows that the signal said so. It blocks while
+/// the ring is empty.
 pub fn check_when_told<'a, W: Wait, G: Gate + Drop, M: ClauseMap>(
     wait: &W,
     signal: &'a OnceLock<bool>,
@@ -132,7 +131,7 @@ pub fn check_when_told<'a, W: Wait, G: Gate + Drop, M: ClauseMap>(
     })
 }
 
-/// Checks what is received, up to the mark, and returns the stream's report. None where no mark came.
+/// Checks what is received, through the mark, and returns the stream's report, or none if no mark came.
 fn judge<W: Wait, G: Gate, M: ClauseMap>(
     wait: &W,
     checker: &mut Checker,
@@ -157,13 +156,13 @@ fn judge<W: Wait, G: Gate, M: ClauseMap>(
     Some(finish_and_notify_gate(checker, gate, end))
 }
 
-/// Finishes the checker, and says how the stream is judged; to the gate too, where it wasn't over before.
+/// Finishes the checker, and returns the stream's report. The gate gets it, too, unless the checker was over before: it has got it then.
 fn finish_and_notify_gate<G: Gate>(checker: &mut Checker, gate: &mut G, end: StreamEnd) -> Report
     ensures judges { (bytes : List ℕ) (blocks : List History) (free : ℕ)
         → ReachesState checker.old.params bytes blocks (checker_state checker.old free)
         → JudgesBlocks checker.old.params bytes end blocks result }
     ensures dropped { checker.new.dropped ≡ checker.old.dropped }
-    // One that was over keeps its ending.
+    // A checker that was over keeps its ending.
     ensures reports { result ≡ report_of_tally checker.old.tally
         (ending_with checker.old.ending end checker.old) }
 {
@@ -175,13 +174,13 @@ fn finish_and_notify_gate<G: Gate>(checker: &mut Checker, gate: &mut G, end: Str
     report
 }
 
-/// Lets the checker take the end of the stream, or a read that failed, and says how the stream is judged.
+/// Lets the checker take the end of the stream, or the read that failed, and returns the stream's report.
 fn finish_checker(checker: &mut Checker, end: StreamEnd) -> Report
     ensures judges { (bytes : List ℕ) (blocks : List History) (free : ℕ)
         → ReachesState checker.old.params bytes blocks (checker_state checker.old free)
         → JudgesBlocks checker.old.params bytes end blocks result }
     ensures dropped { checker.new.dropped ≡ checker.old.dropped }
-    // One that was over keeps its ending.
+    // A checker that was over keeps its ending.
     ensures reports { result ≡ report_of_tally checker.old.tally
         (ending_with checker.old.ending end checker.old) }
 {
@@ -192,7 +191,7 @@ fn finish_checker(checker: &mut Checker, end: StreamEnd) -> Report
     checker.report()
 }
 
-/// Checks what is received, up to the mark, and returns the end that the mark stands for. None where no mark came.
+/// Checks what is received, through the mark, and returns the end for which the mark stands, or none if no mark came.
 fn check_received<W: Wait, G: Gate, M: ClauseMap>(
     wait: &W,
     checker: &mut Checker,
@@ -229,7 +228,7 @@ fn check_received<W: Wait, G: Gate, M: ClauseMap>(
     unreachable!()
 }
 
-/// Lets the checker take all of a piece. One that is over takes nothing of it, and stays as it is.
+/// Feeds the checker a piece, line by line. A checker that is over takes nothing more, and the rest is thrown away.
 fn take_all<G: Gate, M: ClauseMap>(checker: &mut Checker, gate: &mut G, map: &mut M, piece: &[u8])
     requires { IsReadyAt checker.old (M.caller_view map.old) }
     ensures took { let old = checker_state checker.old (M.caller_view map.old).room in
@@ -239,6 +238,7 @@ fn take_all<G: Gate, M: ClauseMap>(checker: &mut Checker, gate: &mut G, map: &mu
     ensures ready { IsReadyAt checker.new (M.caller_view map.new) }
     ensures params { checker.new.params ≡ checker.old.params }
 {
+    // A law, which does nothing: the proof uses that a report of a checker that is over stays right, whatever follows.
     over_stays();
     let mut rest = piece;
     for _ in 0..piece.len() {

@@ -1,4 +1,5 @@
-//! The two jobs of one stream: one thread reads it and sends its bytes through a ring, and another checks what it receives.
+//! The two jobs of one stream, each for a thread of its own: one reads the stream and sends its bytes through a ring, and the other checks
+//! what it receives.
 #![tactic(auto)]
 
 mod checking;

@@ -1,4 +1,4 @@
-//! The two jobs of a stream before their threads start, and what came of them after both have ended.
+//! The two jobs of a stream before their threads start, and what they gave back after both have ended.
 ghost use Rattle.std.specs.Prelude.{◌≡◌, ◌++◌, ℕ, List, [], false, IfOk, IsSome};
 ghost use Rattle.lrup_model.specs.Event.{History};
 ghost use Rattle.lrup_model.specs.Layout.{IsStream};
@@ -20,11 +20,11 @@ use std::alloc::{AllocError, Global};
 use stream_check::Gate;
 use stream_ring::{came_through, ring};
 
-/// The items of a ring, two bytes each: as many as a read gives bytes.
+/// How many items a ring has room for, two bytes each: as many as one read gives bytes.
 const CAPACITY: usize = PIECE;
 
-/// The two jobs of stream `stream`, from 1 on, at the two ends of one ring. All memory is taken here, but for the identities that
-/// the stream drops.
+/// Makes the two jobs of stream `stream`, from 1 on, with the two ends of one ring. All memory is taken here, except for the identities
+/// that the stream drops.
 pub fn jobs<R: Source + Drop, G: Gate + Drop>(
     alloc: Global,
     reader: R,
@@ -47,8 +47,8 @@ pub fn jobs<R: Source + Drop, G: Gate + Drop>(
     Ok((reading, checking))
 }
 
-/// What both threads gave back, in one thread again: what was received is the beginning of what was sent; and the stream that was
-/// judged is what its reader told and its reads gave, to its end or to the read that failed.
+/// Brings together what both threads gave back. It is for the proof alone, and changes nothing: its contract says that what was received is
+/// the beginning of what was sent, and that the bytes that were judged are all that the reader's reads gave.
 pub fn meet<R: Source + Drop>(sent: &mut Sent<R>, checked: &mut Checked)
     requires { IsPair sent.old.producer checked.old.consumer }
     ensures reader { sent.new.reader ≡ sent.old.reader }

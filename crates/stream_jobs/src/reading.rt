@@ -11,15 +11,15 @@ use std::alloc::{AllocError, Global};
 use std::sync::{OnceLock, OnceToken, Wait};
 use stream_ring::Sender;
 
-/// The most items that are pushed at once.
+/// The most items that one push takes.
 const PUSHED: usize = 4_096;
 
-/// What a reading thread is given: a reader that hasn't failed, and its end of the ring, into which nothing was sent yet.
+/// What a reading thread is given: a reader that hasn't failed, and the sending end of the ring. Nothing was sent yet.
 #[derive(Drop)]
 pub struct ReadingJob<R: Source + Drop> {
     /// The stream's reader.
     pub reader: R,
-    /// The end of the ring into which they go.
+    /// The end of the ring into which the reader's bytes go.
     pub sender: Sender,
     piece: Vec<u8>,
     items: Vec<u16>,
@@ -28,17 +28,17 @@ pub struct ReadingJob<R: Source + Drop> {
     ghost nothing: { sent sender.producer ≡ [] },
 }
 
-/// What a reading thread gives back: the reader, and its end of the ring.
+/// What a reading thread gives back: the reader, and the end of the ring.
 #[derive(Drop)]
 pub struct Sent<R: Source + Drop> {
     /// The reader, at its end or after a read that failed.
     pub reader: R,
-    /// The end into which all that the reader told was sent, and one mark.
+    /// The sending end, into which all bytes of the reader were sent, and one mark.
     pub producer: Producer<u16>,
 }
 
 impl<R: Source + Drop> ReadingJob<R> {
-    /// The job of a reader, with the memory that it will need.
+    /// The job of a reader. All memory is taken here.
     pub(crate) fn new(alloc: Global, reader: R, sender: Sender) -> Result<ReadingJob<R>, AllocError>
         requires running { R.has_failed reader ≡ false }
         requires nothing { sent sender.producer ≡ [] }
@@ -56,8 +56,8 @@ impl<R: Source + Drop> ReadingJob<R> {
     }
 }
 
-/// Waits for the start signal, and then reads all and sends it, and one mark. Where the signal says to leave, nothing is read, and
-/// its token is the answer. It blocks while the reader does, or while the ring is full.
+/// Waits for the start signal, and then sends all bytes that the reader gives, and one mark. If the signal says to leave, nothing is read,
+/// and the signal's token comes back: it shows that the signal said so. It blocks while the reader does, or while the ring is full.
 pub fn read_when_told<'a, W: Wait, R: Source + Drop>(
     wait: &W,
     signal: &'a OnceLock<bool>,

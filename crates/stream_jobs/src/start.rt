@@ -1,9 +1,9 @@
-//! The signal for which all threads wait before they do anything: to start, or to leave.
+//! The start signal, for which all threads of a run wait before they do anything. It says once to start (`true`), or to leave.
 ghost use Rattle.std.specs.Prelude.{◌≡◌};
 
 use std::sync::{OnceLock, OnceToken, Wait};
 
-/// Waits for the signal, which says whether all threads were started.
+/// Waits for the start signal. The token that it returns has what the signal said, which never changes.
 pub fn wait_for_start<'a, W: Wait>(wait: &W, signal: &'a OnceLock<bool>) -> OnceToken<'a, bool>
     ensures { result.of ≡ signal.now.id }
 {

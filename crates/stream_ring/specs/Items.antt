@@ -10,7 +10,7 @@ abbrev pub mark_of : StreamEnd → ℕ
 mark_of stream_ends.Ended = 256
 mark_of stream_ends.Failed = 257
 
--- the end that a mark tells
+-- the end of a stream for which a mark stands
 abbrev pub end_told : ℕ → StreamEnd
 end_told mark = if nat_eq mark 257 then stream_ends.Failed else stream_ends.Ended
 
@@ -23,8 +23,8 @@ pub record IsSentOf (bytes : List ℕ) (end : StreamEnd) (items : List ℕ) : Ty
   pub small : All (λ b. b < 256) bytes
   pub items_are : items ≡ bytes ++ mark_of end ∷ []
 
--- What a reading worker sent: the bytes that its reader told, which are those that the reader's reads gave up to the last, and
--- then the mark of that one, which is the end that the reader came to.
+-- What a reading thread sent: the bytes that its reader's reads gave up to the last, which are those that the reader told, if it tells
+-- them; and then the mark of the end that the last read came to.
 pub record SendsAll (S : Type 0) (view : SourceView S) (first last : S)
     (items : List ℕ) : Type 0 where
   pub bytes : List ℕ

@@ -2,7 +2,7 @@
 ghost use Rattle.std.specs.Prelude.{◌≡◌, ◌<◌, ◌≤◌, length, take, map, All};
 ghost use Rattle.stream_ring.specs.Items.{byte_of};
 
-/// Makes items of bytes.
+/// Turns bytes to items.
 pub fn widen(bytes: &[u8], items: &mut [u16])
     requires { length items.old ≡ length bytes.now }
     ensures same { items.new ≡ bytes.now }
@@ -13,7 +13,7 @@ pub fn widen(bytes: &[u8], items: &mut [u16])
     }
 }
 
-/// Makes bytes of items. A mark has one too, which nobody looks at.
+/// Turns items to bytes. Of a mark this gives some byte, too, at which nobody looks.
 pub fn narrow(items: &[u16], bytes: &mut [u8])
     requires { length bytes.old ≡ length items.now }
     ensures { bytes.new ≡ map byte_of items.now }

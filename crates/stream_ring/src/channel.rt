@@ -1,4 +1,7 @@
 //! The two ends of a ring, and what each thread does at its own.
+//!
+//! An end that can't go on spins for a while, and then parks until the other end unparks it. `rtrb` and the parkers order memory: an item
+//! that is popped is the one that was pushed. A park that was unparked before returns at once, so no wake-up is lost.
 ghost use Rattle.std.specs.Prelude.{◌≡◌, ◌<◌, ◌≤◌, ℕ, List, [], ◌++◌, ◌∷◌, false, length, take, map, All, IfOk};
 ghost use Rattle.rtrb.specs.Ring.{sent, received, SameProducer, SameConsumer, IsPair};
 ghost use Rattle.lrup_text.specs.ReadOut.{EndsSo, source_view};
@@ -12,13 +15,13 @@ use rtrb::{Consumer, Producer, RingBuffer};
 use std::alloc::{AllocError, Global};
 use std::sync::Wait;
 
-/// The item after the last byte of a stream that ended. Bytes are 0 to 255.
+/// The mark of a stream that ended: the item behind its last byte. Bytes are the items 0 to 255.
 const END: u16 = 256;
 
-/// The item after the last byte of a stream whose read failed.
+/// The mark of a stream whose read failed: the item behind its last byte.
 const FAILURE: u16 = 257;
 
-/// Wakes the thread of the other end, and once more as it is dropped.
+/// Wakes the thread of the other end: when it is rung, and once more when it is dropped.
 struct Bell(Unparker);
 
 impl Bell {
@@ -34,7 +37,7 @@ impl Drop for Bell {
     }
 }
 
-/// The end of a reading thread. The producer is dropped before the bell, so that the thread that the bell wakes finds it gone.
+/// The end of the reading thread. Fields are dropped in order, so the thread that the dropped bell wakes finds the producer gone.
 #[derive(Drop)]
 pub struct Sender {
     pub producer: Producer<u16>,
@@ -42,7 +45,7 @@ pub struct Sender {
     came: Bell,
 }
 
-/// The end of a checking thread. The consumer is dropped before the bell.
+/// The end of the checking thread. The consumer is dropped before the bell, too.
 #[derive(Drop)]
 pub struct Receiver {
     pub consumer: Consumer<u16>,
@@ -50,18 +53,18 @@ pub struct Receiver {
     room: Bell,
 }
 
-/// What a checking thread received.
+/// What a call of `receive` gave the checking thread.
 #[derive(Clone, Copy, Debug, PartialEq, Eq)]
 pub enum Received {
     /// This many bytes, and more may come.
     Bytes(usize),
     /// This many bytes, and then the mark of this end: nothing more comes.
     Mark(usize, StreamEnd),
-    /// Nothing: the other end is gone, and there was no mark.
+    /// The reading thread dropped its end, and all that it pushed was received before, without a mark.
     Gone,
 }
 
-/// The two ends of a ring of `capacity` items.
+/// Makes the two ends of a ring of `capacity` items, of two bytes each.
 pub fn ring(alloc: Global, capacity: usize) -> Result<(Sender, Receiver), AllocError>
     ensures pair { IfOk result (λ r. IsPair r.0.producer r.1.consumer) }
     ensures sent { IfOk result (λ r. sent r.0.producer ≡ []) }
@@ -86,7 +89,7 @@ pub fn ring(alloc: Global, capacity: usize) -> Result<(Sender, Receiver), AllocE
 }
 
 impl Sender {
-    /// The producer alone. The other end is woken once more.
+    /// Gives the producer, and wakes the other end once more.
     pub fn into_producer(self) -> Producer<u16>
         ensures { result ≡ self.producer }
     {
@@ -94,7 +97,7 @@ impl Sender {
         producer
     }
 
-    /// Pushes all items, and sleeps while the ring is full.
+    /// Pushes all items, and blocks while the ring is full.
     fn push_all<W: Wait>(&mut self, wait: &W, items: &[u16])
         ensures ring { SameProducer self.old.producer self.new.producer }
         ensures sent { sent self.new.producer ≡ sent self.old.producer ++ items.now }
@@ -141,8 +144,8 @@ impl Sender {
         unreachable!()
     }
 
-    /// Reads a source to its end or until it fails, and sends what was read and then one mark. The answer is the end that it came
-    /// to. `piece` is what a read fills, `items` what is pushed at once.
+    /// Reads a source to its end or to the read that fails, and sends what was read and then one mark. It returns which of the two it was.
+    /// `piece` is the buffer of a read, `items` that of a push. It blocks while the source does, or while the ring is full.
     pub fn send_all<W: Wait, R: Source>(
         &mut self,
         wait: &W,
@@ -176,7 +179,7 @@ impl Sender {
 }
 
 impl Receiver {
-    /// The consumer alone. The other end is woken once more.
+    /// Gives the consumer, and wakes the other end once more.
     pub fn into_consumer(self) -> Consumer<u16>
         ensures { result ≡ self.consumer }
     {
@@ -184,7 +187,8 @@ impl Receiver {
         consumer
     }
 
-    /// Pops at least one item, and sleeps while there is none. 0 where the other end is gone.
+    /// Pops at least one item, and blocks while there is none. It returns 0 if the other end was dropped and nothing is left. The other
+    /// end may push and go between a pop and the look at it, so there is one more pop then.
     fn pop_some<W: Wait>(&mut self, wait: &W, items: &mut [u16]) -> usize
         requires { 0 < length items.old }
         ensures ring { SameConsumer self.old.consumer self.new.consumer }
@@ -216,8 +220,7 @@ impl Receiver {
         unreachable!()
     }
 
-    /// Receives what there is, and sleeps while there is nothing. The bytes are the first ones of `bytes`; `items` is what is
-    /// popped at once.
+    /// Receives what there is, and blocks while there is nothing. The bytes go to the front of `bytes`; `items` is the buffer of a pop.
     pub fn receive<W: Wait>(&mut self, wait: &W, items: &mut [u16], bytes: &mut [u8]) -> Received
         requires some { 0 < length items.old }
         requires room { length items.old ≡ length bytes.old }
@@ -249,7 +252,7 @@ impl Receiver {
     }
 }
 
-/// The end that a mark stands for.
+/// Which end of a stream a mark stands for.
 fn end_of(mark: u16) -> StreamEnd
     ensures { result ≡ end_told mark }
 {
@@ -260,8 +263,8 @@ fn end_of(mark: u16) -> StreamEnd
     }
 }
 
-/// Both ends in one thread again: what was received is the beginning of what was sent. Where it ended at a mark, the bytes and the
-/// mark are those that were sent.
+/// Brings the two ends together, once both threads have given them back. It is for the proof alone, and changes nothing: its contract says
+/// that what was received is the beginning of what was sent, and all of it, if it ends at a mark.
 pub fn came_through(producer: &mut Producer<u16>, consumer: &mut Consumer<u16>)
     requires { IsPair producer.old consumer.old }
     ensures beginning { (left : List ℕ)
