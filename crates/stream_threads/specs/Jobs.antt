@@ -30,13 +30,13 @@ pub record IsJob {S : Type 0} (run_params : RunParamsValue) (s : ℕ) (reader : 
   pub checker : IsNew run_params.layout run_params.cube s run_params.tries jobs.checker
   pub pass : jobs.pass ≡ at
 
--- those of the streams counted on from s
+-- the jobs of the streams counted on from s
 abbrev pub AreJobs : {S : Type 0} → RunParamsValue → ℕ → List S → List PassValue
     → List (JobsValue S)
     → Type 0
 AreJobs run_params s readers passes all = EachOfThree (IsJob run_params) s readers passes all
 
--- what they give back: the report, the reader, the pass, and the identities that the stream dropped
+-- what a stream's threads give back: the report, the reader, the pass, and the identities that the stream dropped
 pub record FoundValue (S : Type 0) : Type 0 where
   pub report : Report
   pub reader : S
@@ -48,8 +48,8 @@ pub record CanBegin {S : Type 0} (store : StoreValue) (jobs : JobsValue S) : Typ
   pub here : store_of jobs.pass ≡ store
   pub ready : IsReadyAt jobs.checker (pass_caller_view jobs.pass.view)
 
--- What was found is how the stream that the reader told, and its reads gave, is judged, by the calls that the pass made, where
--- the checker had taken no byte before; and what its bytes dropped.
+-- The result is right: if the checker had taken no byte before, it has the report of the stream that the reader told and its reads gave,
+-- judged by the calls that the pass made, and the identities that the stream's lines dropped.
 pub record Finishes {S : Type 0} (view : SourceView S) (jobs : JobsValue S)
     (found : FoundValue S) : Type 0 where
   pub store : store_of found.pass ≡ store_of jobs.pass

@@ -1,4 +1,4 @@
-//! The jobs of a stream, before its threads start, between their starts, and after both have started.
+//! The jobs of a stream: before its threads start, after the first has started, and after both have.
 ghost use Rattle.std.specs.Prelude.{◌≡◌, ◌≤◌, false, IfOk, length, vec_len};
 ghost use Rattle.std.specs.List.{AllByRecursion};
 ghost use Rattle.lrup_model.specs.Layout.{IsStream};
@@ -17,16 +17,16 @@ use std::thread::PromisedHandle;
 use stream_check::Gate;
 use stream_jobs::{CheckingJob, ReadingJob, Sent, jobs};
 
-/// Why threads found nothing of some stream.
+/// Why some stream has no result.
 #[derive(Drop)]
 pub enum ThreadFault<R: Source + Drop> {
     /// A thread of this stream, from 1 on, couldn't be started. No reader was read.
     Spawn(u64),
-    /// The threads were started. This is what was found of the streams before the first one whose checking thread met no mark.
+    /// All threads have ended, but a checking thread received no mark. These are the results of the streams before the first such stream.
     Ring(Vec<StreamResult<R>>),
 }
 
-/// The two jobs of a stream, whose ends are those of one ring, and the stream's pass.
+/// The two jobs of a stream, which have the two ends of one ring, and the stream's pass.
 #[derive(Drop)]
 pub struct StreamJobs<R: Source + Drop, G: Gate + Drop> {
     pub(crate) reading: ReadingJob<R>,
@@ -51,7 +51,7 @@ impl<R: Source + Drop, G: Gate + Drop> Model for StreamJobs<R, G> {
 }
 
 impl<R: Source + Drop, G: Gate + Drop> StreamJobs<R, G> {
-    /// The jobs of stream `stream`, from 1 on, whose calls go through this pass. All memory is taken here, but for the identities
+    /// Makes the jobs of stream `stream`, from 1 on, whose calls go through this pass. All memory is taken here, except for the identities
     /// that the stream drops.
     pub fn new(
         alloc: Global,
@@ -77,7 +77,7 @@ impl<R: Source + Drop, G: Gate + Drop> StreamJobs<R, G> {
     }
 }
 
-/// The jobs of all streams, in order. There have to be as many gates and passes as readers.
+/// Makes the jobs of all streams, in order. There are as many gates and passes as readers.
 pub fn jobs_of<R: Source + Drop, G: Gate + Drop>(
     alloc: Global,
     run_params: &RunParams<'_>,
@@ -100,13 +100,13 @@ pub fn jobs_of<R: Source + Drop, G: Gate + Drop>(
     Ok(all)
 }
 
-/// What a checking thread gives back to whoever joins it; or it was told to leave.
+/// What a checking thread gives back to whoever joins it: its result, or the token that shows that it was told to leave.
 type CheckingEnd<'a> = Result<CheckedPass, OnceToken<'a, bool>>;
 
-/// What a reading thread gives back; or it was told to leave.
+/// What a reading thread gives back: its result, or the token that shows that it was told to leave.
 type ReadingEnd<'a, R> = Result<Sent<R>, OnceToken<'a, bool>>;
 
-/// The checking thread was started, and the reading thread is still to be.
+/// A stream whose checking thread has started, and whose reading thread is still to start.
 #[derive(Drop)]
 pub(crate) struct HalfStarted<'a, R: Source + Drop, G: Gate + Drop> {
     pub(crate) reading: ReadingJob<R>,
@@ -132,7 +132,7 @@ impl<'a, R: Source + Drop, G: Gate + Drop> Model for HalfStarted<'a, R, G> {
         half.checking.promise.job.value.receiver.consumer };
 }
 
-/// Both threads were started, and wait for the same signal.
+/// A stream whose two threads have started, and wait for the same signal.
 #[derive(Drop)]
 pub(crate) struct Started<'a, R: Source + Drop, G: Gate + Drop> {
     pub(crate) reading: PromisedHandle<ReadingEnd<'a, R>, ReadTask<R>>,

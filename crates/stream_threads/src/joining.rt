@@ -1,4 +1,4 @@
-//! The threads' joins, and what was found of each stream.
+//! Starts all threads, joins them, and gathers the result of each stream.
 ghost use Rattle.std.specs.Prelude.{◌≡◌, ◌+◌, ◌++◌, ◌↔◌, ◌<◌, ◌≤◌, true, false, List, Option, [], ◌∷◌, None, Some, IfErr, IfNone, IfOk, IfSome, IsNone, OnOk, length, map, vec_capacity, vec_len};
 ghost use Rattle.std.specs.List.{AllByRecursion};
 ghost use Rattle.rtrb.specs.Ring.{received, IsPair};
@@ -21,14 +21,14 @@ use std::thread::{Scope, Threads};
 use stream_check::{Dropped, Gate, Report};
 use stream_jobs::{Sent, meet};
 
-/// What was found of a stream.
+/// The result of a stream, whose two threads have ended.
 #[derive(Drop)]
 pub struct StreamResult<R: Source + Drop> {
     /// How the stream is judged.
     pub report: Report,
     /// The reader, at its end or after a read that failed.
     pub reader: R,
-    /// The stream's pass, with the calls that were made.
+    /// The stream's pass. Contracts know from it which calls the stream made.
     pub pass: Pass,
     /// The identities that the stream dropped.
     pub dropped: Dropped,
@@ -47,14 +47,14 @@ impl<R: Source + Drop> Model for StreamResult<R> {
     } };
 }
 
-/// The signal for which the threads of a run wait before they do anything: to start, or to leave.
+/// The start signal of a run, for which its threads wait before they do anything. It says once to start, or to leave.
 #[derive(Drop)]
 pub struct StartSignal {
     told: OnceLock<bool>,
 }
 
 impl StartSignal {
-    /// A signal of which nothing is told yet.
+    /// A signal that has said nothing yet.
     pub fn new() -> StartSignal {
         StartSignal {
             told: OnceLock::new(),
@@ -62,7 +62,8 @@ impl StartSignal {
     }
 }
 
-/// Room for what is gathered of a number of streams, and the signal for which their threads wait.
+/// Lists with room for the threads and the results of a number of streams, and the signal for which the threads wait. With them no start
+/// and no join takes memory for a list.
 #[derive(Drop)]
 pub struct Room<'a, R: Source + Drop, G: Gate + Drop> {
     signal: &'a OnceLock<bool>,
@@ -87,7 +88,7 @@ impl<'a, R: Source + Drop, G: Gate + Drop> Model for Room<'a, R, G> {
 }
 
 impl<'a, R: Source + Drop, G: Gate + Drop> Room<'a, R, G> {
-    /// Room for `count` streams, whose threads wait for this signal, and no others.
+    /// Lists with room for `count` streams, whose threads wait for this signal. No other threads may wait for it.
     pub fn new(
         alloc: Global,
         signal: &'a StartSignal,
@@ -105,7 +106,7 @@ impl<'a, R: Source + Drop, G: Gate + Drop> Room<'a, R, G> {
     }
 }
 
-/// What both threads of a stream gave back, as one. None exactly where no mark was met.
+/// Makes the stream's result of what its two threads gave back. There is none exactly if the checking thread received no mark.
 fn meet_ends<R: Source + Drop>(mut sent: Sent<R>, checked: CheckedPass) -> Option<StreamResult<R>>
     requires pair { IsPair sent.producer checked.checked.consumer }
     ensures none { IsNone result ↔ IsNone checked.checked.report }
@@ -129,7 +130,8 @@ fn meet_ends<R: Source + Drop>(mut sent: Sent<R>, checked: CheckedPass) -> Optio
 }
 
 impl<'a, R: Source + Drop, G: Gate + Drop> Started<'a, R, G> {
-    /// Waits until both threads have ended, which were told to start. None where no mark was met.
+    /// Waits until both threads have ended, which were told to start (`told` shows it), and returns the stream's result, or none if no mark
+    /// came.
     fn join<T: Threads>(self, threads: &T, told: &OnceToken<'a, bool>) -> Option<StreamResult<R>>
         requires signal { self.signal ≡ told.now.of }
         requires told { told.now.value ≡ true }
@@ -142,7 +144,7 @@ impl<'a, R: Source + Drop, G: Gate + Drop> Started<'a, R, G> {
     }
 }
 
-/// Joins the threads of all streams, which were told to start, in order.
+/// Joins the threads of all streams, stream 1 first. They were told to start.
 fn join_all<'a, T: Threads, R: Source + Drop, G: Gate + Drop>(
     threads: &T,
     told: &OnceToken<'a, bool>,
@@ -163,7 +165,7 @@ fn join_all<'a, T: Threads, R: Source + Drop, G: Gate + Drop>(
     ends
 }
 
-/// What was found of all streams; or, where nothing was found of some, what was found of those before the first of these.
+/// The results of all streams. If some stream has none, the fault has the results of the streams before the first such stream.
 fn all_found<R: Source + Drop>(
     ends: Vec<Option<StreamResult<R>>>,
     mut found: Vec<StreamResult<R>>,
@@ -185,7 +187,8 @@ fn all_found<R: Source + Drop>(
     Ok(found)
 }
 
-/// Starts all threads, gives the signal, and joins them.
+/// Starts all threads, first all that check, gives the start signal, and joins them. If one can't be started, the signal tells the others
+/// to leave.
 fn start_and_join<
     's,
     'a: 's,
@@ -223,7 +226,7 @@ fn start_and_join<
         let _ = signal.set(threads, false);
         return Err(ThreadFault::Spawn(stream));
     }
-    // A run's own signal was never set before.
+    // The signal is the run's own, so nobody set it before, and this fault never comes. No contract of `OnceLock` says so.
     let Ok(told) = tell_to_start(threads, signal) else {
         if started.is_empty() {
             return Ok(found);
@@ -234,7 +237,7 @@ fn start_and_join<
     all_found(ends, found)
 }
 
-/// Tells all threads to start. Where they were told to leave before, that one's token is the answer.
+/// Tells all threads to start, and returns the signal's token, which shows it. If they were told to leave before, its token is the fault.
 fn tell_to_start<'a, W: Wait>(
     wait: &W,
     signal: &'a OnceLock<bool>,
@@ -253,9 +256,9 @@ fn tell_to_start<'a, W: Wait>(
     }
 }
 
-/// Reads and checks all streams, each in two threads of its own, until all have ended. No reader is read before all threads have
-/// been started; where one can't be, those that were leave at once. It blocks while a reader does. A fault of a ring has what was
-/// found of the streams before the first of which nothing was found.
+/// Reads and checks all streams, each in two threads of its own, and returns their results, in order, when all threads have ended. No
+/// reader is read before all threads have started. If one can't be started, those that were leave at once. It blocks while a reader does.
+/// A ring has failed if a checking thread received no mark: the fault has the results of the streams before the first such stream.
 pub fn check_all<T: Threads + Wait + Sync, R: Source + Send + Drop, G: Gate + Send + Drop>(
     threads: &T,
     store: &Store,

@@ -1,4 +1,4 @@
-//! Two threads for each stream of a run, one that reads it and one that checks it, at one store of clauses.
+//! Two threads for each stream of a run, one that reads it and one that checks it, with one store of clauses for all.
 #![tactic(auto)]
 
 mod jobs;

@@ -1,4 +1,4 @@
-//! The threads' start: all that check, and then all that read.
+//! The start of the threads: first all that check, then all that read.
 ghost use Rattle.std.specs.Prelude.{◌≡◌, ◌-◌, ◌<◌, ◌≤◌, [], IfErr, IfSome, OnOk, map, take, vec_capacity, vec_len};
 ghost use Rattle.std.specs.List.{AllByRecursion};
 ghost use Rattle.stream_threads.specs.Jobs.{CanBegin};
@@ -14,7 +14,7 @@ use std::thread::Scope;
 use stream_check::Gate;
 use stream_jobs::read_when_told;
 
-/// Starts a checking thread. None where it can't be started.
+/// Starts a checking thread, or returns none if it can't be started. The task is for the proof alone: it says with what the thread starts.
 fn start_checking<'s, 'a: 's, E, W: Wait + Sync, R: Source + Drop, G: Gate + Send + Drop + 's>(
     scope: &Scope<'s, E>,
     wait: &'s W,
@@ -41,7 +41,7 @@ fn start_checking<'s, 'a: 's, E, W: Wait + Sync, R: Source + Drop, G: Gate + Sen
     Some(HalfStarted { reading, checking })
 }
 
-/// Starts a reading thread. None where it can't be started.
+/// Starts a reading thread, or returns none if it can't be started.
 fn start_reading<'s, 'a: 's, E, W: Wait + Sync, R: Source + Send + Drop + 's, G: Gate + Drop + 's>(
     scope: &Scope<'s, E>,
     wait: &'s W,
@@ -65,8 +65,7 @@ fn start_reading<'s, 'a: 's, E, W: Wait + Sync, R: Source + Send + Drop + 's, G:
     Some(Started { reading, checking })
 }
 
-/// Starts the checking threads, in order. On failure, returns the stream whose thread did not start: those of the streams before
-/// it were started.
+/// Starts the checking threads, in order. If one can't be started, the fault is its stream, from 1 on, and those before it have started.
 pub(crate) fn start_all_checking<
     's,
     'a: 's,
@@ -100,8 +99,7 @@ pub(crate) fn start_all_checking<
     Ok(())
 }
 
-/// Starts the reading threads, in order. On failure, returns the stream whose thread did not start: those of the streams before
-/// it were started.
+/// Starts the reading threads, in order. If one can't be started, the fault is its stream, from 1 on, and those before it have started.
 pub(crate) fn start_all_reading<
     's,
     'a: 's,

@@ -1,4 +1,5 @@
-//! What the threads of a stream do, what they give back, and what is promised of it.
+//! What the threads of a stream do and give back. A task says with what a thread was started, so that the contract of its join can say what
+//! the thread did; it takes no bytes.
 ghost use Rattle.std.specs.Prelude.{◌≡◌, true, false, Ok, IfErr, IfNone, IfOk, IfSome, MatchResult};
 ghost use Rattle.clause_store.specs.Passes.{store_of};
 ghost use Rattle.lrup_model.specs.Pass.{pass_caller_view};
@@ -16,7 +17,7 @@ use std::thread::Promise;
 use stream_check::Gate;
 use stream_jobs::{Checked, CheckingJob, ReadingJob, Sent, check_when_told, read_when_told};
 
-/// What a checking thread gives back.
+/// What a checking thread gives back, if it was told to start: what it checked, and its pass.
 #[derive(Drop)]
 pub(crate) struct CheckedPass {
     pub(crate) checked: Checked,
@@ -55,7 +56,7 @@ impl<'a, G: Gate + Drop> Promise<Result<CheckedPass, OnceToken<'a, bool>>> for C
         (λ token. (token.of ≡ task.signal.value.id) × (token.value ≡ false)) };
 }
 
-/// What a thread gave back, where all were told to start.
+/// The result of a thread that was told to start: `told` shows it, so the thread's own token can't say 'leave'.
 pub(crate) fn unless_told_to_leave<'a, T>(
     end: Result<T, OnceToken<'a, bool>>,
     told: &OnceToken<'a, bool>,
@@ -73,7 +74,7 @@ pub(crate) fn unless_told_to_leave<'a, T>(
     }
 }
 
-/// Waits for the start signal, and then checks what is received. Where the signal says to leave, its token is the answer.
+/// Waits for the start signal, and then checks what is received, at a desk of the store. If the signal says to leave, its token comes back.
 pub(crate) fn check<'a, W: Wait, G: Gate + Drop>(
     wait: &W,
     store: &Store,
