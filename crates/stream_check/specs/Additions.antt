@@ -16,8 +16,8 @@ use Rattle.stream_check.specs.StreamContext.{StreamContext}
 use Rattle.stream_check.specs.Verdicts.{LineVerdict, Good, Bad, Violates}
 use Rattle.stream_check.specs.Lookup.{LooksUp}
 
--- What lines leave for an addition after them: the greatest identity that was added, or the formula's last one; the room that is left,
--- in literals; and which clauses hints name.
+-- What an addition is checked against: the greatest identity that was added before, or the formula's last one; the room that is left, in
+-- literals; and which clauses hints name.
 pub record AdditionContext : Type 1 where
   pub last : ℕ
   pub free : ℕ
@@ -44,7 +44,7 @@ AreFound params gone (hint ∷ hints) (clause ∷ clauses) history =
     (asked rest : History) × (history ≡ asked ++ rest) × LooksUp params gone hint asked (Ok clause)
     × AreFound params gone hints clauses rest
 
--- what the lines of this context leave, where these events look hints up
+-- what an addition is checked against after the lines that left this context, if these events look its hints up
 abbrev pub addition_context : StreamParams → StreamContext → History → AdditionContext
 addition_context params context history = record {
   last = context.last;
@@ -80,7 +80,7 @@ FailsBy (Ok clause) falses hint later history fault Next =
     ⊎ ((history ≡ []) × Misleads falses clause hint later fault)
 FailsBy (Err its) falses hint later history fault Next = (history ≡ []) × (fault ≡ its)
 
--- The hints fail, where these literals are false: the first one whose look-up or clause fails gives the fault, or none is a conflict.
+-- The hints fail, if these literals are false: the first one whose look-up or clause fails gives the fault, or none is a conflict.
 abbrev pub FailsHints : StreamParams → (ℕ → Bool) → List ℤ → List ℕ → History → Fault → Type 0
 FailsHints params gone falses [] history fault = (history ≡ []) × (fault ≡ faults.NoConflict)
 FailsHints params gone falses (hint ∷ hints) history fault =

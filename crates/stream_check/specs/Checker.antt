@@ -32,11 +32,11 @@ state_by checker free None = Going (going_of checker free)
 state_by checker free (Some ending) =
     Over (report_of_tally checker.tally ending) (is_among checker.dropped)
 
--- what the checker is left as, where so much room is left
+-- the state of a checker whose stream has so much room left
 abbrev pub checker_state : CheckerValue → ℕ → CheckerState
 checker_state checker free = state_by checker free checker.ending
 
--- the view is this stream's, at this layout
+-- the view is this stream's, and of this layout
 pub record IsViewOf (params : StreamParams) (place : CallerView) : Type 0 where
   pub layout : place.caller.layout ≡ params.layout
   pub stream : place.caller.stream ≡ params.stream
@@ -52,13 +52,13 @@ Extends params old used blocks new = (bytes : List ℕ) (before : List History)
     → ReachesState params bytes before old
     → ReachesState params (bytes ++ used) (before ++ blocks) new
 
--- The blocks that a call comes to: that of the line that it ends, or none, or where the reading ends that of the last line, if there is one.
+-- How many blocks of events a call has: one if it ends a good line, none if it ends no line, at most one if it ends the reading.
 abbrev pub AreBlocksOf : CheckTurn → List History → Type 0
 AreBlocksOf turns.Line blocks = length blocks ≡ 1
 AreBlocksOf turns.More blocks = blocks ≡ []
 AreBlocksOf turns.Over blocks = length blocks ≤ 1
 
--- The text that ends the reading: a whole line, or one that begins no line, through the byte that decided it.
+-- The text at which the reading ended: a whole line, or one that begins no line, through the byte that decided it.
 abbrev pub StopsAt : Ending → List ℕ → Type 0
 StopsAt ending text =
     ((line : StreamLine) × LineText line text)
@@ -83,7 +83,7 @@ Turns turns.Over old new piece used =
 abbrev pub StaysOver : CheckerValue → CheckerValue → List ℕ → Type 0
 StaysOver old new used = (ending : Ending) → old.ending ≡ Some ending → (new ≡ old) × (used ≡ [])
 
--- a checker before its first byte
+-- the checker is new: it has these parameters, and has taken no byte
 pub record IsNew (layout : LayoutValue) (cube : CubeValue) (stream tries : ℕ)
     (checker : CheckerValue) : Type 0 where
   pub params : checker.params
@@ -100,7 +100,7 @@ EndsBy None end old new =
     × (new.dropped ≡ old.dropped)
 EndsBy (Some ending) end old new = new ≡ old
 
--- the end of the stream, or a failed read, ends a checker that isn't over
+-- The end of the stream, or a failed read, makes a checker over; one that was over stays as it is.
 abbrev pub Ends : StreamEnd → CheckerValue → CheckerValue → Type 0
 Ends end old new = EndsBy old.ending end old new
 

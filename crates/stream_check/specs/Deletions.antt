@@ -40,7 +40,7 @@ DeletesAt ownerships.Foreign params gone earlier id history verdict Next =
 DeletesAt ownerships.Outside params gone earlier id history verdict Next =
     Fails (length earlier) (faults.NotLive id) history verdict
 
--- the events and the verdict of the identities of a deletion that are left, where `gone` were dropped by the lines before, and
+-- the events and the verdict of the identities of a deletion that are left, if `gone` were dropped by the lines before, and
 -- `earlier` were taken before them in this line
 abbrev pub JudgesDeletion : StreamParams → (ℕ → Bool) → List ℕ → List ℕ → History
     → LineVerdict → Type 0

@@ -24,7 +24,7 @@ fault_text faults.NoConflict = codes "no conflict"
 fault_text (faults.NotLive id) = codes "not live " ++ decimal id
 fault_text (faults.Differs id) = codes "differs " ++ decimal id
 
--- a number in decimal, where there is one
+-- a number in decimal, if there is one
 abbrev pub number_text : Option ℕ → List ℕ
 number_text None = []
 number_text (Some n) = decimal n

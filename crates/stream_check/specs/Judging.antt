@@ -20,7 +20,7 @@ use Rattle.stream_check.specs.Additions.{JudgesAddition}
 use Rattle.stream_check.specs.Deletions.{JudgesDeletion, StopsDeletion}
 use Rattle.stream_check.specs.Imports.{JudgesImport}
 
--- a line's events and its verdict, after the lines that left this context
+-- The line is judged so: it has these events and this verdict, after the lines that left this context.
 abbrev pub JudgesLine : StreamParams → StreamContext → StreamLine → History → LineVerdict → Type 0
 JudgesLine params context (Addition id lits hints) history verdict =
     JudgesAddition params context id lits hints history verdict
@@ -42,7 +42,7 @@ AreGood params before (line ∷ lines) (block ∷ blocks) =
 abbrev pub joined : List History → History
 joined blocks = flat_map (λ block. block) blocks
 
--- the report of these good lines, some more deleted identities, and this ending
+-- the report of a stream with these good lines, so many more deleted identities, and this ending
 abbrev pub report_of : StreamParams → List StreamLine → ℕ → Ending → Report
 report_of params lines deleted ending =
     record {
@@ -53,13 +53,13 @@ report_of params lines deleted ending =
       ending = ending;
     }
 
--- the ending where all lines are good and this rest begins a line, which has this number
+-- the ending of a stream whose lines are all good, and whose rest begins a line, which has this number
 abbrev pub ending_at : StreamEnd → List ℕ → ℕ → Ending
 ending_at stream_ends.Ended [] number = endings.Ended
 ending_at stream_ends.Ended (byte ∷ bytes) number = endings.Bad number (faults.Text texts.Truncated)
 ending_at stream_ends.Failed rest number = endings.ReadFailed number
 
--- After good lines one of four things ends the stream, with the line number after theirs. Where the
+-- After good lines one of four things ends the stream, with the line number after theirs. If the
 -- rest begins with a deletion, good or bad, memory may run out in it.
 pub data EndsAfter (params : StreamParams) (lines : List StreamLine) (rest : List ℕ)
     (end : StreamEnd)

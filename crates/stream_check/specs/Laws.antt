@@ -120,7 +120,7 @@ EitherEnd = (c : StreamParams) (bytes more : List ℕ) (end other : StreamEnd) (
 abbrev pub IsOfFailure : Report → Type 0
 IsOfFailure report = (line : ℕ) × (report.ending ≡ endings.ReadFailed line)
 
--- where the read failed and the report doesn't tell so, it was decided before: it is right for either end, and whatever follows
+-- if the read failed and the report doesn't tell so, it was decided before: it is right for either end, and whatever follows
 abbrev pub DecidedBeforeFailure : Type 0
 DecidedBeforeFailure =
     (c : StreamParams) (bytes more : List ℕ) (end : StreamEnd) (blocks : List History)
@@ -128,7 +128,7 @@ DecidedBeforeFailure =
     → ¬ IsOfFailure report → JudgesBlocks c bytes stream_ends.Failed blocks report
     → JudgesBlocks c (bytes ++ more) end blocks report
 
--- where its numbers are below 2^64 - 1, a report decides what a stream dropped that a line stopped
+-- if its numbers are below 2^64 - 1, a report decides what a stream dropped that a line stopped
 abbrev pub DroppedOnce : Type 0
 DroppedOnce =
     (c : StreamParams) (bytes : List ℕ) (report : Report) (gone other : ℕ → Bool) (line : ℕ)
@@ -147,7 +147,7 @@ ReadyNew = (f : Cnf) (layout : LayoutValue) (cube : CubeValue) (stream tries : �
     → ((id : ℕ) → Owns layout stream id → p.own id ≡ opening f id)
     → IsReadyAt v p
 
--- after legal events of other streams, where the stream's own identities have what these leave
+-- after legal events of other streams, if the stream's own identities have what these leave
 abbrev pub ReadyStays : Type 0
 ReadyStays = (v : CheckerValue) (p q : CallerView) (es : History)
     → IsReadyAt v p → q.caller ≡ p.caller
@@ -187,7 +187,7 @@ RepliesDecide = (c : StreamParams) (bytes : List ℕ) (end : StreamEnd) (blocks 
     → ¬ IsOfMemory report → ¬ IsOfMemory other
     → (blocks ≡ others) × (report ≡ other)
 
--- neither list of blocks has ended where the other has a block, and their first blocks are one if they never fork, whatever events
+-- neither list of blocks has ended if the other has a block, and their first blocks are one if they never fork, whatever events
 -- follow them
 abbrev pub GoAlike : List History → List History → Type 0
 GoAlike [] [] = Unit {0}
@@ -197,7 +197,7 @@ GoAlike (block ∷ blocks) (other ∷ others) =
     (later others_later : History) → NeverFork (block ++ later) (other ++ others_later)
     → block ≡ other
 
--- where a stream is judged twice, and its blocks begin alike, they go on alike
+-- if a stream is judged twice, and its blocks begin alike, they go on alike
 abbrev pub BlocksGoAlike : Type 0
 BlocksGoAlike = (c : StreamParams) (bytes : List ℕ) (end : StreamEnd)
     (before blocks others : List History) (report other : Report)
@@ -222,7 +222,7 @@ AloneDecides = (f : Cnf) (p : LayoutValue) (c : StreamParams) (bytes : List ℕ)
 
 -- Good additions
 
--- the clause of a good addition follows from the formula where the clauses found do
+-- the clause of a good addition follows from the formula if the clauses found do
 abbrev pub GoodFollows : Type 0
 GoodFollows =
     (f : Cnf) (c : StreamParams) (st : StreamContext) (id : ℕ) (lits : List ℤ) (hints : List ℕ)
@@ -283,7 +283,7 @@ JudgedLinesCut = (c : StreamParams) (bytes : List ℕ) (end : StreamEnd) (blocks
     → (j : JudgesBlocks c bytes end blocks report) → Cut bytes all rest → (more : List StreamLine)
     × (all ≡ j.lines ++ more)
 
--- a stream fetches no identity that its lines don't cite: where all that they cite pass a test, so does what it fetches
+-- a stream fetches no identity that its lines don't cite: if all that they cite pass a test, so does what it fetches
 abbrev pub CitedFetched : Type 0
 CitedFetched = (c : StreamParams) (bytes : List ℕ) (end : StreamEnd) (blocks : List History)
     (report : Report) (all : List StreamLine) (rest : List ℕ) (p : ℕ → Bool)

@@ -8,12 +8,12 @@ use Rattle.stream_check.specs.declared.params.Ownership.{Ownership}
 use Rattle.stream_check.specs.declared.params.Ownership.TheVariants as ownerships
 use Rattle.stream_check.specs.StreamParams.{StreamParams, ownership_of}
 
--- k vacant fetches of one identity and one last fetch, k at most `most`; if the last is vacant too, k is `most`
+-- The events are k vacant fetches of one identity and one last fetch; k is at most `most`, and just that if the last is vacant, too.
 abbrev pub FetchesUpTo : ℕ → ℕ → ℕ → History → Reply → Type 0
 FetchesUpTo most s id history reply = (k : ℕ) × (k ≤ most) × (reply ≡ vacant → k ≡ most)
     × (history ≡ replicate k (fetch s id vacant) ++ fetch s id reply ∷ [])
 
--- own identities and the formula's are fetched once, another stream's until it isn't vacant, and what is no identity never
+-- Own identities and the formula's are fetched once, another stream's until it isn't vacant or the tries are used up, and what is no identity never.
 abbrev pub AsksAt : Ownership → StreamParams → ℕ → History → Reply → Type 0
 AsksAt ownerships.Formula params id history reply = history ≡ fetch params.stream id reply ∷ []
 AsksAt ownerships.Own params id history reply = history ≡ fetch params.stream id reply ∷ []
@@ -21,7 +21,7 @@ AsksAt ownerships.Foreign params id history reply =
     FetchesUpTo params.tries params.stream id history reply
 AsksAt ownerships.Outside params id history reply = (history ≡ []) × (reply ≡ vacant)
 
--- the events of a hint, or of an import's identity, and the last reply, which is taken as vacant if there is no event
+-- These are the fetches of a hint, or of an import's identity, and the last reply, which counts as vacant if there is no fetch.
 abbrev pub Asks : StreamParams → ℕ → History → Reply → Type 0
 Asks params id history reply = AsksAt (ownership_of params id) params id history reply
 

@@ -1,4 +1,4 @@
--- What a checker is, and what it is left as by the bytes so far and the blocks of events of their lines (this project's own).
+-- The states of a checker, and which one it has after the bytes so far and the blocks of events of their lines (this project's own).
 use Rattle.std.specs.Prelude.{◌≡◌, ◌==◌, ◌+◌, ◌-◌, ◌&&◌, ◌||◌, ℕ, Bool, false, List, [], ◌∷◌, length}
 use Rattle.std.specs.List.{list_any, sum_by}
 use Rattle.lrup_model.specs.Event.{History}
@@ -19,12 +19,12 @@ pub record GoingState : Type 0 where
   pub pending : List ℕ
   pub line : ℕ
 
--- what it holds, or the report of one that is over, and what it dropped
+-- what a checker that isn't over holds, or the report of one that is over, and which identities it dropped
 pub data CheckerState : Type 0 where
   Going : GoingState → CheckerState
   Over : (report : Report) (gone : ℕ → Bool) → CheckerState
 
--- the same last identity and room, and the same dropped ones
+-- both contexts have the same last identity, room, and dropped identities
 pub record SameContext (context other : StreamContext) : Type 0 where
   pub last : context.last ≡ other.last
   pub free : context.free ≡ other.free
@@ -49,8 +49,8 @@ JudgesBothEnds params bytes blocks report =
     JudgesBlocks params bytes stream_ends.Ended blocks report
     × JudgesBlocks params bytes stream_ends.Failed blocks report
 
--- The bytes so far, whose lines have these blocks of events, leave the checker so. One that is over has a report that is right whatever the
--- end is, and dropped what was deleted until a line stopped it.
+-- The bytes so far, whose lines have these blocks of events, bring a checker to this state. If it is over, its report is right whatever
+-- the end of the stream is, and it dropped what its lines delete until one stopped it.
 abbrev pub ReachesState : StreamParams → List ℕ → List History → CheckerState → Type 0
 ReachesState params bytes blocks (Going now) = ReachesGoing params bytes blocks now
 ReachesState params bytes blocks (Over report gone) =

@@ -20,7 +20,7 @@ abbrev pub DropsMore : StreamParams → (ℕ → Bool) → List ℕ → (ℕ →
 DropsMore params old ids new =
     (id : ℕ) → new id ≡ (old id || is_shared (ownership_of params id) && is_among ids id)
 
--- They are none, or the first ones that a line deletes with which the bytes begin.
+-- The identities are none, or the first ones of a deletion with which the bytes begin.
 abbrev pub AreDeletedFirst : List ℕ → List ℕ → Type 0
 AreDeletedFirst ids bytes =
     (ids ≡ [])
@@ -30,7 +30,7 @@ AreDeletedFirst ids bytes =
 -- What a stream dropped whose report says that a line is bad, or that memory ran out in it: of the identities that the lines before it
 -- delete, and of the first ones that it deletes itself, those of the formula and of other streams. The report tells both, up to
 -- 2^64 - 1: by its number how many lines are before it, and by its count how many of the identities that the line names come before the
--- one at which it stopped. Where no line begins there, or one that deletes nothing, these are none.
+-- one at which it stopped. If no line begins there, or one that deletes nothing, these are none.
 pub record DropsUntilStop (params : StreamParams) (bytes : List ℕ) (report : Report)
     (gone : ℕ → Bool) : Type 0 where
   pub lines : List StreamLine

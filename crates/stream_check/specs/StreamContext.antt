@@ -41,7 +41,7 @@ context_of params lines = record {
       is_shared (ownership_of params id) && list_any (λ line. is_among (deleted_by line) id) lines;
 }
 
--- What 64 bits show of a count: above 2^64 - 1 it stands as that. Counts of additions never come
+-- What 64 bits show of a count: a greater one than 2^64 - 1 is shown as that. Counts of additions never come
 -- there, since their identities don't; counts of deletions don't in a legal history.
 abbrev pub capped : ℕ → ℕ
 capped count = min count (2 ^ 64 - 1)

@@ -9,7 +9,7 @@ pub data LineVerdict : Type 0 where
   Good : LineVerdict
   Bad : (deleted : ℕ) (fault : Fault) → LineVerdict
 
--- no more events, and this fault, where the line deleted so many identities before it
+-- no more events, and this fault, if the line deleted so many identities before it
 abbrev pub Fails : ℕ → Fault → History → LineVerdict → Type 0
 Fails deleted fault history verdict = (history ≡ []) × (verdict ≡ Bad deleted fault)
 

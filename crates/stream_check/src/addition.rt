@@ -1,4 +1,4 @@
-//! One addition against a clause map.
+//! How one addition is checked against a clause map.
 ghost use Rattle.std.specs.Prelude.{◌≡◌, ◌↔◌, ◌≤◌, ◌<◌, ◌^◌, IsTrue, length, IfOk, OnOk, vec_capacity};
 ghost use Rattle.std.specs.Bool.{OnTrue};
 ghost use Rattle.std.specs.List.{AllByRecursion};
@@ -34,7 +34,7 @@ pub struct LineScratch {
 }
 
 impl LineScratch {
-    /// The buffers for lines over the variables 1 to `vars`, at most 16,777,215.
+    /// Makes the buffers for lines over the variables 1 to `vars`, at most 16,777,215.
     pub fn new(alloc: Global, vars: u32) -> Result<LineScratch, AllocError>
         requires { vars ≤ max_variable }
         ensures { IfOk result (λ scratch. scratch.vars ≡ vars) }
@@ -46,7 +46,7 @@ impl LineScratch {
         })
     }
 
-    /// The tests of an addition that ask the map for no clause, in their order. The clause is taken up where all hold.
+    /// Makes the tests of an addition that fetch no clause, in the order of their faults. If all hold, `marks` has taken the clause up.
     fn admit<M: ClauseMap>(
         &mut self,
         state: &StreamState,
@@ -77,14 +77,14 @@ impl LineScratch {
         Ok(())
     }
 
-    /// The clause of the last addition, where it was published.
+    /// The clause of the last addition, if that was published: its literals, each once.
     pub fn clause(&self) -> &[Lit]
         ensures { result.now ≡ self.now.marks.clause }
     {
         self.marks.clause()
     }
 
-    /// Checks an addition, and publishes its clause where it has no fault.
+    /// Checks an addition, and publishes its clause if it has no fault.
     pub fn add<M: ClauseMap, G: Gate>(
         &mut self,
         state: &StreamState,
@@ -114,12 +114,13 @@ impl LineScratch {
                 gate.after_publish(map.stream(), id);
                 Ok(())
             }
+            // By the contract: the identity is the stream's own, and above all that the stream has published.
             Published::Taken => unreachable!(),
         }
     }
 }
 
-/// Makes literals of the numbers of a line. False where one is no literal over the variables 1 to `vars`.
+/// Makes literals of the numbers of a line, and returns whether all are literals over the variables 1 to `vars`.
 pub fn make_literals(literals: &mut Vec<Lit>, numbers: &[i64], vars: u32) -> bool
     requires room { length numbers.now ≤ vec_capacity literals.old }
     requires variables { vars ≤ max_variable }

@@ -23,9 +23,10 @@ use lrup_text::{End, LineReader, ReaderTurn};
 use std::alloc::{AllocError, Global};
 use std::marker::Model;
 
-/// Checks the lines of one stream, which comes in pieces, against a clause map, and says in the end how the stream is judged.
+/// Checks the lines of one stream, which comes in pieces, against a clause map, and reports in the end how the stream is judged.
 ///
-/// Once it is over nothing changes it.
+/// A checker is *over* once its ending is known: after a bad line, a line that ran out of memory, the end of the stream, or a failed read.
+/// Then nothing changes it any more.
 #[derive(Drop)]
 pub struct Checker {
     state: StreamState,
@@ -47,12 +48,12 @@ impl Model for Checker {
 }
 
 impl Checker {
-    /// The greatest number of tries.
+    /// The greatest number of tries: how often a hint that is vacant may be fetched again.
     pub const MAX_TRIES: u64 = 1_000_000;
 
-    /// A checker of stream `stream`, from 1 on, before its first byte, which also says whether a clause is within the cube. A
-    /// hint of another stream is fetched again while it is vacant, up to `tries` times, at most 1,000,000. All memory is taken
-    /// here, also for a copy of the cube, but for the identities that the stream drops.
+    /// Makes a checker of stream `stream`, from 1 on, before its first byte. A hint of another stream is fetched again while it is vacant,
+    /// up to `tries` times, at most 1,000,000. The report will say whether the cube, of assumed literals, makes an added clause false. All
+    /// memory is taken here, also for a copy of the cube, except for the identities that the stream drops.
     pub fn new(
         alloc: Global,
         stream: u64,
@@ -64,6 +65,7 @@ impl Checker {
         requires tries { tries ≤ max_tries }
         ensures { IfOk result (IsNew layout.now cube.now stream tries) }
     {
+        // A law, which does nothing: no bytes leave the checker as it is here.
         fresh_left();
         let params = StreamParams::new(layout, cube.try_clone()?, stream, tries);
         Ok(Checker {
@@ -74,8 +76,9 @@ impl Checker {
         })
     }
 
-    /// Takes bytes of a piece: through the end of one line, through the first byte that no line can have there, or all of them. After a
-    /// good line the caller feeds the rest. If the line is bad, the gate is told.
+    /// Takes bytes of a piece: through the end of one line, through the first byte that no line can have there, or all of them. A line
+    /// that ends is checked: its hints are fetched, and its clause is published, or its identities are retired or dropped. After a good
+    /// line the caller feeds the rest of the piece. If the line is bad, the checker is over, and the gate gets the report.
     pub fn feed<M: ClauseMap, G: Gate>(
         &mut self,
         map: &mut M,
@@ -103,6 +106,7 @@ impl Checker {
                 turn: CheckTurn::Over,
             };
         }
+        // A law, which does nothing: one good line more leaves a checker as `take_line` does.
         good_line_taken();
         let fed = self.reader.feed(piece);
         let used = fed.used;
@@ -130,8 +134,8 @@ impl Checker {
         }
     }
 
-    /// Tells the gate how the stream, which is over, is judged. `used` bytes of the piece were used. Where the compiler knows that
-    /// this is rare, lines before it are faster.
+    /// Gives the gate the report of the stream, whose checker is over. `used` bytes of the piece were used. It is marked as cold, since it
+    /// happens once in a stream: so the compiler makes the good lines fast.
     #[cold]
     #[inline(never)]
     fn tell<G: Gate>(&self, gate: &mut G, used: usize) -> Progress
@@ -145,7 +149,7 @@ impl Checker {
         }
     }
 
-    /// Takes the end of the stream.
+    /// Takes the end of the stream, which makes the checker over. If bytes of a line are pending, the line is bad, as truncated.
     pub fn end(&mut self)
         ensures ends { Ends stream_ends.Ended self.old self.new }
         ensures reports { ReportsEnd stream_ends.Ended self.old self.new }
@@ -159,7 +163,7 @@ impl Checker {
         });
     }
 
-    /// Records a read failure.
+    /// Takes the failure of a read, which makes the checker over.
     pub fn read_failed(&mut self)
         ensures ends { Ends stream_ends.Failed self.old self.new }
         ensures reports { ReportsEnd stream_ends.Failed self.old self.new }
@@ -177,14 +181,14 @@ impl Checker {
         self.state.params.stream()
     }
 
-    /// Whether nothing more is taken.
+    /// Whether the checker is over: it takes nothing more, and has a report.
     pub fn is_over(&self) -> bool
         ensures { IsTrue result ↔ IsSome self.now.ending }
     {
         self.ending.is_some()
     }
 
-    /// The stream's report.
+    /// The stream's report. The checker has to be over.
     pub fn report(&self) -> Report
         requires { IsSome self.now.ending }
         ensures { IfSome self.now.ending (λ ending.

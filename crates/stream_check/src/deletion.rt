@@ -1,4 +1,4 @@
-//! One deletion against a clause map.
+//! How one deletion is made at a clause map.
 ghost use Rattle.std.specs.Prelude.{◌≡◌, ◌+◌, ℕ, IsErrOf};
 ghost use Rattle.std.specs.List.{AllByRecursion};
 ghost use Rattle.lrup_model.specs.Event.{History};
@@ -15,7 +15,7 @@ use crate::params::Ownership;
 use crate::stream_state::StreamState;
 use lrup_model::{ClauseMap, Id, Retired};
 
-/// Retires an identity of the stream's own.
+/// Retires an identity of the stream's own at the map, and counts it.
 fn retire_own<M: ClauseMap>(state: &mut StreamState, map: &mut M, id: Id) -> Result<(), LineStop>
     requires at { IsViewOf state.old.params (M.caller_view map.old) }
     requires owns { Owns state.old.params.layout state.old.params.stream id }
@@ -34,7 +34,7 @@ fn retire_own<M: ClauseMap>(state: &mut StreamState, map: &mut M, id: Id) -> Res
     }
 }
 
-/// Deletes one identity.
+/// Deletes one identity: an own one is retired at the map, and one of the formula or of another stream is dropped by this stream alone.
 fn delete_one<M: ClauseMap>(state: &mut StreamState, map: &mut M, id: Id) -> Result<(), LineStop>
     requires at { IsViewOf state.old.params (M.caller_view map.old) }
     ensures deletes { (es : History) × M.moves map.old map.new es × AllByRecursion IsRetire es
@@ -51,7 +51,7 @@ fn delete_one<M: ClauseMap>(state: &mut StreamState, map: &mut M, id: Id) -> Res
     }
 }
 
-/// Deletes the identities one after the other.
+/// Deletes the identities, one after the other, up to the first that can't be deleted.
 pub fn delete<M: ClauseMap>(
     state: &mut StreamState,
     map: &mut M,

@@ -1,4 +1,4 @@
-//! The identities that a stream dropped.
+//! The set of identities that a stream dropped.
 ghost use Rattle.std.specs.Prelude.{◌≡◌, ◌||◌, ◌==◌, ◌+◌, ◌<◌, ◌^◌, ℕ, [], false, length, OnOk, OnErr, IsOk};
 ghost use Rattle.stream_check.specs.StreamContext.{is_among};
 
@@ -7,7 +7,8 @@ use std::alloc::{AllocError, Global};
 use std::collections::HashSet;
 use std::marker::Model;
 
-/// The identities of the formula and of other streams that a stream dropped. It takes no memory before the first of them.
+/// The set of identities of the formula and of other streams that a stream deleted. For the others they stay; this stream may not use them
+/// as hints any more. It takes no memory before the first.
 #[derive(Drop)]
 pub struct Dropped {
     ids: HashSet<Id>,
@@ -38,7 +39,7 @@ impl Dropped {
         self.ids.contains(&id)
     }
 
-    /// Keeps one more identity. Where there is no memory for it, nothing changes; where there is room, it takes none.
+    /// Adds an identity. If memory is refused, nothing changes; if there is room, it takes none.
     pub(crate) fn add(&mut self, id: Id) -> Result<(), AllocError>
         requires { is_among self.old.ids id ≡ false }
         ensures members { OnOk result

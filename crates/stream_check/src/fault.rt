@@ -40,7 +40,7 @@ pub enum Fault {
 }
 
 impl Fault {
-    /// Its words in the report, and the identity that follows them, where one does; they end with a space then.
+    /// The fault's words in the report, and the identity behind them, if there is one; the words end with a space then.
     pub fn words(self) -> (&'static str, Option<Id>)
         ensures { fault_text self ≡ result.0.now ++ number_text result.1 }
     {

@@ -1,17 +1,17 @@
-//! What is called between a checker's steps.
+//! The hook that a checker calls between its steps.
 use crate::report::Report;
 use lrup_model::Id;
 
-/// What a run does between the steps of a checker: it may wait, count, or let another thread go first. Each identity is
-/// named with the checker's stream.
+/// A hook of a run between the steps of a checker. It may wait, count, or let another thread go first, and changes nothing of what the
+/// checker does. Each call has the checker's stream.
 pub trait Gate {
-    /// Called before each fetch. Attempts of one hint are counted from 1.
+    /// Called before each fetch. `attempt` counts the fetches of one hint, from 1 on: from 2 on it was vacant before.
     fn before_fetch(&mut self, stream: u64, id: Id, attempt: u64);
 
-    /// Called after each publish that answered Done.
+    /// Called after each publish that answered `Done`.
     fn after_publish(&mut self, stream: u64, id: Id);
 
-    /// Called once, when the stream is over: at its end, at its first bad line, where a read failed or where memory ran out. There
-    /// is no fetch and no publish after it, and the stream's report stays.
+    /// Called once, when the checker is over: at the end of the stream, at its first bad line, at a failed read, or when memory ran out.
+    /// No fetch and no publish comes after it, and the report is the stream's last word.
     fn when_over(&mut self, _stream: u64, _report: &Report) {}
 }

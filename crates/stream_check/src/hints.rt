@@ -13,7 +13,7 @@ use crate::stream_state::StreamState;
 use lrup_model::{ClauseMap, Id};
 use propagate::{Marks, Step};
 
-/// No hint may be left after the conflict.
+/// The fault of a hint that comes after the conflict, if there is one.
 fn excess(left: &[Id]) -> Result<(), Fault>
     ensures { result ≡ excess_of left.now }
 {
@@ -23,7 +23,7 @@ fn excess(left: &[Id]) -> Result<(), Fault>
     }
 }
 
-/// Tries the hints one after the other: each but the last has to be unit, and the last a conflict.
+/// Propagates the hints, one after the other: each before the last has to be unit, and the last a conflict.
 pub fn try_hints<M: ClauseMap, G: Gate>(
     state: &StreamState,
     map: &mut M,

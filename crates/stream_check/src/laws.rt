@@ -1,4 +1,5 @@
-//! Laws of judging. Each function does nothing; its contract is the law, which holds of every stream, layout and history.
+//! Laws of judging. Each function does nothing: its contract is the law, which holds of every stream, layout and history. If a body calls
+//! one, the proof of that body uses the law.
 ghost use Rattle.stream_check.specs.Laws.{FreshLeft, PendingGrows, GoodLineTaken, BadLineTaken, BadTextRead, MemoryWanted, EndJudged, OverStays, EitherEnd, DecidedBeforeFailure, DroppedOnce, ReadyNew, ReadyStays, ReadyBeside, OneReport, RepliesDecide, BlocksGoAlike, LegalNeverFork, AloneDecides, GoodFollows, LineCalls, EarlyEvents, VacantTriesAgain, ReducedLine, ReducedStream, JudgedLinesCut, CitedFetched, WithinReported, EmptyCubeReported, CountsWithin};
 
 use lrup_text::laws::{
@@ -57,12 +58,12 @@ pub fn either_end()
     ensures { EitherEnd }
 {}
 
-/// Where the read failed and the report doesn't say so, it is right for either end and whatever follows.
+/// If the read failed and the report doesn't say so, it is right for either end and whatever follows.
 pub fn decided_before_failure()
     ensures { DecidedBeforeFailure }
 {}
 
-/// Where its numbers are below 2^64 - 1, a report decides what a stream dropped that a line stopped.
+/// If its numbers are below 2^64 - 1, a report decides what a stream dropped that a line stopped.
 pub fn dropped_once()
     ensures { DroppedOnce }
 {
@@ -79,7 +80,7 @@ pub fn ready_stays()
     ensures { ReadyStays }
 {}
 
-/// So it is at the map of one thread, after another stream's calls.
+/// At the map of one thread a checker that may be fed may be fed after another stream's calls.
 pub fn ready_beside()
     ensures { ReadyBeside }
 {}
@@ -94,7 +95,7 @@ pub fn one_report()
     a_text_has_one_fault();
 }
 
-/// Where the same call, after the same events, never has another reply, a stream is judged alike.
+/// If the same call, after the same events, never has another reply, a stream is judged alike.
 pub fn replies_decide()
     ensures { RepliesDecide }
 {
@@ -104,7 +105,7 @@ pub fn replies_decide()
     a_text_has_one_fault();
 }
 
-/// Where a stream is judged twice, and its blocks begin alike, they go on alike, unless memory ran out.
+/// If a stream is judged twice, and its blocks begin alike, they go on alike, unless memory ran out.
 pub fn blocks_go_alike()
     ensures { BlocksGoAlike }
 {
@@ -119,7 +120,7 @@ pub fn legal_never_fork()
     ensures { LegalNeverFork }
 {}
 
-/// So a stream that is alone has one report, unless memory ran out.
+/// A stream that is alone has one report, unless memory ran out.
 pub fn alone_decides()
     ensures { AloneDecides }
 {
@@ -129,7 +130,7 @@ pub fn alone_decides()
     a_text_has_one_fault();
 }
 
-/// The clause of a good addition follows from the formula where the clauses that its hints found do.
+/// The clause of a good addition follows from the formula if the clauses that its hints found do.
 pub fn good_follows()
     ensures { GoodFollows }
 {}

@@ -1,5 +1,5 @@
-//! The judge of one proof stream: what a stream's bytes, their end and its events at a clause map
-//! come to.
+//! The checker of one proof stream, over any clause map: it cuts the stream's bytes into lines, checks each line, and reports how the
+//! stream is judged.
 #![tactic(auto)]
 
 mod addition;

@@ -1,4 +1,4 @@
-//! One line against a clause map.
+//! How one line is checked against a clause map, and counted if it is good.
 ghost use Rattle.std.specs.Prelude.{◌≡◌, ◌<◌, ◌^◌, ℕ};
 ghost use Rattle.lrup_model.specs.Event.{History};
 ghost use Rattle.lrup_text.specs.Lines.{IsWithinLimits, Addition, Deletion, Import, line_of};
@@ -12,7 +12,7 @@ use crate::stream_state::StreamState;
 use lrup_model::{ClauseMap, Id};
 use lrup_text::Line;
 
-/// Checks an addition, and counts it where it is good.
+/// Checks an addition, and publishes its clause and counts it if it is good.
 fn take_addition<M: ClauseMap, G: Gate>(
     state: &mut StreamState,
     scratch: &mut LineScratch,
@@ -40,7 +40,7 @@ fn take_addition<M: ClauseMap, G: Gate>(
     Ok(())
 }
 
-/// Makes a deletion, and counts it where it is good.
+/// Deletes the identities of a deletion, and counts its line if it is good.
 fn take_deletion<M: ClauseMap>(
     state: &mut StreamState,
     map: &mut M,
@@ -59,7 +59,7 @@ fn take_deletion<M: ClauseMap>(
     Ok(())
 }
 
-/// Compares an import, and counts its line where it is good.
+/// Compares an import with the clause of its identity, and counts its line if it is good.
 fn take_import<M: ClauseMap, G: Gate>(
     state: &mut StreamState,
     scratch: &mut LineScratch,
@@ -85,7 +85,7 @@ fn take_import<M: ClauseMap, G: Gate>(
     Ok(())
 }
 
-/// Checks a line, and counts it where it is good.
+/// Checks a line, and counts it if it is good. If it isn't, the error says why it ends the stream.
 pub fn take_line<M: ClauseMap, G: Gate>(
     state: &mut StreamState,
     scratch: &mut LineScratch,

@@ -1,16 +1,16 @@
-//! Why a line ends its stream.
+//! Why a line ends the stream.
 ghost use Rattle.std.specs.Prelude.{◌≡◌};
 ghost use Rattle.stream_check.specs.internal.Taking.{ending_of};
 
 use crate::fault::Fault;
 use crate::report::Ending;
 
-/// Why a line wasn't taken as a good one.
+/// Why a line ends the stream.
 #[derive(Clone, Copy)]
 pub enum LineStop {
-    /// It is bad.
+    /// The line is bad.
     Bad(Fault),
-    /// There was no memory to keep an identity that it drops.
+    /// Memory was refused for an identity that the line drops.
     Memory,
 }
 
@@ -25,7 +25,7 @@ impl From<Fault> for LineStop {
 }
 
 impl LineStop {
-    /// How the stream ends where the line of this number stopped so.
+    /// How the stream ends, if this is why the line of this number ended it.
     pub fn ending(self, line: u64) -> Ending
         ensures { result ≡ ending_of line self }
     {

@@ -1,4 +1,4 @@
-//! How a hint is fetched.
+//! How the clause of a hint, or of an import's identity, is looked up.
 ghost use Rattle.std.specs.Prelude.{◌∷◌, ◌<◌, ◌^◌, IfOk};
 ghost use Rattle.lrup_model.specs.Event.{History, vacant, fetch};
 ghost use Rattle.lrup_model.specs.Layout.{IsIdentity};
@@ -14,8 +14,8 @@ use crate::params::StreamParams;
 use crate::stream_state::StreamState;
 use lrup_model::{ClauseMap, Clip, Fetched, Id};
 
-/// Fetches an identity that was vacant again, until the reply isn't vacant, and at most `most` times.
-// Where it or `ask` isn't inlined, each reply goes back through memory, also where there is no second fetch.
+/// Fetches an identity again that was vacant, until it isn't, and at most `most` times. The gate may wait before each fetch.
+// If it or `ask` isn't inlined, each reply goes back through memory, even if there is no second fetch.
 #[inline(always)]
 fn fetch_again<M: ClauseMap, G: Gate>(most: u64, map: &mut M, gate: &mut G, id: Id) -> Fetched
     requires identity { IsIdentity (M.caller_view map.old).caller.layout id }
@@ -37,8 +37,8 @@ fn fetch_again<M: ClauseMap, G: Gate>(most: u64, map: &mut M, gate: &mut G, id: 
     Fetched::Vacant
 }
 
-/// What the map has under a hint. One of another stream is fetched again while it is vacant, up to the stream's tries.
-/// Whose it is matters only where it was vacant: so a hint that is found at once costs one fetch and no division.
+/// Fetches a hint: once, or as often as the stream's tries allow while another stream's is vacant. Who owns it is asked only if it was
+/// vacant, so a hint that is found at once costs one fetch and no division.
 #[inline(always)]
 fn ask<M: ClauseMap, G: Gate>(params: &StreamParams, map: &mut M, gate: &mut G, hint: Id) -> Fetched
     requires at { IsViewOf params.now (M.caller_view map.old) }
@@ -57,7 +57,7 @@ fn ask<M: ClauseMap, G: Gate>(params: &StreamParams, map: &mut M, gate: &mut G, 
     }
 }
 
-/// The clause of a hint or of an import's identity; a fault where the stream dropped it, or where the map has none.
+/// Finds the clause of a hint, or of an import's identity. It is a fault if the stream dropped it, or if the map has no live clause.
 #[inline(always)]
 pub fn look_up<M: ClauseMap, G: Gate>(
     state: &StreamState,

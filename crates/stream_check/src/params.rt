@@ -1,4 +1,4 @@
-//! The stream whose lines are checked, and the parameters of the checking.
+//! The parameters by which a stream's lines are checked.
 ghost use Rattle.std.specs.Prelude.{◌≡◌, ◌↔◌, IsTrue};
 ghost use Rattle.lrup_model.specs.Layout.{IsIdentity};
 ghost use Rattle.stream_check.specs.StreamParams.{ownership_of, is_shared};
@@ -8,8 +8,8 @@ ghost use Rattle.stream_check.specs.StreamContext.{is_within};
 use lrup_model::{Cube, Id, Layout, Lit, Owner};
 use std::marker::Model;
 
-/// The layout, the cube of assumed literals, the stream, from 1 on, and how often a hint of another stream is fetched again
-/// while it is vacant.
+/// The parameters by which a stream's lines are checked: the layout, the cube of assumed literals, the stream, from 1 on, and how often a
+/// hint of another stream is fetched again while it is vacant.
 #[derive(Drop)]
 pub struct StreamParams {
     layout: Layout,
@@ -37,16 +37,16 @@ impl Model for StreamParams {
     ghost inverse_ok = { λ s h. ap (λ (n : ℕ). record s { last = n }) (sym h) };
 }
 
-/// Whose an identity is, as the stream sees it.
+/// Who owns an identity, as the stream sees it.
 #[derive(Clone, Copy)]
 pub enum Ownership {
-    /// It is a clause of the formula.
+    /// Nobody: it is a clause of the formula.
     Formula,
     /// The stream owns it.
     Own,
     /// Another stream owns it.
     Foreign,
-    /// It is no identity.
+    /// Nobody: it is no identity.
     Outside,
 }
 
@@ -81,15 +81,15 @@ impl StreamParams {
         self.stream
     }
 
-    /// Whether the complement of each literal of the clause is in the cube. With the empty cube it is one test.
+    /// Whether the cube makes the clause false. With the empty cube it is one test.
     pub fn refutes(&self, clause: &[Lit]) -> bool
         ensures { result ≡ is_within self.now.cube clause.now }
     {
         self.cube.refutes(clause)
     }
 
-    /// How often a hint that was vacant is fetched again: only another stream's, since no call but the stream's own changes
-    /// what its own identities have, and the formula's are live for good.
+    /// How often a hint that was vacant is fetched again: another stream's up to the tries, and no other, since only the stream itself
+    /// publishes its own, and the formula's are live.
     #[cold]
     pub fn tries_for(&self, hint: Id) -> u64
         ensures { result ≡ tries_on (ownership_of self.now hint) self.now.tries }
@@ -107,7 +107,7 @@ impl StreamParams {
         0 < id && id <= self.last
     }
 
-    /// Whether it is the formula's or another stream's.
+    /// Whether the identity is the formula's or another stream's.
     pub fn shares(&self, id: Id) -> bool
         ensures { result ≡ is_shared (ownership_of self.now id) }
     {
@@ -117,7 +117,7 @@ impl StreamParams {
         }
     }
 
-    /// Whose the identity is.
+    /// Who owns the identity.
     pub fn ownership(&self, id: Id) -> Ownership
         ensures { ownership_of self.now id ≡ result }
     {

@@ -1,6 +1,6 @@
-//! What a checker took of a piece.
+//! The answer of a call of `Checker::feed`.
 
-/// What a checker took of a piece of its stream.
+/// How many bytes of a piece a call of `Checker::feed` used, and what they came to.
 #[derive(Clone, Copy, Debug, PartialEq, Eq)]
 pub struct Progress {
     /// How many bytes of the piece were used.
@@ -9,13 +9,13 @@ pub struct Progress {
     pub turn: CheckTurn,
 }
 
-/// What the bytes used came to.
+/// What the bytes used by a call of `Checker::feed` came to.
 #[derive(Clone, Copy, Debug, PartialEq, Eq)]
 pub enum CheckTurn {
-    /// They end a line, which is good.
+    /// They end a line, which is good. The rest of the piece is still to be fed.
     Line,
-    /// All bytes were used, and no line ended.
+    /// All bytes of the piece were used, and no line has ended since.
     More,
-    /// The checker is over.
+    /// The checker is over, with or before these bytes. It takes no more.
     Over,
 }

@@ -10,7 +10,7 @@ pub enum Ending {
     Bad(u64, Fault),
     /// The reader failed while this line was read, or before its first byte. All lines before it are good.
     ReadFailed(u64),
-    /// There was no memory to keep an identity that this line drops. All lines before it are good.
+    /// Memory was refused for an identity that this line drops. All lines before it are good.
     Memory(u64),
 }
 

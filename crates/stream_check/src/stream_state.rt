@@ -1,4 +1,4 @@
-//! What a checker keeps of the good lines.
+//! What a checker knows of the good lines so far.
 ghost use Rattle.std.specs.Prelude.{◌≡◌, ◌≤◌, ◌<◌, ◌^◌, ◌+◌, ◌-◌, ◌||◌, min, [], false, length, IsErrOf};
 ghost use Rattle.stream_check.specs.internal.Checking.{DropsShared, counted};
 ghost use Rattle.stream_check.specs.StreamContext.{capped, is_among};
@@ -11,30 +11,30 @@ use crate::report::{Ending, Report};
 use lrup_model::Id;
 use std::alloc::Global;
 
-/// What a checker keeps of the good lines, and whose they are.
+/// What a checker knows of the good lines so far, and the parameters by which they are checked.
 #[derive(Drop)]
 pub struct StreamState {
-    /// Whose lines they are. It never changes.
+    /// The stream, its layout and its cube, which never change.
     pub params: StreamParams,
-    /// The last identity that was added; with none, the last of the formula.
+    /// The last identity that was added, or if none was, the last one of the formula.
     last: Id,
     dropped: Dropped,
-    /// How many of the stream's own identities were retired, which stays at 2^64 - 1.
+    /// How many of the stream's own identities were retired. It stays at 2^64 - 1 once it is there.
     retired: u64,
     /// How many clauses were added.
     added: u64,
     /// Whether one of them was empty.
     empty: bool,
-    /// Whether one of them was within the cube.
+    /// Whether the cube makes one of them false.
     within: bool,
-    /// The number of the next line, which stays at 2^64 - 1.
+    /// The number of the next line, from 1 on. It stays at 2^64 - 1 once it is there.
     line: u64,
     ghost few_added: { added ≤ last },
     ghost small: { last < 2 ^ 63 },
 }
 
 impl StreamState {
-    /// Before the first line.
+    /// The state before the first line.
     pub fn new(alloc: Global, params: StreamParams) -> StreamState
         ensures params { result.params ≡ params }
         ensures last { result.last ≡ params.layout.clauses }
@@ -57,14 +57,14 @@ impl StreamState {
         }
     }
 
-    /// The last identity that was added; with none, the last of the formula.
+    /// The last identity that was added, or if none was, the last one of the formula.
     pub fn last(&self) -> Id
         ensures { result ≡ self.now.last }
     {
         self.last
     }
 
-    /// The number of the next line, which stays at 2^64 - 1.
+    /// The number of the next line, from 1 on. It stays at 2^64 - 1 once it is there.
     pub fn line(&self) -> u64
         ensures { result ≡ self.now.line }
     {
@@ -78,7 +78,7 @@ impl StreamState {
         self.dropped.has(id)
     }
 
-    /// Counts a good addition of this identity, which may be of the empty clause, or of one within the cube.
+    /// Counts a good addition of this identity. `is_empty`: its clause is empty; `is_within`: the cube makes it false.
     pub fn take_addition(&mut self, id: Id, is_empty: bool, is_within: bool)
         requires above { self.old.last < id }
         requires small { id < 2 ^ 63 }
@@ -126,8 +126,8 @@ impl StreamState {
         self.retired = self.retired.saturating_add(1);
     }
 
-    /// Drops an identity that isn't the stream's own. It is looked for first, so that one that was dropped before never wants
-    /// memory.
+    /// Drops an identity that isn't the stream's own, unless it was dropped before, which is a fault. It is looked for first, so that this
+    /// fault never wants memory.
     pub fn drop_shared(&mut self, id: Id) -> Result<(), LineStop>
         ensures drops { DropsShared id self.old.dropped.ids self.new.dropped.ids result }
         ensures count { length self.new.dropped.ids ≡ length self.old.dropped.ids + counted result }
@@ -146,7 +146,7 @@ impl StreamState {
         self.dropped.add(id).map_err(|_| LineStop::Memory)
     }
 
-    /// The report of the stream where it ends so.
+    /// The report of the stream, if it ends in this way.
     pub fn report(&self, ending: Ending) -> Report
         ensures { result ≡ record {
           added = self.now.added;

@@ -16,7 +16,7 @@ use Rattle.stream_check.specs.CheckerValue.{Tally, CheckerValue}
 use Rattle.stream_check.specs.declared.params.Ownership.{Ownership}
 use Rattle.stream_check.specs.declared.params.Ownership.TheVariants as ownerships
 
--- what the good lines so far leave, where so much room is left
+-- what the good lines so far leave, if so much room is left
 abbrev pub context_at : StreamState → ℕ → StreamContext
 context_at state free =
     record { last = state.last; free = free; gone = is_among state.dropped.ids }
@@ -92,7 +92,7 @@ pub record IsSound (params : StreamParams) (vars : ℕ) (reader : ReaderState)
   pub variables : params.layout.vars ≡ vars
   pub tries : params.tries < 2 ^ 63
 
--- how often a hint of this ownership is fetched again at most, where another stream's is fetched again so often
+-- how often a hint of this ownership is fetched again at most, if another stream's is fetched again so often
 abbrev pub tries_on : Ownership → ℕ → ℕ
 tries_on ownerships.Formula tries = 0
 tries_on ownerships.Own tries = 0

@@ -81,7 +81,7 @@ DeletesOwn params id old new history (Err (stops.Bad fault)) =
     × (new ≡ old)
 DeletesOwn params id old new history (Err stops.Memory) = ⊥
 
--- one of the formula's or of another stream's: it is kept among the dropped ones, where it isn't yet
+-- one of the formula's or of another stream's: it is kept among the dropped ones, if it isn't yet
 abbrev pub DropsShared : ℕ → List ℕ → List ℕ → Result (Unit {0}) LineStop → Type 0
 DropsShared id old new (Ok _) =
     (is_among old id ≡ false) × ((j : ℕ) → is_among new j ≡ (is_among old j || id == j))
@@ -100,7 +100,7 @@ DeletesByOwnership ownerships.Foreign params id old new history result =
 DeletesByOwnership ownerships.Outside params id old new history result =
     (history ≡ []) × (result ≡ Err (stops.Bad (faults.NotLive id))) × (new ≡ old)
 
--- what became of one identity to delete, where these were dropped before, and these are afterwards
+-- what became of one identity to delete, if these were dropped before, and these are afterwards
 abbrev pub DeletesOne : StreamParams → ℕ → List ℕ → List ℕ → History → Result (Unit {0}) LineStop
     → Type 0
 DeletesOne params id old new history result =

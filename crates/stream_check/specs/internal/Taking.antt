@@ -17,7 +17,7 @@ use Rattle.stream_check.specs.Checker.{IsViewOf}
 use Rattle.stream_check.specs.internal.Checking.{AreDropped}
 use Rattle.stream_check.specs.internal.CheckerInside.{context_at, tally_at, deleted_at}
 
--- what is held, with this text read of the next line, where so much room is left
+-- what is held, with this text read of the next line, if so much room is left
 abbrev pub hold : StreamState → List ℕ → ℕ → GoingState
 hold state pending free = record {
   tally = tally_at state;
