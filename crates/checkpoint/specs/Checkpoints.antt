@@ -30,8 +30,8 @@ AreWithinLimits clauses =
     (length clauses ≤ max_clauses)
     × AllByRecursion (λ clause. length clause ≤ max_clause_literals) clauses
 
--- What became of the saving of clauses: their text was written; or nothing, where they are too many
--- or too long; or, where a write failed, a beginning of the text.
+-- What became of the saving of clauses: their text was written; or nothing, if they are too many
+-- or too long; or, if a write failed, a beginning of the text.
 abbrev pub Saves : Result (Unit {0}) SaveFault → ℕ → List Entry → Option (List ℕ)
     → Option (List ℕ) → Type 0
 Saves (Ok _) vars entries before after = Appends before after (formula_text vars entries)
@@ -67,14 +67,14 @@ last_file bytes (next ∷ more) = last_file next more
 abbrev pub IsUnsatisfiableText : List ℕ → Type 0
 IsUnsatisfiableText bytes = (formula : Cnf) × IsFormulaText bytes formula × IsUnsatisfiable formula
 
--- the same, where each literal of the cube is true
+-- the same, if each literal of the cube is true
 abbrev pub IsUnsatisfiableTextUnder : CubeValue → List ℕ → Type 0
 IsUnsatisfiableTextUnder cube bytes =
     (formula : Cnf) × IsFormulaText bytes formula × IsUnsatisfiableUnder formula cube
 
 -- Laws
 
--- where the last file of a chain holds an unsatisfiable formula, the first does
+-- if the last file of a chain holds an unsatisfiable formula, the first does
 abbrev pub FilesRefute : Type 0
 FilesRefute = (bytes : List ℕ) (more : List (List ℕ)) → AreCheckpoints bytes more
     → IsUnsatisfiableText (last_file bytes more) → IsUnsatisfiableText bytes

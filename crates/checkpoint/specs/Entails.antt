@@ -37,7 +37,7 @@ abbrev pub RefutesBackUnder : Type 0
 RefutesBackUnder = (f g : Cnf) (cube : CubeValue) → Entails f g → IsUnsatisfiableUnder g cube
     → IsUnsatisfiableUnder f cube
 
--- where the last formula of a chain is unsatisfiable, the first one is
+-- if the last formula of a chain is unsatisfiable, the first one is
 abbrev pub ChainRefutes : Type 0
 ChainRefutes = (f : Cnf) (gs : List Cnf) → IsChain f gs → IsUnsatisfiable (last_of f gs)
     → IsUnsatisfiable f

@@ -1,4 +1,4 @@
-//! Saves what is live at a clause map, and gives it as the formula to go on with.
+//! Saves the live clauses of a clause map, and makes the formula of them with which a later round goes on.
 ghost use Rattle.std.specs.Prelude.{◌≡◌, ◌↔◌, ◌⊎◌, ◌≤◌, [], Err, IfErr, IfOk, IsTrue, List, ℕ, false, length};
 ghost use Rattle.std.specs.Io.KnownBytes.{Appends};
 ghost use Rattle.std.specs.List.{AllByRecursion};
@@ -55,7 +55,7 @@ pub fn carry<M: ClauseMap, K: Wanted, W: Sink>(
     }
 }
 
-/// The formula of the clips, if it may have as many, of these lengths. At the map it is no event.
+/// Makes the formula of the clips' clauses, if a formula may have so many, of these lengths. It makes no event.
 fn next_formula<M: ClauseMap>(
     alloc: Global,
     map: &mut M,
@@ -85,7 +85,7 @@ fn next_formula<M: ClauseMap>(
     }
 }
 
-/// The formula of the clips, over the variables 1 to `vars`.
+/// Makes the formula of the clips' clauses, over the variables 1 to `vars`.
 fn formula_of<M: ClauseMap>(
     alloc: Global,
     map: &mut M,

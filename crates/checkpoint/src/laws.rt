@@ -1,5 +1,5 @@
-//! Laws of checkpoints: what a formula whose clauses follow from another says of that one. Each function does nothing; its
-//! contract is the law.
+//! Laws of checkpoints: what a formula whose clauses follow from another says of that one. Each function does nothing: its contract is the
+//! law, and if it calls another, its proof uses that law.
 ghost use Rattle.checkpoint.specs.Checkpoints.{FilesRefute, FilesRefuteUnder};
 ghost use Rattle.checkpoint.specs.Entails.{ChainRefutes, ChainRefutesUnder, EntailsItself, EntailsOnward, RefutesBack, RefutesBackUnder};
 ghost use Rattle.checkpoint.specs.Printing.{ABeginningIsNoText, PrintedIsRead};
@@ -21,17 +21,17 @@ pub fn refutes_back()
     ensures { RefutesBack }
 {}
 
-/// So it is under each cube.
+/// A formula that entails one that is unsatisfiable under a cube is so, too.
 pub fn refutes_back_under()
     ensures { RefutesBackUnder }
 {}
 
-/// Where each formula of a chain entails the next, and no assignment satisfies the last, none satisfies the first.
+/// If each formula of a chain entails the next, and no assignment satisfies the last, none satisfies the first.
 pub fn chain_refutes()
     ensures { ChainRefutes }
 {}
 
-/// So it is under each cube.
+/// If each formula of a chain entails the next, and the last is unsatisfiable under a cube, the first is, too.
 pub fn chain_refutes_under()
     ensures { ChainRefutesUnder }
 {}
@@ -47,15 +47,15 @@ pub fn a_beginning_is_no_text()
     ensures { ABeginningIsNoText }
 {}
 
-/// Where each file is a text of a formula and the next one a checkpoint of it, and the last holds a formula that no assignment
-/// satisfies, the first does.
+/// If each file is a text of a formula, and the next one a checkpoint of it, and no assignment satisfies the last one's formula, then none
+/// satisfies the first one's.
 pub fn files_refute()
     ensures { FilesRefute }
 {
     one_formula();
 }
 
-/// So it is under each cube.
+/// The same under a cube: of assignments that make each of its literals true.
 pub fn files_refute_under()
     ensures { FilesRefuteUnder }
 {

@@ -10,17 +10,17 @@ ghost use Rattle.checkpoint.specs.Live.{Entry, clauses_of, entries_of, fetches, 
 use lrup_model::{ClauseMap, Clip, Fetched, Id};
 use std::alloc::{AllocError, Global};
 
-/// Says which live clauses go into a checkpoint.
+/// Which live clauses go into a checkpoint.
 pub trait Wanted {
     ghost wants: { Self → ℕ → Bool };
 
-    /// Whether the clause under this identity does.
+    /// Whether the clause under this identity goes into it, if it is live.
     fn wants(&self, id: Id) -> bool
         ensures { result ≡ wants self.now id };
 }
 
 /// The clips of the clauses that are live under the identities 1 to `last` and wanted, in order. Each identity is fetched once.
-/// Where memory runs out, only the first of these fetches were made.
+/// If memory is refused, only the first of these fetches were made.
 pub fn live_clauses<M: ClauseMap, K: Wanted>(
     alloc: Global,
     map: &mut M,

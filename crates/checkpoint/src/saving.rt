@@ -1,4 +1,4 @@
-//! Saves what is live at a clause map.
+//! Saves the live clauses of a clause map as a formula's text.
 ghost use Rattle.std.specs.Prelude.{◌≡◌, ◌↔◌, ◌⊎◌, ◌≤◌, ◌++◌, [], Err, IfOk, IsTrue, List, ℕ, false, length};
 ghost use Rattle.std.specs.Io.KnownBytes.{Appends};
 ghost use Rattle.std.specs.List.{AllByRecursion};
@@ -28,7 +28,7 @@ pub enum SaveFault {
     /// More clauses are wanted than a formula may have, or one is too long. Nothing was written.
     #[error("checkpoint refused: limit")]
     TooLarge,
-    /// A write failed, or the file wasn't kept. At most the text was written.
+    /// A write failed, or the file couldn't be kept. A beginning of the text was written, perhaps all of it.
     #[error("checkpoint not written")]
     Unwritten,
 }

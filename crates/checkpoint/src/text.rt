@@ -10,8 +10,8 @@ ghost use Rattle.checkpoint.specs.Printing.{clause_line, entry_text, formula_tex
 use lrup_model::{ClauseMap, Clip, Id, Lit};
 use lrup_text::{Sink, WriteBuffer, WriteFault};
 
-/// Writes the formula over the variables 1 to `vars` whose clauses are those of the clips, in order, each with its identity where
-/// that isn't its place. After a fault, what went out is a beginning of its text. At the map it is no event.
+/// Writes the formula over the variables 1 to `vars` whose clauses are those of the clips, in order. Before a clause whose identity isn't
+/// its number in the new formula, a comment has the identity. After a fault, a beginning of the text went out. It makes no event.
 pub fn write_formula<M: ClauseMap, W: Sink>(
     map: &mut M,
     clips: &[Clip],
@@ -53,7 +53,7 @@ fn put_header<W: Sink>(
     buffer.put(b"\n", sink)
 }
 
-/// Puts the clip's clause at its place, with its note.
+/// Puts the clip's clause, with its note, as clause number `place` of the new formula.
 fn put_entry<M: ClauseMap, W: Sink>(
     buffer: &mut WriteBuffer,
     map: &mut M,
@@ -73,7 +73,7 @@ fn put_entry<M: ClauseMap, W: Sink>(
     put_clause(buffer, map, clip, sink)
 }
 
-/// Puts the note of a clause: its identity, where that isn't its place.
+/// Puts the note of a clause, a comment with its identity, unless that is its number in the new formula.
 fn put_note<W: Sink>(
     buffer: &mut WriteBuffer,
     id: Id,

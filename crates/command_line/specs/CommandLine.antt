@@ -81,7 +81,7 @@ pub record AskForRounds (words : List Text) (folder : Text) : Type 0 where
 
 -- ---- what the words say, by the rows that are found in them
 
--- the number that an option has, or `default` where the words don't have the option
+-- the number that an option has, or `default` if the words don't have the option
 abbrev pub option_number : Text → ℕ → List Row → ℕ
 option_number name default rows =
     option_map_or (λ text. digits_value 10 (without_leading_plus text)) (one_of name rows) default

@@ -28,7 +28,7 @@ pub struct CommandLine<'a> {
     pub checkpoint: Option<&'a str>,
     /// The folder of the rounds after the first, if the run is to go on in rounds.
     pub rounds: Option<&'a str>,
-    /// Whether one thread checks all streams by turns.
+    /// Whether one thread checks all streams, a line of each in turn.
     pub serial: bool,
     /// Whether to report progress while streams are checked.
     pub watch: bool,

@@ -35,7 +35,7 @@ pub record Line : Type 0 where
   pub number : ℕ
   pub tokens : List (List ℕ)
 
--- the lines that are no comments and hold a token, where the first line has this number
+-- the lines that are no comments and hold a token, if the first line has this number
 abbrev pub lines_from : ℕ → List (List ℕ) → List Line
 lines_from number [] = []
 lines_from number (line ∷ lines) =

@@ -5,8 +5,8 @@ ghost use Rattle.dimacs.specs.declared.fault.DimacsFault.TheVariants.{Memory};
 use std::alloc::AllocError;
 use thiserror::Error;
 
-/// Why a file was refused: its first fault in byte order. The header is judged as a whole line, the tokens after it one
-/// by one; of several faults of one token, or of the header, the first in this order is given. Lines count from 1.
+/// Why a file was refused: its first fault in byte order. The header is judged as a whole line, and the tokens after it one by one. Of
+/// several faults of one token, or of the header, the first of this list is given. Lines count from 1.
 #[derive(Clone, Copy, Debug, PartialEq, Eq, Error)]
 pub enum DimacsFault {
     /// No line has a token, or the first that has one does not begin with the token `p`.

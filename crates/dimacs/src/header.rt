@@ -44,7 +44,7 @@ fn split_run(text: &[u8]) -> (&[u8], &[u8])
     text.split_at(end)
 }
 
-/// The first token of a line and what stands after it; an empty one where there is none.
+/// The first token of a line, and what stands after it. If there is none, it is empty.
 fn next_run(line: &[u8]) -> (&[u8], &[u8])
     ensures runs { runs line.now ≡ with_run result.0.now (runs result.1.now) }
     ensures whole { first_run result.0.now ≡ result.0.now }

@@ -1,4 +1,4 @@
-//! Laws of the definitions in which `parse` is stated, which hold of every file.
+//! Laws of the definitions by which the contract of `parse` is stated. Each function is empty: its contract is the law, for every file.
 ghost use Rattle.std.specs.Prelude.{◌≡◌, ◌↔◌, ℕ, List};
 ghost use Rattle.lrup_model.specs.Formula.{Cnf};
 ghost use Rattle.dimacs.specs.declared.fault.DimacsFault.{DimacsFault};

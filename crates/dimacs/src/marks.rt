@@ -57,7 +57,7 @@ pub fn set_mark(words: &mut [u64], l: Lit)
     mark(words, place(l));
 }
 
-/// Marks the literals, where none has a mark yet, and each has a place.
+/// Marks the literals, none of which has a mark yet. The words have a place for each.
 fn mark_all(words: &mut [u64], literals: &[Lit])
     requires marks { MarksAre words.old [] }
     requires words { all_words ≤ length words.old }
@@ -68,7 +68,7 @@ fn mark_all(words: &mut [u64], literals: &[Lit])
     }
 }
 
-/// Marks the literals, where none has a mark yet.
+/// Marks the literals, none of which has a mark yet. The first call takes memory for the marks of all literals.
 pub fn set_marks(words: &mut Vec<u64>, literals: &[Lit]) -> Result<(), AllocError>
     requires { MarksAre words.old.items [] }
     ensures ok { OnOk result (MarksAre words.new.items literals.now

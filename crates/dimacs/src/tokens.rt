@@ -61,7 +61,7 @@ fn ends_token(rest: &[u8]) -> bool
 /// The greatest variable that any formula may have.
 pub(crate) const MAX_VARIABLE: u32 = Lit::MAX_VARIABLE;
 
-/// Goes past digits up to the end of their token. None where another byte stands before it.
+/// Goes past digits to the end of their token, and gives what is left. None if the token has another byte, too.
 #[cold]
 #[inline(never)]
 fn skip_digits(text: &[u8]) -> Option<&[u8]>
@@ -83,7 +83,7 @@ fn skip_digits(text: &[u8]) -> Option<&[u8]>
 }
 
 /// Reads a number that begins with a digit from 1 to 9, up to the end of its token, and gives what is left. A number above
-/// `MAX_VARIABLE` is given as any number above it. None where the token has any other spelling.
+/// `MAX_VARIABLE` is given as any number above it. None if the token has another spelling.
 pub(crate) fn numeral(text: &[u8]) -> Option<(u32, &[u8])>
     ensures { MatchOption result (is_numeral (first_run text.now) ≡ false)
         (λ r. ReadsNumeral text.now r.0 r.1.now) }

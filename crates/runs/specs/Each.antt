@@ -7,7 +7,7 @@ Each Holds s [] [] = Unit {0}
 Each Holds s (x ∷ xs) (y ∷ ys) = Holds s x y × Each Holds (s + 1) xs ys
 Each Holds s _ _ = ⊥
 
--- and so of three lists
+-- the same of three lists
 abbrev pub EachOfThree : {X Y Z : Type 0} → (ℕ → X → Y → Z → Type 0) → ℕ → List X → List Y
     → List Z → Type 0
 EachOfThree Holds s [] [] [] = Unit {0}

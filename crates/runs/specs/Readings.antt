@@ -5,12 +5,12 @@ use Rattle.lrup_text.specs.ReadOut.{ReadOut, SourceView, source_view}
 use Rattle.lrup_text.specs.Reads.{Gave, ReadsOf}
 use Rattle.runs.specs.Streams.{Stream, MatchesInput, observation_of}
 
--- what is known of readers, as their type says it
+-- what contracts know of readers of one type
 abbrev pub readers_view : {R : Type 0} → Source.Ghosts R → SourceView R
 readers_view its = source_view its.left its.has_failed its.reads
 
--- The stream is what reads of a reader gave, from the first on: its bytes are all that they gave up to the first end or to the read
--- that failed; or, of one without an end, all that they gave but for `unneeded`.
+-- The stream is what reads of a reader gave, from the first on. If it has an end, its bytes are all that they gave, up to the first end or
+-- to the read that failed; else they are all but `unneeded`.
 abbrev pub IsRead : (S : Type 0) → ReadsOf S → S → S → Stream → Type 0
 IsRead S reads first after stream =
     MatchOption stream.end (Gave S reads first (stream.bytes ++ stream.unneeded) after)

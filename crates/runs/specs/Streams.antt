@@ -15,14 +15,14 @@ use Rattle.stream_check.specs.Judging.{JudgesBlocks}
 use Rattle.runs.specs.Each.{Each}
 
 -- The bytes by which a stream is judged; those that were read after them, by which it isn't; and how the stream ended: at its end or
--- at the read that failed, or nothing where the judgement needs no end, as of one that was stopped early.
+-- at the read that failed, or nothing if the judgement needs no end, as of one that was stopped early.
 pub record Stream : Type 0 where
   pub bytes : List ℕ
   pub unneeded : List ℕ
   pub end : Option StreamEnd
 
--- What is observed of a reader: which bytes it has left at first and which in the end, if the device tells them, and whether it has
--- failed then.
+-- What is observed of a reader: which bytes it has left at first, and which in the end, if the device tells them; and whether it has failed
+-- in the end.
 pub record InputObservation : Type 0 where
   pub entry : Option (List ℕ)
   pub left : Option (List ℕ)
@@ -43,9 +43,9 @@ observations view (first ∷ firsts) [] = []
 observations view (first ∷ firsts) (last ∷ lasts) =
     observation_of view first last ∷ observations view firsts lasts
 
--- The stream matches what is observed of a reader: the bytes read are a beginning of those left at first. Where the stream has an end, the
--- reader is as that end says, and it is judged by all that was read; else the reader hasn't failed. Where the reader doesn't tell what it
--- has left, any bytes will do.
+-- The stream matches what is observed of a reader: the bytes read are a beginning of those left at first. If the stream has an end, the
+-- reader is as that end says, and the stream is judged by all that was read; else the reader hasn't failed. If the reader doesn't tell what
+-- it has left, the bytes may be any.
 pub record MatchesInput (observation : InputObservation) (stream : Stream) : Type 0 where
   pub consumes : Consumes observation.entry observation.left (stream.bytes ++ stream.unneeded)
   pub ends : MatchOption stream.end (observation.has_failed ≡ false)
@@ -81,7 +81,7 @@ IsBlockWithin layout set block =
     IsStream layout block.stream × IsTrue (set block.stream)
     × AllByRecursion (λ event. stream_of event ≡ block.stream) block.events
 
--- What the streams of a run are all checked by: the layout, the cube, and how often an identity of another stream is fetched again.
+-- The parameters by which all streams of a run are checked: the layout, the cube, and how often an identity of another stream is fetched again.
 pub record RunParamsValue : Type 0 where
   pub layout : LayoutValue
   pub cube : CubeValue

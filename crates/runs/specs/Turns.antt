@@ -4,7 +4,7 @@ use Rattle.lrup_model.specs.Formula.{Cnf}
 use Rattle.stream_check.specs.declared.report.Report.{Report}
 use Rattle.runs.specs.Streams.{Stream, Block, IsOrdered, RunParamsValue}
 
--- An order of lines is given here by their streams, from 1 on. So many of them are stream s's.
+-- An order of lines is given here by the lines' streams, from 1 on: in it stream s has so many lines.
 abbrev pub line_count : ℕ → List ℕ → ℕ
 line_count s order = count_by (λ t. t == s) order
 
@@ -13,7 +13,7 @@ abbrev pub IsTurnOf : ℕ → List ℕ → Type 0
 IsTurnOf s before = (t : ℕ) → (s ≤ t → line_count t before ≤ line_count s before)
     × (t < s → line_count t before ≤ line_count s before + 1)
 
--- after the lines before them, each was taken when its stream might have a turn
+-- After the lines `before`, each of these lines comes when its stream may have a turn.
 abbrev pub AreTurns : List ℕ → List ℕ → Type 0
 AreTurns before [] = Unit {0}
 AreTurns before (s ∷ later) = IsTurnOf s before × AreTurns (before ++ s ∷ []) later

@@ -19,7 +19,7 @@ pub struct Pieces<'a> {
 }
 
 impl<'a> Pieces<'a> {
-    /// Reads of at most `most` bytes; number `fails_at` fails, and none where that is 0.
+    /// Reads of at most `most` bytes; number `fails_at` fails, and none if that is 0.
     pub fn new(text: &'a str, most: usize, fails_at: usize) -> Pieces<'a>
         ensures left { result.left.now ≡ text.now }
         ensures most { result.most ≡ most }
@@ -75,7 +75,7 @@ pub struct Paper {
 }
 
 impl Paper {
-    /// Writes of at most `most` bytes; number `fails_at` fails, and none where that is 0.
+    /// Writes of at most `most` bytes; number `fails_at` fails, and none if that is 0.
     pub fn new(alloc: Global, most: usize, fails_at: usize) -> Paper
         ensures bytes { result.bytes.items ≡ [] }
         ensures most { result.most ≡ most }

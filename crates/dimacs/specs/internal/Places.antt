@@ -16,7 +16,7 @@ use Rattle.lrup_model.specs.Formula.{Cnf, max_clauses}
 unfoldable pub lines_at_start : ℕ → List ℕ → List Line
 lines_at_start number bytes = lines_from number (slice_split ends_line bytes)
 
--- the lines of what is left inside the line of this number, which is no comment, and where no token has begun
+-- the lines of what is left inside the line of this number, which is no comment, in which no token has begun
 abbrev pub lines_inside : ℕ → List (List ℕ) → List Line
 lines_inside number [] = []
 lines_inside number (line ∷ lines) =
@@ -49,12 +49,12 @@ pub record ReadsNumeral (text : List ℕ) (kept : ℕ) (rest : List ℕ) : Type 
   pub positive : 0 < kept
   pub rest_is : rest ≡ after_run text
 
--- the run and those after it, none where it is empty
+-- the run and those after it, none if it is empty
 abbrev pub with_run : List ℕ → List (List ℕ) → List (List ℕ)
 with_run [] later = []
 with_run (byte ∷ bytes) later = (byte ∷ bytes) ∷ later
 
--- what is kept of a count, where the token spells one
+-- what is kept of a count, if the token spells one
 pub record ReadsCount (text : List ℕ) (kept : ℕ) : Type 0 where
   pub count : is_count text ≡ true
   pub number : IsCapped kept (value text)
