@@ -1,4 +1,4 @@
-//! Several streams of one formula: their checking, the verdict, and the report as users read it.
+//! A run over all streams of one formula, with threads or on one; its verdict, its report as users read it, and what it saves.
 #![tactic(auto)]
 
 mod options;

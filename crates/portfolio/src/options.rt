@@ -9,7 +9,7 @@ use lrup_model::{Formula, Layout, LayoutFault};
 use std::marker::Model;
 use stream_check::Checker;
 
-/// How often a hint of another stream is fetched again while it is vacant, and what each stream may publish.
+/// The options of a run: how often a hint of another stream is fetched again while it is vacant, and how much each stream may publish.
 #[derive(Clone, Copy, Debug, PartialEq, Eq)]
 pub struct Options {
     tries: u64,
@@ -36,7 +36,7 @@ impl Options {
     pub const MAX_TRIES: u64 = Checker::MAX_TRIES;
 
     /// A vacant hint is fetched again up to `tries` times, and each stream has `lines` identities and room for `room` literals.
-    /// None exactly where there are more than 1,000,000 tries.
+    /// None exactly if there are more than 1,000,000 tries.
     pub fn new(tries: u64, lines: u64, room: u64) -> Option<Options>
         ensures none { IsNone result ↔ (max_tries < tries) }
         ensures some { IfSome result (λ o.

@@ -1,4 +1,4 @@
-//! The outcome of a run.
+//! The outcome of a run, its verdict, and why there is none.
 ghost use Rattle.std.specs.Prelude.{◌≡◌};
 ghost use Rattle.portfolio.specs.Outcomes.{verdict_of};
 
@@ -8,15 +8,15 @@ use std::alloc::AllocError;
 use stream_check::{Dropped, Report};
 use thiserror::Error;
 
-/// What the reports of all streams come to.
+/// What a run says of its formula, by the reports of all streams.
 #[derive(Clone, Copy, Debug, PartialEq, Eq)]
 pub enum Verdict {
     /// No assignment satisfies the formula: a stream added the empty clause.
     Unsatisfiable,
-    /// No assignment satisfies the formula and makes each literal of the cube true: a stream added a clause within the cube,
-    /// and none added the empty clause.
+    /// No assignment satisfies the formula and makes each literal of the cube true: a stream added a clause that the cube makes false, and
+    /// none added the empty clause.
     UnsatisfiableUnder,
-    /// No stream added such a clause, which says nothing of the formula.
+    /// No stream added such a clause. This says nothing of the formula.
     Unknown,
 }
 
@@ -38,7 +38,7 @@ impl Verdict {
 /// Why a run has no outcome.
 #[derive(Clone, Copy, Debug, PartialEq, Eq, Error)]
 pub enum RunFault {
-    /// There is no layout of these numbers.
+    /// The formula, the options and the number of streams have no layout. It is answered before any other fault.
     #[error("{0}")]
     Layout(LayoutFault),
     /// Out of memory before the first read.
@@ -72,14 +72,14 @@ impl From<AllocError> for RunFault {
     }
 }
 
-/// What a run on one thread found.
+/// The results of a run on one thread.
 #[derive(Drop)]
 pub struct SerialOutcome<R: Drop> {
     /// The report of each stream, in order.
     pub reports: Vec<Report>,
     /// The verdict of the reports.
     pub verdict: Verdict,
-    /// The map of all clauses.
+    /// The map of all clauses, as the run left it.
     pub map: PlainMap,
     /// The readers, as far as they were read, in order.
     pub readers: Vec<R>,
@@ -87,16 +87,16 @@ pub struct SerialOutcome<R: Drop> {
     pub dropped: Vec<Dropped>,
 }
 
-/// What a run with threads found.
+/// The results of a run with threads.
 #[derive(Drop)]
 pub struct Outcome<R: Drop> {
     /// The report of each stream, in order.
     pub reports: Vec<Report>,
     /// The verdict of the reports.
     pub verdict: Verdict,
-    /// The streams' passes, in order. All have seen the one history.
+    /// The streams' passes, in order. They have met: all have seen one history.
     pub passes: Vec<Pass>,
-    /// The store that the passes are of.
+    /// The store of all clauses, as the run left it.
     pub store: Store,
     /// The readers, as far as they were read, in order.
     pub readers: Vec<R>,

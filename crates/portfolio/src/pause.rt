@@ -1,4 +1,4 @@
-//! The gate of a program that waits for other streams.
+//! The gate with which a stream waits for what others haven't published yet.
 use lrup_model::Id;
 use std::thread;
 use std::time::{Clock, Duration};

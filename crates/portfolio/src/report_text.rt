@@ -61,7 +61,7 @@ fn put_stream<W: Sink>(
     buffer.put(b"\n", sink)
 }
 
-/// Writes how a stream that is over is judged, by one write where the sink takes all.
+/// Writes the report of a stream that is over, by one write if the sink takes all at once.
 pub fn write_over<W: Sink>(stream: u64, report: &Report, sink: &mut W) -> Result<(), WriteFault>
     requires { W.has_failed sink.old ≡ false }
     ensures text { WritesText result (W.written sink.old) (W.written sink.new)
@@ -73,7 +73,7 @@ pub fn write_over<W: Sink>(stream: u64, report: &Report, sink: &mut W) -> Result
     buffer.flush(sink)
 }
 
-/// Writes that a stream has waited for the clause of an identity, likewise.
+/// Writes that a stream has waited for the clause of an identity, by one write, too.
 pub fn write_wait<W: Sink>(stream: u64, id: Id, sink: &mut W) -> Result<(), WriteFault>
     requires { W.has_failed sink.old ≡ false }
     ensures text { WritesText result (W.written sink.old) (W.written sink.new)
@@ -87,7 +87,7 @@ pub fn write_wait<W: Sink>(stream: u64, id: Id, sink: &mut W) -> Result<(), Writ
     buffer.flush(sink)
 }
 
-/// Writes how many clauses a stream has added so far, likewise.
+/// Writes how many clauses a stream has added so far, by one write, too.
 pub fn write_count<W: Sink>(stream: u64, added: u64, sink: &mut W) -> Result<(), WriteFault>
     requires { W.has_failed sink.old ≡ false }
     ensures text { WritesText result (W.written sink.old) (W.written sink.new)

@@ -1,4 +1,4 @@
-//! Saves what is live after a run.
+//! Saves the clauses that are live after a run.
 ghost use Rattle.std.specs.Prelude.{◌≡◌, ◌↔◌, ◌<◌, Err, IfOk, IsTrue, List, ℕ, false, vec_len};
 ghost use Rattle.std.specs.Io.KnownBytes.{Appends};
 ghost use Rattle.lrup_model.specs.Event.{History, Reply};
@@ -19,7 +19,7 @@ use lrup_text::Sink;
 use std::alloc::Global;
 use stream_check::Dropped;
 
-/// Wants what some stream hasn't dropped; all, where there are no streams.
+/// Wants each clause that some stream hasn't dropped; all, if there are no streams.
 #[derive(Drop)]
 struct NotAllDropped<'a> {
     dropped: &'a [Dropped],
@@ -33,8 +33,7 @@ impl Wanted for NotAllDropped<'_> {
     }
 }
 
-/// Writes the formula of the clauses that are live after a run, but for those that all streams dropped. The run's clauses speak
-/// of the passes as they were before this call.
+/// Writes the formula of the clauses that are live after a run, except for those that all streams dropped. The passes are used up.
 pub fn save_live<W: Sink>(
     alloc: Global,
     store: &Store,
@@ -62,18 +61,18 @@ pub fn save_live<W: Sink>(
     let Some(pass) = passes.pop() else {
         unreachable!()
     };
-    // Brings the pass's consistency invariant into scope: the pass is fair, and so the layout is the formula's.
+    // For the proof alone: the contract of `stream` says that the pass is fair, so the layout is one for the formula.
     let _ = pass.stream();
     let mut desk = Desk::new(store, pass);
     let saved = save(alloc, &mut desk, layout, &NotAllDropped { dropped }, sink);
-    // The meeting is no event. It shows that no other stream published or retired meanwhile, and so that what was fetched is what
-    // the run left.
+    // For the proof alone: the passes meet once more, which shows that no other stream published or retired meanwhile. So what was
+    // fetched is what the run left.
     passes.push_reserved(desk.into_pass());
     store.meet_all(&mut passes);
     saved
 }
 
-/// Writes the formula of the clauses that are live after a run on one thread, but for those that all streams dropped.
+/// Writes the formula of the clauses that are live after a run on one thread, except for those that all streams dropped.
 pub fn save_plain<W: Sink>(
     alloc: Global,
     map: &mut PlainMap,
@@ -95,13 +94,13 @@ pub fn save_plain<W: Sink>(
     ensures failed { IsTrue (W.has_failed sink.new) ↔ (result ≡ Err SaveFault.Unwritten) }
 {
     let layout = *map.layout();
-    // The call shows that there is a stream.
+    // For the proof alone: the contract of `streams` says that there is a stream.
     let _ = layout.streams();
     let mut desk = map.desk(1);
     save(alloc, &mut desk, &layout, &NotAllDropped { dropped }, sink)
 }
 
-/// Writes that formula, as `save_live` does, and gives it, for a later round to go on with.
+/// Writes the formula of the live clauses, as `save_live` does, and returns that formula, for a later round to go on with.
 pub fn carry_live<W: Sink>(
     alloc: Global,
     store: &Store,
@@ -129,17 +128,17 @@ pub fn carry_live<W: Sink>(
     let Some(last) = passes.pop() else {
         unreachable!()
     };
-    // Brings the pass's consistency invariant into scope: the pass is fair, and so the layout is the formula's.
+    // For the proof alone: the contract of `stream` says that the pass is fair, so the layout is one for the formula.
     let _ = last.stream();
     let mut desk = Desk::new(store, last);
     let carried = carry(alloc, &mut desk, layout, &NotAllDropped { dropped }, sink);
-    // As in `save_live`: what was fetched is what the run left.
+    // For the proof alone, as in `save_live`: what was fetched is what the run left.
     passes.push_reserved(desk.into_pass());
     store.meet_all(&mut passes);
     carried
 }
 
-/// Writes that formula after a run on one thread, as `save_plain` does, and gives it.
+/// Writes the formula of the live clauses, as `save_plain` does, and returns that formula.
 pub fn carry_plain<W: Sink>(
     alloc: Global,
     map: &mut PlainMap,
@@ -161,7 +160,7 @@ pub fn carry_plain<W: Sink>(
     ensures failed { IsTrue (W.has_failed sink.new) ↔ (result ≡ Err SaveFault.Unwritten) }
 {
     let layout = *map.layout();
-    // The call shows that there is a stream.
+    // For the proof alone: the contract of `streams` says that there is a stream.
     let _ = layout.streams();
     let mut desk = map.desk(1);
     carry(alloc, &mut desk, &layout, &NotAllDropped { dropped }, sink)

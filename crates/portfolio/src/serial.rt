@@ -1,4 +1,4 @@
-//! A run on one thread.
+//! A run on one thread: a line of each stream in turn.
 ghost use Rattle.std.specs.Prelude.{◌≡◌, ◌↔◌, ◌≢◌, ◌+◌, ◌<◌, ◌≤◌, true, false, ℕ, List, [], None, IfOk, IfErr, Err, length, map, vec_len, vec_capacity};
 ghost use Rattle.std.specs.List.{AllByRecursion};
 ghost use Rattle.lrup_model.specs.Cube.{IsUnsatisfiableUnder};
@@ -30,10 +30,10 @@ use std::sync::Wait;
 use stream_check::laws::ready_beside;
 use stream_check::{Dropped, Gate, Report};
 
-/// Checks the streams that the readers give, stream 1 first, on this thread and by turns: a turn of a stream reads until one
-/// line was taken, or the stream is over. It says whether one derived a clause that contradicts the cube. As many gates are
-/// wanted as readers. All memory is taken before the first read, but for the identities that streams drop. It blocks while a
-/// reader does.
+/// Checks all streams of a formula on this thread, in turn, stream 1 first: in its turn a stream is read until one line was taken, or the
+/// stream is over. The outcome has a report for each stream, and the verdict of these: whether a stream added the empty clause, or one
+/// that the cube, of assumed literals, makes false. There is one gate for each reader. All memory is taken before the first read, except
+/// for the identities that streams drop. It blocks while a reader does. There are the faults `Layout` and `Memory` alone.
 pub fn run_serial<W: Wait, R: Source + Drop, G: Gate + Drop>(
     wait: &W,
     alloc: Global,
@@ -77,11 +77,12 @@ pub fn run_serial<W: Wait, R: Source + Drop, G: Gate + Drop>(
     let layout = options.layout(formula, readers.len())?;
     let run_params = RunParams::new(&layout, cube, options.tries());
     let (map, workers) = open(alloc, formula, &run_params, readers, gates)?;
+    // A law, which does nothing: the proof of `isolated` uses its contract.
     run_isolated();
     check(wait, alloc, map, workers)
 }
 
-/// The map of a run, and a worker for each stream, by its parameters.
+/// Opens the map of a run, and makes a worker for each stream.
 fn open<R: Source + Drop, G: Gate + Drop>(
     alloc: Global,
     formula: &Formula,
@@ -101,7 +102,7 @@ fn open<R: Source + Drop, G: Gate + Drop>(
     Ok((map, workers))
 }
 
-/// Takes turns until all streams are over, and gathers what was found of each. Memory for that is taken before the first turn.
+/// Takes turns until all streams are over, and gathers their results. Memory for these is taken before the first turn.
 fn check<W: Wait, R: Source + Drop, G: Gate + Drop>(
     wait: &W,
     alloc: Global,
@@ -123,7 +124,7 @@ fn check<W: Wait, R: Source + Drop, G: Gate + Drop>(
     Ok(outcome_of(map, workers, reports, readers, dropped))
 }
 
-/// A worker for each stream.
+/// Makes a worker for each stream, in order.
 pub(crate) fn workers_of<R: Source + Drop, G: Gate + Drop>(
     alloc: Global,
     run_params: &RunParams<'_>,
@@ -163,7 +164,7 @@ fn take_turns<W: Wait, R: Source + Drop, G: Gate + Drop>(
     }
 }
 
-/// One turn of each stream that isn't over, stream 1 first. False where all were over.
+/// Takes one turn of each stream that isn't over, stream 1 first, and returns whether there was one.
 fn take_round<W: Wait, R: Source + Drop, G: Gate + Drop>(
     wait: &W,
     map: &mut PlainMap,
@@ -182,7 +183,7 @@ fn take_round<W: Wait, R: Source + Drop, G: Gate + Drop>(
     going
 }
 
-/// One turn of stream `i + 1`. False where it was over.
+/// Takes one turn of stream `i + 1`, unless it is over, and returns whether it wasn't.
 fn take_turn<W: Wait, R: Source + Drop, G: Gate + Drop>(
     wait: &W,
     map: &mut PlainMap,
@@ -196,6 +197,7 @@ fn take_turn<W: Wait, R: Source + Drop, G: Gate + Drop>(
         map.new workers.new }
     ensures over { result ≡ false → IsOverAt workers.old i × (workers.new ≡ workers.old) }
 {
+    // A law, which does nothing: after another stream's calls a worker's checker may still be fed.
     ready_beside();
     if workers[i].is_over() {
         return false;
@@ -204,7 +206,7 @@ fn take_turn<W: Wait, R: Source + Drop, G: Gate + Drop>(
     true
 }
 
-/// One turn of the worker of stream `s`, from 1 on, at its desk.
+/// Takes one turn of the worker of stream `s`, from 1 on, at its desk.
 fn turn_at_desk<W: Wait, R: Source + Drop, G: Gate + Drop>(
     wait: &W,
     map: &mut PlainMap,
@@ -224,7 +226,7 @@ fn turn_at_desk<W: Wait, R: Source + Drop, G: Gate + Drop>(
     worker.turn(wait, &mut map.desk(s));
 }
 
-/// The outcome of the streams, which are over.
+/// Gathers the outcome of the streams, which are over.
 fn outcome_of<R: Source + Drop, G: Gate + Drop>(
     plain: PlainMap,
     workers: Vec<Worker<R, G>>,

@@ -1,4 +1,4 @@
-//! A run with two threads for each stream.
+//! A run with two threads for each stream. Threads share the store of clauses and the start signal, and those of one stream a ring.
 ghost use Rattle.std.specs.Prelude.{◌≡◌, ◌≢◌, ◌↔◌, ◌≤◌, ◌<◌, ◌-◌, false, ℕ, [], Err, IfOk, IsSomeAnd, length, map, slice_get, take, vec_capacity, vec_len};
 ghost use Rattle.std.specs.List.{AllByRecursion};
 ghost use Rattle.lrup_model.specs.Cube.{IsUnsatisfiableUnder};
@@ -34,11 +34,13 @@ use stream_threads::{
     Room, StartSignal, StreamJobs, StreamResult, ThreadFault, check_all, jobs_of,
 };
 
-/// Starts two threads for each stream: one reads its bytes to the end, and one checks them, against one store of clauses. The verdict
-/// says whether a stream derived a clause that is false under the cube. The caller passes one gate for each reader. All memory is
-/// taken before the first thread starts, but for the identities that streams drop. No reader is read before all threads have started.
-/// `run` returns when all threads have ended, so it blocks while a reader does. If the ring between a stream's two threads fails, the
-/// readers up to that stream's were read out.
+/// Checks all streams of a formula, with two threads for each: one reads the stream's bytes to the end, and the other checks them, against
+/// one store of clauses. The outcome has a report for each stream, and the verdict of these: whether a stream added the empty clause, or
+/// one that the cube, of assumed literals, makes false. There is one gate for each reader.
+///
+/// All memory is taken before the first thread starts, except for the identities that streams drop. No reader is read before all threads
+/// have started. `run` returns when all threads have ended, so it blocks while a reader does. The faults, and when they come, are those of
+/// `RunFault`; after a fault there are no reports.
 pub fn run<T: Threads + Wait + Sync, R: Source + Send + Drop, G: Gate + Send + Drop>(
     threads: &T,
     alloc: Global,
@@ -95,20 +97,20 @@ pub fn run<T: Threads + Wait + Sync, R: Source + Send + Drop, G: Gate + Send + D
     let layout = options.layout(formula, readers.len())?;
     let run_params = RunParams::new(&layout, cube, options.tries());
     let Opened { store, jobs } = open(alloc, formula, &run_params, readers, gates)?;
-    // Laws: they do nothing when the program runs.
+    // Laws: empty calls, whose contracts the proof of `isolated` and `serializable` uses.
     run_isolated();
     run_serializable();
     check(threads, alloc, store, jobs)
 }
 
-/// What a run begins with: its store, and the jobs of its streams, each at its pass.
+/// What a run begins with: its store, and the jobs of each stream, which have its pass at the store.
 #[derive(Drop)]
 struct Opened<R: Source + Drop, G: Gate + Drop> {
     store: Store,
     jobs: Vec<StreamJobs<R, G>>,
 }
 
-/// Opens the store of a run, and makes the jobs of its streams, by its parameters.
+/// Opens the store of a run, and makes the jobs of its streams. It takes all memory of the run but for some lists.
 fn open<R: Source + Drop, G: Gate + Drop>(
     alloc: Global,
     formula: &Formula,
@@ -129,7 +131,7 @@ fn open<R: Source + Drop, G: Gate + Drop>(
     Ok(Opened { store, jobs })
 }
 
-/// Checks the streams of these jobs, and gathers what was found of each. At a ring's fault it answers the stream's number alone.
+/// Runs the jobs, and gathers the results of all streams in an outcome. If a ring failed, the fault has its stream's number alone.
 fn check<T: Threads + Wait + Sync, R: Source + Send + Drop, G: Gate + Send + Drop>(
     threads: &T,
     alloc: Global,
@@ -168,14 +170,14 @@ fn check<T: Threads + Wait + Sync, R: Source + Send + Drop, G: Gate + Send + Dro
         Err(ThreadFault::Spawn(stream)) => Err(RunFault::Spawn(stream)),
         Err(ThreadFault::Ring(found)) => {
             let stream = found.len() as u64 + 1;
-            // It is dropped: what was found of the streams before shows what the fault promises of them.
+            // For the proof alone, and dropped at once: what was found of the streams before shows what the fault promises of them.
             let _before = outcome_of(store, found, reports, synced, readers, dropped);
             Err(RunFault::Ring(stream))
         }
     }
 }
 
-/// Lists, still empty, for what a run gathers of its streams.
+/// Empty lists with room for what a run gathers of its streams, so that gathering takes no memory.
 #[derive(Drop)]
 struct Lists<'a, R: Source + Drop, G: Gate + Drop> {
     room: Room<'a, R, G>,
@@ -210,7 +212,7 @@ fn lists_for<'a, R: Source + Drop, G: Gate + Drop>(
     })
 }
 
-/// The outcome of the streams, whose threads have ended. All passes meet.
+/// Gathers the outcome of the streams, whose threads have ended. All passes meet, so that contracts know one history of all.
 fn outcome_of<R: Source + Drop>(
     store: Store,
     found: Vec<StreamResult<R>>,

@@ -1,4 +1,4 @@
-//! The gates of streams that may be watched.
+//! The gates of streams whose progress may be reported.
 use crate::report_text::{write_count, write_over, write_wait};
 use lrup_model::Id;
 use lrup_text::Sink;
@@ -8,7 +8,7 @@ use stream_check::{Gate, Report};
 /// How many publishes lie between two looks at the clock: a power of two, so that no division is made.
 const PUBLISHES: u64 = 64;
 
-/// How many attempts of a hint lie between two looks, likewise.
+/// How many attempts of a hint lie between two looks at the clock: a power of two, too.
 const ATTEMPTS: u64 = 1_024;
 
 /// How long a hint is looked up before that is reported, in seconds.
@@ -28,12 +28,12 @@ struct Teller<C: Clock + Drop, S: Sink + Drop> {
     added: u64,
     /// When their count was reported last, or the clock was looked at first.
     counted: Option<Instant>,
-    /// When a hint was first looked up again. None where its waiting isn't reported any more.
+    /// When a hint was first looked up again. None if its waiting isn't reported any more.
     asked: Option<Instant>,
 }
 
 impl<C: Clock + Drop, S: Sink + Drop> Teller<C, S> {
-    /// One that reports on the sink, if there is a sink.
+    /// Makes one that reports on the sink, if there is a sink.
     fn over(clock: C, sink: Option<S>) -> Option<Teller<C, S>> {
         let sink = sink?;
         Some(Teller {
@@ -45,7 +45,7 @@ impl<C: Clock + Drop, S: Sink + Drop> Teller<C, S> {
         })
     }
 
-    /// The time, where the clock tells it.
+    /// The time, if the clock gives it.
     fn now(&self) -> Option<Instant> {
         Instant::now(&self.clock).ok()
     }
@@ -60,7 +60,7 @@ impl<C: Clock + Drop, S: Sink + Drop> Teller<C, S> {
         }
     }
 
-    /// Reports how many clauses the stream has added, where the last such report is long ago.
+    /// Reports how many clauses the stream has added, if the last such report is at least ten seconds old.
     fn tell_count(&mut self, stream: u64) {
         let Some(now) = self.now() else {
             return;
@@ -89,7 +89,7 @@ impl<C: Clock + Drop, S: Sink + Drop> Teller<C, S> {
         }
     }
 
-    /// Reports that the stream waits for an identity, where it has waited for long enough.
+    /// Reports that the stream waits for an identity, if it has waited for a second.
     fn tell_wait(&mut self, stream: u64, id: Id) {
         let (Some(asked), Some(now)) = (self.asked, self.now()) else {
             return;

@@ -1,4 +1,4 @@
-//! One stream at work.
+//! One stream of a run on one thread.
 ghost use Rattle.std.specs.Prelude.{◌≡◌, ◌↔◌, ◌≤◌, ℕ, false, List, [], None, IfOk, IfSome, IsSome, IsTrue};
 ghost use Rattle.std.specs.Bool.{OnTrue, OnFalse};
 ghost use Rattle.lrup_model.specs.Event.{History};
@@ -17,7 +17,8 @@ use std::marker::Model;
 use std::sync::Wait;
 use stream_check::{CheckTurn, Checker, Dropped, Gate, Report};
 
-/// A stream's reader, its gate and its checker, and a buffer of what was read.
+/// What a run on one thread has of a stream: its reader, its gate and its checker, and a buffer of what was read. The bytes that aren't
+/// checked yet lie in the buffer between `from` and `to`.
 #[derive(Drop)]
 pub struct Worker<R: Source + Drop, G: Gate + Drop> {
     reader: R,
@@ -45,8 +46,8 @@ impl<R: Source + Drop, G: Gate + Drop> Model for Worker<R, G> {
 }
 
 impl<R: Source + Drop, G: Gate + Drop> Worker<R, G> {
-    /// A worker of stream `stream`, from 1 on, before its first byte. It takes all memory that it will need, but
-    /// for the identities that the stream drops.
+    /// Makes a worker of stream `stream`, from 1 on, before its first byte. All memory is taken here, except for the identities that the
+    /// stream drops.
     pub fn new(
         alloc: Global,
         reader: R,
@@ -75,14 +76,14 @@ impl<R: Source + Drop, G: Gate + Drop> Worker<R, G> {
         })
     }
 
-    /// Whether nothing more is taken.
+    /// Whether the worker's checker is over.
     pub fn is_over(&self) -> bool
         ensures { IsTrue result ↔ IsSome self.now.checker.ending }
     {
         self.checker.is_over()
     }
 
-    /// Reads until one line was taken, or nothing more is. It blocks while the reader does.
+    /// Takes one turn: reads until one line was taken, or the checker is over. It blocks while the reader does.
     pub fn turn<W: Wait, M: ClauseMap>(&mut self, wait: &W, map: &mut M)
         requires ready { IsReadyAt self.old.checker (M.caller_view map.old) }
         requires going { self.old.checker.ending ≡ None }
@@ -105,8 +106,8 @@ impl<R: Source + Drop, G: Gate + Drop> Worker<R, G> {
         }
     }
 
-    /// Reads the next piece, where all bytes were taken. The end, or a read that failed, ends the checker: then the answer is
-    /// false.
+    /// Reads the next piece, if all bytes were taken. It returns `false` if there is none: the stream ended, or the read failed, and the
+    /// checker is over.
     fn read(&mut self) -> bool
         requires { self.old.checker.ending ≡ None }
         ensures holds { (room : ℕ) → WorkerStep (readers_view R.Source)
@@ -136,7 +137,7 @@ impl<R: Source + Drop, G: Gate + Drop> Worker<R, G> {
         }
     }
 
-    /// Lets the checker take bytes that were read.
+    /// Feeds the checker the bytes that were read, up to the end of a line.
     fn feed<M: ClauseMap>(&mut self, map: &mut M) -> CheckTurn
         requires ready { IsReadyAt self.old.checker (M.caller_view map.old) }
         requires going { self.old.checker.ending ≡ None }
@@ -172,7 +173,7 @@ impl<R: Source + Drop, G: Gate + Drop> Worker<R, G> {
     }
 }
 
-/// Takes the end of the stream, or a read that failed.
+/// Lets the checker take the end of the stream, or a read that failed.
 fn close(checker: &mut Checker, end: StreamEnd)
     ensures ends { Ends end checker.old checker.new }
     ensures reports { ReportsEnd end checker.old checker.new }
