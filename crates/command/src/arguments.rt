@@ -24,7 +24,7 @@ use std::sync::Wait;
 use std::thread::Threads;
 use std::time::Clock;
 
-/// Runs `command` with the program's arguments, of which the first is its name, and gives the exit status. Where the system
+/// Runs `command` with the program's arguments, of which the first is its name, and gives the exit status. If the system
 /// gives none, `err` gets the cause: out of memory, with status 6, or an argument that isn't UTF-8, with status 2.
 pub fn command_with_arguments<
     T: Threads + Wait + Sync,

@@ -42,7 +42,7 @@ pub struct RunResult {
     pub reports: Vec<Report>,
     /// The verdict of the reports.
     pub verdict: Verdict,
-    /// Why the checkpoint wasn't saved, where one was to be.
+    /// Why the checkpoint wasn't saved, if one was to be.
     pub unsaved: Option<SaveFault>,
 }
 

@@ -42,7 +42,7 @@ pub(crate) fn create_checkpoint<F: Machine>(
     }
 }
 
-/// Creates a file at a path where there was none.
+/// Creates a file at a path that has none.
 pub(crate) fn create_new<F: Machine>(files: &mut F, path: &str) -> Result<F::Output, CommandFault>
     ensures created { IfOk result (λ output. F.creates files.old path.now output files.new) }
     ensures empty { IfOk result (λ output.

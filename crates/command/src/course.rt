@@ -48,7 +48,7 @@ pub(crate) struct LastRound {
     pub(crate) number: u64,
     pub(crate) sizes: Sizes,
     pub(crate) found: RunResult,
-    /// When its streams were over, where rounds are watched.
+    /// When its streams were over, if rounds are watched.
     pub(crate) ended: Option<Instant>,
     ghost some: { 0 < sizes.streams },
 }

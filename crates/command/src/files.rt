@@ -23,7 +23,7 @@ impl From<io::Error> for OpenFault {
 
     ghost from_gives = { λ error fault. fault ≡ of_kind (error_kind error) };
 
-    /// Out of memory where the system says so, and not opened for any other error.
+    /// Out of memory if the system says so, and not opened for any other error.
     fn from(error: io::Error) -> OpenFault {
         match error.kind() {
             io::ErrorKind::OutOfMemory => OpenFault::Memory,
@@ -39,7 +39,7 @@ pub trait Files {
     /// A file that is open.
     type Input: Source + Send + Drop;
 
-    /// All bytes of the file at a path, where the device tells them: a file of the machine doesn't. They stay, however often it is
+    /// All bytes of the file at a path, if the device tells them: a file of the machine doesn't. They stay, however often it is
     /// opened.
     ghost tells: { Self → List ℕ → Option (List ℕ) };
 
@@ -69,7 +69,7 @@ pub trait Machine: Files {
     /// Where the thread of a stream reports its progress.
     type Watcher: Sink + Send + Drop;
 
-    /// What is seen where a path has no file: the files before, the path, and the files after.
+    /// What is seen if a path has no file: the files before, the path, and the files after.
     ghost lacks: { Self → List ℕ → Self → Type 0 } = { λ _ _ _. Unit {0} };
 
     /// What an opening does that fails, although the path may have a file: the files before it, the path, why, and the files after it.
@@ -102,7 +102,7 @@ pub trait Machine: Files {
         ensures fails { IfErr result (λ fault. fails self.old path.now fault self.new) }
         ensures stays { Self.tells self.new ≡ Self.tells self.old };
 
-    /// Creates a file at a path where there was none.
+    /// Creates a file at a path that has none.
     fn create(&mut self, path: &str) -> Result<Self::Output, OpenFault>
         ensures empty { IfOk result (λ output.
             ForSome (Self.Output.Sink.written output) (λ all. all ≡ [])) }

@@ -28,13 +28,13 @@ use std::time::Clock;
 
 /// Runs `lrupd` with the words after the program's name, and gives the status that it ends with. In
 /// this order: the words are read, the formula's file is read and parsed, and so is that of the
-/// assumed literals, the streams are opened, and where they have a layout the checkpoint's file is
+/// assumed literals, the streams are opened, and if they have a layout the checkpoint's file is
 /// created, the streams are checked, the checkpoint is saved, and the report goes to `out`. There is
-/// a checkpoint where the words have `--checkpoint`, and none is saved of a run whose verdict is
-/// 'unsatisfiable'. Where the saving fails, `err` says why. Where there is no report, `out` gets
-/// nothing, and `err` the cause. Where the report can't be written, `out` has a beginning of it, and
-/// `err` says so. Where the words have `--watch`, progress is reported on a watcher for each stream.
-/// Where they have `--rounds`, the checkpoint of a round is the next one's formula; a round whose verdict is
+/// a checkpoint if the words have `--checkpoint`, and none is saved of a run whose verdict is
+/// 'unsatisfiable'. If the saving fails, `err` says why. If there is no report, `out` gets
+/// nothing, and `err` the cause. If the report can't be written, `out` has a beginning of it, and
+/// `err` says so. If the words have `--watch`, progress is reported on a watcher for each stream.
+/// If they have `--rounds`, the checkpoint of a round is the next one's formula; a round whose verdict is
 /// 'unknown', whose streams ended and whose checkpoint was saved is followed by the next one, on the
 /// clauses that were saved, with the sizes and the streams in the folder, if stream 1 is there; and
 /// the report is that of the last round. It blocks while a file does.
@@ -49,7 +49,7 @@ use std::time::Clock;
 /// | 6 | out of memory, outside a report and the saving; a thread couldn't be started; a stream's end got lost between its two threads |
 /// | 7 | the report couldn't be written |
 /// | 8 | the report says `s UNSATISFIABLE UNDER ASSUMPTIONS` |
-/// | 9 | in place of 3 and 8, where the checkpoint wasn't saved |
+/// | 9 | in place of 3 and 8, if the checkpoint wasn't saved |
 pub fn command<T: Threads + Wait + Sync, C: Clock + Sync, F: Machine, O: Sink, E: Sink>(
     threads: &T,
     clock: &C,
@@ -214,7 +214,7 @@ fn check_in_rounds<T: Threads + Wait + Sync, C: Clock + Sync, F: Machine, O: Sin
     }
 }
 
-/// Says why the checkpoint wasn't saved, where it wasn't, writes the report of what was found in the last round, and gives the status. A
+/// Says why the checkpoint wasn't saved, if it wasn't, writes the report of what was found in the last round, and gives the status. A
 /// run that isn't in rounds is round 1.
 fn report<O: Sink, E: Sink>(round: u64, found: &RunResult, out: &mut O, err: &mut E) -> u8
     requires out { O.has_failed out.old ≡ false }
@@ -234,7 +234,7 @@ fn report<O: Sink, E: Sink>(round: u64, found: &RunResult, out: &mut O, err: &mu
     }
 }
 
-/// Writes the report of the last round, after its number where that isn't 1.
+/// Writes the report of the last round, after its number if that isn't 1.
 fn write_last<O: Sink>(round: u64, found: &RunResult, out: &mut O) -> Result<(), WriteFault>
     requires running { O.has_failed out.old ≡ false }
     ensures text { WritesText result (O.written out.old) (O.written out.new)
@@ -263,7 +263,7 @@ fn write_number<O: Sink>(number: u64, out: &mut O) -> Result<(), WriteFault>
     buffer.flush(out)
 }
 
-/// Says why the checkpoint of a round wasn't saved, where it wasn't.
+/// Says why the checkpoint of a round wasn't saved, if it wasn't.
 fn say_unsaved<E: Sink>(round: u64, unsaved: Option<SaveFault>, err: &mut E)
     requires err { E.has_failed err.old ≡ false }
     ensures { SaysOfRound round false unsaved

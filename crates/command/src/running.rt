@@ -68,7 +68,7 @@ pub(crate) struct EndedRun {
     pub(crate) left: LeftClauses,
 }
 
-/// Checks the streams, by turns on this thread or each in two threads of its own. Where they are watched, the watchers are of these
+/// Checks the streams, by turns on this thread or each in two threads of its own. If they are watched, the watchers are of these
 /// files.
 pub(crate) fn run_streams<T: Threads + Wait + Sync, C: Clock + Sync, F: Machine>(
     threads: &T,
@@ -249,7 +249,7 @@ pub(crate) fn carry_left<W: Sink>(
     }
 }
 
-/// A gate for each of `count` streams that are checked in threads. Where they are watched, each reports on a watcher of its own.
+/// A gate for each of `count` streams that are checked in threads. If they are watched, each reports on a watcher of its own.
 fn thread_gates<'a, C: Clock + Sync, F: Machine>(
     alloc: Global,
     clock: &'a C,

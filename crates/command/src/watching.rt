@@ -8,7 +8,7 @@ use lrup_text::write_all;
 use std::alloc::{AllocError, Global};
 use std::time::{Clock, Instant};
 
-/// The time, where it is asked for and the clock tells it.
+/// The time, if it is asked for and the clock tells it.
 pub(crate) fn now_if<C: Clock + Sync>(clock: &C, asked: bool) -> Option<Instant> {
     if asked {
         Instant::now(clock).ok()
@@ -39,7 +39,7 @@ pub(crate) fn tell_begin<C: Clock + Sync, F: Machine>(
     }
 }
 
-/// The milliseconds since then, where the clock tells them.
+/// The milliseconds since then, if the clock tells them.
 fn pause_since<C: Clock + Sync>(clock: &C, ended: Option<Instant>) -> Option<u64> {
     let ended = ended?;
     let now = Instant::now(clock).ok()?;

@@ -22,7 +22,7 @@ pub fn no_cube_judges_alike()
 {}
 
 /// In two runs of one formula, with one layout and the same tries, a stream that cites within itself has reports that say the same,
-/// but of clauses within a cube, where the readers have the same bytes left at first, unless memory ran out or a read failed:
+/// but of clauses within a cube, if the readers have the same bytes left at first, unless memory ran out or a read failed:
 /// whatever the cubes and the other streams are, and whichever runs have threads.
 pub fn same_bytes_say_the_same()
     ensures { SameBytesSayTheSame }
@@ -36,7 +36,7 @@ pub fn same_words_ask_alike()
     ensures { SameWordsAskAlike }
 {}
 
-/// In two outcomes of the program, over files that stand before the runs, a stream that cites within itself has the same line: where
+/// In two outcomes of the program, over files that stand before the runs, a stream that cites within itself has the same line if
 /// the options and the number of streams are the same, and the files of the formula and of the stream tell the same bytes, unless a
 /// report of the stream is of memory or of a failed read.
 pub fn outcomes_agree<F: Machine, G: Machine>(files: &F, others: &G)
@@ -48,7 +48,7 @@ pub fn outcomes_agree<F: Machine, G: Machine>(files: &F, others: &G)
     same_bytes_say_the_same();
 }
 
-/// Where the words ask for no rounds, the clause `ends` of `command` says what the other laws take: a report of a single run, or none
+/// If the words ask for no rounds, the clause `ends` of `command` says what the other laws take: a report of a single run, or none
 /// and the cause.
 pub fn plain_ends<F: Machine>(files: &F)
     ensures { let view = files_view F.Files F.Machine.own F.Input.Source F.Output.Sink files.now in
@@ -62,7 +62,7 @@ pub fn status_0_has_a_command_line<F: Machine>(files: &F)
         Status0HasACommandLine view }
 {}
 
-/// Where the words ask for a valid refutation, the program ends with status 0; or with 7, for a report that wasn't written; or with
+/// If the words ask for a valid refutation, the program ends with status 0; or with 7, for a report that wasn't written; or with
 /// 5 or 6, for a fault of the machine; or with 3 or 8, and then memory ran out, or a read failed, in the refutation's lines; or with
 /// 9 in their place, for a checkpoint that the words ask for and that wasn't saved: the clause `ends` of `command` says so.
 pub fn valid_refutation_says<F: Machine>(files: &F)
@@ -76,7 +76,7 @@ pub fn valid_refutation_says<F: Machine>(files: &F)
     valid_empty();
 }
 
-/// Where the words ask for a valid refutation, no bad line of its stream is printed, but with status 0, or with 7 where the report says
+/// If the words ask for a valid refutation, no bad line of its stream is printed, but with status 0, or with 7 if the report says
 /// 'unsatisfiable'. The law `valid_refutation_says` alone says so: a status 5 or 6 leaves standard output as it was, and each other
 /// report tells that the stream was stopped by the machine.
 pub fn no_bad_line_shown<F: Machine>(files: &F)
@@ -86,7 +86,7 @@ pub fn no_bad_line_shown<F: Machine>(files: &F)
     valid_refutation_says(files);
 }
 
-/// Where the words ask for streams whose lines have a valid order, one of which adds the empty clause, the program ends so too; or with
+/// If the words ask for streams whose lines have a valid order, one of which adds the empty clause, the program ends so too; or with
 /// 3 or 8, or 9 in their place, and then a line of that stream cites a clause of another stream, which wasn't there, or wasn't any
 /// more.
 pub fn valid_order_says<F: Machine>(files: &F)
@@ -100,7 +100,7 @@ pub fn valid_order_says<F: Machine>(files: &F)
     valid_empty();
 }
 
-/// In two outcomes of the program on one thread, over files that stand before the runs, the reports are the same: where the options
+/// In two outcomes of the program on one thread, over files that stand before the runs, the reports are the same if the options
 /// and the assumed literals are the same, and the files of the formula and of each stream tell the same bytes, unless some report
 /// is of memory or of a failed read.
 pub fn serial_outcomes_agree<F: Machine, G: Machine>(files: &F, others: &G)
@@ -112,7 +112,7 @@ pub fn serial_outcomes_agree<F: Machine, G: Machine>(files: &F, others: &G)
     bytes_decide();
 }
 
-/// Where the words ask for a run on one thread over streams whose lines have a valid order by turns, and one of which adds the empty
+/// If the words ask for a run on one thread over streams whose lines have a valid order by turns, and one of which adds the empty
 /// clause, the program ends with status 0; or with 7, for a report that wasn't written; or with 5 or 6, for a fault of the machine;
 /// or with 3 or 8, or 9 in their place, and then memory ran out in some stream, or a read of it failed: the clause `ends` of `command`
 /// says so.
@@ -127,7 +127,7 @@ pub fn valid_turns_say<F: Machine>(files: &F)
     valid_empty();
 }
 
-/// Where the words ask for rounds, in each of which before the last each stream is valid and cites only its own clauses and the
+/// If the words ask for rounds, in each of which before the last each stream is valid and cites only its own clauses and the
 /// formula's, and in the last one some stream is a valid refutation, the program ends with status 0; or with 7, for a report that
 /// wasn't written; or with 5 or 6, for a fault of the machine; or with 9, for a formula of the next round that wasn't saved; or with
 /// 8, and then there are assumed literals, and the report says 'unsatisfiable under assumptions'; or with 3, and then the report says
@@ -146,7 +146,7 @@ pub fn valid_rounds_say<F: Machine>(files: &F)
     valid_empty();
 }
 
-/// Where in each round before the last lines of all streams have a valid order, and in the last one some stream of such an order adds
+/// If in each round before the last lines of all streams have a valid order, and in the last one some stream of such an order adds
 /// the empty clause, the program ends so too; or with 3, and then such a line cites a clause of another stream, which wasn't there, or
 /// wasn't any more.
 pub fn valid_orders_say<F: Machine>(files: &F)
@@ -162,7 +162,7 @@ pub fn valid_orders_say<F: Machine>(files: &F)
     valid_empty();
 }
 
-/// Where the words ask for rounds on one thread, in each of which lines of all streams have a valid order by turns, and in the last
+/// If the words ask for rounds on one thread, in each of which lines of all streams have a valid order by turns, and in the last
 /// one some stream adds the empty clause, the program ends so too; with 3 the report says that memory ran out in some stream, or that
 /// a read of it failed.
 pub fn valid_turn_rounds_say<F: Machine>(files: &F)
@@ -177,7 +177,7 @@ pub fn valid_turn_rounds_say<F: Machine>(files: &F)
     valid_empty();
 }
 
-/// Where runs of the program follow one another, each on the checkpoint that the one before it saved, and the last one ends with
+/// If runs of the program follow one another, each on the checkpoint that the one before it saved, and the last one ends with
 /// status 0, what the first one read is a text of a formula that no assignment satisfies: the clause `ends` of `command` says so.
 pub fn outcomes_refute<F: Machine>(_files: &F)
     ensures { OutcomesRefute (files_view F.Files F.Machine.own F.Input.Source F.Output.Sink) }
@@ -185,7 +185,7 @@ pub fn outcomes_refute<F: Machine>(_files: &F)
     files_refute();
 }
 
-/// Where the last one ends with status 8, no assignment makes the literals that it assumed true besides.
+/// If the last one ends with status 8, no assignment makes the literals that it assumed true besides.
 pub fn outcomes_refute_under<F: Machine>(_files: &F)
     ensures { OutcomesRefuteUnder (files_view F.Files F.Machine.own F.Input.Source F.Output.Sink) }
 {

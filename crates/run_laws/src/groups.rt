@@ -1,4 +1,4 @@
-//! Laws of groups. Each function does nothing; its contract is the law, which holds of every formula, layout, set and run.
+//! Laws of groups. Each function does nothing: its contract is the law, which holds of every formula, layout, set and run.
 ghost use Rattle.run_laws.specs.GroupLaws.{BeginningsWithin, ReadersClosed, ClosedIsGroup, OrderedIsGroup, OrderedRestricts, OthersEmpty, AloneHasOneReport, RunIsolated, EarlyIsDecided, MatchIsReading, FailedIsReading, SameReadingAgrees, SameBytesAgree};
 
 use lrup_text::laws::{a_beginning_is_cut_alike, every_stream_is_cut};
@@ -6,7 +6,7 @@ use stream_check::laws::{
     alone_decides, cited_fetched, decided_before_failure, end_judged, fresh_left, over_stays,
 };
 
-/// Where the lines of some bytes cite within a set of streams, those of a beginning of them do.
+/// If the lines of some bytes cite within a set of streams, those of a beginning of them do.
 pub fn beginnings_within()
     ensures { BeginningsWithin }
 {
@@ -14,7 +14,7 @@ pub fn beginnings_within()
     a_beginning_is_cut_alike();
 }
 
-/// A set of streams is closed where all bytes that its readers have left at first cite within it.
+/// A set of streams is closed if all bytes that its readers have left at first cite within it.
 pub fn readers_closed()
     ensures { ReadersClosed }
 {
@@ -35,7 +35,7 @@ pub fn ordered_is_group()
     closed_is_group();
 }
 
-/// The lines of a closed set of streams have an order by themselves where those of all have one.
+/// The lines of a closed set of streams have an order by themselves if those of all have one.
 pub fn ordered_restricts()
     ensures { OrderedRestricts }
 {
@@ -81,7 +81,7 @@ pub fn failed_is_reading()
     ensures { FailedIsReading }
 {}
 
-/// A stream that cites within itself has one report where the readers told the same bytes and end, unless memory ran out.
+/// A stream that cites within itself has one report if the readers told the same bytes and end, unless memory ran out.
 pub fn same_reading_agrees()
     ensures { SameReadingAgrees }
 {
@@ -90,7 +90,7 @@ pub fn same_reading_agrees()
     alone_has_one_report();
 }
 
-/// A stream that cites within itself has one report where the readers have the same bytes left at first, unless memory ran out
+/// A stream that cites within itself has one report if the readers have the same bytes left at first, unless memory ran out
 /// or a read failed.
 pub fn same_bytes_agree()
     ensures { SameBytesAgree }

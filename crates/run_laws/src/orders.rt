@@ -1,4 +1,4 @@
-//! Laws of the order of lines. Each function does nothing; its contract is the law, which holds of every formula, layout, set and
+//! Laws of the order of lines. Each function does nothing: its contract is the law, which holds of every formula, layout, set and
 //! history.
 ghost use Rattle.run_laws.specs.OrderLaws.{JudgedBlocks, DeletedRetired, LinesOrdered, ClosedOrdered, AllClosed, AllOrdered, KeptByEvents, OwnersAloneSuffices, SharedStays, BeginningsCite, ReadersShare, RunSerializable};
 
@@ -55,14 +55,14 @@ pub fn kept_by_events()
     ensures { KeptByEvents }
 {}
 
-/// Where only its owner found an identity that the history retires, what a stream found live of another stays.
+/// If only its owner found an identity that the history retires, what a stream found live of another stays.
 pub fn owners_alone_suffices()
     ensures { OwnersAloneSuffices }
 {
     kept_by_events();
 }
 
-/// Where no stream deletes an identity of its own that another stream's line cites, what a stream found live of another stays.
+/// If no stream deletes an identity of its own that another stream's line cites, what a stream found live of another stays.
 pub fn shared_stays()
     ensures { SharedStays }
 {
@@ -78,7 +78,7 @@ pub fn beginnings_cite()
     every_stream_is_cut();
 }
 
-/// Where streams keep what they share in all bytes that their readers have left at first, they keep it in those that were needed.
+/// If streams keep what they share in all bytes that their readers have left at first, they keep it in those that were needed.
 pub fn readers_share()
     ensures { ReadersShare }
 {

@@ -1,4 +1,4 @@
-//! Laws of runs on one thread. Each function does nothing; its contract is the law, which holds of every formula and run.
+//! Laws of runs on one thread. Each function does nothing: its contract is the law, which holds of every formula and run.
 ghost use Rattle.run_laws.specs.TurnsLaws.{BytesDecide, ValidByTurns, TurnsDecide};
 
 use lrup_text::laws::{a_stream_is_cut_in_one_way, no_bytes_have_no_lines};
@@ -27,7 +27,7 @@ pub fn bytes_decide()
     blocks_go_alike();
 }
 
-/// Where the lines of streams have a valid order that is by turns, a run on one thread gives each its valid report, unless memory
+/// If the lines of streams have a valid order that is by turns, a run on one thread gives each its valid report, unless memory
 /// ran out or a read failed.
 pub fn valid_by_turns()
     ensures { ValidByTurns }

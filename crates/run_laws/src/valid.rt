@@ -1,4 +1,4 @@
-//! Laws of valid proofs. Each function does nothing; its contract is the law, which holds of every formula, layout, stream and run.
+//! Laws of valid proofs. Each function does nothing: its contract is the law, which holds of every formula, layout, stream and run.
 ghost use Rattle.run_laws.specs.AnyRun.{ValidInAnyRun};
 ghost use Rattle.run_laws.specs.Together.{ValidTogether, TogetherBegins};
 ghost use Rattle.run_laws.specs.ValidLaws.{ValidCiteWithin, ValidAccepted, ValidHasOneReport, ValidReported, ValidBegins, ValidCounted, EndedIsValid, ValidEmpty};
@@ -95,7 +95,7 @@ pub fn valid_empty()
     ensures { ValidEmpty }
 {}
 
-/// Where some legal history judges a closed set of streams, and one of them ended there, it has the same report in every run in which
+/// If some legal history judges a closed set of streams, and one of them ended there, it has the same report in every run in which
 /// its reader has the same bytes, and the set's other readers have at least theirs, unless memory ran out or a read failed; or a line
 /// of it cites a clause of another stream that wasn't there, or wasn't any more.
 pub fn valid_in_any_run()
@@ -108,7 +108,7 @@ pub fn valid_in_any_run()
     cited_fetched();
 }
 
-/// Where lines of a set of streams have a valid order, the report of each tells at least what its lines do, in every run in which the
+/// If lines of a set of streams have a valid order, the report of each tells at least what its lines do, in every run in which the
 /// readers begin with them, unless memory ran out, or a read failed, in these lines; or one of them cites a clause of another stream
 /// that wasn't there, or wasn't any more.
 pub fn together_begins()
@@ -124,7 +124,7 @@ pub fn together_begins()
     cited_fetched();
 }
 
-/// Where nothing comes behind a stream's lines, it ended, as its valid report says, unless memory ran out or a read failed; or a line
+/// If nothing comes behind a stream's lines, it ended, as its valid report says, unless memory ran out or a read failed; or a line
 /// of it cites a clause of another stream that wasn't there, or wasn't any more.
 pub fn valid_together()
     ensures { ValidTogether }
