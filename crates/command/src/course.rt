@@ -33,18 +33,18 @@ impl<'a> Course<'a> {
 /// A round whose streams are open.
 #[derive(Drop)]
 pub(crate) struct OpenRound<R: Drop> {
-    /// From 1 on.
+    /// The round's number, from 1 on.
     pub(crate) number: u64,
     pub(crate) sizes: Sizes,
     pub(crate) formula: Formula,
-    /// As many as the sizes have streams.
+    /// The readers of its streams, as many as the sizes say.
     pub(crate) readers: Vec<R>,
 }
 
 /// A round that was checked.
 #[derive(Drop)]
 pub(crate) struct LastRound {
-    /// From 1 on.
+    /// The round's number, from 1 on.
     pub(crate) number: u64,
     pub(crate) sizes: Sizes,
     pub(crate) found: RunResult,

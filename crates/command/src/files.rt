@@ -39,8 +39,7 @@ pub trait Files {
     /// A file that is open.
     type Input: Source + Send + Drop;
 
-    /// All bytes of the file at a path, if the device tells them: a file of the machine doesn't. They stay, however often it is
-    /// opened.
+    /// All bytes of the file at a path, if the device tells them: a file of the machine doesn't. They stay when it is opened.
     ghost tells: { Self → List ℕ → Option (List ℕ) };
 
     /// What an opening does: the files before it, the path, the file that is open then, and the files after it.

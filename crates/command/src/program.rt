@@ -1,4 +1,4 @@
-//! The program, but for the machine that it runs on.
+//! The whole program, over the files, threads, clock and sinks that its caller hands in.
 ghost use Rattle.std.specs.Prelude.{◌≡◌, ◌↔◌, ◌⊎◌, ◌≤◌, IsTrue, List, None, Some, false, is_err, true};
 ghost use Rattle.clap.specs.Walk.{texts};
 ghost use Rattle.dimacs.specs.FormulaText.{IsFormulaText};
@@ -26,18 +26,19 @@ use std::sync::Wait;
 use std::thread::Threads;
 use std::time::Clock;
 
-/// Runs `lrupd` with the words after the program's name, and gives the status that it ends with. In
-/// this order: the words are read, the formula's file is read and parsed, and so is that of the
-/// assumed literals, the streams are opened, and if they have a layout the checkpoint's file is
-/// created, the streams are checked, the checkpoint is saved, and the report goes to `out`. There is
-/// a checkpoint if the words have `--checkpoint`, and none is saved of a run whose verdict is
-/// 'unsatisfiable'. If the saving fails, `err` says why. If there is no report, `out` gets
-/// nothing, and `err` the cause. If the report can't be written, `out` has a beginning of it, and
-/// `err` says so. If the words have `--watch`, progress is reported on a watcher for each stream.
-/// If they have `--rounds`, the checkpoint of a round is the next one's formula; a round whose verdict is
-/// 'unknown', whose streams ended and whose checkpoint was saved is followed by the next one, on the
-/// clauses that were saved, with the sizes and the streams in the folder, if stream 1 is there; and
-/// the report is that of the last round. It blocks while a file does.
+/// Runs `lrupd` with the words after the program's name, and returns the exit status. In this order:
+///
+/// 1. The words are read, then the file of the formula, and it is parsed. So is the file of the assumed literals, if there is one.
+/// 2. The streams are opened. If they have a layout, and the words have `--checkpoint`, its file is created.
+/// 3. The streams are checked. If the words have `--watch`, each stream's progress is reported on a watcher.
+/// 4. The checkpoint is saved, unless the verdict is 'unsatisfiable'. If that fails, `err` says why.
+/// 5. If the words have `--rounds`, the checkpoint of a round is the next one's formula, and the folder has the next one's sizes and
+///    streams. A round is the last if its verdict isn't 'unknown', a stream didn't end, its checkpoint wasn't saved, or the folder has no
+///    stream 1 of the next.
+/// 6. The report goes to `out`: that of the last round.
+///
+/// If there is no report, `out` gets nothing, and `err` the cause. If the report can't be written, `out` has a beginning of it, and `err`
+/// says so. It blocks while a file does.
 ///
 /// | status | where |
 /// |---|---|
@@ -312,7 +313,7 @@ pub fn say<E: Sink>(fault: &CommandFault, err: &mut E) -> u8
     say_of_round(1, fault, err)
 }
 
-/// Reports a fault of a round, likewise.
+/// Reports a fault of a round, from 1 on, and gives the status, whether the fault could be written or not.
 fn say_of_round<E: Sink>(round: u64, fault: &CommandFault, err: &mut E) -> u8
     requires err { E.has_failed err.old ≡ false }
     ensures said { SinkTook (change (E.written err.old) (E.written err.new) (E.has_failed err.new))

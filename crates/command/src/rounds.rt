@@ -177,7 +177,7 @@ fn stream_paths(
     Ok(paths)
 }
 
-/// The path of one of them, from 1 on.
+/// The path of a round's stream `stream`, from 1 on.
 fn stream_path(alloc: Global, folder: &str, number: u64, stream: u64) -> Result<String, AllocError>
     ensures { IfOk result (λ path. string_bytes path ≡ stream_path folder.now number stream) }
 {
@@ -393,6 +393,7 @@ pub(crate) fn check_rounds<T: Threads + Wait + Sync, C: Clock + Sync, F: Machine
     if line.checkpoint.is_some() {
         return Err(of_first(CommandFault::TwoCheckpoints));
     }
+    // Laws, which do nothing: the proof uses that a checkpoint with no satisfying assignment refutes the formula before it.
     refutes_back();
     refutes_back_under();
     let begun = match begin(threads, alloc, &line, bytes, files) {

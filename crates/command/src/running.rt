@@ -54,9 +54,9 @@ pub(crate) struct PlainClauses {
 /// The clauses that a run left, and the identities that its streams dropped.
 #[derive(Drop)]
 pub(crate) enum LeftClauses {
-    /// At the store of streams with threads.
+    /// They lie in the store of a run with threads.
     Shared(SharedClauses),
-    /// At the map of streams on one thread.
+    /// They lie in the map of a run on one thread.
     Plain(PlainClauses),
 }
 
@@ -189,7 +189,7 @@ fn run_in_threads<T: Threads + Wait + Sync, C: Clock + Sync, F: Machine>(
     })
 }
 
-/// Writes the formula of the clauses that were left, but for those that all streams dropped.
+/// Writes the formula of the clauses that were left, except for those that all streams dropped.
 pub(crate) fn save_left<W: Sink>(
     alloc: Global,
     left: LeftClauses,
@@ -219,7 +219,7 @@ pub(crate) fn save_left<W: Sink>(
     }
 }
 
-/// Writes that formula, and gives it, for a later round to go on with.
+/// Writes the formula of the clauses that were left, as `save_left` does, and returns it, for a later round to go on with.
 pub(crate) fn carry_left<W: Sink>(
     alloc: Global,
     left: LeftClauses,
@@ -266,7 +266,7 @@ fn thread_gates<'a, C: Clock + Sync, F: Machine>(
     Ok(gates)
 }
 
-/// Such gates for streams that are checked by turns.
+/// A gate for each of `count` streams that are checked on one thread. If they are watched, each reports on a watcher of its own.
 fn turn_gates<'a, C: Clock + Sync, F: Machine>(
     alloc: Global,
     clock: &'a C,

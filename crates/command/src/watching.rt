@@ -65,7 +65,7 @@ fn begin_line(
     format!(in alloc; "lrupd: round {number}: {clauses} clauses, {literals} literals\n")
 }
 
-/// The same, after a pause of so many milliseconds.
+/// The line of a round that begins, with so many clauses and literals, after a pause of so many milliseconds.
 fn paused_line(
     alloc: Global,
     number: u64,

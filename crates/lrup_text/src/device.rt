@@ -42,7 +42,7 @@ pub trait Source {
 
     /// Reads bytes into the front of a buffer, and returns how many. 0 bytes, if the buffer isn't empty, are the end.
     ///
-    /// A read that fails gives no bytes, and the caller reads no more.
+    /// A read that fails gives no bytes, and no read follows.
     fn read(&mut self, buffer: &mut [u8]) -> Result<usize, ReadFault>
         requires { has_failed self.old ≡ false }
         ensures bound { IfOk result (λ count. count ≤ length buffer.new) }
@@ -66,7 +66,7 @@ pub trait Sink {
 
     /// Writes bytes from the front of a slice, and returns how many: at least one, if the slice isn't empty.
     ///
-    /// A write that fails writes nothing, and the caller writes no more.
+    /// A write that fails writes nothing, and no write follows.
     fn write(&mut self, bytes: &[u8]) -> Result<usize, WriteFault>
         requires { has_failed self.old ≡ false }
         ensures bound { IfOk result (λ count. count ≤ length bytes.now) }

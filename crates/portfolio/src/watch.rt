@@ -160,8 +160,8 @@ impl<G: Gate + Drop, C: Clock + Drop, S: Sink + Drop> Gate for Watch<G, C, S> {
     }
 }
 
-/// The gate of a stream that is checked by turns, and never waits, since no other stream publishes meanwhile. It reports likewise,
-/// but for the waits. A call before each fetch would cost each hint some instructions.
+/// The gate of a stream of a run on one thread. It never waits, since no other stream publishes meanwhile. It reports what a `Watch`
+/// does, except for waits: a call before each fetch would cost each hint some instructions.
 #[derive(Drop)]
 pub struct TurnWatch<C: Clock + Drop, S: Sink + Drop> {
     teller: Option<Teller<C, S>>,
