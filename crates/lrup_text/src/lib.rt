@@ -1,4 +1,5 @@
-//! Reads and writes the lines of a proof stream: the RUP part of LRAT text, in one exact spelling.
+//! Reads and writes the lines of a proof stream: the RUP part of LRAT text (Cruz-Filipe et al., CADE 2017), in one exact spelling, and
+//! imports, which are this project's own.
 #![tactic(auto)]
 
 ghost use Rattle.std.specs.Prelude.{◌↔◌, IsTrue};

@@ -35,7 +35,8 @@ impl Options {
     /// The greatest number of tries.
     pub const MAX_TRIES: u64 = Checker::MAX_TRIES;
 
-    /// A vacant hint is fetched again up to `tries` times, and each stream has `lines` identities and room for `room` literals.
+    /// A vacant hint is fetched again up to `tries` times, and each stream has `lines` identities and room for `room` literals. Whether a
+    /// formula and so many streams fit says `check_layout`.
     /// None exactly if there are more than 1,000,000 tries.
     pub fn new(tries: u64, lines: u64, room: u64) -> Option<Options>
         ensures none { IsNone result ↔ (max_tries < tries) }

@@ -17,13 +17,13 @@ pub enum Ending {
 /// How a stream is judged in the end.
 #[derive(Clone, Copy, Debug, PartialEq, Eq)]
 pub struct Report {
-    /// The good additions.
+    /// How many additions were good.
     pub added: u64,
-    /// The identities that deletions retired or dropped, also those before a bad one in its line.
+    /// How many identities deletions retired or dropped, also those before a bad one in its line. It stays at 2^64 - 1 once it is there.
     pub deleted: u64,
-    /// Whether a good addition has the empty clause.
+    /// Whether a good addition added the empty clause.
     pub empty: bool,
-    /// Whether a good addition's clause is within the cube: the cube has the complement of each of its literals.
+    /// Whether the cube makes the clause of a good addition false: it has the complement of each of its literals.
     pub within: bool,
     /// How the stream ended.
     pub ending: Ending,
