@@ -31,10 +31,10 @@ wanted_clauses wants clauses = wanted_of wants 1 (map live clauses)
 abbrev pub entry_of : CallerView → ClipValue → Entry
 entry_of view clip = record { id = clip.id; clause = clip_clause view clip }
 
--- those of clips, in order
+-- the clauses of clips, in order, with their identities
 abbrev pub entries_of : CallerView → List ClipValue → List Entry
 entries_of view clips = map (entry_of view) clips
 
--- the clauses alone
+-- the clauses without their identities
 abbrev pub clauses_of : List Entry → List Clause
 clauses_of entries = map (λ entry. entry.clause) entries

@@ -23,7 +23,7 @@ clause_line clause = flat_map (λ l. signed_decimal l ++ codes " ") clause ++ co
 abbrev pub entry_text : ℕ → Entry → List ℕ
 entry_text place entry = note entry.id place ++ clause_line entry.clause
 
--- those of clauses at the places from this one on
+-- the notes and lines of clauses at the places from this one on
 abbrev pub entries_text : ℕ → List Entry → List ℕ
 entries_text place [] = []
 entries_text place (entry ∷ entries) = entry_text place entry ++ entries_text (place + 1) entries

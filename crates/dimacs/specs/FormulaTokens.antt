@@ -35,7 +35,7 @@ abbrev pub InBodyOf : List Line → (ℕ → ℕ → List Token → Type 0) → 
 InBodyOf [] P = ⊥
 InBodyOf (header ∷ lines) P = AfterHeader header lines P
 
--- so for the lines of a whole file, as bytes
+-- the same of the lines of a whole file, given as bytes
 abbrev pub InBody : List ℕ → (ℕ → ℕ → List Token → Type 0) → Type 0
 InBody bytes P = InBodyOf (lines_of bytes) P
 

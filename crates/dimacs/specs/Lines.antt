@@ -42,7 +42,7 @@ lines_from number (line ∷ lines) =
     if is_comment line || is_empty (runs line) then lines_from (number + 1) lines
     else record { number = number; tokens = runs line } ∷ lines_from (number + 1) lines
 
--- those of a whole file
+-- the lines of a whole file that are no comments and hold a token
 abbrev pub lines_of : List ℕ → List Line
 lines_of bytes = lines_from 1 (slice_split ends_line bytes)
 

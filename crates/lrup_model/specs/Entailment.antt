@@ -13,11 +13,11 @@ abbrev pub MakesTrue : Assignment → ℤ → Type 0
 MakesTrue assignment (pos v) = assignment v ≡ true
 MakesTrue assignment (negsuc v) = assignment (suc v) ≡ false
 
--- it makes some literal of the clause true
+-- the assignment makes some literal of the clause true
 abbrev pub Satisfies : Assignment → Clause → Type 0
 Satisfies assignment clause = (l : ℤ) × Has clause l × MakesTrue assignment l
 
--- it satisfies every clause of the formula
+-- the assignment satisfies every clause of the formula
 abbrev pub SatisfiesAll : Assignment → Cnf → Type 0
 SatisfiesAll assignment formula = AllByRecursion (Satisfies assignment) formula.clauses
 

@@ -35,16 +35,16 @@ IsCubeLine limits bytes = (words : List (List ℕ))
 abbrev pub BeginsOne : (Limits → List ℕ → Type 0) → Limits → List ℕ → Type 0
 BeginsOne IsOne limits bytes = (rest : List ℕ) × IsOne limits (bytes ++ rest)
 
--- they begin one if the limits are lifted
+-- the bytes begin a text if the limits are lifted
 abbrev pub BeginsOneLifted : (Limits → List ℕ → Type 0) → List ℕ → Type 0
 BeginsOneLifted IsOne bytes =
     (limits : Limits) × AreLifted false limits × BeginsOne IsOne limits bytes
 
--- they begin one, and are none
+-- the bytes begin a text, and are none
 abbrev pub BreaksOff : (Limits → List ℕ → Type 0) → List ℕ → Type 0
 BreaksOff IsOne bytes = BeginsOne IsOne standard bytes × ¬ IsOne standard bytes
 
--- they begin none, and what holds of their shortest beginning that begins none
+-- the bytes begin no text, and this holds of their shortest beginning that begins none
 pub record BeginsNone (IsOne : Limits → List ℕ → Type 0) (bytes : List ℕ)
     (Shortest : List ℕ → Type 0) : Type 0 where
   pub read : List ℕ
@@ -55,7 +55,7 @@ pub record BeginsNone (IsOne : Limits → List ℕ → Type 0) (bytes : List ℕ
   pub none : ¬ BeginsOne IsOne standard (read ++ byte ∷ [])
   pub shortest : Shortest (read ++ byte ∷ [])
 
--- why they are none
+-- why the bytes are no text
 abbrev pub IsTextFault : (Limits → List ℕ → Type 0) → List ℕ → CubeFault → Type 0
 IsTextFault IsOne bytes Spelling =
     BreaksOff IsOne bytes ⊎ BeginsNone IsOne bytes (λ shortest. ¬ BeginsOneLifted IsOne shortest)

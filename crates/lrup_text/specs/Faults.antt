@@ -12,7 +12,7 @@ IsLineFaultOf bytes TooLong = BeginsLifted false bytes
 IsLineFaultOf bytes Truncated = ⊥
 IsLineFaultOf bytes RatHint = ¬ BeginsLifted false bytes × BeginsLifted true bytes
 
--- It is the shortest text that begins no line, with this fault, and no line is whole in it: what stands
+-- The text is the shortest one that begins no line, with this fault, and no line is whole in it: what stands
 -- before its last byte may still become one.
 pub record IsRefused (bytes : List ℕ) (fault : LineFault) : Type 0 where
   pub read : List ℕ

@@ -90,11 +90,11 @@ text (Imports id lits) = id ++ (codes " i" ++ list_text lits)
 abbrev pub IsLine : Limits → List ℕ → Type 0
 IsLine limits bytes = (words : Words) × AreWordsWithin limits words × (bytes ≡ text words)
 
--- it begins a line
+-- the bytes begin a line
 abbrev pub Begins : List ℕ → Type 0
 Begins bytes = (rest : List ℕ) × IsLine standard (bytes ++ rest)
 
--- it begins a line if the limits are lifted, with signed hints or without
+-- the bytes begin a line if the limits are lifted, with signed hints or without
 abbrev pub BeginsLifted : Bool → List ℕ → Type 0
 BeginsLifted signed bytes =
     (limits : Limits) × (rest : List ℕ) × AreLifted signed limits × IsLine limits (bytes ++ rest)

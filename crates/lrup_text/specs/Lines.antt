@@ -32,7 +32,7 @@ IsStreamNumber number = (0 < number) × (number < 10 ^ 18)
 abbrev pub IsStreamLiteral : ℤ → Type 0
 IsStreamLiteral literal = IsStreamNumber (unsigned_abs literal)
 
--- it has a text within the limits of a stream
+-- the line has a text within the limits of a stream
 abbrev pub IsWithinLimits : StreamLine → Type 0
 IsWithinLimits (Addition id lits hints) =
     IsStreamNumber id × AreFew 65535 IsStreamLiteral lits × AreFew 65536 IsStreamNumber hints

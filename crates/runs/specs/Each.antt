@@ -7,7 +7,7 @@ Each Holds s [] [] = Unit {0}
 Each Holds s (x ∷ xs) (y ∷ ys) = Holds s x y × Each Holds (s + 1) xs ys
 Each Holds s _ _ = ⊥
 
--- the same of three lists
+-- The three lists have one length, and this holds of what they have of each stream. The streams are counted on from s.
 abbrev pub EachOfThree : {X Y Z : Type 0} → (ℕ → X → Y → Z → Type 0) → ℕ → List X → List Y
     → List Z → Type 0
 EachOfThree Holds s [] [] [] = Unit {0}

@@ -109,7 +109,7 @@ IsDecided (endings.Bad line fault) = ¬ (fault ≡ faults.Text texts.Truncated)
 IsDecided (endings.ReadFailed line) = ⊥
 IsDecided (endings.Memory line) = Unit {0}
 
--- so a report with such an ending is right for either end, and whatever follows
+-- a report with such an ending is right for either end, and whatever follows
 abbrev pub EitherEnd : Type 0
 EitherEnd = (c : StreamParams) (bytes more : List ℕ) (end other : StreamEnd) (blocks : List History)
     (report : Report)
@@ -156,7 +156,7 @@ ReadyStays = (v : CheckerValue) (p q : CallerView) (es : History)
     → ((id : ℕ) → Owns p.caller.layout p.caller.stream id → q.own id ≡ run p.own es id)
     → IsReadyAt v q
 
--- so at the map of one thread, after the calls of another stream
+-- a checker that may be fed at the map of one thread may be fed there after the calls of another stream
 abbrev pub ReadyBeside : Type 0
 ReadyBeside = (v : CheckerValue) (old new : Plain) (t : ℕ) (es : History)
     → IsReadyAt v (plain_caller_view old v.params.stream) → PlainMoves old new t es
@@ -211,7 +211,7 @@ abbrev pub LegalNeverFork : Type 0
 LegalNeverFork = (f : Cnf) (p : LayoutValue) (m : State) (g h : History) → LegalFrom f p m g
     → LegalFrom f p m h → NeverFork g h
 
--- so one stream alone has one report, whatever legal history it has
+-- one stream alone has one report, whatever legal history it has
 abbrev pub AloneDecides : Type 0
 AloneDecides = (f : Cnf) (p : LayoutValue) (c : StreamParams) (bytes : List ℕ) (end : StreamEnd)
     (g h : History) (report other : Report)
@@ -256,7 +256,7 @@ ReducedLine =
     (c : StreamParams) (st : StreamContext) (line : StreamLine) (es : History) (v : LineVerdict)
     → JudgesLine c st line es v → JudgesLine c st line (reduced es) v
 
--- and so is a stream
+-- a stream without the vacant fetches of the hints that its lines found is judged alike
 abbrev pub ReducedStream : Type 0
 ReducedStream = (c : StreamParams) (bytes : List ℕ) (end : StreamEnd) (blocks : List History)
     (report : Report)
