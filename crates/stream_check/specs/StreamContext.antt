@@ -14,6 +14,13 @@ pub record StreamContext : Type 0 where
   pub free : ℕ
   pub gone : ℕ → Bool
 
+-- What a valid line stands on: the greatest identity that was added, the room that is left, and which clauses the identities name
+-- that it cites.
+pub record LineContext : Type 1 where
+  pub last : ℕ
+  pub free : ℕ
+  pub Names : List ℕ → List Clause → Type 0
+
 -- the identity and the clause of each addition among the lines, in order
 abbrev pub additions_of : List StreamLine → List (ℕ × Clause)
 additions_of [] = []
