@@ -341,10 +341,10 @@ RIGHT_TOP = """The theorems above speak of the reports that came. These laws say
 RIGHT_ROWS: Rows = [
     ("A line is valid by the formula and the lines before it.", """[[IsValidLine]] holds with the [[Database]] that these
      lines leave. An addition has an own identity above the last one, literals over the variables, and room. Its hints name
-     clauses that are there ([[database_context]]), and these show its clause ([[Accepts]]). By the same relation,
-     [[IsValidAddition]], streams are judged. A deletion names clauses that are there, each once
-     ([[IsValidDeletion: there : AllByRecursion (λ id. IsSome (base.clauses id)) ids]]). An import has the literals of a
-     clause that is there and isn't the stream's own ([[IsValidImport: there : base.clauses id ≡ Some clause]])."""),
+     clauses that are there ([[database_context]]), and these show its clause ([[IsValidAddition]], [[Accepts]]). An import has
+     the literals of a clause that is there and isn't the stream's own ([[IsValidImport: other : ¬ Owns layout stream id]]). By
+     the same relations streams are judged. A deletion names clauses that are there, each once ([[IsValidDeletion: there :
+     AllByRecursion (λ id. IsSome (base.clauses id)) ids]])."""),
     ("Whether that is LRAT without RAT, a reader has to judge.", """[EMITTING](EMITTING.md#what-differs-from-lrat) has the
      differences."""),
     ("A stream of valid lines is reported as ended, with its additions and deletions counted, unless memory ran out or a "

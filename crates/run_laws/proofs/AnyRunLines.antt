@@ -19,8 +19,8 @@ use Rattle.stream_check.specs.declared.fault.Fault.TheVariants as faults
 use Rattle.stream_check.specs.declared.params.Ownership.{Ownership}
 use Rattle.stream_check.specs.declared.params.Ownership.TheVariants as ownerships
 use Rattle.stream_check.specs.lemmas.AdditionLemmas.{run-fetches, valid_passes, found_live, no_help, refutes_on}
-use Rattle.stream_check.specs.Additions.{AreFound, FailsBy, FailsHints, JudgesAddition, published_by}
-use Rattle.stream_check.specs.Lookup.{AsksAt, answer_of, LooksUp}
+use Rattle.stream_check.specs.Additions.{FailsBy, FailsHints, JudgesAddition, published_by}
+use Rattle.stream_check.specs.Lookup.{AsksAt, answer_of, LooksUp, AreFound}
 use Rattle.stream_check.specs.internal.Checking.{IsFetch}
 use Rattle.stream_check.specs.Deletions.{IsRetire, DeletesAt, JudgesDeletion}
 use Rattle.stream_check.specs.lemmas.EventLemmas.{found_all, addition_all, import_all}
@@ -208,18 +208,19 @@ import_agrees : (c : StreamParams) (Mine Theirs : ℕ → Clause → Type 0) (m 
     (deleted : ℕ) (fault : Fault)
     → FindAlike c Mine Theirs → JudgesImport c st id lits fs Good → AreFair c Mine m fs → AreFair c Theirs m es
     → JudgesImport c st id lits es (Bad deleted fault) → Lacks c Mine fault
-import_agrees c Mine Theirs m st id lits fs es deleted fault alike good mine theirs (none, inl bad) = absurd (bad.0 good.shared)
+import_agrees c Mine Theirs m st id lits fs es deleted fault alike good mine theirs (none, inl bad) =
+    absurd (bad.0 (good.identity, good.other))
 import_agrees c Mine Theirs m st id lits fs es deleted fault alike good mine theirs (none, inr (a, inl bad)) = absurd (bad.0 good.literals)
 import_agrees c Mine Theirs m st id lits fs es deleted fault alike good mine theirs (none, inr (a, inr (b, inl unfound))) =
-    let both = looks_agree c Mine Theirs m st.gone id fs fs [] es es [] good.clause (Err fault) alike (sym (append-nil fs))
-    (sym (append-nil es)) mine theirs good.found unfound in
+    let both = looks_agree c Mine Theirs m st.gone id fs good.named.0 good.named.1 es es [] good.clause (Err fault) alike
+    good.named.2 (sym (append-nil es)) mine theirs good.named.3 unfound in
     elim both.that [
       | inl that ↦ absurd (cc)
       | inr lack ↦ lacks_it c Mine id good.clause lack.0 fault (let is = lack.1 in cc) lack.2
     ]
 import_agrees c Mine Theirs m st id lits fs es deleted fault alike good mine theirs (none, inr (a, inr (b, inr differs))) =
-    let both = looks_agree c Mine Theirs m st.gone id fs fs [] es es [] good.clause (Ok differs.0) alike (sym (append-nil fs))
-    (sym (append-nil es)) mine theirs good.found differs.1 in
+    let both = looks_agree c Mine Theirs m st.gone id fs good.named.0 good.named.1 es es [] good.clause (Ok differs.0) alike
+    good.named.2 (sym (append-nil es)) mine theirs good.named.3 differs.1 in
     elim both.that [
       | inl that ↦
           let same : good.clause ≡ differs.0 = cc in

@@ -12,43 +12,18 @@ use Rattle.stream_check.specs.StreamParams.{StreamParams}
 use Rattle.stream_check.specs.StreamContext.{StreamContext, context_of, deleted_by}
 use Rattle.stream_check.specs.Verdicts.{LineVerdict, Good, Bad}
 use Rattle.stream_check.specs.Judging.{JudgesLine, AreGood, EndsAfter, at_bad_line, at_bad_text, at_memory, at_end, joined}
-use Rattle.stream_check.specs.Reducing.{IsEarly}
 use Rattle.stream_check.specs.Laws.{EarlyEvents, VacantTriesAgain}
 use Rattle.stream_check.specs.lemmas.ReportLemmas.{split_first, joined-append}
-use Rattle.run_laws.specs.Lines.{IsEarlyBefore, AreEarly, IsLineBlock}
+use Rattle.run_laws.specs.Lines.{IsLineBlock}
 use Rattle.run_laws.specs.OrderLaws.{JudgedBlocks, RetiresOnly, DeletedRetired}
 use Rattle.run_laws.proofs.KindLemmas.{line_last, line_retires}
-
--- Early events
-
-last_of : (e : Event) (es : History) → (front : History) × (last : Event) × (e ∷ es ≡ front ++ last ∷ [])
-last_of e [] = ([], e, refl)
-last_of e (d ∷ es) =
-    let rest : (front : History) × (last : Event) × (d ∷ es ≡ front ++ last ∷ []) = last_of d es in
-    (e ∷ rest.0, rest.1, ap (λ (g : History). e ∷ g) rest.2)
-
-abbrev EarlyFront : History → Type 0
-EarlyFront es = (front : History) (last : Event) → es ≡ front ++ last ∷ [] → AllByRecursion IsEarly front
-
-early_before : (e : Event) (es : History) → EarlyFront (e ∷ es) → IsEarlyBefore es e
-early_before e [] early = tt
-early_before e (d ∷ es) early =
-    let rest : (front : History) × (last : Event) × (d ∷ es ≡ front ++ last ∷ []) = last_of d es in
-    (early (e ∷ rest.0) rest.1 (ap (λ (g : History). e ∷ g) rest.2)).0
-
-are_early : (es : History) → EarlyFront es → AreEarly es
-are_early [] early = tt
-are_early (e ∷ es) early = (
-  early_before e es early,
-  are_early es (λ front last is. (early (e ∷ front) last (ap (λ (g : History). e ∷ g) is)).1),
-)
 
 -- The blocks of a stream
 
 module _ (early_events : EarlyEvents) (vacant_tries_again : VacantTriesAgain) (c : StreamParams) where
   line_block : (st : StreamContext) (line : StreamLine) (es : History) (v : LineVerdict) → JudgesLine c st line es v → IsLineBlock es
   line_block st line es v judged = record {
-    early = are_early es (λ front last is. early_events c st line es front last v judged is);
+    early = early_events c st line es v judged;
     again = vacant_tries_again c st line es v judged;
     apart = line_last c st line es v judged;
   }

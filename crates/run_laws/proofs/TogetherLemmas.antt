@@ -269,7 +269,7 @@ line_cites : (p : LayoutValue) (set : ℕ → Bool) (s : ℕ) (base : Database) 
     → IsValidLine p s base line → AllByRecursion (IsOwnedWithin p set) (cited_by line)
 line_cites p set s base (Addition id lits hints) within valid = named_within p set base hints valid.clauses within valid.named
 line_cites p set s base (Deletion lead ids) within valid = tt
-line_cites p set s base (Import id lits) within valid = (within id valid.clause valid.there, tt)
+line_cites p set s base (Import id lits) within valid = (within id valid.clause valid.named.0, tt)
 
 owned_by_member : (p : LayoutValue) (set : ℕ → Bool) (s id : ℕ) → IsTrue (set s) → Owns p s id → IsOwnedWithin p set id
 owned_by_member p set s id member owns t theirs = subst (λ (n : ℕ). IsTrue (set n)) (one_owner p s t id owns theirs) member

@@ -57,7 +57,7 @@ lines_near f p s (Deletion lead ids ∷ lines) base near valid = (
   lines_near f p s lines (after_line base (Deletion lead ids)) (λ j d is. near j d (left (is_among ids j) (base.clauses j) d is).1) valid.1,
 )
 lines_near f p s (Import id lits ∷ lines) base near valid =
-    ((near id valid.0.clause valid.0.there, tt), lines_near f p s lines base near valid.1)
+    ((near id valid.0.clause valid.0.named.0, tt), lines_near f p s lines base near valid.1)
 
 pub valid_cite_within : EmptyCut → ValidCiteWithin
 valid_cite_within empty_cut f p s bytes lines fits valid = record {

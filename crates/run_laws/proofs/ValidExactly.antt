@@ -24,13 +24,13 @@ use Rattle.stream_check.specs.declared.fault.Fault.TheVariants as faults
 use Rattle.stream_check.specs.declared.params.Ownership.{Ownership}
 use Rattle.stream_check.specs.declared.params.Ownership.TheVariants as ownerships
 use Rattle.stream_check.specs.lemmas.AdditionLemmas.{run-fetches, found_live}
-use Rattle.stream_check.specs.Additions.{AreFound, IsValidAddition, published_by, JudgesAddition}
+use Rattle.stream_check.specs.Additions.{IsValidAddition, published_by, JudgesAddition}
 use Rattle.stream_check.specs.Laws.{cited_by, OverStays}
 use Rattle.stream_check.specs.internal.Checking.{IsFetch}
 use Rattle.stream_check.specs.Judging.{JudgesLine, AreGood, joined}
-use Rattle.stream_check.specs.Lookup.{AsksAt, Asks}
+use Rattle.stream_check.specs.Lookup.{AsksAt, Asks, AreFound}
 use Rattle.stream_check.specs.Deletions.{DeletesAt, JudgesDeletion}
-use Rattle.stream_check.specs.Imports.{JudgesImport}
+use Rattle.stream_check.specs.Imports.{IsValidImport, JudgesImport}
 use Rattle.stream_check.specs.Reaching.{SameContext, context_after}
 use Rattle.stream_check.specs.lemmas.ReportLemmas.{joined-append}
 use Rattle.stream_check.specs.lemmas.ContextLemmas.{context_of-snoc}
@@ -41,7 +41,6 @@ use Rattle.runs.specs.Streams.{stream_params}
 use Rattle.runs.specs.Closed.{IsOwnedWithin}
 use Rattle.run_laws.specs.Groups.{one}
 use Rattle.run_laws.specs.Valid.{Database, first_database, after_line, database_context, AreValid, AreDistinct, IsValidDeletion}
-use Rattle.run_laws.specs.Valid.{IsValidImport}
 use Rattle.run_laws.specs.ValidLaws.{EndedIsValid}
 use Rattle.run_laws.proofs.AloneLemmas.{alone_judged, own-one}
 use Rattle.run_laws.proofs.AnyRunLines.{IsNear, AreFair, IsAsked, asked_fair, fails_not, good_runs}
@@ -411,19 +410,17 @@ deletion_mirrors f c Found m base before lead ids es a within fair judged =
 
 pub valid_import : (f : Cnf) (c : StreamParams) (Found : ℕ → Clause → Type 0) (m : State) (base : Database) (st : StreamContext) (id : ℕ)
     (lits : List ℤ) (es : History)
-    → Fits c.layout f → Mirrors f c base st m → IsOwnedWithin c.layout (one c.stream) id → AreFair c Found m es
-    → JudgesImport c st id lits es Good → IsValidImport c.layout c.stream base id lits
-valid_import f c Found m base st id lits es fits a within fair judged =
-    let was = found_live c st.gone id es judged.clause judged.found in
-    let near = near_or_outside c id within (not_outside c id es judged.clause was.1) in
-    let here = asked_fair (ownership_of c id) c Found m id es [] (events.live judged.clause) refl was.1
-    (subst (AreFair c Found m) (sym (append-nil es)) fair) in
-    record {
-      other = λ owns. true≢false (sym judged.shared ∙ ap is_shared (own_ownership c id owns));
-      clause = judged.clause;
-      there = a.there id judged.clause near (here.near near) was.0;
-      same = judged.same;
-    }
+    → Mirrors f c base st m → IsOwnedWithin c.layout (one c.stream) id → AreFair c Found m es
+    → JudgesImport c st id lits es Good → IsValidImport c.layout c.stream (database_context base) id lits
+valid_import f c Found m base st id lits es a within fair good = record {
+  identity = good.identity;
+  other = good.other;
+  literals = good.literals;
+  clause = good.clause;
+  named = found_named f c Found m base st (id ∷ []) (good.clause ∷ []) es [] a (within, tt) good.named
+      (subst (AreFair c Found m) (sym (append-nil es)) fair);
+  same = good.same;
+}
 
 pub import_mirrors : (f : Cnf) (c : StreamParams) (m n : State) (base : Database) (before : List StreamLine) (id : ℕ)
     (lits : List ℤ) (es : History)
@@ -444,34 +441,34 @@ import_mirrors f c m n base before id lits es judged same a =
 
 -- All lines
 
-lines_valid : (f : Cnf) (c : StreamParams) (Found : ℕ → Clause → Type 0) → Fits c.layout f
+lines_valid : (f : Cnf) (c : StreamParams) (Found : ℕ → Clause → Type 0)
     → (before lines : List StreamLine) (blocks : List History) (base : Database) (m : State)
     → Mirrors f c base (context_of c before) m → AreGood c before lines blocks → AreFair c Found m (joined blocks)
     → AllByRecursion (CitesNear c) lines → AllByRecursion (DeletesNear c) lines → AreValid c.layout c.stream base lines
-lines_valid f c Found fits before [] blocks base m a good fair cites deletes = tt
-lines_valid f c Found fits before (line ∷ lines) [] base m a good fair cites deletes = absurd good
-lines_valid f c Found fits before (Addition id lits hints ∷ lines) (block ∷ blocks) base m a good fair cites deletes =
+lines_valid f c Found before [] blocks base m a good fair cites deletes = tt
+lines_valid f c Found before (line ∷ lines) [] base m a good fair cites deletes = absurd good
+lines_valid f c Found before (Addition id lits hints ∷ lines) (block ∷ blocks) base m a good fair cites deletes =
     let line = Addition id lits hints in
     let here : AreFair c Found m block = fair_front c Found m block (joined blocks) fair in
     let st = context_of c before in (
       valid_addition f c Found m base st id lits hints block a cites.0 good.0 here,
-      lines_valid f c Found fits (before ++ line ∷ []) lines blocks (after_line base line) (run m block)
+      lines_valid f c Found (before ++ line ∷ []) lines blocks (after_line base line) (run m block)
           (addition_mirrors f c m base before id lits hints block a good.0) good.1
           (fair_back c Found m block (joined blocks) fair) cites.1 deletes.1,
     )
-lines_valid f c Found fits before (Deletion lead ids ∷ lines) (block ∷ blocks) base m a good fair cites deletes =
+lines_valid f c Found before (Deletion lead ids ∷ lines) (block ∷ blocks) base m a good fair cites deletes =
     let line = Deletion lead ids in
     let here : AreFair c Found m block = fair_front c Found m block (joined blocks) fair in (
       valid_deletion f c Found m base (context_of c before) ids block a deletes.0 here good.0,
-      lines_valid f c Found fits (before ++ line ∷ []) lines blocks (after_line base line) (run m block)
+      lines_valid f c Found (before ++ line ∷ []) lines blocks (after_line base line) (run m block)
           (deletion_mirrors f c Found m base before lead ids block a deletes.0 here good.0) good.1
           (fair_back c Found m block (joined blocks) fair) cites.1 deletes.1,
     )
-lines_valid f c Found fits before (Import id lits ∷ lines) (block ∷ blocks) base m a good fair cites deletes =
+lines_valid f c Found before (Import id lits ∷ lines) (block ∷ blocks) base m a good fair cites deletes =
     let line = Import id lits in
     let here : AreFair c Found m block = fair_front c Found m block (joined blocks) fair in (
-      valid_import f c Found m base (context_of c before) id lits block fits a cites.0.0 here good.0,
-      lines_valid f c Found fits (before ++ line ∷ []) lines blocks (after_line base line) (run m block)
+      valid_import f c Found m base (context_of c before) id lits block a cites.0.0 here good.0,
+      lines_valid f c Found (before ++ line ∷ []) lines blocks (after_line base line) (run m block)
           (import_mirrors f c m (run m block) base before id lits block good.0
           (run-fetches m block (import_all c IsFetch (λ h r. tt) (context_of c before) id lits block Good good.0)) a)
           good.1 (fair_back c Found m block (joined blocks) fair) cites.1 deletes.1,
@@ -519,7 +516,7 @@ ended_is_valid stays one_cut empty_cut f run_params s bytes report fits cites de
       record {
         text = text;
         fits = its.fits;
-        valid = lines_valid f c Anything fits [] its.lines its.front (first_database f run_params.layout) (opening f)
+        valid = lines_valid f c Anything [] its.lines its.front (first_database f run_params.layout) (opening f)
             (first_mirrors f c fits) its.good front cited deleted;
       },
     )

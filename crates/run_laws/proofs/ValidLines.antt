@@ -1,13 +1,11 @@
 -- Valid lines are judged good, by events that a legal history may go on with.
-use Rattle.std.proofs.Common.{◌≡◌, ◌≢◌, ◌⊎◌, ◌<◌, ◌≤◌, ◌+◌, ◌-◌, ◌%◌, ℕ, ℤ, nat_abs, Bool, true, false, cond, eqb, List, [], ◌∷◌, ◌++◌}
+use Rattle.std.proofs.Common.{◌≡◌, ◌≢◌, ◌⊎◌, ◌<◌, ◌≤◌, ◌+◌, ◌-◌, ◌%◌, ℕ, ℤ, Bool, true, false, cond, eqb, List, [], ◌∷◌, ◌++◌}
 use Rattle.std.proofs.Common.{length, Option, Some, None, inl, inr, refl, sym, ap, subst, ◌∙◌, arith, eq-eqb, ne_eqb, leb, leb-true}
 use Rattle.std.specs.Prelude.{IsSome, ◌&&◌, ◌||◌, ◌==◌}
 use Rattle.std.specs.List.{AllByRecursion, AllZip, sum_by}
 use Rattle.std.proofs.lemmas.Bool.{cases_Bool, cases_eq, cond-true, cond-false, true≢false}
 use Rattle.std.proofs.lemmas.List.Sums.{sum_by-append, sum_by-cons}
-use Rattle.lrup_model.specs.Literal.{IsLiteral}
 use Rattle.lrup_model.specs.Clause.{Clause, IsClause}
-use Rattle.lrup_model.specs.lemmas.ClauseLemmas.{All-Has, All-from_Has}
 use Rattle.lrup_model.specs.Distinct.{distinct}
 use Rattle.lrup_model.specs.lemmas.DistinctLemmas.{IsClause-distinct, length-distinct}
 use Rattle.lrup_model.specs.Entailment.{Follows}
@@ -30,9 +28,10 @@ use Rattle.lrup_text.specs.Lines.{StreamLine, Addition, Deletion, Import, IsWith
 use Rattle.stream_check.specs.declared.params.Ownership.{Ownership}
 use Rattle.stream_check.specs.declared.params.Ownership.TheVariants as ownerships
 use Rattle.stream_check.specs.lemmas.AdditionLemmas.{literals_within}
-use Rattle.stream_check.specs.Additions.{AreFound, IsValidAddition, published_by}
-use Rattle.stream_check.specs.Lookup.{AsksAt, Asks}
+use Rattle.stream_check.specs.Additions.{IsValidAddition, published_by}
+use Rattle.stream_check.specs.Lookup.{AsksAt, Asks, AreFound}
 use Rattle.stream_check.specs.Deletions.{DeletesAt, DropsThen, JudgesDeletion}
+use Rattle.stream_check.specs.Imports.{IsValidImport}
 use Rattle.stream_check.specs.Judging.{JudgesLine}
 use Rattle.stream_check.specs.Reaching.{context_after}
 use Rattle.stream_check.specs.StreamParams.{StreamParams, ownership_of, is_shared}
@@ -41,7 +40,7 @@ use Rattle.stream_check.specs.Verdicts.{Good}
 use Rattle.run_laws.proofs.VerdictLemmas.{or_none}
 use Rattle.run_laws.specs.Together.{is_own, beside_line}
 use Rattle.run_laws.proofs.SwapLemmas.{mine_or_not}
-use Rattle.run_laws.specs.Valid.{Database, after_line, database_context, AreDistinct, IsValidDeletion, IsValidImport, IsValidLine}
+use Rattle.run_laws.specs.Valid.{Database, after_line, database_context, AreDistinct, IsValidDeletion, IsValidLine}
 
 -- Whose an identity is
 
@@ -523,35 +522,26 @@ deletion_goes f c base st m lead ids a valid =
 
 -- Imports
 
-not_own : (c : StreamParams) (id : ℕ) → IsOneOf c.layout id → ¬ Owns c.layout c.stream id → is_shared (ownership_of c id) ≡ true
-not_own c id (inl is) other = ap is_shared (formulas_ownership c id is)
-not_own c id (inr its) other = elim (cases_eq its.0 c.stream) [
-  | inl same ↦ absurd (other (subst (λ (t : ℕ). Owns c.layout t id) same its.1))
-  | inr apart ↦ ap is_shared (others_ownership c id its.0 its.1 apart)
-]
-
 import_goes : (f : Cnf) (c : StreamParams) (base : Database) (st : StreamContext) (m : State) (id : ℕ) (lits : List ℤ)
-    → Fits c.layout f → 0 < c.layout.streams → Agrees f c.layout c.stream base st m → IsValidImport c.layout c.stream base id lits
-    → Goes f c base st m (Import id lits)
-import_goes f c base st m id lits fits some a valid =
+    → 0 < c.layout.streams → Agrees f c.layout c.stream base st m
+    → IsValidImport c.layout c.stream (database_context base) id lits → Goes f c base st m (Import id lits)
+import_goes f c base st m id lits some a valid =
     let d = valid.clause in
-    let known = a.known id d valid.there in
-    let e = events.fetch c.stream id (events.live d) in
+    let found : Finds f c st.gone m (id ∷ []) (d ∷ []) = finds f c base st m (id ∷ []) (d ∷ []) some a valid.named in
     record {
-      block = e ∷ [];
+      block = found.fetches;
       judged = record {
-        shared = not_own c id known valid.other;
-        literals = All-from_Has (λ l. nat_abs l ≤ c.layout.vars) lits (λ l has.
-            let within = All-Has (IsLiteral f.vars) d l (a.sound id d valid.there).0.literals ((valid.same l).1 has) in
-            omega (arith, within.1, fits.vars));
+        identity = valid.identity;
+        other = valid.other;
+        literals = valid.literals;
         clause = d;
-        found = inr (a.kept id d valid.there, events.live d, asks_once c id d known, refl);
+        named = found.found;
         same = valid.same;
       };
-      legal = (a.there id d valid.there, is_identity c.layout id some known, tt);
-      callers = (refl, tt);
-      room = omega (arith, sum_by-cons size_of e []);
-      next = record {
+      legal = found.legal;
+      callers = found.callers;
+      room = omega (arith, found.size);
+      next = subst (Agrees f c.layout c.stream base (context_after c st (Import id lits))) (sym found.still) (record {
         last = a.last;
         free = omega (arith, a.free);
         there = a.there;
@@ -561,8 +551,8 @@ import_goes f c base st m id lits fits some a valid =
         own = λ j owns. neither (st.gone j) (is_shared (ownership_of c j)) (a.own j owns);
         unseen = λ j is. neither (st.gone j) (is_shared (ownership_of c j)) (a.unseen j is);
         vacant = a.vacant;
-      };
-      beside = λ t its also other b. b;
+      });
+      beside = λ t its also other b. subst (Agrees f c.layout t its also) (sym found.still) b;
     }
 
 -- a valid line goes on
@@ -572,4 +562,4 @@ pub line_goes : (f : Cnf) (c : StreamParams) (base : Database) (st : StreamConte
 line_goes f c base st m (Addition id lits hints) fits some a limits valid =
     addition_goes f c base st m id lits hints fits some a limits valid
 line_goes f c base st m (Deletion lead ids) fits some a limits valid = deletion_goes f c base st m lead ids a valid
-line_goes f c base st m (Import id lits) fits some a limits valid = import_goes f c base st m id lits fits some a valid
+line_goes f c base st m (Import id lits) fits some a limits valid = import_goes f c base st m id lits some a valid

@@ -12,7 +12,7 @@ use Rattle.lrup_model.specs.State.{Answers}
 use Rattle.lrup_model.specs.declared.clause_map.Retired.{Retired}
 use Rattle.lrup_model.specs.lemmas.HistoryLemmas.{own-mine, own-other}
 use Rattle.stream_check.specs.Judging.{joined}
-use Rattle.stream_check.specs.Reducing.{is_vacant, IsEarly, IsFetchOf, TriesAgain, reduced}
+use Rattle.stream_check.specs.Reducing.{is_vacant, IsEarly, StartsWithFetchOf, TriesAgain, reduced}
 use Rattle.stream_check.specs.lemmas.ReducingLemmas.{reduced_kept, reduced_left_out, all_vacant_stay}
 use Rattle.runs.specs.Streams.{Block, blocks_of}
 use Rattle.stream_check.specs.internal.Checking.{IsFetch}
@@ -33,7 +33,7 @@ reduced-one (events.publish s id c r) = refl
 reduced-one (events.retire s id r) = refl
 
 -- a vacant fetch of a stream, of an identity
-same_fetch : (s id : ℕ) (d : Event) (es : History) → stream_of d ≡ s → IsFetchOf id d → list_all is_vacant (d ∷ es) ≡ true
+same_fetch : (s id : ℕ) (d : Event) (es : History) → stream_of d ≡ s → StartsWithFetchOf id (d ∷ es) → list_all is_vacant (d ∷ es) ≡ true
     → d ≡ events.fetch s id events.vacant
 same_fetch s id (events.fetch t j events.vacant) es caller is all = ap (λ (i : ℕ). events.fetch i j events.vacant) caller
     ∙ ap (λ (i : ℕ). events.fetch s i events.vacant) is
@@ -113,7 +113,7 @@ module _ (f : Cnf) (p : LayoutValue) (final m : State) where
 
   -- it found nothing
   tries-on : (rest : Lines) (s id : ℕ) (d : Event) (b : History) (more : List History)
-      → rest s ≡ (events.fetch s id events.vacant ∷ d ∷ b) ∷ more → stream_of d ≡ s → IsFetchOf id d
+      → rest s ≡ (events.fetch s id events.vacant ∷ d ∷ b) ∷ more → stream_of d ≡ s → StartsWithFetchOf id (d ∷ b)
       → HasOrder f p final m (with rest s ((d ∷ b) ∷ more)) → HasOrder f p final m rest
   tries-on rest s id d b more is caller again made =
       let e : Event = events.fetch s id events.vacant in

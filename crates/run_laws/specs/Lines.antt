@@ -3,21 +3,11 @@ use Rattle.std.specs.Prelude.{◌≡◌, ℕ, Bool, IsTrue, List, [], ◌∷◌,
 use Rattle.std.specs.List.{AllByRecursion}
 use Rattle.lrup_model.specs.Formula.{Cnf}
 use Rattle.lrup_model.specs.Layout.{LayoutValue, IsStream}
-use Rattle.lrup_model.specs.Event.{Event, History}
+use Rattle.lrup_model.specs.Event.{History}
 use Rattle.lrup_model.specs.History.{IsLegal}
 use Rattle.stream_check.specs.Deletions.{IsRetire}
-use Rattle.stream_check.specs.Reducing.{IsEarly, TriesAgain, reduced}
+use Rattle.stream_check.specs.Reducing.{AreEarly, TriesAgain, reduced}
 use Rattle.runs.specs.Streams.{Block, blocks_of, events_in, IsBlockWithin}
-
--- where these events follow in its line, the event is one that may stand before another
-abbrev pub IsEarlyBefore : History → Event → Type 0
-IsEarlyBefore [] event = Unit {0}
-IsEarlyBefore (next ∷ later) event = IsEarly event
-
--- each event but the last is one that may stand before another
-abbrev pub AreEarly : History → Type 0
-AreEarly [] = Unit {0}
-AreEarly (event ∷ history) = IsEarlyBefore history event × AreEarly history
 
 -- after a retire there are only retires
 abbrev pub RetiresLast : History → Type 0

@@ -18,7 +18,7 @@ use Rattle.runs.specs.Streams.{Stream, Block, events_in, InputObservation, RunPa
 use Rattle.runs.specs.SequentialConsistency.{AreJudgedIn}
 use Rattle.runs.specs.Closed.{IsClosed}
 use Rattle.run_laws.specs.Lines.{IsLineBlock, IsOrder}
-use Rattle.run_laws.specs.Premises.{FindsKept, FoundStays, FindsUnretired, OwnersAloneMeetRetired, Cites, SomeLineDeletes, KeepShared, ReadersKeepShared}
+use Rattle.run_laws.specs.Premises.{FindsKept, FoundStays, FindsUnretired, MeetsUnretired, Cites, SomeLineDeletes, KeepShared, ReadersKeepShared}
 use Rattle.run_laws.specs.Serializable.{ComeToVerdict, IsSerializable}
 
 -- The lines of a stream
@@ -89,10 +89,12 @@ abbrev pub KeptByEvents : Type 0
 KeptByEvents = (f : Cnf) (p : LayoutValue) (h : History) → IsLegal f p h
     → (e : Event) → FindsKept p (state f h) e ↔ FindsUnretired p h e
 
--- what no stream but its owner found, live or retired, if the history retires it, stays
+-- where no stream of the set but its owner found an identity, live or retired, that the history retires, what was found stays
 abbrev pub OwnersAloneSuffices : Type 0
 OwnersAloneSuffices = (f : Cnf) (p : LayoutValue) (set : ℕ → Bool) (h : History)
-    → IsLegal f p h → OwnersAloneMeetRetired p set h → FoundStays f p set h
+    → IsLegal f p h
+    → ((s : ℕ) → IsStream p s → IsTrue (set s) → AllByRecursion (MeetsUnretired p h) (own h s))
+    → FoundStays f p set h
 
 -- a closed set of streams that retire nothing of their own that another cites leaves what they found of one another
 abbrev pub SharedStays : Type 0

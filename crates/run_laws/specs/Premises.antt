@@ -52,14 +52,7 @@ FindsUnretired layout history _ = Unit {0}
 abbrev pub MeetsUnretired : LayoutValue → History → Event → Type 0
 MeetsUnretired layout history (events.fetch s id reply) =
     IsFound reply → ¬ Owns layout s id → ¬ HistoryRetires history id
-MeetsUnretired layout history (events.publish s id clause reply) = Unit {0}
-MeetsUnretired layout history (events.retire s id reply) = Unit {0}
-
--- No stream of the set but its owner found an identity, live or retired, that the history retires.
-abbrev pub OwnersAloneMeetRetired : LayoutValue → (ℕ → Bool) → History → Type 0
-OwnersAloneMeetRetired layout set history =
-    (s : ℕ) → IsStream layout s → IsTrue (set s)
-    → AllByRecursion (MeetsUnretired layout history) (own history s)
+MeetsUnretired layout history _ = Unit {0}
 
 -- By texts
 

@@ -2,17 +2,18 @@
 -- database of clauses, as LRAT proofs are (Cruz-Filipe et al., CADE 2017), without RAT. This project's own are identities by
 -- residue, each above those before it, room and imports; and that no hint comes after the conflict, and nothing is deleted that
 -- isn't there. All is read off the lines: there is no history here, and no checker.
-use Rattle.std.specs.Prelude.{◌≡◌, ◌⊎◌, ◌↔◌, ◌≤◌, ◌-◌, ◌==◌, ◌&&◌, ◌++◌, ℕ, ℤ, nat_lt, nat_le, false, IsTrue, List, [], ◌∷◌, length, Option, None, Some, IsSome, if◌then◌else◌}
+use Rattle.std.specs.Prelude.{◌≡◌, ◌⊎◌, ◌≤◌, ◌-◌, ◌==◌, ◌&&◌, ◌++◌, ℕ, nat_lt, nat_le, false, IsTrue, List, [], ◌∷◌, length, Option, None, Some, IsSome, if◌then◌else◌}
 use Rattle.std.specs.List.{AllByRecursion, AllZip, Any, flat_map}
-use Rattle.lrup_model.specs.Clause.{Clause, Has}
+use Rattle.lrup_model.specs.Clause.{Clause}
 use Rattle.lrup_model.specs.Distinct.{distinct}
 use Rattle.lrup_model.specs.Formula.{Cnf, clause_at}
-use Rattle.lrup_model.specs.Layout.{LayoutValue, Owns}
+use Rattle.lrup_model.specs.Layout.{LayoutValue}
 use Rattle.lrup_text.specs.Lines.{StreamLine, Addition, Deletion, Import, IsWithinLimits, line_text}
 use Rattle.stream_check.specs.declared.report.Ending.TheVariants as endings
 use Rattle.stream_check.specs.declared.report.Report.{Report}
-use Rattle.stream_check.specs.Additions.{AdditionContext, IsValidAddition}
-use Rattle.stream_check.specs.StreamContext.{is_among}
+use Rattle.stream_check.specs.Additions.{IsValidAddition}
+use Rattle.stream_check.specs.Imports.{IsValidImport}
+use Rattle.stream_check.specs.StreamContext.{LineContext, is_among}
 use Rattle.stream_check.specs.Judging.{report_of}
 use Rattle.runs.specs.Streams.{RunParamsValue, stream_params}
 
@@ -48,12 +49,12 @@ after_line base (Deletion lead ids) = record {
 }
 after_line base (Import id lits) = base
 
--- what an addition after these lines stands on: its hints name the clauses that are there
-abbrev pub database_context : Database → AdditionContext
+-- what a line after these stands on: identities name the clauses that are there
+abbrev pub database_context : Database → LineContext
 database_context base = record {
   last = base.last;
   free = base.free;
-  Names = AllZip (λ hint clause. base.clauses hint ≡ Some clause);
+  Names = AllZip (λ id clause. base.clauses id ≡ Some clause);
 }
 
 -- no number stands twice
@@ -66,21 +67,13 @@ pub record IsValidDeletion (base : Database) (ids : List ℕ) : Type 0 where
   pub there : AllByRecursion (λ id. IsSome (base.clauses id)) ids
   pub once : AreDistinct ids
 
--- An import is valid: its identity isn't the stream's own, and the clause that is there has its literals, in whatever order and
--- however often each is written.
-pub record IsValidImport (layout : LayoutValue) (s : ℕ) (base : Database) (id : ℕ)
-    (lits : List ℤ) : Type 0 where
-  pub other : ¬ Owns layout s id
-  pub clause : Clause
-  pub there : base.clauses id ≡ Some clause
-  pub same : (l : ℤ) → Has clause l ↔ Has lits l
-
 -- a line of stream s is valid, after lines that left this database
 abbrev pub IsValidLine : LayoutValue → ℕ → Database → StreamLine → Type 0
 IsValidLine layout s base (Addition id lits hints) =
     IsValidAddition layout s (database_context base) id lits hints
 IsValidLine layout s base (Deletion lead ids) = IsValidDeletion base ids
-IsValidLine layout s base (Import id lits) = IsValidImport layout s base id lits
+IsValidLine layout s base (Import id lits) =
+    IsValidImport layout s (database_context base) id lits
 
 -- each line is valid after those before it
 abbrev pub AreValid : LayoutValue → ℕ → Database → List StreamLine → Type 0

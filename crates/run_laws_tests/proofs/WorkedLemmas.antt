@@ -9,7 +9,8 @@ use Rattle.lrup_model.specs.Formula.{IsCnf}
 use Rattle.lrup_model.specs.Propagation.{Accepts, IsConflict, IsUnit}
 use Rattle.lrup_text.specs.Laws.{EmptyPending, OneFirstLine}
 use Rattle.lrup_text.specs.Lines.{StreamLine, Addition, IsWithinLimits, line_text}
-use Rattle.run_laws.specs.Valid.{AddsEmpty, IsValidPrefix, IsValidImport, IsValidRefutation, IsValidProof}
+use Rattle.stream_check.specs.Imports.{IsValidImport}
+use Rattle.run_laws.specs.Valid.{AddsEmpty, database_context, IsValidPrefix, IsValidRefutation, IsValidProof}
 use Rattle.run_laws.specs.Together.{IsValidOrder}
 use Rattle.lrup_model.specs.Layout.{Owns}
 use Rattle.lrup_model.specs.declared.layout.Owner.TheVariants as owners
@@ -81,9 +82,9 @@ one_is_no_conflict (d ∷ []) named shown =
     elim has [ inl e ↦ two_not_one e | inr none ↦ none ]
 one_is_no_conflict (d ∷ e ∷ ds) named shown = named.1
 
-pub unit_differs : IsValidImport one_stream 1 at_first 1 unit → ⊥
+pub unit_differs : IsValidImport one_stream 1 (database_context at_first) 1 unit → ⊥
 unit_differs valid =
-    let same : first ≡ valid.clause = let is : Some first ≡ Some valid.clause = valid.there in cc in
+    let same : first ≡ valid.clause = let is : Some first ≡ Some valid.clause = valid.named.0 in cc in
     let has : Has unit (pos 1) = (valid.same (pos 1)).0 (subst (λ (x : Clause). Has x (pos 1)) same (inl refl)) in
     elim has [ inl e ↦ two_not_one e | inr none ↦ none ]
 
@@ -91,9 +92,9 @@ unit_differs valid =
 pub one_is_the_formulas : Owns one_stream 1 1 → ⊥
 one_is_the_formulas owns = let no : owners.Formula ≡ owners.Stream 1 = owns in cc
 
-pub no_minus_one : IsValidImport one_stream 1 at_first 1 (pos 1 ∷ pos 2 ∷ negsuc 0 ∷ []) → ⊥
+pub no_minus_one : IsValidImport one_stream 1 (database_context at_first) 1 (pos 1 ∷ pos 2 ∷ negsuc 0 ∷ []) → ⊥
 no_minus_one valid =
-    let same : first ≡ valid.clause = let is : Some first ≡ Some valid.clause = valid.there in cc in
+    let same : first ≡ valid.clause = let is : Some first ≡ Some valid.clause = valid.named.0 in cc in
     let has : Has first (negsuc 0) =
     subst (λ (x : Clause). Has x (negsuc 0)) (sym same) ((valid.same (negsuc 0)).1 (inr (inr (inl refl)))) in
     elim has [ inl e ↦ signs 1 0 e | inr more ↦ elim more [ inl e ↦ signs 2 0 e | inr none ↦ none ] ]
@@ -272,7 +273,14 @@ shared_is_valid = record {
       shown = unit_is_shown;
     },
     (
-      record { other = five_is_the_first_stream's; clause = unit; there = refl; same = λ l. ((λ h. h), (λ h. h)) },
+      record {
+        identity = (omega arith, omega arith);
+        other = five_is_the_first_stream's;
+        literals = (omega arith, tt);
+        clause = unit;
+        named = (refl, tt);
+        same = λ l. ((λ h. h), (λ h. h));
+      },
       (
         record {
           owns = refl;

@@ -18,9 +18,9 @@ use Rattle.stream_check.specs.declared.params.Ownership.TheVariants as ownership
 use Rattle.stream_check.specs.StreamParams.{StreamParams, ownership_of}
 use Rattle.stream_check.specs.StreamContext.{StreamContext}
 use Rattle.stream_check.specs.Verdicts.{LineVerdict, Good, Bad, Fails, Violates}
-use Rattle.stream_check.specs.Lookup.{answer_of, LooksUp}
-use Rattle.stream_check.specs.Additions.{AreFound, Misleads, FailsBy, FailsHints, published_by, JudgesAddition}
-use Rattle.stream_check.specs.lemmas.AdditionLemmas.{valid_passes, no_help, refutes_on}
+use Rattle.stream_check.specs.Lookup.{answer_of, LooksUp, AreFound}
+use Rattle.stream_check.specs.Additions.{Misleads, FailsBy, FailsHints, published_by, JudgesAddition}
+use Rattle.stream_check.specs.lemmas.AdditionLemmas.{valid_passes, no_help, refutes_on, found_one}
 use Rattle.stream_check.specs.Deletions.{RetiresThen, DropsThen, DeletesAt, JudgesDeletion}
 use Rattle.stream_check.specs.Imports.{JudgesImport}
 use Rattle.stream_check.specs.Judging.{JudgesLine}
@@ -239,13 +239,15 @@ identities_agree c gone earlier (id ∷ ids) es fs q r v w a b never =
 -- where one is good, the other isn't bad
 import_good : (c : StreamParams) (st : StreamContext) (id : ℕ) (lits : List ℤ) (es fs q r : History) (deleted : ℕ) (fault : Fault)
     → JudgesImport c st id lits es Good → JudgesImport c st id lits fs (Bad deleted fault) → NeverFork (es ++ q) (fs ++ r) → ⊥
-import_good c st id lits es fs q r deleted fault a (none, inl bad) never = bad.0 a.shared
+import_good c st id lits es fs q r deleted fault a (none, inl bad) never = bad.0 (a.identity, a.other)
 import_good c st id lits es fs q r deleted fault a (none, inr (shared, inl bad)) never = bad.0 a.literals
 import_good c st id lits es fs q r deleted fault a (none, inr (shared, inr (within, inl unfound))) never =
-    let same = looks_agree c st.gone id es fs q r (Ok a.clause) (Err fault) a.found unfound never in
+    let found = found_one c st.gone id a.clause es a.named in
+    let same = looks_agree c st.gone id es fs q r (Ok a.clause) (Err fault) found unfound never in
     let answer = same.1 in cc
 import_good c st id lits es fs q r deleted fault a (none, inr (shared, inr (within, inr differs))) never =
-    let same = looks_agree c st.gone id es fs q r (Ok a.clause) (Ok differs.0) a.found differs.1 never in
+    let found = found_one c st.gone id a.clause es a.named in
+    let same = looks_agree c st.gone id es fs q r (Ok a.clause) (Ok differs.0) found differs.1 never in
     let answer = same.1 in
     let clause : a.clause ≡ differs.0 = cc in
     differs.2 (subst (λ (d : Clause). (l : ℤ) → Has d l ↔ Has lits l) clause a.same)
@@ -253,7 +255,7 @@ import_good c st id lits es fs q r deleted fault a (none, inr (shared, inr (with
 import_agrees : (c : StreamParams) (st : StreamContext) (id : ℕ) (lits : List ℤ) (es fs q r : History) (v w : LineVerdict)
     → JudgesImport c st id lits es v → JudgesImport c st id lits fs w → NeverFork (es ++ q) (fs ++ r) → Agree es v fs w
 import_agrees c st id lits es fs q r Good Good a b never =
-    record { events = (looks_agree c st.gone id es fs q r (Ok a.clause) (Ok b.clause) a.found b.found never).0; verdict = refl }
+    record { events = found_agree c st.gone (id ∷ []) (a.clause ∷ []) (b.clause ∷ []) es fs q r a.named b.named never; verdict = refl }
 import_agrees c st id lits es fs q r Good (Bad deleted fault) a b never =
     absurd (import_good c st id lits es fs q r deleted fault a b never)
 import_agrees c st id lits es fs q r (Bad deleted fault) Good a b never =

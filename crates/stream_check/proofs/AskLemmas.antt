@@ -75,7 +75,7 @@ inside_side s (owners.Stream t) inside e = elim (cases_Bool (t == s)) [
 ]
 inside_side s owners.Outside inside e = inside refl
 
-inside_owner : (p : LayoutValue) (id : ℕ) → IsIdentity p id → owner p id ≡ owners.Outside → ⊥
+pub inside_owner : (p : LayoutValue) (id : ℕ) → IsIdentity p id → owner p id ≡ owners.Outside → ⊥
 inside_owner p id is e = elim (eqb_tells id 0) [
   | inl zero ↦ absurd (omega (arith, zero.1, is.0))
   | inr some ↦ elim (leb_tells id p.clauses) [

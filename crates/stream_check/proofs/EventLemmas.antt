@@ -16,7 +16,7 @@ use Rattle.stream_check.specs.Verdicts.{LineVerdict}
 use Rattle.stream_check.specs.Lookup.{AsksAt, Asks}
 use Rattle.stream_check.specs.lemmas.EventLemmas.{addition_holds, import_holds, identities_hold, IsAny, all_any, asked_are, asked_more}
 use Rattle.stream_check.specs.Judging.{JudgesLine}
-use Rattle.stream_check.specs.Reducing.{IsEarly, StartsWithFetchOf, TriesAgain}
+use Rattle.stream_check.specs.Reducing.{IsEarly, AreEarly, StartsWithFetchOf, TriesAgain}
 use Rattle.stream_check.specs.Laws.{LineCalls, EarlyEvents, VacantTriesAgain, cited_by, FetchesOnly}
 
 -- Something that holds of the events of a line, from the last one on
@@ -55,37 +55,23 @@ line_calls c st line es v judged =
 
 -- Before the last event
 
-abbrev EarlyIf : History → Event → Type 0
-EarlyIf [] e = Unit {0}
-EarlyIf (f ∷ es) e = IsEarly e
+early_before : (e : Event) (es : History) → IsEarly e → AreEarly es → AreEarly (e ∷ es)
+early_before e [] is early = tt
+early_before e (f ∷ es) is early = (is, early)
 
--- each event but the last is an early one
-abbrev EarlyBut : History → Type 0
-EarlyBut [] = Unit {0}
-EarlyBut (e ∷ es) = EarlyIf es e × EarlyBut es
-
-early_if : (es : History) (e : Event) → IsEarly e → EarlyIf es e
-early_if [] e early = tt
-early_if (f ∷ es) e early = early
-
-early_append : (a b : History) → AllByRecursion IsEarly a → EarlyBut b → EarlyBut (a ++ b)
+early_append : (a b : History) → AllByRecursion IsEarly a → AreEarly b → AreEarly (a ++ b)
 early_append [] b all early = early
-early_append (e ∷ a) b all early = (early_if (a ++ b) e all.0, early_append a b all.1 early)
-
-early_front : (front : History) (last : Event) → EarlyBut (front ++ last ∷ []) → AllByRecursion IsEarly front
-early_front [] last early = tt
-early_front (e ∷ []) last early = (early.0, tt)
-early_front (e ∷ f ∷ front) last early = (early.0, early_front (f ∷ front) last early.1)
+early_append (e ∷ a) b all early = early_before e (a ++ b) all.0 (early_append a b all.1 early)
 
 pub early_events : EarlyEvents
-early_events c st line es front last v judged e =
-    early_front front last (subst EarlyBut e (line_holds c IsAny EarlyBut (record {
+early_events c st line es v judged =
+    line_holds c IsAny AreEarly (record {
       none = tt;
-      published = λ id d r. (tt, tt);
+      published = λ id d r. tt;
       asked = λ h asked rest r any asks ends early. early_append asked rest (asked_are IsEarly c h asked r (λ x. tt) asks) early;
-      retired = λ id rest early. (early_if rest (events.retire c.stream id retiring.Done) tt, early);
-      refused = λ id. (tt, tt);
-    }) st line es v (all_any (cited_by line)) judged))
+      retired = λ id rest early. early_before (events.retire c.stream id retiring.Done) rest tt early;
+      refused = λ id. tt;
+    }) st line es v (all_any (cited_by line)) judged
 
 -- Vacant fetches
 

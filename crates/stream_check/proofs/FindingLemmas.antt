@@ -11,8 +11,8 @@ use Rattle.lrup_model.specs.lemmas.EntailmentLemmas.{propagation_sound}
 use Rattle.stream_check.specs.declared.params.Ownership.{Ownership}
 use Rattle.stream_check.specs.declared.params.Ownership.TheVariants as ownerships
 use Rattle.stream_check.specs.StreamParams.{StreamParams, ownership_of}
-use Rattle.stream_check.specs.Lookup.{AsksAt}
-use Rattle.stream_check.specs.Additions.{AreFound, published_by}
+use Rattle.stream_check.specs.Lookup.{AsksAt, AreFound}
+use Rattle.stream_check.specs.Additions.{published_by}
 use Rattle.stream_check.specs.lemmas.AdditionLemmas.{found_live}
 use Rattle.stream_check.specs.Finding.{FindsSound}
 use Rattle.stream_check.specs.Laws.{GoodFollows}

@@ -17,8 +17,8 @@ use Rattle.propagate.specs.lemmas.HintLemmas.{leads_on, accepts_exactly}
 use Rattle.stream_check.specs.declared.fault.Fault.{Fault}
 use Rattle.stream_check.specs.declared.fault.Fault.TheVariants as faults
 use Rattle.stream_check.specs.StreamParams.{StreamParams}
-use Rattle.stream_check.specs.Lookup.{LooksUp}
-use Rattle.stream_check.specs.Additions.{AreFound, Misleads, FailsHints}
+use Rattle.stream_check.specs.Lookup.{LooksUp, AreFound}
+use Rattle.stream_check.specs.Additions.{Misleads, FailsHints}
 use Rattle.stream_check.specs.Checker.{IsViewOf}
 use Rattle.stream_check.specs.internal.Checking.{Shows, excess_of}
 

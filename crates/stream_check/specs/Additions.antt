@@ -12,20 +12,13 @@ use Rattle.lrup_model.specs.Distinct.{distinct}
 use Rattle.stream_check.specs.declared.fault.Fault.{Fault}
 use Rattle.stream_check.specs.declared.fault.Fault.TheVariants as faults
 use Rattle.stream_check.specs.StreamParams.{StreamParams}
-use Rattle.stream_check.specs.StreamContext.{StreamContext}
+use Rattle.stream_check.specs.StreamContext.{StreamContext, LineContext}
 use Rattle.stream_check.specs.Verdicts.{LineVerdict, Good, Bad, Violates}
-use Rattle.stream_check.specs.Lookup.{LooksUp}
-
--- What an addition is checked against: the greatest identity that was added before, or the formula's last one; the room that is left, in
--- literals; and which clauses hints name.
-pub record AdditionContext : Type 1 where
-  pub last : ℕ
-  pub free : ℕ
-  pub Names : List ℕ → List Clause → Type 0
+use Rattle.stream_check.specs.Lookup.{LooksUp, line_context}
 
 -- An addition is valid: its identity is the stream's own, and above the last; its literals are over the variables; there is room for
 -- its clause; and the clauses that its hints name show its clause, which is no tautology, by propagation.
-pub record IsValidAddition (layout : LayoutValue) (stream : ℕ) (context : AdditionContext) (id : ℕ)
+pub record IsValidAddition (layout : LayoutValue) (stream : ℕ) (context : LineContext) (id : ℕ)
     (lits : List ℤ) (hints : List ℕ) : Type 0 where
   pub owns : Owns layout stream id
   pub above : context.last < id
@@ -34,23 +27,6 @@ pub record IsValidAddition (layout : LayoutValue) (stream : ℕ) (context : Addi
   pub clauses : List Clause
   pub named : context.Names hints clauses
   pub shown : Accepts (distinct lits) clauses
-
--- the hints are looked up in their order, by these events, and come to these clauses
-abbrev pub AreFound : StreamParams → (ℕ → Bool) → List ℕ → List Clause → History → Type 0
-AreFound params gone [] [] history = history ≡ []
-AreFound params gone [] (clause ∷ clauses) history = ⊥
-AreFound params gone (hint ∷ hints) [] history = ⊥
-AreFound params gone (hint ∷ hints) (clause ∷ clauses) history =
-    (asked rest : History) × (history ≡ asked ++ rest) × LooksUp params gone hint asked (Ok clause)
-    × AreFound params gone hints clauses rest
-
--- what an addition is checked against after the lines that left this context, if these events look its hints up
-abbrev pub addition_context : StreamParams → StreamContext → History → AdditionContext
-addition_context params context history = record {
-  last = context.last;
-  free = context.free;
-  Names = λ hints clauses. AreFound params context.gone hints clauses history;
-}
 
 -- the conditions of an addition before those of its hints, in their order
 abbrev pub BeforeHints : StreamParams → StreamContext → ℕ → List ℤ → History → Fault
@@ -100,7 +76,7 @@ abbrev pub JudgesAddition : StreamParams → StreamContext → ℕ → List ℤ 
     → Type 0
 JudgesAddition params context id lits hints history Good =
     (fetches : History)
-    × IsValidAddition params.layout params.stream (addition_context params context fetches) id lits
+    × IsValidAddition params.layout params.stream (line_context params context fetches) id lits
     hints
     × (history ≡ fetches ++ published_by params id lits ∷ [])
 JudgesAddition params context id lits hints history (Bad deleted fault) =

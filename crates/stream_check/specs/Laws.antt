@@ -30,7 +30,7 @@ use Rattle.lrup_model.specs.Distinct.{distinct}
 use Rattle.stream_check.specs.StreamContext.{StreamContext, additions_of, deleted_by, capped}
 use Rattle.stream_check.specs.Stopping.{StopsAtLine, DropsMore, DropsUntilStop}
 use Rattle.stream_check.specs.Additions.{JudgesAddition}
-use Rattle.stream_check.specs.Reducing.{reduced, IsEarly, TriesAgain}
+use Rattle.stream_check.specs.Reducing.{reduced, AreEarly, TriesAgain}
 use Rattle.stream_check.specs.Finding.{FindsSound}
 use Rattle.stream_check.specs.Verdicts.{LineVerdict, Good, Bad}
 use Rattle.stream_check.specs.Reaching.{GoingState, Going, Over, JudgesBothEnds, ReachesState, IsFresh, TakesLine}
@@ -240,10 +240,8 @@ LineCalls = (c : StreamParams) (st : StreamContext) (line : StreamLine) (es : Hi
 
 -- before a line's last event there are only fetches, and retires with Done
 abbrev pub EarlyEvents : Type 0
-EarlyEvents =
-    (c : StreamParams) (st : StreamContext) (line : StreamLine) (es front : History) (last : Event)
-    (v : LineVerdict)
-    → JudgesLine c st line es v → es ≡ front ++ last ∷ [] → AllByRecursion IsEarly front
+EarlyEvents = (c : StreamParams) (st : StreamContext) (line : StreamLine) (es : History)
+    (v : LineVerdict) → JudgesLine c st line es v → AreEarly es
 
 -- in a line a vacant fetch is the last event, or the same identity is fetched again
 abbrev pub VacantTriesAgain : Type 0

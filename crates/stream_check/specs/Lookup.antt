@@ -1,5 +1,5 @@
 -- How an identity is looked up that a hint or an import names, and how often it is fetched (this project's own).
-use Rattle.std.specs.Prelude.{◌≡◌, ◌⊎◌, ◌≤◌, ◌++◌, ℕ, Bool, true, false, [], ◌∷◌, replicate, Result, Ok, Err}
+use Rattle.std.specs.Prelude.{◌≡◌, ◌⊎◌, ◌≤◌, ◌++◌, ℕ, Bool, true, false, List, [], ◌∷◌, replicate, Result, Ok, Err}
 use Rattle.lrup_model.specs.Clause.{Clause}
 use Rattle.lrup_model.specs.Event.{History, Reply, vacant, live, retired, fetch}
 use Rattle.stream_check.specs.declared.fault.Fault.{Fault}
@@ -7,6 +7,7 @@ use Rattle.stream_check.specs.declared.fault.Fault.TheVariants as faults
 use Rattle.stream_check.specs.declared.params.Ownership.{Ownership}
 use Rattle.stream_check.specs.declared.params.Ownership.TheVariants as ownerships
 use Rattle.stream_check.specs.StreamParams.{StreamParams, ownership_of}
+use Rattle.stream_check.specs.StreamContext.{StreamContext, LineContext}
 
 -- The events are k vacant fetches of one identity and one last fetch; k is at most `most`, and just that if the last is vacant, too.
 abbrev pub FetchesUpTo : ℕ → ℕ → ℕ → History → Reply → Type 0
@@ -37,3 +38,20 @@ LooksUp params gone id history answer =
     ((gone id ≡ true) × (history ≡ []) × (answer ≡ Err (faults.Dropped id)))
     ⊎ ((gone id ≡ false) × (reply : Reply) × Asks params id history reply
     × (answer ≡ answer_of id reply))
+
+-- the identities are looked up in their order, by these events, and come to these clauses
+abbrev pub AreFound : StreamParams → (ℕ → Bool) → List ℕ → List Clause → History → Type 0
+AreFound params gone [] [] history = history ≡ []
+AreFound params gone [] (clause ∷ clauses) history = ⊥
+AreFound params gone (id ∷ ids) [] history = ⊥
+AreFound params gone (id ∷ ids) (clause ∷ clauses) history =
+    (asked rest : History) × (history ≡ asked ++ rest) × LooksUp params gone id asked (Ok clause)
+    × AreFound params gone ids clauses rest
+
+-- what a line is checked against after the lines that left this context, if these events look its identities up
+abbrev pub line_context : StreamParams → StreamContext → History → LineContext
+line_context params context history = record {
+  last = context.last;
+  free = context.free;
+  Names = λ ids clauses. AreFound params context.gone ids clauses history;
+}

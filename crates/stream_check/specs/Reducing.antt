@@ -27,16 +27,18 @@ IsEarly (events.publish s id clause reply) = ⊥
 IsEarly (events.retire s id retiring.Done) = Unit {0}
 IsEarly (events.retire s id retiring.NotLive) = ⊥
 
--- the event fetches this identity
-abbrev pub IsFetchOf : ℕ → Event → Type 0
-IsFetchOf id (events.fetch s j reply) = j ≡ id
-IsFetchOf id (events.publish s j clause reply) = ⊥
-IsFetchOf id (events.retire s j reply) = ⊥
+-- each event but the last may stand before another
+abbrev pub AreEarly : History → Type 0
+AreEarly [] = Unit {0}
+AreEarly (event ∷ []) = Unit {0}
+AreEarly (event ∷ next ∷ later) = IsEarly event × AreEarly (next ∷ later)
 
 -- no events, or first a fetch of this identity
 abbrev pub StartsWithFetchOf : ℕ → History → Type 0
 StartsWithFetchOf id [] = Unit {0}
-StartsWithFetchOf id (event ∷ history) = IsFetchOf id event
+StartsWithFetchOf id (events.fetch s j reply ∷ history) = j ≡ id
+StartsWithFetchOf id (events.publish s j clause reply ∷ history) = ⊥
+StartsWithFetchOf id (events.retire s j reply ∷ history) = ⊥
 
 -- after each vacant fetch its identity is fetched again, or nothing comes any more
 abbrev pub TriesAgain : History → Type 0

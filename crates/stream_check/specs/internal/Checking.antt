@@ -21,7 +21,8 @@ use Rattle.stream_check.specs.declared.line_stop.LineStop.TheVariants as stops
 use Rattle.stream_check.specs.StreamParams.{StreamParams, ownership_of}
 use Rattle.stream_check.specs.StreamContext.{is_among}
 use Rattle.stream_check.specs.Verdicts.{LineVerdict, Good, Bad}
-use Rattle.stream_check.specs.Additions.{AreFound, FailsHints}
+use Rattle.stream_check.specs.Lookup.{AreFound}
+use Rattle.stream_check.specs.Additions.{FailsHints}
 use Rattle.stream_check.specs.Deletions.{JudgesDeletion, StopsDeletion}
 use Rattle.stream_check.specs.Stopping.{DropsMore}
 

@@ -1,5 +1,6 @@
 -- Lemmas on additions: their literals, their conditions and their hints; and on what fetches change.
-use Rattle.std.proofs.Common.{◌≡◌, ◌≤◌, ◌++◌, ℕ, ℤ, neg_ℤ, nat_abs, Bool, false, List, [], ◌∷◌, Ok, inl, inr, refl, sym, subst, ◌∙◌}
+use Rattle.std.proofs.Common.{◌≡◌, ◌≤◌, ◌++◌, ℕ, ℤ, neg_ℤ, nat_abs, Bool, false, List, [], ◌∷◌, Ok, inl, inr, refl, sym, ap, subst, ◌∙◌}
+use Rattle.std.proofs.Common.{append-nil}
 use Rattle.std.specs.List.{AllByRecursion}
 use Rattle.lrup_model.specs.Clause.{Clause}
 use Rattle.lrup_model.specs.Literal.{IsLiteral}
@@ -13,8 +14,8 @@ use Rattle.stream_check.specs.declared.fault.Fault.{Fault}
 use Rattle.stream_check.specs.StreamParams.{StreamParams}
 use Rattle.stream_check.specs.StreamContext.{StreamContext}
 use Rattle.stream_check.specs.Verdicts.{Violates}
-use Rattle.stream_check.specs.Lookup.{Asks, LooksUp}
-use Rattle.stream_check.specs.Additions.{AreFound, BeforeHints, addition_context, IsValidAddition, Misleads}
+use Rattle.stream_check.specs.Lookup.{Asks, LooksUp, AreFound, line_context}
+use Rattle.stream_check.specs.Additions.{BeforeHints, IsValidAddition, Misleads}
 use Rattle.stream_check.specs.internal.Checking.{IsFetch}
 
 -- none of the literals of a line is 0
@@ -48,7 +49,7 @@ before_maps c st id lits es fs fault A B none next before =
 pub valid_passes : (c : StreamParams) (st : StreamContext) (fetches : History) (id : ℕ)
     (lits : List ℤ)
     (hints : List ℕ) (es : History) (fault : Fault) (A : Type 0)
-    → IsValidAddition c.layout c.stream (addition_context c st fetches) id lits hints
+    → IsValidAddition c.layout c.stream (line_context c st fetches) id lits hints
     → BeforeHints c st id lits es fault A → A
 valid_passes c st fetches id lits hints es fault A valid (inl bad) = absurd (bad.0 (valid.owns, valid.above))
 valid_passes c st fetches id lits hints es fault A valid (inr (a, inl bad)) = absurd (bad.0 valid.literals)
@@ -65,6 +66,16 @@ found_live c gone h es d (inr (kept, events.vacant, asks, is)) = absurd (cc)
 found_live c gone h es d (inr (kept, events.live e, asks, is)) =
     let same : e ≡ d = cc in (kept, subst (λ (x : Clause). Asks c h es (events.live x)) same asks)
 found_live c gone h es d (inr (kept, events.retired, asks, is)) = absurd (cc)
+
+-- one identity is looked up by all events
+pub one_found : (c : StreamParams) (gone : ℕ → Bool) (id : ℕ) (d : Clause) (es : History)
+    → LooksUp c gone id es (Ok d) → AreFound c gone (id ∷ []) (d ∷ []) es
+one_found c gone id d es looks = (es, [], sym (append-nil es), looks, refl)
+
+pub found_one : (c : StreamParams) (gone : ℕ → Bool) (id : ℕ) (d : Clause) (es : History)
+    → AreFound c gone (id ∷ []) (d ∷ []) es → LooksUp c gone id es (Ok d)
+found_one c gone id d es (asked, rest, is, looks, none) =
+    subst (λ (a : History). LooksUp c gone id a (Ok d)) (sym (is ∙ ap (λ (a : History). asked ++ a) none ∙ append-nil asked)) looks
 
 pub no_hints_left : (c : StreamParams) (gone : ℕ → Bool) (hints : List ℕ) (es : History)
     → AreFound c gone hints [] es → hints ≡ []

@@ -13,8 +13,8 @@ use Rattle.stream_check.specs.declared.params.Ownership.TheVariants as ownership
 use Rattle.stream_check.specs.StreamParams.{StreamParams, ownership_of}
 use Rattle.stream_check.specs.StreamContext.{StreamContext}
 use Rattle.stream_check.specs.Verdicts.{LineVerdict, Good, Bad, Violates}
-use Rattle.stream_check.specs.Lookup.{AsksAt, Asks, answer_of, LooksUp}
-use Rattle.stream_check.specs.Additions.{AreFound, FailsBy, FailsHints, published_by, JudgesAddition}
+use Rattle.stream_check.specs.Lookup.{AsksAt, Asks, answer_of, LooksUp, AreFound}
+use Rattle.stream_check.specs.Additions.{FailsBy, FailsHints, published_by, JudgesAddition}
 use Rattle.stream_check.specs.Deletions.{DeletesAt, JudgesDeletion}
 use Rattle.stream_check.specs.Imports.{JudgesImport}
 
@@ -96,7 +96,7 @@ module _ (c : StreamParams) (P : History → Type 0) (none : P []) where
         (v : LineVerdict)
         → IsHint id → JudgesImport c st id lits es v → P es
     import_holds st id lits es Good is good =
-        looks_last st.gone id es (Ok good.clause) is good.found
+        subst P (append-nil es) (found_hold st.gone (id ∷ []) (good.clause ∷ []) es [] (is, tt) good.named none)
     import_holds st id lits es (Bad deleted fault) is bad =
         violates_holds _ _ es fault _ (λ a. violates_holds _ _ es fault _ (λ a. elim a [
           | inl unfound ↦ looks_last st.gone id es (Err fault) is unfound

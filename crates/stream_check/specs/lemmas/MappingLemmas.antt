@@ -15,9 +15,9 @@ use Rattle.stream_check.specs.declared.params.Ownership.TheVariants as ownership
 use Rattle.stream_check.specs.StreamParams.{StreamParams, ownership_of}
 use Rattle.stream_check.specs.StreamContext.{StreamContext}
 use Rattle.stream_check.specs.Verdicts.{LineVerdict, Good, Bad}
-use Rattle.stream_check.specs.Lookup.{answer_of, LooksUp}
-use Rattle.stream_check.specs.Additions.{AreFound, FailsBy, FailsHints, published_by, JudgesAddition}
-use Rattle.stream_check.specs.lemmas.AdditionLemmas.{violates_maps, before_maps}
+use Rattle.stream_check.specs.Lookup.{answer_of, LooksUp, AreFound}
+use Rattle.stream_check.specs.Additions.{FailsBy, FailsHints, published_by, JudgesAddition}
+use Rattle.stream_check.specs.lemmas.AdditionLemmas.{violates_maps, before_maps, one_found, found_one}
 use Rattle.stream_check.specs.Deletions.{RetiresThen, DropsThen, DeletesAt, JudgesDeletion}
 use Rattle.stream_check.specs.Imports.{JudgesImport}
 use Rattle.stream_check.specs.Judging.{JudgesLine}
@@ -117,10 +117,12 @@ module _ (c : StreamParams) (cube : CubeValue) (f : History → History) (none :
   import_maps : (st : StreamContext) (id : ℕ) (lits : List ℤ) (es : History) (v : LineVerdict)
       → JudgesImport c st id lits es v → JudgesImport (under c cube) st id lits (f es) v
   import_maps st id lits es Good good = record {
-    shared = good.shared;
+    identity = good.identity;
+    other = good.other;
     literals = good.literals;
     clause = good.clause;
-    found = looks_last st.gone id es (Ok good.clause) good.found;
+    named = one_found (under c cube) st.gone id good.clause (f es)
+        (looks_last st.gone id es (Ok good.clause) (found_one c st.gone id good.clause es good.named));
     same = good.same;
   }
   import_maps st id lits es (Bad deleted fault) bad = (

@@ -38,4 +38,11 @@ returns-clause-gap c = record {
 }
 
 pub returns-clause-imported : goal.returns-clause-imported
-returns-clause-imported c = record { other = one_is_the_formulas; clause = first; there = refl; same = same_first }
+returns-clause-imported c = record {
+  identity = (omega arith, omega arith);
+  other = one_is_the_formulas;
+  literals = (omega arith, (omega arith, (omega arith, tt)));
+  clause = first;
+  named = (refl, tt);
+  same = same_first;
+}

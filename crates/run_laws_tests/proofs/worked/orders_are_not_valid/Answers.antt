@@ -4,7 +4,7 @@ use Rattle.run_laws_tests.proofs.worked.orders_are_not_valid.Goals as goal
 pub returns-clause-retired : goal.returns-clause-retired
 returns-clause-retired c = λ order.
     let last = order.valid.1.1.0 in
-    let no : None ≡ Some last.clause = last.there in cc
+    let no : None ≡ Some last.clause = last.named.0 in cc
 
 pub returns-clause-limits : goal.returns-clause-limits
 returns-clause-limits c = λ order. omega (arith, order.fits.0.0.0)

@@ -9,11 +9,20 @@ use Rattle.lrup_model.specs.CallerView.{clip_clause}
 use Rattle.stream_check.specs.internal.CheckerInside.{context_at}
 use Rattle.stream_check.proofs.AddLemmas.{variables_within}
 use Rattle.stream_check.specs.lemmas.AdditionLemmas.{literals_within}
-use Rattle.stream_check.proofs.ImportLemmas.{bad_literal, import_unfound, import_differs, import_same}
+use Rattle.stream_check.proofs.ImportLemmas.{bad_identity, bad_literal, import_unfound, import_differs, import_same}
 use Rattle.stream_check.proofs.addition.LineScratch.import.Goals as goal
 
 abbrev HasSame : Clause → List ℤ → Type 0
 HasSame d lits = (l : ℤ) → Has d l ↔ Has lits l
+
+pub returns-then-not-shares-clause-judged : goal.returns-then-not-shares-clause-judged
+returns-then-not-shares-clause-judged g c =
+    let s = c.args.state.now.params in
+    let st = context_at c.args.state.now (g.M.ClauseMap.caller_view c.args.map.now).room in (
+      [],
+      g.met.M.ClauseMap.moves_none c.args.map.now,
+      bad_identity s st c.args.id c.args.lits.now (sym c.shares.ensures ∙ c.if-not-shares.true),
+    )
 
 pub returns-then-not-make_literals-clause-judged : goal.returns-then-not-make_literals-clause-judged
 returns-then-not-make_literals-clause-judged g c =
