@@ -236,7 +236,7 @@ class Runs:
         self.asked = [Contract("portfolio/src/options.rt: Options::new"), Contract("dimacs/src/lib.rt: parse", ["formula"]),
                       Contract("lrup_text/src/cube.rt: read_cube"), Contract("lrup_model/src/cube.rt: Cube::of")]
         self.traits = [whole(rust_type("lrup_text", "Source")), rust_type("stream_check", "Gate")]
-        self.store_laws, self.group_laws = laws(english.STORE_LAWS), laws(english.GROUP_LAWS)
+        self.store_laws, self.group_laws, self.order_laws = laws(english.STORE_LAWS), laws(english.GROUP_LAWS), laws(english.ORDER_LAWS)
         self.right_laws, self.program_laws = laws(english.RIGHT_LAWS), laws(english.PROGRAM_LAWS)
         self.ends = Contract("command/src/program.rt: command", ["ends"], commented=False)
         self.theorems = [block for number, (name, top, rows, account) in enumerate(english.THEOREMS, 1)
@@ -254,7 +254,8 @@ class Runs:
             "the history": run.named_by(["history"]), "the calls of the store": of_all(self.store + self.store_laws),
             "the reports": run.named_by(["reports"]),
             "isolated groups": run.named_by(["isolated"]) + of_all(self.group_laws),
-            "serializable lines": run.named_by(["serializable"]), "valid proofs": of_all(self.right_laws),
+            "serializable lines": run.named_by(["serializable"]) + of_all(self.order_laws),
+            "valid proofs": of_all(self.right_laws),
             "rounds": [thing for thing in closure(of_all([self.ends])) if is_of_rounds(thing)],
             "the program": [thing for thing in of_all(self.program_laws) if thing.crate == "outcome_laws"],
             "the rest": of_all([run, self.serial, *self.asked])}
@@ -271,7 +272,7 @@ def runs_pages(audit: Page) -> Tuple[Page, Page]:
     linked = runs.linked(placed)
     placed.update({thing.key(): thing for thing in linked})
     definitions = runs.definitions(placed)
-    bare_laws = [*runs.store_laws, *runs.group_laws, *runs.right_laws]
+    bare_laws = [*runs.store_laws, *runs.group_laws, *runs.order_laws, *runs.right_laws]
     things = [runs.run, runs.serial, *runs.store, *runs.asked, *runs.traits, *bare_laws, runs.ends, *runs.program_laws]
     things += [block for block in definitions if not isinstance(block, str)]
     below = Contract("stream_threads/src/joining.rt: check_all", ["found"])

@@ -278,7 +278,7 @@ HISTORY_ROWS: Rows = [
      keeps are then the clauses of what it has seen ([[Calls: fair : IsFair new]], [[IsFair: spelt : IsSpelt
      view.caller.formula view.seen view.spelt]]). A known clip keeps its clause ([[law known_stays]], [[law pass_steps]])."""),
     ("Each report is right by the rules, for its stream's calls in this history and its bytes.", """[[fn run.reports]]: it is
-     a run ([[IsRun]]) by this history ([[fn run.reports: ran.run.history ≡ seen_by (views outcome.passes.items)]]). Each
+     a run ([[IsRun]]) by this history ([[fn run.reports: run.history ≡ seen_by (views outcome.passes.items)]]). Each
      stream is judged by blocks of events, one for each line. Together they are the stream's events ([[AreJudgedIn: own
      history t ≡ joined blocks]]). Good lines come first, and then what ended the stream ([[JudgesBlocks]]). If memory ran
      out, events and bytes don't decide the report: any deletion that drops something may have stopped for that
@@ -298,8 +298,8 @@ their calls through the passes that the run gives back is a clause below `run`: 
 PassMoves jobs.pass.view found.pass.view (joined blocks)]]. There is no other way to make or copy a pass: its fields are
 private."""
 
-ISOLATION_TOP = """[[fn run.isolated]] and [[fn run_serial.isolated]], of every run that has the reports; [[fn run.reports]] and
-[[fn run_serial.ordered]] promise one:"""
+ISOLATION_TOP = """[[fn run.isolated]], of a run by the history that the passes have seen; [[fn run_serial.isolated]], of one
+whose history leaves the clauses in the map. [[law run_isolated]] says it of every run:"""
 
 ISOLATION_ROWS: Rows = [
     ("Streams are a closed set if they hint and import only clauses of each other and the formula.", """[[IsClosed]]:
@@ -313,13 +313,14 @@ ISOLATION_ROWS: Rows = [
      speaks of no other stream; [[AreIsolated: NoneOutOfMemory set reports]]."""),
     ("If one stream is a closed set, it has one report with the same formula, options, assumptions and number of streams, "
      "unless memory ran out or a read failed.",
-     """[[AreIsolated: alone : (run : IsRun formula run_params observed reports)]]: alone ([[IsReportAlone]]), a stream of the same
+     """[[AreIsolated: alone : (s : ℕ) (stream : Stream) (report : Report)]]: alone ([[IsReportAlone]]), a stream of the same
      bytes and end ([[IsReadingOf]]) has no other report than in the run ([[AreIsolated: other ≡ report]], [[law
      alone_has_one_report]]). A failed read is another end. [[law same_reading_agrees]]
      and [[law same_bytes_agree]] say it of two runs. The assumptions have to be the same list."""),
 ]
 
-SERIALIZABLE_TOP = """[[fn run.serializable]], of every run that has the reports; [[fn run.reports]] promises one. Of all streams [[fn run_serial.ordered]] has it without the premise."""
+SERIALIZABLE_TOP = """[[fn run.serializable]], of a run by the history that the passes have seen; [[law run_serializable]] says it of every
+run. Of all streams [[fn run_serial.ordered]] has it without the premise."""
 
 SERIALIZABLE_ROWS: Rows = [
     ("Premise: no stream of a closed set retires (deletes for all) a clause that another one found.", """[[FoundStays]]: if a
@@ -461,8 +462,9 @@ turn, and the rest ask, and change nothing."""
 ASKED = """A gate is called before each fetch and after each publish, and may hold a thread there; it promises nothing."""
 
 STORE_LAWS = [f"lrup_model/src/laws.rt: {name}" for name in "entries_advance known_stays pass_steps".split()]
-GROUP_LAWS = [f"run_laws/src/groups.rt: {name}" for name in """others_empty alone_has_one_report same_reading_agrees
-    same_bytes_agree""".split()]
+GROUP_LAWS = [f"run_laws/src/groups.rt: {name}" for name in """run_isolated others_empty alone_has_one_report
+    same_reading_agrees same_bytes_agree""".split()]
+ORDER_LAWS = ["run_laws/src/orders.rt: run_serializable"]
 RIGHT_LAWS = [f"run_laws/src/valid.rt: {name}" for name in """valid_reported valid_accepted valid_has_one_report valid_counted
     valid_empty valid_begins valid_cite_within ended_is_valid valid_together together_begins valid_in_any_run""".split()] + [
     f"run_laws/src/turns.rt: {name}" for name in "valid_by_turns turns_decide bytes_decide".split()]

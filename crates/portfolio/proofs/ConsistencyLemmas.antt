@@ -4,7 +4,6 @@ use Rattle.std.proofs.Common.{Some, refl, sym, ap, ap₂, subst, ◌∙◌, arit
 use Rattle.std.specs.Result.{IfErr, IsErrAnd}
 use Rattle.std.specs.Prelude.{IsSome, IsSomeAnd, Option, None, Result, Ok, Err, slice_get, if◌then◌else◌}
 use Rattle.std.specs.List.{AllByRecursion, list_any, AllZip}
-use Rattle.std.proofs.lemmas.List.{length-map}
 use Rattle.std.proofs.lemmas.Simd.{map-map}
 use Rattle.std.proofs.lemmas.Option.{slice_get_within}
 use Rattle.std.proofs.lemmas.Bool.{or_cases}

@@ -4,16 +4,15 @@ use Rattle.std.proofs.Common.{length, get_or, set, take, replicate, map, Option,
 use Rattle.std.proofs.Common.{length-set, ne_eqb}
 use borrow.Author.Count.{below_more}
 use Rattle.std.specs.Prelude.{◌||◌, ◌↔◌, IsTrue, slice_get}
-use Rattle.std.specs.List.{AllByRecursion, list_any, sum_by, AllZip}
+use Rattle.std.specs.List.{AllByRecursion, sum_by, AllZip}
 use Rattle.std.proofs.lemmas.Option.{slice_get-get_or}
-use Rattle.std.proofs.lemmas.Bool.{cases_Bool, cases_eq, cases_lt, cond-false}
+use Rattle.std.proofs.lemmas.Bool.{cases_eq, cases_lt, cond-false}
 use Rattle.std.proofs.lemmas.List.{map-append, get_or_default, get_or-replicate, take-append-le, take_all}
-use Rattle.lrup_model.specs.Entailment.{IsUnsatisfiable}
 use Rattle.lrup_model.specs.Formula.{Cnf}
 use Rattle.lrup_model.specs.Layout.{LayoutValue, Fits, Owns, IsStream}
 use Rattle.lrup_model.specs.Event.{History, stream_of, own, published, spent}
 use Rattle.lrup_model.specs.State.{State, opening, run, state}
-use Rattle.lrup_model.specs.History.{LegalFrom, IsLegal}
+use Rattle.lrup_model.specs.History.{LegalFrom}
 use Rattle.lrup_model.specs.lemmas.HistoryLemmas.{opening-owned}
 use Rattle.lrup_model.specs.lemmas.RunningLemmas.{run-append, legal-append, spent-append}
 use Rattle.lrup_model.specs.Plain.{Plain, formula_of, plain_state, free_at, plain_caller_view, PlainMoves}

@@ -47,6 +47,14 @@ pub record IsRunOf {S : Type 0} (Checked : Way) (view : SourceView S) (formula :
   pub read : AreRead S view.reads firsts lasts run.streams
   pub have_dropped : HaveDropped run_params 1 run.streams reports (map (λ d. d.ids) dropped)
 
+-- It is of a run that was checked in this way, of which this holds.
+abbrev pub IsOfRun : {S : Type 0} → Way → (view : SourceView S) (formula : Cnf)
+    (run_params : RunParamsValue) (firsts lasts : List S) (reports : List Report)
+    → List DroppedValue
+    → (IsRun formula run_params (observations view firsts lasts) reports → Type 0) → Type 0
+IsOfRun Checked view formula run_params firsts lasts reports dropped Holds =
+    (ran : IsRunOf Checked view formula run_params firsts lasts reports dropped) × Holds ran.run
+
 -- What became of the saving of a run's clauses to a sink that was the first and is the last: those that a history leaves live by
 -- which it is a run with these reports, but for those that all streams dropped, and no others, were saved, as the result says.
 pub record SavesRun {S W : Type 0} (view : SourceView S) (written : W → Option (List ℕ))

@@ -11,10 +11,9 @@ ghost use Rattle.lrup_model.specs.State.{state};
 ghost use Rattle.stream_check.specs.Checker.{IsReadyAt};
 ghost use Rattle.stream_check.specs.Judging.{joined};
 ghost use Rattle.run_laws.specs.Groups.{AreIsolated};
-ghost use Rattle.portfolio.specs.Histories.{IsRunOf, OnOneThread};
+ghost use Rattle.portfolio.specs.Histories.{IsOfRun, OnOneThread};
 ghost use Rattle.portfolio.specs.Outcomes.{layout_of, run_params_of, verdict_of};
 ghost use Rattle.runs.specs.Readings.{readers_view};
-ghost use Rattle.runs.specs.Streams.{observations};
 ghost use Rattle.portfolio.specs.internal.Turns.{AreOver, SerialEnd, AreStarted, SerialStep, HaveReports, IsOverAt, IsInSerialRun, SerialInvariant};
 ghost use Rattle.portfolio.specs.internal.Working.{AreBlocksOfTurn, WorkerStep};
 
@@ -54,15 +53,15 @@ pub fn run_serial<W: Wait, R: Source + Drop, G: Gate + Drop>(
     // lines, which is by turns. The map has what this leaves.
     ensures ordered { let run_params = run_params_of options cube.now formula.now
         (length readers.items) in
-        IfOk result (λ outcome. (ran : IsRunOf OnOneThread (readers_view R.Source) formula.now
-        run_params readers.items outcome.readers.items outcome.reports.items outcome.dropped.items)
-        × (plain_state outcome.map ≡ state formula.now ran.run.history)) }
-    // Groups of streams are isolated.
+        IfOk result (λ outcome. IsOfRun OnOneThread (readers_view R.Source) formula.now run_params
+        readers.items outcome.readers.items outcome.reports.items outcome.dropped.items
+        (λ run. plain_state outcome.map ≡ state formula.now run.history)) }
+    // Its groups of streams are isolated.
     ensures isolated { let run_params = run_params_of options cube.now formula.now
         (length readers.items) in
-        IfOk result (λ outcome. AreIsolated formula.now run_params
-        (observations (readers_view R.Source) readers.items outcome.readers.items)
-        outcome.reports.items) }
+        IfOk result (λ outcome. IsOfRun OnOneThread (readers_view R.Source) formula.now run_params
+        readers.items outcome.readers.items outcome.reports.items outcome.dropped.items
+        (λ run. (plain_state outcome.map ≡ state formula.now run.history) × AreIsolated run)) }
     ensures verdict { IfOk result (λ outcome.
         outcome.verdict ≡ verdict_of outcome.reports.items) }
     // The clauses stay, for whoever saves them.

@@ -9,11 +9,10 @@ ghost use Rattle.lrup_model.specs.Pass.{AreSynced};
 ghost use Rattle.clause_store.specs.Passes.{AreOf, ShareHistory, store_of, views};
 ghost use Rattle.runs.specs.Readings.{readers_view};
 ghost use Rattle.runs.specs.SequentialConsistency.{HaveOneHistory, seen_by};
-ghost use Rattle.portfolio.specs.Histories.{InThreads, IsRunOf};
+ghost use Rattle.portfolio.specs.Histories.{InThreads, IsOfRun};
 ghost use Rattle.portfolio.specs.Outcomes.{layout_of, run_params_of, verdict_of};
 ghost use Rattle.portfolio.specs.internal.Threads.{AreGathered, IsBegun, WereGathered};
 ghost use Rattle.portfolio.specs.RingStops.{StopsAtRing, WasReadOut};
-ghost use Rattle.runs.specs.Streams.{observations};
 ghost use Rattle.run_laws.specs.Groups.{AreIsolated};
 ghost use Rattle.run_laws.specs.Serializable.{IsSerializable};
 ghost use Rattle.stream_threads.specs.Jobs.{CanBegin};
@@ -69,20 +68,21 @@ pub fn run<T: Threads + Wait + Sync, R: Source + Send + Drop, G: Gate + Send + D
     // It is a run by that history, of what the readers told and their reads gave.
     ensures reports { let run_params = run_params_of options cube.now formula.now
         (length readers.items) in
-        IfOk result (λ outcome. (ran : IsRunOf InThreads (readers_view R.Source) formula.now
-        run_params readers.items outcome.readers.items outcome.reports.items outcome.dropped.items)
-        × (ran.run.history ≡ seen_by (views outcome.passes.items))) }
-    // Groups of streams are isolated.
+        IfOk result (λ outcome. IsOfRun InThreads (readers_view R.Source) formula.now run_params
+        readers.items outcome.readers.items outcome.reports.items outcome.dropped.items
+        (λ run. run.history ≡ seen_by (views outcome.passes.items))) }
+    // Its groups of streams are isolated.
     ensures isolated { let run_params = run_params_of options cube.now formula.now
         (length readers.items) in
-        IfOk result (λ outcome. AreIsolated formula.now run_params
-        (observations (readers_view R.Source) readers.items outcome.readers.items)
-        outcome.reports.items) }
-    // The lines are serializable.
+        IfOk result (λ outcome. IsOfRun InThreads (readers_view R.Source) formula.now run_params
+        readers.items outcome.readers.items outcome.reports.items outcome.dropped.items
+        (λ run. (run.history ≡ seen_by (views outcome.passes.items)) × AreIsolated run)) }
+    // Its lines are serializable.
     ensures serializable { let run_params = run_params_of options cube.now formula.now
-        (length readers.items) in IfOk result (λ outcome. IsSerializable formula.now run_params
-        (observations (readers_view R.Source) readers.items outcome.readers.items)
-        outcome.reports.items) }
+        (length readers.items) in
+        IfOk result (λ outcome. IsOfRun InThreads (readers_view R.Source) formula.now run_params
+        readers.items outcome.readers.items outcome.reports.items outcome.dropped.items
+        (λ run. (run.history ≡ seen_by (views outcome.passes.items)) × IsSerializable run)) }
     ensures verdict { IfOk result (λ outcome.
         outcome.verdict ≡ verdict_of outcome.reports.items) }
     // The clauses stay, for whoever saves them.

@@ -70,13 +70,11 @@ of_two Holds options cube f count same none formula two holds =
 -- what a run promises of its reports, whichever way its history is known
 abbrev pub IsIsolated : {S : Type 0} → SourceView S → List S → List S → List Report → Cnf → RunParamsValue → Type 0
 IsIsolated {S} view firsts lasts reports f run_params =
-    AreIsolated f run_params (observations view firsts lasts) reports
-    × ((run : IsRun f run_params (observations view firsts lasts) reports) × AreRead S view.reads firsts lasts run.streams)
+    (run : IsRun f run_params (observations view firsts lasts) reports) × AreIsolated run × AreRead S view.reads firsts lasts run.streams
 
 -- the streams of a run that has this history have an order that comes to the verdict, where it leaves what they found of one another
 abbrev pub HasOrdered : List InputObservation → List Report → History → Cnf → RunParamsValue → Type 0
-HasOrdered told reports h f run_params =
-    IsSerializable f run_params told reports × ((run : IsRun f run_params told reports) × (run.history ≡ h))
+HasOrdered told reports h f run_params = (run : IsRun f run_params told reports) × (run.history ≡ h) × IsSerializable run
 
 pub two_isolated : {S : Type 0} (view : SourceView S) (firsts lasts : List S) (reports : List Report) (options : OptionsValue)
     (cube : CubeValue) (f : Cnf) (count : ℕ) → options ≡ usual → cube ≡ [] → f ≡ four → count ≡ 2
@@ -94,7 +92,7 @@ pub report_alone : ReadersClosed → MatchIsReading → {S : Type 0} (view : Sou
     → IsIsolated view firsts lasts reports four two_terms → CiteWithin layout_of_two (one 1) bytes
     → IsOfStream (map view.left firsts) 1 (Some bytes) → IsOfStream (map view.has_failed lasts) 1 false
     → IsOfStream reports 1 report → ¬ IsOfMemory report → IsOnlyReport bytes report
-report_alone closes reads view firsts lasts bytes reports report (isolated, (run, read)) cites entry fine says memory =
+report_alone closes reads view firsts lasts bytes reports report (run, isolated, read) cites entry fine says memory =
     let tells = observations view firsts lasts in
     let first = first_told view firsts lasts run.streams bytes read entry fine in
     let closed = closes layout_of_two (one 1) tells run.streams run.match_inputs
@@ -109,14 +107,14 @@ report_alone closes reads view firsts lasts bytes reports report (isolated, (run
         streams = run.streams;
         reports = reports;
         stream = first.stream;
-        alone = isolated.groups run (one 1) closed
+        alone = isolated.groups (one 1) closed
             (λ s other member at. subst (λ r. ¬ IsOfMemory r)
             (same_at reports 1 report other says (subst (λ n. IsOfStream reports n other) (only 1 s member) at)) memory);
         at = first.at;
         reads = is_reading;
         says = says;
       };
-      only = isolated.alone run 1 first.stream report first.at says closed memory bytes stream_ends.Ended is_reading;
+      only = isolated.alone 1 first.stream report first.at says closed memory bytes stream_ends.Ended is_reading;
     }
 
 -- The verdict of an order of lines
@@ -149,9 +147,8 @@ order_says streams reports verdict (order, comes) is = record {
 pub has_order : (told : List InputObservation) (reports : List Report) (h : History) (verdict : Verdict)
     → HasOrdered told reports h four two_terms
     → verdict ≡ verdict_of reports → FoundStays four layout_of_two (λ s. true) h → HasOrder verdict
-has_order told reports h verdict (serializable, (run, same)) is stays =
-    order_says run.streams reports verdict
-    ((serializable run).1 (subst (FoundStays four layout_of_two (λ s. true)) (sym same) stays)) is
+has_order told reports h verdict (run, same, serializable) is stays =
+    order_says run.streams reports verdict (serializable.all (subst (FoundStays four layout_of_two (λ s. true)) (sym same) stays)) is
 
 -- The lines of the first stream, and of one that imports alone
 

@@ -110,9 +110,9 @@ alone_fine s reports report says memory t other member there =
     subst (λ (r : Report). ¬ IsOfMemory r) (same_at reports s report other says here) memory
 
 pub run_isolated : ClosedIsGroup → AloneHasOneReport → RunIsolated
-run_isolated law alone f run_params observed reports fits = record {
-  groups = closed_group law f run_params observed reports fits;
-  alone = λ run s stream report at says closed memory whole end reads other is.
+run_isolated law alone f run_params observed reports fits run = record {
+  groups = closed_group law f run_params observed reports fits run;
+  alone = λ s stream report at says closed memory whole end reads other is.
       alone f run_params s whole end is.streams run.streams is.reports reports is.stream stream other report is.alone
       (closed_group law f run_params observed reports fits run (one s) closed (alone_fine s reports report says memory)) is.at at
       is.reads reads

@@ -1,5 +1,5 @@
 -- The order of the lines of streams: each one's blocks, gathered from what it is judged by.
-use Rattle.std.proofs.Common.{◌≡◌, ◌+◌, ◌-◌, ◌<◌, ◌≤◌, ℕ, zero, suc, Bool, true, cond, eqb, List, [], ◌∷◌, map, length, Some, refl, sym}
+use Rattle.std.proofs.Common.{◌≡◌, ◌+◌, ◌-◌, ◌<◌, ◌≤◌, ℕ, Bool, true, cond, eqb, List, [], ◌∷◌, map, length, Some, refl, sym}
 use Rattle.std.proofs.Common.{subst, ◌∙◌, inl, inr, arith, ne_eqb, eq-eqb}
 use Rattle.std.specs.Prelude.{IsTrue, slice_get}
 use Rattle.std.specs.List.{AllByRecursion}
@@ -257,8 +257,8 @@ judged_members : (run_params : RunParamsValue) (set : ℕ → Bool) (h : History
 judged_members run_params set h s streams reports judged = each_more s streams reports judged (λ t stream report j member. j refl)
 
 pub run_serializable : ClosedOrdered → AllOrdered → RunSerializable
-run_serializable closed_ordered all_ordered f run_params observed reports fits run = (
-  (λ set closed stays. closed_ordered f run_params set run.history run.streams reports fits run.count run.legal
-      (judged_members run_params set run.history 1 run.streams reports run.judged) closed stays),
-  (λ stays. all_ordered f run_params run.history run.streams reports fits run.count run.legal run.judged stays),
-)
+run_serializable closed_ordered all_ordered f run_params observed reports fits run = record {
+  sets = λ set closed stays. closed_ordered f run_params set run.history run.streams reports fits run.count run.legal
+      (judged_members run_params set run.history 1 run.streams reports run.judged) closed stays;
+  all = λ stays. all_ordered f run_params run.history run.streams reports fits run.count run.legal run.judged stays;
+}

@@ -83,11 +83,11 @@ AloneHasOneReport =
 
 -- Runs
 
--- the reports of every run are isolated
+-- the groups of every run are isolated
 abbrev pub RunIsolated : Type 0
 RunIsolated = (f : Cnf) (run_params : RunParamsValue) (observed : List InputObservation)
     (reports : List Report)
-    → Fits run_params.layout f → AreIsolated f run_params observed reports
+    → Fits run_params.layout f → (run : IsRun f run_params observed reports) → AreIsolated run
 
 -- of a stream that was stopped early the report tells of a bad line, or that memory ran out: no other ending is right for both ends
 abbrev pub EarlyIsDecided : Type 0

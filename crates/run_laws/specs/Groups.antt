@@ -82,17 +82,15 @@ pub record IsReportAlone (formula : Cnf) (run_params : RunParamsValue) (s : ℕ)
   pub reads : IsReadingOf whole end stream
   pub says : IsOfStream reports s report
 
--- The reports are isolated. In every run of these readers that has them each closed set of streams, none of whose reports tells that
--- memory ran out, has such reports as it may have alone. And if a stream is a closed set by itself, and its report doesn't tell that
--- memory ran out, each report that it may have alone, with all bytes and any end of which the stream is a reading, is this report.
-pub record AreIsolated (formula : Cnf) (run_params : RunParamsValue)
-    (observed : List InputObservation)
-    (reports : List Report) : Type 0 where
-  pub groups : (run : IsRun formula run_params observed reports) (set : ℕ → Bool)
-      → IsClosed run_params.layout set run.streams → NoneOutOfMemory set reports
-      → IsGroup formula run_params set run.streams reports
-  pub alone : (run : IsRun formula run_params observed reports) (s : ℕ) (stream : Stream)
-      (report : Report)
+-- The run's groups are isolated. Each closed set of its streams, none of whose reports tells that memory ran out, has such reports as it
+-- may have alone. And if a stream is a closed set by itself, and its report doesn't tell that memory ran out, each report that it may have
+-- alone, with all bytes and any end of which the stream is a reading, is this report.
+pub record AreIsolated {formula : Cnf} {run_params : RunParamsValue}
+    {observed : List InputObservation} {reports : List Report}
+    (run : IsRun formula run_params observed reports) : Type 0 where
+  pub groups : (set : ℕ → Bool) → IsClosed run_params.layout set run.streams
+      → NoneOutOfMemory set reports → IsGroup formula run_params set run.streams reports
+  pub alone : (s : ℕ) (stream : Stream) (report : Report)
       → IsOfStream run.streams s stream → IsOfStream reports s report
       → IsClosed run_params.layout (one s) run.streams → ¬ IsOfMemory report
       → (whole : List ℕ) (end : StreamEnd) → IsReadingOf whole end stream

@@ -17,6 +17,7 @@ use Rattle.stream_check.specs.Judging.{joined, JudgesBlocks}
 use Rattle.runs.specs.Streams.{Stream, Block, events_in, InputObservation, RunParamsValue, MatchesInput, IsOrdered}
 use Rattle.runs.specs.SequentialConsistency.{AreJudgedIn}
 use Rattle.runs.specs.Closed.{IsClosed}
+use Rattle.run_laws.specs.Groups.{IsRun}
 use Rattle.run_laws.specs.Lines.{IsLineBlock, IsOrder}
 use Rattle.run_laws.specs.Premises.{FindsKept, FoundStays, FindsUnretired, MeetsUnretired, Cites, SomeLineDeletes, KeepShared, ReadersKeepShared}
 use Rattle.run_laws.specs.Serializable.{ComeToVerdict, IsSerializable}
@@ -122,8 +123,8 @@ ReadersShare =
 
 -- Runs
 
--- The lines of every run are serializable.
+-- the lines of every run are serializable
 abbrev pub RunSerializable : Type 0
 RunSerializable = (f : Cnf) (run_params : RunParamsValue) (observed : List InputObservation)
     (reports : List Report)
-    → Fits run_params.layout f → IsSerializable f run_params observed reports
+    → Fits run_params.layout f → (run : IsRun f run_params observed reports) → IsSerializable run

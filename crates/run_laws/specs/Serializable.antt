@@ -20,16 +20,15 @@ pub record ComeToVerdict (cube : CubeValue) (history : History)
   pub within : list_any (λ report. report.within) reports
       ≡ list_any (λ entry. is_within cube entry.1) (published history)
 
--- The lines are serializable: in every run of these readers that has these reports, and for every closed set of its streams, of which
--- none found an identity of another stream live that the run's history leaves retired, the set's lines have one order in which a
--- checker of one thread gives the same reports; and if this holds of all streams together, they have one that comes to the verdict of
--- the reports besides.
-abbrev pub IsSerializable : Cnf → RunParamsValue → List InputObservation → List Report → Type 0
-IsSerializable formula run_params observed reports =
-    (run : IsRun formula run_params observed reports)
-    → ((set : ℕ → Bool) → IsClosed run_params.layout set run.streams
-    → FoundStays formula run_params.layout set run.history
-    → IsOrdered formula run_params set run.streams reports)
-    × (FoundStays formula run_params.layout (λ s. true) run.history
-    → (order : IsOrdered formula run_params (λ s. true) run.streams reports)
-    × ComeToVerdict run_params.cube (events_in order.blocks) reports)
+-- The run's lines are serializable: for every closed set of its streams, of which none found an identity of another stream live that the
+-- run's history leaves retired, the set's lines have one order in which a checker of one thread gives the same reports; and if this holds
+-- of all streams together, they have one that comes to the verdict of the reports besides.
+pub record IsSerializable {formula : Cnf} {run_params : RunParamsValue}
+    {observed : List InputObservation} {reports : List Report}
+    (run : IsRun formula run_params observed reports) : Type 0 where
+  pub sets : (set : ℕ → Bool) → IsClosed run_params.layout set run.streams
+      → FoundStays formula run_params.layout set run.history
+      → IsOrdered formula run_params set run.streams reports
+  pub all : FoundStays formula run_params.layout (λ s. true) run.history
+      → (order : IsOrdered formula run_params (λ s. true) run.streams reports)
+      × ComeToVerdict run_params.cube (events_in order.blocks) reports

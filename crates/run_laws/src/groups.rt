@@ -58,7 +58,7 @@ pub fn alone_has_one_report()
     alone_decides();
 }
 
-/// The reports of every run are isolated.
+/// The groups of every run are isolated.
 pub fn run_isolated()
     ensures { RunIsolated }
 {

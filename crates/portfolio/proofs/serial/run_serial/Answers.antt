@@ -84,8 +84,8 @@ returns-clause-isolated g c =
     let f = c.args.formula.now in
     let run_params = run_params_of c.args.options c.args.cube.now f (length c.args.readers.items) in
     let fits : Fits run_params.layout f = record { vars = refl; clauses = refl; literals = refl } in
-    IfOk-weaker c.check.result _ _ (λ outcome verdict. c.run_isolated.ensures f run_params _ outcome.reports.items fits)
-    c.check.ensures.verdict
+    IfOk-weaker c.check.result _ _ (λ outcome by. (by.0, (by.1, c.run_isolated.ensures f run_params _ _ fits by.0.run)))
+    (returns-clause-ordered g c)
 
 -- the turns keep the formula and the layout
 pub returns-clause-kept : goal.returns-clause-kept

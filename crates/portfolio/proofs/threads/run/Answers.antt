@@ -95,14 +95,14 @@ returns-clause-reports g c =
 pub returns-clause-isolated : goal.returns-clause-isolated
 returns-clause-isolated g c =
     let begun = begun g (goal.at.returns-clause-isolated g c).In_ok-store in
-    IfOk-weaker c.check.result _ _ (λ outcome found. c.run_isolated.ensures _ _ _ outcome.reports.items begun.fits)
-    c.check.ensures.found
+    IfOk-weaker c.check.result _ _ (λ outcome by. (by.0, (by.1, c.run_isolated.ensures _ _ _ _ begun.fits by.0.run)))
+    (returns-clause-reports g c)
 
 pub returns-clause-serializable : goal.returns-clause-serializable
 returns-clause-serializable g c =
     let begun = begun g (goal.at.returns-clause-serializable g c).In_ok-store in
-    IfOk-weaker c.check.result _ _ (λ outcome found. c.run_serializable.ensures _ _ _ outcome.reports.items begun.fits)
-    c.check.ensures.found
+    IfOk-weaker c.check.result _ _ (λ outcome by. (by.0, (by.1, c.run_serializable.ensures _ _ _ _ begun.fits by.0.run)))
+    (returns-clause-reports g c)
 
 pub returns-clause-store : goal.returns-clause-store
 returns-clause-store g c =
