@@ -317,6 +317,21 @@ def put_in_place(how: str, work: Path) -> None:
     want(mine.read_text(), "mine", "what the file has")
 
 
+def another_folder(work: Path) -> None:
+    """In another folder that has the name nothing is written or removed."""
+    formula, names = written(FOUR, work), ["round-1.sizes", "round-1.stream-1", "round-2.sizes", "round-2.stream-1"]
+    with filtering([formula, written("2 0\n0\n", work, "proof")], work) as running:
+        assert running.stdout
+        running.stdout.readline()
+        (work / "d").rename(work / "moved")
+        mine = [written("mine", work / "other", name) for name in names]
+        (work / "d").symlink_to("other")
+        done = run([PROGRAM, "--rounds", "moved", formula, "moved/round-1.stream-1"], cwd=work, stdin=running.stdout)
+        want((done.err, done.status, end_of(running)), ("", 0, ("", 0)), "the ends")
+    want(([path.read_text() for path in mine], left(work)), (["mine"] * len(mine), names), "what stands in the other one")
+    want(os.listdir(work / "moved"), ["round-2.cnf"], "what is left")
+
+
 def without_errors(closing: str, work: Path) -> None:
     """What the filter would say isn't in the stream."""
     formula, proof = written(FOUR, work), written("2 0\n3 0\n", work, "proof")
@@ -544,7 +559,7 @@ def rows() -> List[Row]:
     found += [(f"a wrong step, {form}", wrong, form, 2500) for form in ("LRAT text", "DRAT text", "binary DRAT")]
     found += [("rows grow", rows_grow), ("behind the empty clause", behind), ("no room", no_room),
               ("no room for one clause", no_room_for_one), ("an import", imported), ("other files", beside_others),
-              ("no folder", no_folder), ("a folder of another run", locked),
+              ("no folder", no_folder), ("a folder of another run", locked), ("another folder", another_folder),
               *((f"files that are closed: {closing}", without_errors, closing) for closing in ("2>&-", "<&- 2>&-")),
               ("a folder that is made", made_where_all_may_write)]
     found += [(f"a folder of mode {mode:o}", others_write, mode, taken)

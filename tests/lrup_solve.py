@@ -275,6 +275,15 @@ def stopped(work: Path) -> None:
     want((answer.answers, answer.status), (["s UNKNOWN"], -signal.SIGTERM), "the end")
 
 
+def ended_while_it_stands(work: Path) -> None:
+    """What somebody has stopped is ended, too, and removes its files."""
+    with Running(generated("pigeons 11", work), work) as running:
+        os.kill(running.children["lrup-engines"], signal.SIGSTOP)
+        running.process.terminate()
+        answer = running.end()
+    want((answer.answers, answer.status), (["s UNKNOWN"], -signal.SIGTERM), "the end")
+
+
 def left_alone(work: Path) -> None:
     """Where the front is killed the others end, too."""
     with Running(generated("pigeons 11", work), work) as running:
@@ -380,6 +389,20 @@ def progress(words: List[str], wanted: bool, columns: int, work: Path) -> None:
     want(hidden <= lines + 1, True, f"{hidden} times the line was hidden, for {lines} lines")
 
 
+def terminal_that_stops(work: Path) -> None:
+    """As after `stty tostop` it stops who writes to it in the background, and the front alone is in the foreground."""
+    leader, terminal = pty.openpty()
+    settings = termios.tcgetattr(terminal)
+    settings[3] |= termios.TOSTOP
+    termios.tcsetattr(terminal, termios.TCSANOW, settings)
+    fcntl.fcntl(leader, fcntl.F_SETFL, os.O_NONBLOCK)
+    answer = solve(["--time", "1", generated("pigeons 11", work)], stderr=terminal, start_new_session=True,
+                   preexec_fn=lambda: fcntl.ioctl(terminal, termios.TIOCSCTTY, 0))
+    os.close(terminal)
+    want(("time is up" in answer.comments, len(PROGRESS.findall(read_terminal(leader))) > 0), (True, True), f"what is told\n{answer.out}")
+    os.close(leader)
+
+
 # Formulas that nobody here wrote, of yosys.
 
 
@@ -480,7 +503,8 @@ def what_happens() -> List[Row]:
             ("filter 1 killed", killed, ["filter 1"], kill, 20, "engine 1 is lost"),
             ("filter 2 killed", killed, ["filter 2"], term, 20, "engine 2 is lost"),
             ("an engine and a filter killed", killed, ["engine 1", "filter 2"], kill, 0, "no engine is left"),
-            ("the front killed", left_alone), ("stopped", stopped),
+            ("the front killed", left_alone), ("stopped", stopped), ("ended while it stands", ended_while_it_stands),
+            ("a terminal that stops", terminal_that_stops),
             ("who gives way", gives_way), ("time", time_is_up), ("a full row", row_is_full),
             ("a full disk for streams", full, ["-j", "1", "--proofs", "{work}"], os.devnull, 4096, "round-1.stream-1: File too large"),
             ("a full disk for the answer", full, [], "/dev/full", 0, "cannot write the answer"),

@@ -20,7 +20,7 @@ from pathlib import Path
 from typing import Any, List, Sequence
 
 sys.dont_write_bytecode = True
-from harness import FOUR, LIMIT, Ran, Row, Skipped, run, started, until, want, words_given, written
+from harness import FOUR, LIMIT, ROOT, Ran, Row, Skipped, run, started, until, want, words_given, written
 from proof_forms import read_formula
 from solving import PROGRAM, SOLVE, Answer, before_lrupd, in_place_of_lrupd, marked, none_left, run_built
 
@@ -233,10 +233,11 @@ def endless(work: Path) -> None:
 
 
 def length(work: Path) -> None:
-    """What one has to read."""
-    files = sorted((Path(__file__).parent.parent / "tools" / "solve" / "front").iterdir())
+    """What one has to read, and that nothing else is part of it."""
+    files = sorted((ROOT / "tools" / "solve" / "front").iterdir())
     lines = [line for file in files for line in file.read_text().splitlines()]
-    want((len(files), len(lines) <= 313), (2, True), f"files and lines of the front, {len(lines)}")
+    want((len(files), len(lines) <= 250), (2, True), f"files and lines of the front, {len(lines)}")
+    want([line for line in lines if line.startswith('#include "')], ['#include "inputs.h"'], "headers of the project")
 
 
 def rows() -> List[Row]:

@@ -136,6 +136,7 @@ for name in s l; do echo "c $name: 1 bytes of 1: lrupd --lines 1 --room 0 x y"; 
 ANOTHERS = [("wrong outputs", {"lrup-trim": WRONG_TRIM}, "lrupd hasn't taken lrat, which is removed"),
             ("no outputs", {"lrup-trim": "echo lrup-trim: no line derives the empty clause >&2; exit 1"},
              "no core and no LRAT text: lrup-trim: no line derives the empty clause"),
+            ("lrup-trim killed", {"lrup-trim": "kill -9 $$"}, "no core and no LRAT text: lrup-trim ended by a signal: Killed"),
             ("no lrup-trim", {}, "no lrup-trim, neither beside this program nor on the PATH: `make trim` makes it")]
 
 

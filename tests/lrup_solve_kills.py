@@ -4,7 +4,8 @@
     lrup_solve_kills.py PROGRAM [FLAGS [COUNT]]
 
 For each of COUNT formulas, 10 if it isn't said, a run is left alone, and then one for each process that a run has, which is killed some
-time after it has begun. Whatever is killed, the answer is right, or 's UNKNOWN', or none with status 1; no process and no file is left.
+time after it has begun. Whatever is killed, the answer is right, or 's UNKNOWN', and of a front that is killed right or none; no process
+and no file is left.
 It builds as lrup_solve.py does. It shows what is off; the last line is 'N passed, M failed', and the status is 1 where a run failed.
 """
 import os
@@ -22,13 +23,14 @@ from solving import (EARLY, Answer, children_of, command, in_environment, is_ali
                      solve, want_answer)
 
 COUNT = int((words_given(__doc__, most=3) + ["-O2", "10"][len(sys.argv) - 2:])[2])
-NAMES = ["lrup-engines", "engine 1", "engine 2", "filter 1", "filter 2", "lrupd", "its reading", "cleaner"]
+FRONT = "lrup-solve"
+NAMES = [FRONT, "lrup-engines", "engine 1", "engine 2", "filter 1", "filter 2", "lrupd", "its reading", "opener", "cleaner"]
 SOON = 6        # seconds, after a run has come to its end
 
 
 def processes_of_run(pid: int) -> Dict[str, int]:
-    """With the lrupd that reads the formula."""
-    found = children_of(pid)
+    """With the front, and the lrupd that reads the formula."""
+    found = {**children_of(pid), FRONT: pid}
     for child in map(int, of_process(pid, f"task/{pid}/children").split()):
         title, words = of_process(child, "comm").strip(), of_process(child, "cmdline")
         if title == "lrupd" and "--rounds" not in words:
@@ -58,12 +60,17 @@ def kills(seed: int, work: Path) -> None:
     size = numbers.randrange(120, 220)
     formula = written(dimacs(size, random_clauses(numbers, size, round(numbers.uniform(4, 4.6) * size))), work)
     hooks = {"SET": EARLY, "SLICE": numbers.choice((20, 50, 200)), "FIRST_WORDS": numbers.choice((1000, 10000))}
-    whole = solve(["-j", "2", formula])
+    begun = time.monotonic()
+    whole = solve(["-j", "2", "--memory", "64M", formula], tested=hooks)
+    lasts = time.monotonic() - begun
     want_answer(whole, whole.status if whole.status in (10, 20) else 20, formula)
     for name in NAMES:
-        answer = killed_one(name, numbers.uniform(0, 0.2), formula, hooks, work)
+        answer = killed_one(name, numbers.uniform(0, lasts), formula, hooks, work)
         answer.said = ""        # an engine's last words
-        want_answer(answer, answer.status if answer.status in (0, whole.status) else whole.status, formula)
+        if answer.status == -signal.SIGKILL:
+            want((name, answer.answers in ([], whole.answers)), (FRONT, True), f"the answer of\n{answer.out}")
+        else:
+            want_answer(answer, answer.status if answer.status in (0, whole.status) else whole.status, formula)
 
 
 sys.exit(run_built([(f"formula {seed}", kills, seed) for seed in range(COUNT)]))

@@ -321,6 +321,22 @@ def put_in_place(how: str, work: Path) -> None:
     want(mine.read_text(), "mine", "what the file has")
 
 
+def another_folder(work: Path) -> None:
+    """In another folder that has the record's name nothing is written over, and the record is whole where it is by then."""
+    kept, moved, other = work / "kept", work / "moved", work / "other"
+    names = [f"round-{number}.{what}" for number in range(1, 9) for what in ("sizes", "stream-1", "stream-2")]
+    names += ["formula.sha256", "report", ".report.new", "command"]
+    with Running(["--proofs", kept, "-j", "2", generated("random 220 5", work)], 1, work, True, FIRST_WORDS=40000) as running:
+        kept.rename(moved)
+        mine = [written("mine", other, name) for name in names]
+        kept.symlink_to(other)
+        running.go_on()
+        answer = running.end()
+    want_answer(answer, 20)
+    want(([path.read_text() for path in mine], len(os.listdir(other))), (["mine"] * len(names), len(names)), "what stands in the other one")
+    check_again(moved)
+
+
 def no_folder(work: Path) -> None:
     answer = solve(["-j", "2", generated("pigeons 11", work)], tested={**SMALL, "FIRST_WORDS": 50000},
                    env_more={"TMPDIR": str(work / "none")})
@@ -437,7 +453,7 @@ def what_happens() -> List[Row]:
                        ("all filters killed in a pause", killed_in_a_pause, [f"filter {k}" for k in (1, 2, 3)], 0,
                         "no engine is left"),
                        ("nobody looks in a round", nobody_looks, False), ("nobody looks in a pause", nobody_looks, True),
-                       ("the folder removed", folder_removed), ("a forged formula", forged), ("no folder", no_folder), ("a full disk", full),
+                       ("the folder removed", folder_removed), ("another folder", another_folder), ("a forged formula", forged), ("no folder", no_folder), ("a full disk", full),
                        ("nothing grows", stays_small)]
     rows += [(f"a {how} in the place of a stream", put_in_place, how) for how in ("link", "file")]
     rows += [(f"signal {number} in round {at}, pause {pause}", ended_by, number, at, pause) for number in

@@ -26,6 +26,7 @@ enum { USUAL_LINES = 65536 };       // lrupd's without words; a first row's room
 #define ANOTHER_FILE "somebody has put another file in the place of"
 
 static const char *folder;
+static int held;                            // the folder, whatever has its name by now
 static Filter *filter;
 static Rows rows;
 static Row used;                            // of this round's row
@@ -39,7 +40,7 @@ static struct stat made;                    // the FIFO
 // not remove files there and make new ones.
 static void lock_folder(void) {
     struct stat found;
-    int held = open(folder, O_RDONLY | O_DIRECTORY | O_CLOEXEC);
+    held = open(folder, O_RDONLY | O_DIRECTORY | O_CLOEXEC);
     if (held < 0 || fstat(held, &found) != 0) fail("cannot read the folder", folder);
     if ((found.st_mode & S_IWOTH) && !(found.st_mode & S_ISVTX)) fail("others may write to the folder", folder);
     if (flock(held, LOCK_EX | LOCK_NB) != 0 && errno == EWOULDBLOCK) fail("another run that goes on has its files in", folder);
@@ -51,7 +52,8 @@ void chain_open(const char *path) {
     if (strlen(folder) > LONGEST_PATH - LONGEST_NAME) fail("too long a name:", folder);
     if (mkdir(folder, 0775) != 0 && errno != EEXIST) fail("cannot make the folder", folder);
     lock_folder();
-    DIR *list = opendir(folder);
+    int listed = openat(held, ".", O_RDONLY | O_DIRECTORY | O_CLOEXEC);
+    DIR *list = listed < 0 ? NULL : fdopendir(listed);
     if (list == NULL) fail("cannot read the folder", folder);
     for (const struct dirent *entry; (entry = readdir(list)) != NULL;) {
         if (strncmp(entry->d_name, OF_A_ROUND, strlen(OF_A_ROUND)) != 0) continue;
@@ -60,6 +62,9 @@ void chain_open(const char *path) {
     }
     closedir(list);
 }
+
+// Of the folder.
+static const char *name_in(const char *path) { return strrchr(path, '/') + 1; }
 
 static void name_file(char path[LONGEST_PATH], const char *what) {
     snprintf(path, LONGEST_PATH, "%s/" OF_A_ROUND "%llu.%s", folder, (unsigned long long)round_number, what);
@@ -71,25 +76,26 @@ static void make_files(void) {
     int length = snprintf(text, sizeof text, "1 %llu %llu\n", (unsigned long long)rows.row.lines, (unsigned long long)rows.row.room);
     name_file(sizes, "sizes");
     name_file(stream, "stream-1");
-    int out = open(sizes, O_WRONLY | O_CREAT | O_EXCL, 0666);
+    int out = openat(held, name_in(sizes), O_WRONLY | O_CREAT | O_EXCL, 0666);
     if (out < 0) fail("cannot make", sizes);
     bool written = write_whole(out, text, (size_t)length);
     is_awaited = 1;
-    if (close(out) == 0 && written && mkfifo(stream, 0666) == 0 && lstat(stream, &made) == 0) return;
-    unlink(sizes);
+    if (close(out) == 0 && written && mkfifoat(held, name_in(stream), 0666) == 0 &&
+        fstatat(held, name_in(stream), &made, AT_SYMLINK_NOFOLLOW) == 0) return;
+    unlinkat(held, name_in(sizes), 0);
     fail("cannot make", stream);
 }
 
 static void remove_files(void) {
-    unlink(stream);
-    unlink(sizes);
+    unlinkat(held, name_in(stream), 0);
+    unlinkat(held, name_in(sizes), 0);
     is_awaited = 0;
 }
 
 // Where lrupd waits at the FIFO, or is about to, it gets an empty stream, or none.
 static void end_by_signal(int number) {
     if (is_awaited) {
-        open(stream, O_RDWR | O_NONBLOCK | O_NOFOLLOW);     // until this process has ended
+        openat(held, name_in(stream), O_RDWR | O_NONBLOCK | O_NOFOLLOW);    // until this process has ended
         remove_files();
     }
     signal(number, SIG_DFL);
@@ -106,7 +112,7 @@ static void take_signals(void) {
 static void open_stream(void) {
     struct pollfd reader = { .fd = STDOUT_FILENO };
     struct stat found;
-    while ((file = open(stream, O_WRONLY | O_NONBLOCK | O_NOFOLLOW)) < 0) {
+    while ((file = openat(held, name_in(stream), O_WRONLY | O_NONBLOCK | O_NOFOLLOW)) < 0) {
         if (errno == ELOOP) fail(ANOTHER_FILE, stream);
         if (errno != ENXIO && errno != EINTR) fail("cannot open", stream);
         if (poll(&reader, 1, PAUSE) <= 0) continue;
@@ -135,7 +141,7 @@ static void take_checkpoint(void) {
     Checkpoint checkpoint;
     name_file(path, "cnf");
     checkpoint_read(&checkpoint, path);
-    unlink(path);
+    unlinkat(held, name_in(path), 0);
     round_begin(filter, &checkpoint, 1, 1);
     checkpoint_free(&checkpoint);
 }

@@ -110,14 +110,13 @@ static bool is_as_made(int stream) {
 }
 
 static void open_stream(void) {
-    char path[LONGEST_PATH + 64];
-    if (own->shared->record[0] == 0) {
+    char name[64];
+    if (own->record < 0) {
         lseek(own->stream, 0, SEEK_SET);        // the first process has cut it
         return;
     }
-    snprintf(path, sizeof path, "%sround-%llu.stream-%llu", own->shared->record, (unsigned long long)round_number,
-             (unsigned long long)filter.stream);
-    int file = open(path, O_WRONLY | O_NOFOLLOW | O_NONBLOCK | O_CLOEXEC);
+    snprintf(name, sizeof name, "round-%llu.stream-%llu", (unsigned long long)round_number, (unsigned long long)filter.stream);
+    int file = openat(own->record, name, O_WRONLY | O_NOFOLLOW | O_NONBLOCK | O_CLOEXEC);
     if (file < 0 ? errno == ELOOP : !is_as_made(file)) leave_unwritten("somebody has put another file there");
     if (file < 0 || dup2(file, own->stream) < 0) leave_unwritten(strerror(errno));
     close(file);

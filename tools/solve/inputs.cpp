@@ -36,7 +36,7 @@ std::string Inputs::again(const std::string &path, const std::string &fronts, co
     copy_file(file, kept_as, copy);
     close(file);
     close_file(copy);
-    if (rename(begun.c_str(), copied.c_str()) != 0) refuse("cannot write " + copied + ": " + error_text());
+    if (!rename_file(begun, copied)) refuse("cannot write " + copied + ": " + error_text());
     return copied;
 }
 

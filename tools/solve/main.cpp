@@ -16,10 +16,11 @@
 #include "run.h"
 
 // What comes from the caller: where SIGCHLD is ignored nobody can wait for a child. A limit on the size of files is met as a
-// full disk is.
+// full disk is. A terminal may stop who writes to it from a process group in the background, as this one is.
 static void set_signals() {
     signal(SIGCHLD, SIG_DFL);
     signal(SIGXFSZ, SIG_IGN);
+    signal(SIGTTOU, SIG_IGN);
 }
 
 // Where the caller has closed one of the first three files, no pipe of ours takes its place.

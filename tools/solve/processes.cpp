@@ -37,8 +37,9 @@ bool write_all(int file, const char *bytes, size_t length) {
 
 // A new one: what has the name, or what the name is a link to, isn't written to.
 int new_file(const std::string &path) {
-    if (unlink(path.c_str()) != 0 && errno != ENOENT) return -1;
-    return open(path.c_str(), O_RDWR | O_CREAT | O_EXCL | O_NOFOLLOW | O_CLOEXEC, 0666);
+    Place place = place_of(path);
+    if (!remove_file(path)) return -1;
+    return openat(place.folder, place.name.c_str(), O_RDWR | O_CREAT | O_EXCL | O_NOFOLLOW | O_CLOEXEC, 0666);
 }
 
 }
@@ -98,6 +99,16 @@ int create_file(const std::string &path) {
     return kept_open(file);
 }
 
+bool remove_file(const std::string &path) {
+    Place place = place_of(path);
+    return unlinkat(place.folder, place.name.c_str(), 0) == 0 || errno == ENOENT;
+}
+
+bool rename_file(const std::string &path, const std::string &other) {
+    Place from = place_of(path), to = place_of(other);
+    return renameat(from.folder, from.name.c_str(), to.folder, to.name.c_str()) == 0;
+}
+
 void create_pipe(const std::string &path) {
     if (mkfifo(path.c_str(), 0600) != 0) refuse("cannot make " + path + ": " + error_text());
 }
@@ -116,9 +127,9 @@ std::string write_file(const std::string &path, const std::string &text) {
     std::string begun = unfinished(path), cause;
     int file = new_file(begun);
     bool written = file >= 0 && write_all(file, text.data(), text.size());
-    if (!written || rename(begun.c_str(), path.c_str()) != 0) cause = "cannot write " + path + ": " + error_text();
+    if (!written || !rename_file(begun, path)) cause = "cannot write " + path + ": " + error_text();
     if (file >= 0) close(file);
-    if (file >= 0 && !cause.empty()) unlink(begun.c_str());
+    if (file >= 0 && !cause.empty()) remove_file(begun);
     return cause;
 }
 

@@ -15,12 +15,15 @@
 
 namespace {
 
+std::string record_name;        // absolute, with a slash
+
 bool is_same(const struct stat &one, const struct stat &other) {
     return one.st_dev == other.st_dev && one.st_ino == other.st_ino;
 }
 
 bool find(const std::string &path, struct stat &found) {
-    return (path == "-" ? fstat(STDIN_FILENO, &found) : stat(path.c_str(), &found)) == 0;
+    Place place = place_of(path);
+    return (path == "-" ? fstat(STDIN_FILENO, &found) : fstatat(place.folder, place.name.c_str(), &found, 0)) == 0;
 }
 
 bool is_standard_input(const std::string &path) {
@@ -48,7 +51,8 @@ std::vector<std::string> files_of(const std::string &folder) {
     std::vector<std::string> paths;
     for (const char *name : NAMES)
         for (const std::string &path : { folder + "/" + name, unfinished(folder + "/" + name) }) paths.push_back(path);
-    if (DIR *list = opendir(folder.c_str())) {
+    int file = openat(record_folder, ".", O_RDONLY | O_DIRECTORY | O_CLOEXEC);
+    if (DIR *list = file < 0 ? nullptr : fdopendir(file)) {
         while (const dirent *entry = readdir(list))
             if (is_of_a_round(entry->d_name)) paths.push_back(folder + "/" + entry->d_name);
         closedir(list);
@@ -58,9 +62,19 @@ std::vector<std::string> files_of(const std::string &folder) {
 
 }
 
+int record_folder = -1;
+
+Place place_of(const std::string &path) {
+    std::string whole = absolute(path);
+    bool is_in_record = record_folder >= 0 && whole.compare(0, record_name.size(), record_name) == 0 &&
+                        whole.find('/', record_name.size()) == std::string::npos;
+    return is_in_record ? Place{ record_folder, whole.substr(record_name.size()) } : Place{ AT_FDCWD, path };
+}
+
 bool is_there(const std::string &path) {
     struct stat found;
-    return lstat(path.c_str(), &found) == 0;
+    Place place = place_of(path);
+    return fstatat(place.folder, place.name.c_str(), &found, AT_SYMLINK_NOFOLLOW) == 0;
 }
 
 // To a shell it is one word as it stands.
@@ -150,20 +164,22 @@ void check_plain(const std::string &path, const std::string &name) {
 
 // No other run has it until this process ends, however it does; where the system has no locks nobody is told. Where others may
 // remove files and make new ones, streams that are opened again by their names may be anything.
-static void lock_folder(const std::string &folder) {
+static void hold_folder(const std::string &folder) {
     struct stat found;
     int file = open(folder.c_str(), O_RDONLY | O_DIRECTORY | O_CLOEXEC);
     if (file < 0 || fstat(file, &found) != 0) refuse(folder + ": " + error_text());
     if ((found.st_mode & S_IWOTH) && !(found.st_mode & S_ISVTX)) refuse(folder + ": others may write there: another --proofs");
     if (flock(kept_open(file), LOCK_EX | LOCK_NB) != 0 && errno == EWOULDBLOCK)
         refuse(folder + ": another run that goes on has its files there: another --proofs");
+    record_folder = kept_open(openat(file, ".", O_PATH | O_DIRECTORY | O_CLOEXEC));     // a child that has it doesn't hold the lock
+    record_name = absolute(folder) + "/";
 }
 
 // A run that has read its inputs leaves a first stream. Where there is none, a file with one of the names is somebody's own.
 void open_record(const std::string &folder, const std::vector<std::string> &inputs) {
     struct stat input, found;
     if (mkdir(folder.c_str(), 0775) != 0 && errno != EEXIST) refuse("cannot make " + folder + ": " + error_text());
-    lock_folder(folder);
+    hold_folder(folder);
     for (const std::string &path : files_of(folder))
         for (const std::string &name : inputs)
             if (find(path, found) && find(name, input) && is_same(found, input))
@@ -187,6 +203,6 @@ std::string digest_line(const std::string &path) {
 
 void clear_record(const std::string &folder, const std::vector<std::string> &kept) {
     for (const std::string &path : files_of(folder))
-        if (std::find(kept.begin(), kept.end(), path) == kept.end() && unlink(path.c_str()) != 0 && errno != ENOENT)
+        if (std::find(kept.begin(), kept.end(), path) == kept.end() && !remove_file(path))
             refuse("cannot remove " + path + ": " + error_text());
 }

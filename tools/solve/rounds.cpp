@@ -103,7 +103,7 @@ fi
 )sh";
 
 std::string Rounds::command_again() const {
-    std::string folder = teams.shared->record, text = CHECK_AGAIN;
+    std::string folder = teams.record, text = CHECK_AGAIN;
     std::string assume = inputs.options.assume ? quoted(within(folder, absolute(inputs.assume_path))) + " " : "";
     text.replace(text.find("ASSUME "), 7, assume);
     text.replace(text.find("FORMULA;"), 7, quoted(within(folder, absolute(inputs.formula_path))));
@@ -115,7 +115,7 @@ std::string Rounds::command_again() const {
 void Rounds::keep_sizes() const {
     if (!inputs.options.proofs) return;
     std::string text = sizes_text(LOAD(teams.shared->streams), rows.row);
-    std::string unwritten = write_file(teams.shared->record + name_of_round(number) + ".sizes", text);
+    std::string unwritten = write_file(teams.record + name_of_round(number) + ".sizes", text);
     if (!unwritten.empty()) refuse(unwritten);
 }
 
@@ -130,7 +130,7 @@ std::string Rounds::keep_report() const {
 
 void Rounds::start_checker(Row wanted) {
     rows.row = wanted;
-    std::string record = teams.shared->record;
+    const std::string &record = teams.record;
     command = command_of(wanted, record);
     keep_sizes();
     display.tell_more(is_utf8(record) ? command_of(wanted, "") : "cd " + quoted(record) + " && " + command);

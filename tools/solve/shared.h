@@ -75,7 +75,6 @@ typedef struct {
     uint64_t variable_count;            // by which cubes are made; 0: it isn't known yet
     int variables[VARIABLES_OF_CUBES];
     char checkpoint[LONGEST_PATH];
-    char record[LONGEST_PATH];          // the folder of the streams, with a slash, where they are kept
     EventCount events;                  // for the first process, of what engines and filters write
     EngineStatus engine_statuses[MOST_ENGINES];
 } Shared;
@@ -107,6 +106,7 @@ typedef struct {
     uint32_t *const *outboxes;      // by engine, from 0
     int engine;                     // counted from 1
     int proof, stream;              // the pipe of the engine's proof, and a file
+    int record;                     // the folder in which each round's stream is a file, or -1
     Form form;                      // of the proof
     bool shares;
     const int *assumed;             // literals

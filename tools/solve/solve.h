@@ -48,6 +48,8 @@ void close_all_but(const std::vector<int> &files);      // of a child
 Pipe make_pipe(int bytes);                              // so many, if the system gives them
 void close_file(int &file);
 int create_file(const std::string &path);               // a new one, whatever had the name
+bool remove_file(const std::string &path);              // true where it isn't there, too
+bool rename_file(const std::string &path, const std::string &other);
 void create_pipe(const std::string &path);
 int open_pipe(const std::string &path, int bytes);      // to write to it, without a name from then on; -1 where nobody reads
 std::string write_file(const std::string &path, const std::string &text);   // the cause, where it can't be written
@@ -103,6 +105,10 @@ void check_input(const std::string &path);              // refuses where it can'
 bool is_read_again(const std::string &path);            // others can open it, too, and as often as they like
 int open_input(const std::string &path);
 void check_plain(const std::string &path, const std::string &name);     // refuses where it is compressed
+struct Place { int folder; std::string name; };         // for openat and the like
+
+extern int record_folder;                               // open; -1: none
+Place place_of(const std::string &path);                // what is in the record is in that folder, whatever has its name by now
 void open_record(const std::string &folder, const std::vector<std::string> &inputs);    // refuses to write over these
 void clear_record(const std::string &folder, const std::vector<std::string> &kept);     // of an earlier run
 bool is_there(const std::string &path);

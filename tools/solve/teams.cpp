@@ -65,7 +65,7 @@ void Teams::open() {
     shared->outbox_words = options.shares() ? hooked(test_hooks.outbox, OUTBOX_WORDS) : 1;
     shared->round = 1;
     shared->events.file = event_file();
-    if (options.proofs) copy_name(shared->record, absolute(options.proofs) + "/");
+    if (options.proofs) record = absolute(options.proofs) + "/";
     list.resize(size_t(options.engines));
     for (size_t k = 0; k < list.size(); k++) {
         STORE(engine_status(k).stream, k + 1);
@@ -123,9 +123,10 @@ void Teams::start_team(size_t k) {
 void Teams::start_filter(size_t k) {
     Team &team = list[k];
     int number = int(k) + 1;
-    if (!begin(team.filter, "filter " + std::to_string(number), { team.proof.read, team.stream })) return;
+    if (!begin(team.filter, "filter " + std::to_string(number), { team.proof.read, team.stream, record_folder })) return;
     give_way();
-    Filtering filtering = { shared, outboxes.data(), number, team.proof.read, team.stream, is_solver(k) ? UNKNOWN_FORM : SHARING_DRAT,
+    Filtering filtering = { shared, outboxes.data(), number, team.proof.read, team.stream, record_folder,
+                            is_solver(k) ? UNKNOWN_FORM : SHARING_DRAT,
                             inputs.options.shares() && !is_solver(k), inputs.assumed.data(), inputs.assumed.size() };
     filter_process(&filtering, &inputs.formula);
 }
@@ -214,7 +215,7 @@ void Teams::tell_fed(size_t k, uint64_t bytes) const {
 // Streams.
 
 std::string Teams::stream_path(size_t k, uint64_t round) const {
-    return std::string(shared->record) + name_of_round(round) + ".stream-" + std::to_string(LOAD(engine_status(k).stream));
+    return record + name_of_round(round) + ".stream-" + std::to_string(LOAD(engine_status(k).stream));
 }
 
 std::vector<int> Teams::stream_files() const {

@@ -23,6 +23,7 @@ public:
     Shared *shared = nullptr;
     std::vector<uint32_t *> outboxes;
     Dealer dealer;                      // of cubes
+    std::string record;                 // the folder of the streams, with a slash, where they are kept
     double answered = 0;                // when an engine has refuted the formula, and not before its filter was ended; 0: none has
 
     explicit Teams(const Inputs &given) : inputs(given) {}

@@ -121,7 +121,7 @@ static void turn(void) {
 static void end_all(void) {
     for (int tries = 0; tries < 1200 * GRACE && waitpid(-1, NULL, WNOHANG) >= 0; tries++, usleep(1000)) {
         FILE *list = fopen("/proc/thread-self/children", "re");
-        for (pid_t pid; list && fscanf(list, "%d", &pid) == 1;) kill(pid, tries < 1000 * GRACE ? SIGTERM : SIGKILL);
+        for (pid_t pid; list && fscanf(list, "%d", &pid) == 1;) kill(pid, tries < 1000 * GRACE ? SIGTERM : SIGKILL), kill(pid, SIGCONT);
         if (list) fclose(list);
         while (waitpid(-1, NULL, WNOHANG) > 0) {}
     }
