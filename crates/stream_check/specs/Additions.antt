@@ -16,8 +16,8 @@ use Rattle.stream_check.specs.StreamContext.{StreamContext}
 use Rattle.stream_check.specs.Verdicts.{LineVerdict, Good, Bad, Violates}
 use Rattle.stream_check.specs.Lookup.{LooksUp}
 
--- What an addition is checked against: the greatest identity that was added before, or the formula's last one; the room that is left, in
--- literals; and which clauses hints name.
+-- What lines leave for an addition after them: the greatest identity that was added, or the formula's last one; the room that is left,
+-- in literals; and which clauses hints name.
 pub record AdditionContext : Type 1 where
   pub last : ℕ
   pub free : ℕ
@@ -44,7 +44,7 @@ AreFound params gone (hint ∷ hints) (clause ∷ clauses) history =
     (asked rest : History) × (history ≡ asked ++ rest) × LooksUp params gone hint asked (Ok clause)
     × AreFound params gone hints clauses rest
 
--- what an addition is checked against after the lines that left this context, if these events look its hints up
+-- what the lines of this context leave, where these events look hints up
 abbrev pub addition_context : StreamParams → StreamContext → History → AdditionContext
 addition_context params context history = record {
   last = context.last;
