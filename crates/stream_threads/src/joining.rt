@@ -130,8 +130,8 @@ fn meet_ends<R: Source + Drop>(mut sent: Sent<R>, checked: CheckedPass) -> Optio
 }
 
 impl<'a, R: Source + Drop, G: Gate + Drop> Started<'a, R, G> {
-    /// Waits until both threads have ended, which were told to start (`told` shows it), and returns the stream's result, or none if no mark
-    /// came.
+    /// Waits until both threads have ended, and returns the stream's result, or none if no mark came. `told` shows that the threads were
+    /// told to start.
     fn join<T: Threads>(self, threads: &T, told: &OnceToken<'a, bool>) -> Option<StreamResult<R>>
         requires signal { self.signal ≡ told.now.of }
         requires told { told.now.value ≡ true }
