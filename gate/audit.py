@@ -238,7 +238,7 @@ class Runs:
         self.traits = [whole(rust_type("lrup_text", "Source")), rust_type("stream_check", "Gate")]
         self.store_laws, self.group_laws, self.order_laws = laws(english.STORE_LAWS), laws(english.GROUP_LAWS), laws(english.ORDER_LAWS)
         self.right_laws, self.program_laws = laws(english.RIGHT_LAWS), laws(english.PROGRAM_LAWS)
-        self.ends = Contract("command/src/program.rt: command", ["ends"], commented=False)
+        self.ends = Contract("command/src/program.rt: command", ["ends", "saved_rounds"], commented=False)
         self.theorems = [block for number, (name, top, rows, account) in enumerate(english.THEOREMS, 1)
                          for block in (f"## {number}. {name}", statement(name), top, items(rows), account) if block]
 

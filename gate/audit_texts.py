@@ -119,8 +119,8 @@ CHECKPOINT_ROWS: Rows = [
      given.formula.now]]). Then assumptions were read and streams opened ([[AreOpened]])."""),
     ("If each run of a chain reads what the one before saved, and the last one ends with status 0, no assignment satisfies "
      "the first formula.",
-     """[[AreCheckpoints]] holds of such files, by `command.saved` of each run, and [[IsUnsatisfiableText]] of the last one,
-     by `command.sound`. So [[law files_refute]]; or, of runs without rounds, [[law outcomes_refute]]."""),
+     """[[AreCheckpoints]] holds of such files, by `command.saved` of each run (`saved_rounds`, with rounds), and [[IsUnsatisfiableText]] of the last
+     one, by `command.sound`. So [[law files_refute]]; or, of runs without rounds, [[law outcomes_refute]]."""),
     ("If it ends with status 8, no assignment satisfies the first formula and makes the last run's assumed literals true.",
      """[[law files_refute_under]], [[law outcomes_refute_under]]."""),
 ]
@@ -411,6 +411,11 @@ ROUNDS_ROWS: Rows = [
      "opened.",
      """[[SavesRound: carried : IsCheckpointOf round.formula bytes next]], [[IsCheckpointOf: entails : Entails original
      next]]; [[SavesRound: saved : WasSavedBy its round.opened (formula_path plan.folder (number + 1)) bytes round.after]]."""),
+    ("If the report was written, what each round but the last saved follows from the first formula. With status 3 or 8, so does "
+     "what the last one saved.",
+     """[[fn command.saved_rounds: (folder : Text) → AskForRounds (texts words.now) folder]], [[ReportsEntailed: saved : SaveEntailed]],
+     [[ReportsEntailed: last_saved : (status ≡ 3) ⊎ (status ≡ 8)]]. What a round saved is a text of a formula over the same variables, and
+     all its clauses follow from that of FORMULA ([[SavesEntailed]])."""),
     ("The streams of each round are checked as those of a single run.", """[[WasChecked]], [[AreChecked]]: with a history, or
      with `--serial` an order of lines, of its own. Tries, assumed literals and `--serial` stay ([[Plan]])."""),
     ("A round is followed by another one only if its verdict is 'unknown', its streams ended, and its formula was saved.",

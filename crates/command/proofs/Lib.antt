@@ -8,3 +8,4 @@ mod FileLemmas
 mod StatusLemmas
 mod SavingLemmas
 mod RoundLemmas
+mod EntailedLemmas

@@ -2,10 +2,10 @@
 use Rattle.std.proofs.Common.{◌≡◌, ◌∙◌, ◌⊎◌, ℕ, Bool, IsTrue, true, false, List, []}
 use Rattle.std.proofs.Common.{Option, None, Some, Result, Ok, Err, inl, inr, refl, sym, subst}
 use Rattle.std.specs.Prelude.{◌↔◌}
+use Rattle.std.specs.Io.KnownBytes.{Appends}
 use Rattle.std.specs.Option.{ForSome}
 use Rattle.lrup_model.specs.Formula.{Cnf}
 use Rattle.lrup_model.specs.declared.layout.LayoutFault.TheVariants as layouts
-use Rattle.runs.specs.Streams.{RunParamsValue}
 use Rattle.stream_check.specs.declared.report.Report.{Report}
 use Rattle.portfolio.specs.declared.outcome.Verdict.{Verdict}
 use Rattle.portfolio.specs.declared.outcome.Verdict.TheVariants.{Unsatisfiable, UnsatisfiableUnder, Unknown}
@@ -108,7 +108,7 @@ neither : (n : ℕ) → (n ≡ 3 → ⊥) → (n ≡ 8 → ⊥) → (n ≡ 3) �
 neither n not_3 not_8 (inl three) = not_3 three
 neither n not_3 not_8 (inr eight) = not_8 eight
 
-no_fault : (fault : CommandFault) → (status_of fault ≡ 3) ⊎ (status_of fault ≡ 8) → ⊥
+pub no_fault : (fault : CommandFault) → (status_of fault ≡ 3) ⊎ (status_of fault ≡ 8) → ⊥
 no_fault (faults.Usage text) is = neither 2 (λ e. cc) (λ e. cc) is
 no_fault faults.Unread is = neither 5 (λ e. cc) (λ e. cc) is
 no_fault (faults.Refused fault) is = neither 4 (λ e. cc) (λ e. cc) is
@@ -130,31 +130,30 @@ no_fault faults.SizesUnread is = neither 5 (λ e. cc) (λ e. cc) is
 no_fault faults.Sizes is = neither 2 (λ e. cc) (λ e. cc) is
 
 -- what was closed without a fault was saved
-saved_of : (its : Deeds) (serial : Bool) (f : Cnf) (run_params : RunParamsValue) (readers : List its.Reader) (reports : List Report)
-    (before next after : its.State) (path : Text) (result : Result (Unit {0}) SaveFault) (first last : its.Output)
-    → its.creates before path first next → ForSome (its.written first) (λ all. all ≡ [])
-    → SavesCheckpoint its serial f run_params readers reports result first last → ClosesSink its result next last None after
-    → (bytes : List ℕ) × WasSavedBy its before path bytes after × IsCheckpoint f bytes
-saved_of its serial f run_params readers reports before next after path (Ok done) first last created empty saves closed =
-    let wrote = saves.checkpoint in (
-      wrote.0,
-      record { first = first; next = next; created = created; empty = empty; last = last; wrote = wrote.1; kept = closed },
-      wrote.2,
-    )
-saved_of its serial f run_params readers reports before next after path (Err fault) first last created empty saves closed =
-    absurd (let no : None ≡ Some fault = closed.0 in cc)
+module _ (its : Deeds) {A : Type 0} (Saves : Result A SaveFault → its.Output → its.Output → Type 0) (f : Cnf)
+    (saves : (value : A) (first last : its.Output) → Saves (Ok value) first last
+    → (bytes : List ℕ) × Appends (its.written first) (its.written last) bytes × IsCheckpoint f bytes) where
+  saved_of : (before next after : its.State) (path : Text) (result : Result A SaveFault) (first last : its.Output)
+      → its.creates before path first next → ForSome (its.written first) (λ all. all ≡ [])
+      → Saves result first last → ClosesSink its result next last None after
+      → (bytes : List ℕ) × WasSavedBy its before path bytes after × IsCheckpoint f bytes
+  saved_of before next after path (Ok value) first last created empty saving closed =
+      let wrote = saves value first last saving in (
+        wrote.0,
+        record { first = first; next = next; created = created; empty = empty; last = last; wrote = wrote.1; kept = closed },
+        wrote.2,
+      )
+  saved_of before next after path (Err fault) first last created empty saving closed =
+      absurd (let no : None ≡ Some fault = closed.0 in cc)
 
-module _ (its : Deeds) (serial : Bool) (f : Cnf) (run_params : RunParamsValue) (readers : List its.Reader) (reports : List Report) where
-  file_saved : (path : Text) (before after : its.State)
-      → LeavesFile its (SavesCheckpoint its serial f run_params readers reports) before path None after
+  file_saved : (path : Text) (before after : its.State) → LeavesFile its Saves before path None after
       → (bytes : List ℕ) × WasSavedBy its before path bytes after × IsCheckpoint f bytes
   file_saved path before after leaves =
-      saved_of its serial f run_params readers reports before leaves.next after path leaves.result leaves.first leaves.last leaves.created
-      leaves.empty leaves.saving leaves.closed
+      saved_of before leaves.next after path leaves.result leaves.first leaves.last leaves.created leaves.empty leaves.saving leaves.closed
 
-  leaves_saved : (failed : Bool) (unsaved : Option SaveFault) (verdict : Verdict) (path : Text) (before after : its.State)
+  pub leaves_saved : (failed : Bool) (unsaved : Option SaveFault) (verdict : Verdict) (path : Text) (before after : its.State)
       → (report_status failed unsaved verdict ≡ 3) ⊎ (report_status failed unsaved verdict ≡ 8)
-      → LeavesBehind its (SavesCheckpoint its serial f run_params readers reports) verdict before (Some path) unsaved after
+      → LeavesBehind its Saves verdict before (Some path) unsaved after
       → (bytes : List ℕ) × WasSavedBy its before path bytes after × IsCheckpoint f bytes
   leaves_saved true unsaved verdict path before after is leaves = absurd (neither 7 (λ e. cc) (λ e. cc) is)
   leaves_saved false (Some fault) verdict path before after is leaves = absurd (neither 9 (λ e. cc) (λ e. cc) is)
@@ -189,8 +188,8 @@ module _ (files : FilesView) where
       let given = outcome.given in
       let leaves = left_at words after out err status report path ask in
       let statuses = subst (λ (n : ℕ). (n ≡ 3) ⊎ (n ≡ 8)) report.status_is is in
-      let saved = leaves_saved files.its given.serial outcome.formula (run_params_given given outcome.cube outcome.formula) outcome.readers
-      report.reports out.failed report.unsaved report.verdict path outcome.last after statuses leaves in
+      let saved = leaves_saved files.its (Saves words report.reports report.verdict outcome) outcome.formula
+      (λ done first last saves. saves.checkpoint) out.failed report.unsaved report.verdict path outcome.last after statuses leaves in
       let read = outcome.is_formula in (
         read.0,
         saved.0,
@@ -216,7 +215,7 @@ module _ (files : FilesView) where
 
 -- With status 0 none was written.
 
-no_zero : (fault : CommandFault) → status_of fault ≡ 0 → ⊥
+pub no_zero : (fault : CommandFault) → status_of fault ≡ 0 → ⊥
 no_zero (faults.Usage text) is = let no : Path ℕ 2 0 = is in cc
 no_zero faults.Unread is = let no : Path ℕ 5 0 = is in cc
 no_zero (faults.Refused fault) is = let no : Path ℕ 4 0 = is in cc

@@ -15,7 +15,7 @@ use Rattle.portfolio.specs.Outcomes.{OptionsValue, run_params_of}
 use Rattle.portfolio.specs.ReportText.{report_text}
 use Rattle.portfolio.specs.declared.outcome.Verdict.{Verdict}
 use Rattle.portfolio.specs.declared.outcome.Verdict.TheVariants.{Unknown}
-use Rattle.checkpoint.specs.Checkpoints.{IsCheckpointOf}
+use Rattle.checkpoint.specs.Checkpoints.{IsCheckpoint, IsCheckpointOf}
 use Rattle.checkpoint.specs.declared.saving.SaveFault.{SaveFault}
 use Rattle.checkpoint.specs.declared.saving.SaveFault.TheVariants as saves
 use Rattle.command_line.specs.CommandLine.{AskForRounds, IsCommandLineOf}
@@ -312,6 +312,32 @@ pub record ReportsRounds (files : FilesView) (given : CommandLine) (folder : Tex
   pub printed : SinkTook out (last_text (length (last ∷ before)) last.reports last.verdict)
   pub said : SaysOfRound (length (last ∷ before)) out.failed last.unsaved err
   pub status_is : status ≡ report_status out.failed last.unsaved last.verdict
+
+-- The round with this number saved the next one's formula: a text of a formula each clause of which follows from this one.
+abbrev pub SavesEntailed : (its : Deeds) → Text → Cnf → ℕ → Round its.State its.Reader → Type 0
+SavesEntailed its folder formula number round =
+    (bytes : List ℕ)
+    × WasSavedBy its round.opened (formula_path folder (number + 1)) bytes round.after
+    × IsCheckpoint formula bytes
+
+-- so did each of these rounds, the last one first
+abbrev pub SaveEntailed : (its : Deeds) → Text → Cnf → List (Round its.State its.Reader) → Type 0
+SaveEntailed its folder formula [] = Unit {0}
+SaveEntailed its folder formula (round ∷ before) =
+    SavesEntailed its folder formula (length (round ∷ before)) round
+    × SaveEntailed its folder formula before
+
+-- The words have a command line, and the program ends with the report of rounds. Each round but the last saved the next one's formula: a text
+-- of a formula each clause of which follows from that of FORMULA. With status 3 or 8 the last one did so, too.
+pub record ReportsEntailed (files : FilesView) (words : List Text) (folder : Text)
+    (after : files.its.State) (out err : SinkChange) (status : ℕ) : Type 0 where
+  pub given : CommandLine
+  pub command_line : IsCommandLineOf words given
+  pub ending : ReportsRounds files given folder after out err status
+  pub saved : SaveEntailed files.its folder ending.were.formula ending.before
+  pub last_saved : (status ≡ 3) ⊎ (status ≡ 8)
+      → SavesEntailed files.its folder ending.were.formula (length (ending.last ∷ ending.before))
+      ending.last
 
 -- No report, why the round after the last one has none, and the files then.
 pub record FailsInRound (files : FilesView) (given : CommandLine) (folder : Text)

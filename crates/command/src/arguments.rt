@@ -4,11 +4,11 @@ ghost use Rattle.std.specs.IoError.{error_kind};
 ghost use Rattle.std.specs.Process.{exit_status};
 ghost use Rattle.std.specs.Vec.Iter.{into_iter_items};
 ghost use Rattle.clap.specs.Walk.{texts};
-ghost use Rattle.command_line.specs.CommandLine.{AskToSave, HaveFault};
+ghost use Rattle.command_line.specs.CommandLine.{AskForRounds, AskToSave, HaveFault};
 ghost use Rattle.command.specs.Arguments.{EndsWithoutArguments, not_utf8, refusal_status, refusal_text};
 ghost use Rattle.command.specs.Arguments.{words_after_name};
 ghost use Rattle.command.specs.Commands.{NameCheckpoint, NameUnsatisfiable};
-ghost use Rattle.command.specs.Rounds.{ProgramEnds};
+ghost use Rattle.command.specs.Rounds.{ProgramEnds, ReportsEntailed};
 ghost use Rattle.command.specs.Commands.{NameUnsatisfiableUnder, Text, WasLeftEmpty, WasSaved};
 ghost use Rattle.command.specs.Commands.{SinkTook, WasRead, change, files_view};
 
@@ -67,6 +67,16 @@ pub fn command_with_arguments<
         IfOk arguments (λ given. (path : Text) → AskToSave (words_after_name given) path
         → (exit_status result ≡ 3) ⊎ (exit_status result ≡ 8)
         → NameCheckpoint F.opens read save files.old (words_after_name given) path files.new) }
+    // With a report, where the words ask for rounds, each round but the last saved the next one's formula, and with status 3 or 8 the
+    // last one did so, too: a text of a formula each clause of which follows from that of FORMULA.
+    ensures saved_rounds { let view = files_view F.Files F.Machine.own F.Input.Source F.Output.Sink
+        files.old in
+        let output = change (O.written out.old) (O.written out.new) (O.has_failed out.new) in
+        let errors = change (E.written err.old) (E.written err.new) (E.has_failed err.new) in
+        let status = exit_status result in
+        IfOk arguments (λ given. (folder : Text) → AskForRounds (words_after_name given) folder
+        → (status ≡ 0) ⊎ ((status ≡ 3) ⊎ ((status ≡ 8) ⊎ (status ≡ 9)))
+        → ReportsEntailed view (words_after_name given) folder files.new output errors status) }
     // With status 0, where the words ask for a checkpoint, none was written: the last that was done to the files was that one was
     // created there, and discarded before anything went to it.
     ensures none_saved { IfOk arguments (λ given. (path : Text)
@@ -119,6 +129,13 @@ fn with_words<T: Threads + Wait + Sync, C: Clock + Sync, F: Machine, O: Sink, E:
         let save = WasSaved F.creates F.Output.Sink.written F.keeps in
         (path : Text) → AskToSave (words_after_name arguments) path → (result ≡ 3) ⊎ (result ≡ 8)
         → NameCheckpoint F.opens read save files.old (words_after_name arguments) path files.new }
+    ensures saved_rounds { let view = files_view F.Files F.Machine.own F.Input.Source F.Output.Sink
+        files.old in
+        let output = change (O.written out.old) (O.written out.new) (O.has_failed out.new) in
+        let errors = change (E.written err.old) (E.written err.new) (E.has_failed err.new) in
+        (folder : Text) → AskForRounds (words_after_name arguments) folder
+        → (result ≡ 0) ⊎ ((result ≡ 3) ⊎ ((result ≡ 8) ⊎ (result ≡ 9)))
+        → ReportsEntailed view (words_after_name arguments) folder files.new output errors result }
     ensures none_saved { (path : Text) → AskToSave (words_after_name arguments) path → result ≡ 0
         → WasLeftEmpty F.creates F.Output.Sink.written F.discards path files.new }
     ensures usage { HaveFault (words_after_name arguments) → (result ≡ 2) ⊎ (result ≡ 6) }

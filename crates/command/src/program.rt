@@ -5,9 +5,9 @@ ghost use Rattle.dimacs.specs.FormulaText.{IsFormulaText};
 ghost use Rattle.lrup_model.specs.Cube.{CubeValue, IsUnsatisfiableUnder};
 ghost use Rattle.lrup_model.specs.Entailment.{IsUnsatisfiable};
 ghost use Rattle.lrup_model.specs.Formula.{Cnf};
-ghost use Rattle.command_line.specs.CommandLine.{AskToSave, HaveFault, IsCommandLineOf};
+ghost use Rattle.command_line.specs.CommandLine.{AskForRounds, AskToSave, HaveFault, IsCommandLineOf};
 ghost use Rattle.command.specs.Commands.{AreAssumed, EndsWithFault, EndsWithReport, NameCheckpoint, NameUnsatisfiable, rounds_at};
-ghost use Rattle.command.specs.Rounds.{ProgramEnds, EndsInRounds, last_text, round_text};
+ghost use Rattle.command.specs.Rounds.{ProgramEnds, EndsInRounds, ReportsEntailed, last_text, round_text};
 ghost use Rattle.lrup_text.specs.Writing.{WritesText};
 ghost use Rattle.command.specs.Commands.{NameUnsatisfiableUnder, SaysOfRound, SinkTook, Text, WasLeftEmpty, WasRead, WasReadIn, WasSaved};
 ghost use Rattle.command.specs.Commands.{assumed_at, change, files_view, from_first, report_status};
@@ -19,6 +19,7 @@ use crate::fault::CommandFault;
 use crate::files::Machine;
 use crate::rounds::check_rounds;
 use checkpoint::SaveFault;
+use checkpoint::laws::{entails_itself, entails_onward};
 use lrup_text::{Sink, WriteBuffer, WriteFault};
 use portfolio::{Verdict, write_report};
 use std::alloc::Global;
@@ -80,6 +81,15 @@ pub fn command<T: Threads + Wait + Sync, C: Clock + Sync, F: Machine, O: Sink, E
         let save = WasSaved F.creates F.Output.Sink.written F.keeps in
         (path : Text) → AskToSave (texts words.now) path → (result ≡ 3) ⊎ (result ≡ 8)
         → NameCheckpoint F.opens read save files.old (texts words.now) path files.new }
+    // With a report, where the words ask for rounds, each round but the last saved the next one's formula, and with status 3 or 8 the
+    // last one did so, too: a text of a formula each clause of which follows from that of FORMULA.
+    ensures saved_rounds { let view = files_view F.Files F.Machine.own F.Input.Source F.Output.Sink
+        files.old in
+        let output = change (O.written out.old) (O.written out.new) (O.has_failed out.new) in
+        let errors = change (E.written err.old) (E.written err.new) (E.has_failed err.new) in
+        (folder : Text) → AskForRounds (texts words.now) folder
+        → (result ≡ 0) ⊎ ((result ≡ 3) ⊎ ((result ≡ 8) ⊎ (result ≡ 9)))
+        → ReportsEntailed view (texts words.now) folder files.new output errors result }
     // With status 0, where the words ask for a checkpoint, none was written: the last that was done to the files was that one was
     // created there, and discarded before anything went to it.
     ensures none_saved { (path : Text) → AskToSave (texts words.now) path → result ≡ 0
@@ -89,6 +99,9 @@ pub fn command<T: Threads + Wait + Sync, C: Clock + Sync, F: Machine, O: Sink, E
     // So does a report that wasn't written.
     ensures unwritten { IsTrue (O.has_failed out.new) ↔ (result ≡ 7) }
 {
+    // Laws: they do nothing when the program runs.
+    entails_itself();
+    entails_onward();
     match read_asked(threads, alloc, words, files) {
         Ok(asked) => check_formula(threads, clock, alloc, asked, files, out, err),
         Err(fault) => say(&fault, err),

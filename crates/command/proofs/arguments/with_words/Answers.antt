@@ -1,9 +1,9 @@
 use Rattle.std.proofs.Common.{◌≡◌, List, inl, inr, map, refl, rules, string_bytes, subst, sym}
 use Rattle.clap.specs.Walk.{texts}
-use Rattle.command_line.specs.CommandLine.{AskToSave, HaveFault}
+use Rattle.command_line.specs.CommandLine.{AskForRounds, AskToSave, HaveFault}
 use Rattle.command.specs.Arguments.{words_after_name}
 use Rattle.command.specs.Commands.{NameCheckpoint, NameUnsatisfiable, NameUnsatisfiableUnder, Text, WasRead, WasSaved, change, files_view}
-use Rattle.command.specs.Rounds.{ProgramEnds}
+use Rattle.command.specs.Rounds.{ProgramEnds, ReportsEntailed}
 use Rattle.command.proofs.WordLemmas.{read_all}
 use Rattle.command.specs.declared.fault.CommandFault.TheVariants as faults
 use Rattle.command.proofs.arguments.with_words.Given
@@ -51,6 +51,15 @@ returns-clause-saved g c path ask is =
     let asked = subst (λ (words : List Text). AskToSave words path) (sym (same_words g c)) ask in
     subst (λ (words : List Text). NameCheckpoint g.F.Files.opens Read Save c.args.files.now words path c.command.new.files) (same_words g c)
     (c.command.ensures.saved path asked is)
+
+pub returns-clause-saved_rounds : goal.returns-clause-saved_rounds
+returns-clause-saved_rounds g c folder ask is =
+    let files = files_view g.F.Files g.F.Machine g.F.Input.Source g.F.Output.Sink c.args.files.now in
+    let output = change (g.O.Sink.written c.args.out.now) (g.O.Sink.written c.command.new.out) (g.O.Sink.has_failed c.command.new.out) in
+    let errors = change (g.E.Sink.written c.args.err.now) (g.E.Sink.written c.command.new.err) (g.E.Sink.has_failed c.command.new.err) in
+    let asked = subst (λ (words : List Text). AskForRounds words folder) (sym (same_words g c)) ask in
+    subst (λ (words : List Text). ReportsEntailed files words folder c.command.new.files output errors c.command.result) (same_words g c)
+    (c.command.ensures.saved_rounds folder asked is)
 
 pub returns-clause-none_saved : goal.returns-clause-none_saved
 returns-clause-none_saved g c path ask is =

@@ -3,6 +3,7 @@ use Rattle.clap.specs.Walk.{texts}
 use Rattle.command.specs.Commands.{FilesView, Text, WasReadIn, change, files_view}
 use Rattle.command.specs.Rounds.{ProgramEnds}
 use Rattle.command.proofs.CheckingLemmas.{names_unsatisfiable, names_unsatisfiable_under}
+use Rattle.command.proofs.EntailedLemmas.{all_entailed}
 use Rattle.command.proofs.StatusLemmas.{all_empty, all_saved, all_unwritten}
 use Rattle.command.proofs.program.command.Goals as goal
 
@@ -47,6 +48,10 @@ returns-in-Ok-clause-unwritten g c = all_unwritten _ _ _ _ _ _ (returns-in-Ok-cl
 pub returns-in-Ok-clause-none_saved : goal.returns-in-Ok-clause-none_saved
 returns-in-Ok-clause-none_saved g c = all_empty _ _ _ _ _ _ (returns-in-Ok-clause-ends g c)
 
+pub returns-in-Ok-clause-saved_rounds : goal.returns-in-Ok-clause-saved_rounds
+returns-in-Ok-clause-saved_rounds g c folder =
+    all_entailed c.entails_itself.ensures c.entails_onward.ensures _ _ folder _ _ _ _ (returns-in-Ok-clause-ends g c)
+
 pub returns-in-Err-clause-ends : goal.returns-in-Err-clause-ends
 returns-in-Err-clause-ends g c = inr (inl (record {
   fault = c.in-Err.fault;
@@ -55,3 +60,7 @@ returns-in-Err-clause-ends g c = inr (inl (record {
   said = c.say.ensures.said;
   status_is = c.say.ensures.status;
 }))
+
+pub returns-in-Err-clause-saved_rounds : goal.returns-in-Err-clause-saved_rounds
+returns-in-Err-clause-saved_rounds g c folder =
+    all_entailed c.entails_itself.ensures c.entails_onward.ensures _ _ folder _ _ _ _ (returns-in-Err-clause-ends g c)
