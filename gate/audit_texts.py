@@ -391,22 +391,22 @@ given ≡ Some folder]]) [[fn command.ends]] has this:"""
 
 ROUNDS_ROWS: Rows = [
     ("A run that gives a report had rounds, one after the other, and the report and the status are the last one's.", """[[ReportsRounds:
-     were : WereRounds files given folder last before]], a list with the last [[Round]] first ([[AreRounds]]);
+     were : WereRounds files given folder cube last before]], a list with the last [[Round]] first ([[AreRounds]]);
      [[ReportsRounds: printed : SinkTook out (last_text (length (last ∷ before)) last.reports last.verdict)]];
      [[ReportsRounds: status_is : status ≡ report_status out.failed last.unsaved last.verdict]]."""),
     ("Round 1 has the formula that was read, and the words' streams.", """[[IsFirst: formula_is : round.formula ≡ formula]],
      [[WereRounds: is_formula : IsFormulaAt files given.formula.now formula next]]; [[IsFirst: opened : StreamsOpened its
      first paths round.readers round.opened]]."""),
-    ("Each later round has the formula that the round before carried on.", """[[ComesNext: goes_on : CarriesOn its plan number
-     before round.formula]]."""),
+    ("Each later round has the formula that the round before carried on.", """[[ComesNext: goes_on : CarriesOn number before
+     round.formula]]."""),
     ("It has the sizes of its file of sizes, or else those of the round before.", """[[AreSized: (its.lacks before path after
      × (new ≡ old))]], [[AreSized: IsSizesText bytes new]]. That file is opened once the formula was saved ([[ComesNext: sizes
      : AreSized its (sizes_path plan.folder (number + 1)) before.sizes before.after]])."""),
     ("Its streams are the files of its number.", """[[ComesNext: opened : StreamsOpened its sized (stream_paths plan.folder
      (number + 1) round.sizes.streams) round.readers round.opened]]."""),
-    ("A round carries on just the live clauses that some stream didn't drop.", """[[SavesRound: exactly : CarriesRun
-     its.reading]]: a history judges the round's streams as reported, and [[CarriesRun: carries : CarriesState written
-     result]] fetches each identity once, and carries what is live and [[is_wanted]]."""),
+    ("A round carries on just the live clauses that some stream didn't drop.", """[[SavesRound: exactly : CarriesState
+     its.written (Ok next)]] fetches each identity once, and carries what is live and [[is_wanted]]: by the state that the history of the
+     round's run leaves, [[SavesRound: (state round.formula round.checked.ran.run.history)]]."""),
     ("They follow from the round's formula, and their text was saved for the next round, once the round's streams were "
      "opened.",
      """[[SavesRound: carried : IsCheckpointOf round.formula bytes next]], [[IsCheckpointOf: entails : Entails original
@@ -416,7 +416,7 @@ ROUNDS_ROWS: Rows = [
      """[[fn command.saved_rounds: (folder : Text) → AskForRounds (texts words.now) folder]], [[ReportsEntailed: saved : SaveEntailed]],
      [[ReportsEntailed: last_saved : (status ≡ 3) ⊎ (status ≡ 8)]]. What a round saved is a text of a formula over the same variables, and
      all its clauses follow from that of FORMULA ([[SavesEntailed]])."""),
-    ("The streams of each round are checked as those of a single run.", """[[WasChecked]], [[AreChecked]]: with a history, or
+    ("The streams of each round are checked as those of a single run.", """[[Round: checked : AreChecked its.reading]]: with a history, or
      with `--serial` an order of lines, of its own. Tries, assumed literals and `--serial` stay ([[Plan]])."""),
     ("A round is followed by another one only if its verdict is 'unknown', its streams ended, and its formula was saved.",
      """[[CarriesOn: verdict : round.verdict ≡ Unknown]], [[CarriesOn: ended : HaveEnded round.reports]], [[CarriesOn: unsaved
@@ -425,7 +425,7 @@ ROUNDS_ROWS: Rows = [
      """[[RoundsEnd]]: [[IsBarred]]; or [[RoundsEnd: its.lacks sized (stream_path plan.folder (number + 1) 1) after]]; or
      [[RoundsEnd: (2 ^ 64 < number + 3)]]."""),
     ("If there is no report, the cause is one of round 1, or of the round that follows such rounds.", """[[FailsInRound: cause
-     : IsNextCause files.its (plan_at given were.cube folder) (length (last ∷ before)) last fault]]: of its sizes
+     : IsNextCause (length (last ∷ before)) last fault]]: of its sizes
      ([[IsSizesCause]]), its streams, or their start ([[IsStartCause]]). The text names the round ([[FailsInRound: said :
      SinkTook err (round_error_text (length (last ∷ before) + 1) fault)]])."""),
     ("Nothing more was done to the files then, except that a created file was discarded.", """Each cause has the files after

@@ -119,16 +119,19 @@ pub is_outcome : (files : FilesView) (words : List Text) (given : CommandLine) (
     → options ≡ options_of given → AreOpened files.its.opens later given.streams readers last
     → map files.its.reading.left readers ≡ map files.tells given.streams
     → (reports : List Report) (verdict : Verdict) (unsaved : Option SaveFault) (after : files.its.State)
-    → AreChecked files.its.reading given.serial f (run_params_of options cube f (length readers)) readers reports verdict
-    → LeavesBehind files.its
-    (SavesCheckpoint files.its given.serial f (run_params_of options cube f (length readers)) readers reports) verdict last
+    → (checked : AreChecked files.its.reading given.serial f (run_params_of options cube f (length readers)) readers reports verdict)
+    × LeavesBehind files.its
+    (SavesCheckpoint files.its f (layout_of options f (length readers)) checked.ran.run.history checked.dropped) verdict last
     (checkpoint_at given) unsaved after
     → (outcome : IsOutcome files words reports verdict) × LeavesCheckpoint files words reports verdict outcome unsaved after
 is_outcome files words given f cube options readers next later last line at assumed options_are opened entries_are reports verdict unsaved
-    after checked leaves =
+    after left =
     let run_params : run_params_of options cube f (length readers) ≡ run_params_given given cube f =
     ap (λ o. run_params_of o cube f (length readers)) options_are
     ∙ ap (run_params_of (options_of given) cube f) (same_count _ _ readers given.streams entries_are) in
+    let moved = subst (λ (t : RunParamsValue). (checked : AreChecked files.its.reading given.serial f t readers reports verdict)
+    × LeavesBehind files.its (SavesCheckpoint files.its f t.layout checked.ran.run.history checked.dropped) verdict last
+    (checkpoint_at given) unsaved after) run_params left in
     let outcome : IsOutcome files words reports verdict = record {
       given = given;
       command_line = line;
@@ -142,12 +145,9 @@ is_outcome files words given f cube options readers next later last line at assu
       last = last;
       opened = opened;
       left = entries_are;
-      checked = subst (λ (t : RunParamsValue). AreChecked files.its.reading given.serial f t readers reports verdict) run_params checked;
-    } in (
-      outcome,
-      subst (λ (t : RunParamsValue). LeavesBehind files.its (SavesCheckpoint files.its given.serial f t readers reports) verdict last
-          (checkpoint_at given) unsaved after) run_params leaves,
-    )
+      checked = moved.0;
+    } in
+    (outcome, moved.1)
 
 module _ (files : FilesView) (words : List Text) (given : CommandLine) (line : IsCommandLineOf words given) where
   -- The causes are those of the words and the files.

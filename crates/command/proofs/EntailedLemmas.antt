@@ -17,8 +17,8 @@ use Rattle.command.proofs.StatusLemmas.{leaves_saved, no_fault, no_zero}
 
 module _ (itself : EntailsItself) (onward : EntailsOnward) (its : Deeds) (plan : Plan) (formula : Cnf) where
   -- what a round saved follows from the first formula, if the round's formula does
-  saves_entailed : (number : ℕ) (round : Round its.State its.Reader) (next : Cnf) → Entails formula round.formula
-      → SavesRound its plan number round next → SavesEntailed its plan.folder formula number round
+  saves_entailed : (number : ℕ) (round : Round its plan) (next : Cnf) → Entails formula round.formula
+      → SavesRound number round next → SavesEntailed formula number round
   saves_entailed number round next follows saving = (
     saving.bytes,
     saving.saved,
@@ -29,11 +29,11 @@ module _ (itself : EntailsItself) (onward : EntailsOnward) (its : Deeds) (plan :
     },
   )
 
-  last_entailed : (failed : Bool) (number : ℕ) (last : Round its.State its.Reader) (after : its.State) → Entails formula last.formula
+  last_entailed : (failed : Bool) (number : ℕ) (last : Round its plan) (after : its.State) → Entails formula last.formula
       → (report_status failed last.unsaved last.verdict ≡ 3) ⊎ (report_status failed last.unsaved last.verdict ≡ 8)
-      → RoundsEnd its plan number last after → SavesEntailed its plan.folder formula number last
+      → RoundsEnd number last after → SavesEntailed formula number last
   last_entailed failed number last after follows is (inl (barred, same)) =
-      leaves_saved its (CarriesRound its plan last) formula
+      leaves_saved its (CarriesRound last) formula
       (λ next from to carries. (
         carries.checkpoint.0,
         carries.checkpoint.1,
@@ -49,15 +49,15 @@ module _ (itself : EntailsItself) (onward : EntailsOnward) (its : Deeds) (plan :
 
   module _ (sizes : Sizes) (first : its.State) (paths : List Text) where
     -- each round's formula does
-    round_entailed : (round : Round its.State its.Reader) (before : List (Round its.State its.Reader))
-        → AreRounds its plan formula sizes first paths (round ∷ before) → Entails formula round.formula
+    round_entailed : (round : Round its plan) (before : List (Round its plan))
+        → AreRounds formula sizes first paths (round ∷ before) → Entails formula round.formula
     round_entailed round [] rounds = subst (Entails formula) (sym rounds.formula_is) (itself formula)
     round_entailed round (b ∷ more) rounds =
         onward formula b.formula round.formula (round_entailed b more rounds.1) rounds.0.goes_on.saving.carried.entails
 
     -- so what each round but the last saved does
-    save_entailed : (round : Round its.State its.Reader) (before : List (Round its.State its.Reader))
-        → AreRounds its plan formula sizes first paths (round ∷ before) → SaveEntailed its plan.folder formula before
+    save_entailed : (round : Round its plan) (before : List (Round its plan))
+        → AreRounds formula sizes first paths (round ∷ before) → SaveEntailed formula before
     save_entailed round [] rounds = tt
     save_entailed round (b ∷ more) rounds = (
       saves_entailed (length (b ∷ more)) b round.formula (round_entailed b more rounds.1) rounds.0.goes_on.saving,
@@ -113,12 +113,12 @@ never_unsaved files words unsaved after cause = elim cause.2 [
   ]
 ]
 
-never_next : (its : Deeds) (plan : Plan) (number : ℕ) (last : Round its.State its.Reader) (unsaved : SaveFault) (after : its.State)
-    → IsNextCause its plan number last (faults.NotSaved unsaved) after → ⊥
-never_next its plan number last unsaved after (next, on, inl sizes) = sizes
-never_next its plan number last unsaved after (next, on, inr (sizes, sized, are, inl (inl first))) = first
-never_next its plan number last unsaved after (next, on, inr (sizes, sized, are, inl (inr others))) = others.3
-never_next its plan number last unsaved after (next, on, inr (sizes, sized, are, inr (readers, opened, were, start))) = start
+never_next : {its : Deeds} {plan : Plan} (number : ℕ) (last : Round its plan) (unsaved : SaveFault) (after : its.State)
+    → IsNextCause number last (faults.NotSaved unsaved) after → ⊥
+never_next number last unsaved after (next, on, inl sizes) = sizes
+never_next number last unsaved after (next, on, inr (sizes, sized, are, inl (inl first))) = first
+never_next number last unsaved after (next, on, inr (sizes, sized, are, inl (inr others))) = others.3
+never_next number last unsaved after (next, on, inr (sizes, sized, are, inr (readers, opened, were, start))) = start
 
 -- ---- what the words ask for was saved
 
@@ -128,7 +128,7 @@ module _ (itself : EntailsItself) (onward : EntailsOnward) (files : FilesView) (
       → (ending : ReportsRounds files ends.given folder after out err status) → ReportsEntailed files words folder after out err status
   reports_entailed ends ending =
       let were = ending.were in
-      let plan = plan_at ends.given were.cube folder in
+      let plan = plan_at ends.given ending.cube folder in
       let its = files.its in
       let follows = round_entailed itself onward its plan were.formula _ _ _ ending.last ending.before were.rounds in
       record {
@@ -150,10 +150,9 @@ module _ (itself : EntailsItself) (onward : EntailsOnward) (files : FilesView) (
             (subst (λ (f : Text). ReportsRounds files ends.given f after out err status) same report)
         | inr fails ↦ absurd (
             let fault = is_unsaved fails.fault (subst IsOfReport fails.status_is is) in
-            let plan = plan_at ends.given fails.were.cube ends.folder in
             let number = length (fails.last ∷ fails.before) in
-            never_next files.its plan number fails.last fault.0 after
-            (subst (λ (f : CommandFault). IsNextCause files.its plan number fails.last f after) fault.1 fails.cause))
+            never_next number fails.last fault.0 after
+            (subst (λ (f : CommandFault). IsNextCause number fails.last f after) fault.1 fails.cause))
       ]
 
   pub all_entailed : ProgramEnds files words after out err status → AskForRounds words folder → IsOfReport status

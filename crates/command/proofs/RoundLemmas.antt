@@ -27,10 +27,10 @@ use Rattle.command.specs.Commands.{AreOpened, Deeds, IsStartCause, Text, WasRead
 use Rattle.command.specs.Commands.{path_of, rounds_at}
 use Rattle.command.specs.Paths.{formula_path, sizes_path, stream_path, stream_paths}
 use Rattle.command.specs.Rounds.{AreRounds, AreSized, CarriesOn, CarriesRound, IsBarred, IsRoundCause, IsRoundStartCause, IsSizesCause}
-use Rattle.command.specs.Rounds.{Plan, Round, RoundsEnd, SavesRound, StreamsOpened, WasChecked, options_by, plan_at, sizes_of}
+use Rattle.command.specs.Rounds.{Plan, Round, RoundsEnd, SavesRound, StreamsOpened, options_by, plan_at, sizes_of}
 use Rattle.command.specs.Rounds.{run_params_by}
 use Rattle.command.specs.internal.Saving.{CreatesCheckpoint, KeepsNext}
-use Rattle.command.specs.internal.RoundProgress.{EndsAt, FailsAfter, IsAlone, IsUnchecked, IsUnsized, RoundsStand, round_of}
+use Rattle.command.specs.internal.RoundProgress.{EndsAt, FailsAfter, IsAlone, IsUnchecked, IsUnsized, RoundsStand, WasFound, round_of}
 use Rattle.command.specs.declared.course.LastRound.{LastRound}
 use Rattle.command.specs.declared.course.RoundFault.{RoundFault}
 use Rattle.command.specs.declared.fault.CommandFault.{CommandFault}
@@ -96,90 +96,75 @@ some_streams layout none = elim (cases_lt 0 layout.streams) [
 
 module _ (its : Deeds) (plan : Plan) (formula : Cnf) (sizes : Sizes) (first : its.State) (paths : List Text) where
   -- round 1
-  pub stands_first : (last : LastRound) (next : Option Cnf) (opened after : its.State) (readers : List its.Reader) (number : ℕ) → number ≡ 1
-      → StreamsOpened its first paths readers opened
-      → WasChecked its plan (round_of formula readers opened last after)
-      → ForSome next (CarriesOn its plan number (round_of formula readers opened last after))
-      → (next ≡ None → IsBarred its plan number (round_of formula readers opened last after))
-      → last.number ≡ number → last.sizes ≡ sizes → RoundsStand its plan formula sizes first paths last next after
-  stands_first last next opened after readers number one are checked goes over number_is sizes_are =
-      let round = round_of formula readers opened last after in
+  pub stands_first : (last : LastRound) (next : Option Cnf) (opened after : its.State) (readers : List its.Reader) → last.number ≡ 1
+      → StreamsOpened its first paths readers opened → WasFound its plan formula readers opened last next after
+      → last.sizes ≡ sizes → RoundsStand its plan formula sizes first paths last next after
+  stands_first last next opened after readers one are found sizes_are =
+      let round = round_of formula readers opened last after found.was in
       let count : 1 ≡ length (round ∷ []) = omega arith in
       record {
-        round = round;
+        current = formula;
+        readers = readers;
+        opened = opened;
+        is_found = found;
         before = [];
-        rounds = record { formula_is = refl; sizes_are = sizes_are; opened = are; checked = checked };
-        number = number_is ∙ one ∙ count;
-        is_found = record {
-          sizes = refl;
-          reports = refl;
-          verdict = refl;
-          unsaved = refl;
-          goes_on = subst (λ (n : ℕ). ForSome next (CarriesOn its plan n round)) (sym number_is) goes;
-          over = subst (λ (n : ℕ). next ≡ None → IsBarred its plan n round) (sym number_is) over;
-        };
-        left = refl;
+        rounds = record { formula_is = refl; sizes_are = sizes_are; opened = are };
+        number = one ∙ count;
       }
+
+  -- the last of the rounds, and the others
+  abbrev now : {last : LastRound} {next : Option Cnf} {after : its.State} → RoundsStand its plan formula sizes first paths last next after
+      → Round its plan
+  now {last} {next} {after} stands = round_of stands.current stands.readers stands.opened last after stands.is_found.was
+
+  abbrev all : {last : LastRound} {next : Option Cnf} {after : its.State} → RoundsStand its plan formula sizes first paths last next after
+      → List (Round its plan)
+  all stands = now stands ∷ stands.before
 
   -- a round after another
   pub stands_next : (last found : LastRound) (formula_now : Cnf) (next : Option Cnf) (before sized opened after : its.State)
-      (readers : List its.Reader) (number : ℕ)
-      → number ≡ last.number + 1 → RoundsStand its plan formula sizes first paths last (Some formula_now) before
-      → AreSized its (sizes_path plan.folder number) last.sizes before found.sizes sized
-      → StreamsOpened its sized (stream_paths plan.folder number found.sizes.streams) readers opened
-      → WasChecked its plan (round_of formula_now readers opened found after)
-      → ForSome next (CarriesOn its plan number (round_of formula_now readers opened found after))
-      → (next ≡ None → IsBarred its plan number (round_of formula_now readers opened found after))
-      → found.number ≡ number → RoundsStand its plan formula sizes first paths found next after
-  stands_next last found formula_now next before sized opened after readers number is stands are_sized are checked goes over found_is =
-      let round = round_of formula_now readers opened found after in
-      let k : ℕ = length (stands.round ∷ stands.before) in
-      let number_is : number ≡ k + 1 = is ∙ ap (λ n. n + 1) stands.number in
-      let count : k + 1 ≡ length (round ∷ stands.round ∷ stands.before) = omega arith in
-      let of_sizes = subst (λ (s : Sizes). AreSized its (sizes_path plan.folder number) s before found.sizes sized)
-      (sym stands.is_found.sizes) are_sized in
-      let of_files = subst (λ (f : its.State). AreSized its (sizes_path plan.folder number) stands.round.sizes f found.sizes sized)
-      stands.left of_sizes in
+      (readers : List its.Reader)
+      → found.number ≡ last.number + 1 → RoundsStand its plan formula sizes first paths last (Some formula_now) before
+      → AreSized its (sizes_path plan.folder found.number) last.sizes before found.sizes sized
+      → StreamsOpened its sized (stream_paths plan.folder found.number found.sizes.streams) readers opened
+      → WasFound its plan formula_now readers opened found next after
+      → RoundsStand its plan formula sizes first paths found next after
+  stands_next last found formula_now next before sized opened after readers is stands are_sized are was_found =
+      let round = round_of formula_now readers opened found after was_found.was in
+      let k : ℕ = length (all stands) in
+      let number_is : found.number ≡ k + 1 = is ∙ ap (λ n. n + 1) stands.number in
+      let count : k + 1 ≡ length (round ∷ all stands) = omega arith in
       record {
-        round = round;
-        before = stands.round ∷ stands.before;
+        current = formula_now;
+        readers = readers;
+        opened = opened;
+        is_found = was_found;
+        before = all stands;
         rounds = (
           record {
-            goes_on = subst (λ (n : ℕ). CarriesOn its plan n stands.round formula_now) stands.number
-                (stands.is_found.goes_on formula_now refl);
+            goes_on = subst (λ (n : ℕ). CarriesOn n (now stands) formula_now) stands.number (stands.is_found.goes_on formula_now refl);
             sized = sized;
-            sizes = subst (λ (n : ℕ). AreSized its (sizes_path plan.folder n) stands.round.sizes stands.round.after found.sizes sized)
-                number_is of_files;
+            sizes = subst (λ (n : ℕ). AreSized its (sizes_path plan.folder n) last.sizes before found.sizes sized) number_is are_sized;
             opened = subst (λ (n : ℕ). StreamsOpened its sized (stream_paths plan.folder n found.sizes.streams) readers opened)
                 number_is are;
-            checked = checked;
           },
           stands.rounds,
         );
-        number = found_is ∙ number_is ∙ count;
-        is_found = record {
-          sizes = refl;
-          reports = refl;
-          verdict = refl;
-          unsaved = refl;
-          goes_on = subst (λ (n : ℕ). ForSome next (CarriesOn its plan n round)) (sym found_is) goes;
-          over = subst (λ (n : ℕ). next ≡ None → IsBarred its plan n round) (sym found_is) over;
-        };
-        left = refl;
+        number = number_is ∙ count;
       }
 
   -- The rounds end.
   ends_so : (last : LastRound) (next : Option Cnf) (before after : its.State)
       → (stands : RoundsStand its plan formula sizes first paths last next before)
-      → RoundsEnd its plan (length (stands.round ∷ stands.before)) stands.round after → EndsAt its plan formula sizes first paths last after
+      → RoundsEnd (length (all stands)) (now stands) after → EndsAt its plan formula sizes first paths last after
   ends_so last next before after stands over = record {
-    round = stands.round;
+    round = now stands;
     before = stands.before;
     rounds = stands.rounds;
     number = stands.number;
-    reports = stands.is_found.reports;
-    verdict = stands.is_found.verdict;
-    unsaved = stands.is_found.unsaved;
+    reports = refl;
+    verdict = refl;
+    unsaved = refl;
     over = over;
   }
 
@@ -188,22 +173,18 @@ module _ (its : Deeds) (plan : Plan) (formula : Cnf) (sizes : Sizes) (first : it
       → EndsAt its plan formula sizes first paths last after
   ends_barred last after stands =
       ends_so last None after after stands
-      (inl (subst (λ (n : ℕ). IsBarred its plan n stands.round) stands.number (stands.is_found.over refl), stands.left))
+      (inl (subst (λ (n : ℕ). IsBarred n (now stands)) stands.number (stands.is_found.over refl), refl))
 
   -- since there is no stream 1
   pub ends_alone : (last : LastRound) (next : Cnf) (before after : its.State)
       → RoundsStand its plan formula sizes first paths last (Some next) before
       → IsAlone its plan last before after → EndsAt its plan formula sizes first paths last after
   ends_alone last next before after stands alone =
-      let Alone : ℕ → Sizes → its.State → Type 0 = λ n s f. (read : Sizes) × (sized : its.State)
-      × AreSized its (sizes_path plan.folder (n + 1)) s f read sized × its.lacks sized (stream_path plan.folder (n + 1) 1) after in
-      let round = stands.round in
-      let k : ℕ = length (round ∷ stands.before) in
-      let number = subst (λ (n : ℕ). Alone n last.sizes before) stands.number alone in
-      let of_sizes = subst (λ (s : Sizes). Alone k s before) (sym stands.is_found.sizes) number in
-      let of_files = subst (λ (f : its.State). Alone k round.sizes f) stands.left of_sizes in
+      let number = subst (λ (n : ℕ). (read : Sizes) × (sized : its.State)
+      × AreSized its (sizes_path plan.folder (n + 1)) last.sizes before read sized
+      × its.lacks sized (stream_path plan.folder (n + 1) 1) after) stands.number alone in
       ends_so last (Some next) before after stands
-      (inr (inl (next, subst (λ (n : ℕ). CarriesOn its plan n round next) stands.number (stands.is_found.goes_on next refl), of_files)))
+      (inr (inl (next, subst (λ (n : ℕ). CarriesOn n (now stands) next) stands.number (stands.is_found.goes_on next refl), number)))
 
   -- since the number of the next one would be too high
   pub ends_high : (last : LastRound) (next : Option Cnf) (after : its.State)
@@ -211,45 +192,36 @@ module _ (its : Deeds) (plan : Plan) (formula : Cnf) (sizes : Sizes) (first : it
       → 2 ^ 64 < last.number + 3 → EndsAt its plan formula sizes first paths last after
   ends_high last None after stands high = ends_barred last after stands
   ends_high last (Some next) after stands high =
-      let goes_on = subst (λ (n : ℕ). CarriesOn its plan n stands.round next) stands.number (stands.is_found.goes_on next refl) in
+      let goes_on = subst (λ (n : ℕ). CarriesOn n (now stands) next) stands.number (stands.is_found.goes_on next refl) in
       ends_so last (Some next) after after stands
-      (inr (inr ((next, goes_on), subst (λ (n : ℕ). 2 ^ 64 < n + 3) stands.number high, stands.left)))
+      (inr (inr ((next, goes_on), subst (λ (n : ℕ). 2 ^ 64 < n + 3) stands.number high, refl)))
 
   -- the next one has no report
   pub fails_after : (last : LastRound) (next : Cnf) (before after : its.State) (failed : RoundFault)
       → RoundsStand its plan formula sizes first paths last (Some next) before
       → IsUnchecked its plan last next before failed.fault after → failed.round ≡ last.number + 1
       → FailsAfter its plan formula sizes first paths failed after
-  fails_after last next before after failed stands cause number_is =
-      let round = stands.round in
-      let k : ℕ = length (round ∷ stands.before) in
-      let fault = failed.fault in
-      let number = subst (λ (n : ℕ). IsRoundCause its plan n last.sizes next before fault after) stands.number cause in
-      let of_sizes = subst (λ (s : Sizes). IsRoundCause its plan k s next before fault after) (sym stands.is_found.sizes) number in
-      let of_files = subst (λ (f : its.State). IsRoundCause its plan k round.sizes next f fault after) stands.left of_sizes in
-      record {
-        last = round;
-        before = stands.before;
-        rounds = stands.rounds;
-        number = number_is ∙ ap (λ n. n + 1) stands.number;
-        cause = (next, subst (λ (n : ℕ). CarriesOn its plan n round next) stands.number (stands.is_found.goes_on next refl), of_files);
-      }
-
-  -- the last round was checked
-  head_checked : (round : Round its.State its.Reader) (before : List (Round its.State its.Reader))
-      → AreRounds its plan formula sizes first paths (round ∷ before) → WasChecked its plan round
-  head_checked round [] rounds = rounds.checked
-  head_checked round (b ∷ more) rounds = rounds.0.checked
+  fails_after last next before after failed stands cause number_is = record {
+    last = now stands;
+    before = stands.before;
+    rounds = stands.rounds;
+    number = number_is ∙ ap (λ n. n + 1) stands.number;
+    cause = (
+      next,
+      subst (λ (n : ℕ). CarriesOn n (now stands) next) stands.number (stands.is_found.goes_on next refl),
+      subst (λ (n : ℕ). IsRoundCause its plan n last.sizes next before failed.fault after) stands.number cause,
+    );
+  }
 
   -- a formula that a round refutes was refuted from the first one on
-  rounds_refute : RefutesBack → (round : Round its.State its.Reader) (before : List (Round its.State its.Reader))
-      → AreRounds its plan formula sizes first paths (round ∷ before) → IsUnsatisfiable round.formula → IsUnsatisfiable formula
+  rounds_refute : RefutesBack → (round : Round its plan) (before : List (Round its plan))
+      → AreRounds formula sizes first paths (round ∷ before) → IsUnsatisfiable round.formula → IsUnsatisfiable formula
   rounds_refute law round [] rounds refuted = subst IsUnsatisfiable rounds.formula_is refuted
   rounds_refute law round (b ∷ more) rounds refuted =
       rounds_refute law b more rounds.1 (law b.formula round.formula rounds.0.goes_on.saving.carried.entails refuted)
 
-  rounds_refute_under : RefutesBackUnder → (round : Round its.State its.Reader) (before : List (Round its.State its.Reader))
-      → AreRounds its plan formula sizes first paths (round ∷ before) → IsUnsatisfiableUnder round.formula plan.cube
+  rounds_refute_under : RefutesBackUnder → (round : Round its plan) (before : List (Round its plan))
+      → AreRounds formula sizes first paths (round ∷ before) → IsUnsatisfiableUnder round.formula plan.cube
       → IsUnsatisfiableUnder formula plan.cube
   rounds_refute_under law round [] rounds refuted = subst (λ (f : Cnf). IsUnsatisfiableUnder f plan.cube) rounds.formula_is refuted
   rounds_refute_under law round (b ∷ more) rounds refuted =
@@ -259,13 +231,13 @@ module _ (its : Deeds) (plan : Plan) (formula : Cnf) (sizes : Sizes) (first : it
       → last.found.verdict ≡ Unsatisfiable → IsUnsatisfiable formula
   ends_sound law last after ends is =
       rounds_refute law ends.round ends.before ends.rounds
-      ((head_checked ends.round ends.before ends.rounds).1.sound (ends.verdict ∙ is))
+      (ends.round.checked.sound (ends.verdict ∙ is))
 
   pub ends_sound_under : RefutesBackUnder → (last : LastRound) (after : its.State) → EndsAt its plan formula sizes first paths last after
       → last.found.verdict ≡ UnsatisfiableUnder → IsUnsatisfiableUnder formula plan.cube
   ends_sound_under law last after ends is =
       rounds_refute_under law ends.round ends.before ends.rounds
-      ((head_checked ends.round ends.before ends.rounds).1.sound_under (ends.verdict ∙ is))
+      (ends.round.checked.sound_under (ends.verdict ∙ is))
 
 -- so much is true of streams that were opened behind stream 1
 pub opened_from : {F R : Type 0} (opens : F → Text → R → F → Type 0) (before next after : F) (first : R) (readers others : List R)
@@ -341,10 +313,10 @@ barred_by verdict unsaved Ended (inl refuted) = inl (λ is. let no : Unsatisfiab
 barred_by verdict unsaved Ended (inr failed) = inr (inl failed)
 
 -- what was carried was saved
-pub saves_round : (its : Deeds) (plan : Plan) (number : ℕ) (round : Round its.State its.Reader) (next : Cnf) (first : its.Output)
+pub saves_round : {its : Deeds} {plan : Plan} (number : ℕ) (round : Round its plan) (next : Cnf) (first : its.Output)
     (mid : its.State) → CreatesCheckpoint its round.opened (Some (formula_path plan.folder (number + 1))) (Some first) mid
-    → KeepsNext its (CarriesRound its plan round) mid first round.after next → SavesRound its plan number round next
-saves_round its plan number round next first mid created keeps =
+    → KeepsNext its (CarriesRound round) mid first round.after next → SavesRound number round next
+saves_round number round next first mid created keeps =
     let carries = keeps.1 in
     let wrote = carries.checkpoint in
     record {

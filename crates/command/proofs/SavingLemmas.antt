@@ -11,6 +11,7 @@ use Rattle.portfolio.specs.Saving.{CarriesState, SavesState, is_wanted}
 use Rattle.portfolio.specs.declared.outcome.Verdict.{Verdict}
 use Rattle.portfolio.specs.declared.outcome.Verdict.TheVariants.{Unsatisfiable, UnsatisfiableUnder, Unknown}
 use Rattle.runs.specs.Streams.{RunParamsValue}
+use Rattle.stream_check.specs.DroppedValue.{DroppedValue}
 use Rattle.stream_check.specs.declared.report.Report.{Report}
 use Rattle.checkpoint.specs.Checkpoints.{IsCheckpoint, IsCheckpointOf}
 use Rattle.checkpoint.specs.declared.saving.SaveFault.{SaveFault}
@@ -70,53 +71,34 @@ left_unused its before next after (Some path) None created discards = absurd cre
 left_unused its before next after (Some path) (Some first) created discards =
     record { output = first; next = next; created = created.0; empty = created.1; discarded = discards }
 
--- What is saved of what was left is saved of the run.
-module _ (its : Deeds) (serial : Bool) (f : Cnf) (run_params : RunParamsValue) (firsts : List its.Reader) (reports : List Report)
-    (left : LeftClauses) (stands : StandsBehind its.reading serial f run_params firsts reports left) (before after : its.State)
-    (first last : its.Output) (unsaved : Option SaveFault) where
-  pub saves_and_closes : (result other : Result (Unit {0}) SaveFault) → result ≡ other
-      → ((f : Cnf) (h : History) → HasHistory f h left → IfOk result (λ _. (bytes : List ℕ)
-      × Appends (its.written first) (its.written last) bytes × IsCheckpoint f bytes))
-      → ((f : Cnf) (h : History) → HasHistory f h left
-      → SavesState its.written result (state f h) (left_layout left) (is_wanted (dropped_in left)) first last)
-      → IsTrue (its.has_failed last) ↔ (result ≡ Err faults.Unwritten)
-      → ClosesSink its other before last unsaved after
-      → SavesAndCloses its (SavesCheckpoint its serial f run_params firsts reports) before first unsaved after
-  saves_and_closes result other same checkpoint saves failed closed = record {
-    result = result;
-    last = last;
-    saving = record {
-      checkpoint = checkpoint f stands.ran.run.history stands.has;
-      exactly = record {
-        lasts = stands.lasts;
-        dropped = dropped_in left;
-        ran = stands.ran;
-        saves = subst (λ (p : LayoutValue). SavesState its.written result (state f stands.ran.run.history) p
-            (is_wanted (dropped_in left)) first last) stands.layout (saves f stands.ran.run.history stands.has);
-      };
-      failed = failed;
-    };
-    closed = subst (λ (r : Result (Unit {0}) SaveFault). ClosesSink its r before last unsaved after) (sym same) closed;
-  }
+-- what was saved of what was left, and closed
+pub saves_and_closes : (its : Deeds) (f : Cnf) (h : History) (left : LeftClauses) → HasHistory f h left → (before after : its.State)
+    (first last : its.Output) (unsaved : Option SaveFault) (result other : Result (Unit {0}) SaveFault) → result ≡ other
+    → ((f : Cnf) (h : History) → HasHistory f h left → IfOk result (λ _. (bytes : List ℕ)
+    × Appends (its.written first) (its.written last) bytes × IsCheckpoint f bytes))
+    → ((f : Cnf) (h : History) → HasHistory f h left
+    → SavesState its.written result (state f h) (left_layout left) (is_wanted (dropped_in left)) first last)
+    → IsTrue (its.has_failed last) ↔ (result ≡ Err faults.Unwritten)
+    → ClosesSink its other before last unsaved after
+    → SavesAndCloses its (SavesCheckpoint its f (left_layout left) h (dropped_in left)) before first unsaved after
+saves_and_closes its f h left has before after first last unsaved result other same checkpoint saves failed closed = record {
+  result = result;
+  last = last;
+  saving = record { checkpoint = checkpoint f h has; exactly = saves f h has; failed = failed };
+  closed = subst (λ (r : Result (Unit {0}) SaveFault). ClosesSink its r before last unsaved after) (sym same) closed;
+}
 
+module _ (its : Deeds) (f : Cnf) (h : History) (left : LeftClauses) (has : HasHistory f h left) (before after : its.State)
+    (first last : its.Output) (unsaved : Option SaveFault) where
   carrying : (result : Result Cnf SaveFault)
       → ((f : Cnf) (h : History) → HasHistory f h left → IfOk result (λ next. (bytes : List ℕ)
       × Appends (its.written first) (its.written last) bytes × IsCheckpointOf f bytes next))
       → ((f : Cnf) (h : History) → HasHistory f h left
       → CarriesState its.written result (state f h) (left_layout left) (is_wanted (dropped_in left)) first last)
       → IsTrue (its.has_failed last) ↔ (result ≡ Err faults.Unwritten)
-      → CarriesCheckpoint its serial f run_params firsts reports result first last
-  carrying result next carries failed = record {
-    checkpoint = next f stands.ran.run.history stands.has;
-    exactly = record {
-      lasts = stands.lasts;
-      dropped = dropped_in left;
-      ran = stands.ran;
-      carries = subst (λ (p : LayoutValue). CarriesState its.written result (state f stands.ran.run.history) p
-          (is_wanted (dropped_in left)) first last) stands.layout (carries f stands.ran.run.history stands.has);
-    };
-    failed = failed;
-  }
+      → CarriesCheckpoint its f (left_layout left) h (dropped_in left) result first last
+  carrying result next carries failed =
+      record { checkpoint = next f h has; exactly = carries f h has; failed = failed }
 
   pub carries_and_closes : (result other : Result Cnf SaveFault) → result ≡ other
       → ((f : Cnf) (h : History) → HasHistory f h left → IfOk result (λ next. (bytes : List ℕ)
@@ -125,7 +107,7 @@ module _ (its : Deeds) (serial : Bool) (f : Cnf) (run_params : RunParamsValue) (
       → CarriesState its.written result (state f h) (left_layout left) (is_wanted (dropped_in left)) first last)
       → IsTrue (its.has_failed last) ↔ (result ≡ Err faults.Unwritten)
       → ClosesSink its other before last unsaved after
-      → SavesAndCloses its (CarriesCheckpoint its serial f run_params firsts reports) before first unsaved after
+      → SavesAndCloses its (CarriesCheckpoint its f (left_layout left) h (dropped_in left)) before first unsaved after
   carries_and_closes result other same next carries failed closed = record {
     result = result;
     last = last;
@@ -140,17 +122,25 @@ module _ (its : Deeds) (serial : Bool) (f : Cnf) (run_params : RunParamsValue) (
       → CarriesState its.written result (state f h) (left_layout left) (is_wanted (dropped_in left)) first last)
       → IsTrue (its.has_failed last) ↔ (result ≡ Err faults.Unwritten)
       → its.keeps before last after
-      → KeepsNext its (CarriesCheckpoint its serial f run_params firsts reports) before first after made
+      → KeepsNext its (CarriesCheckpoint its f (left_layout left) h (dropped_in left)) before first after made
   keeps_next result made same next carries failed kept = (
     last,
-    subst (λ (r : Result Cnf SaveFault). CarriesCheckpoint its serial f run_params firsts reports r first last) same
+    subst (λ (r : Result Cnf SaveFault). CarriesCheckpoint its f (left_layout left) h (dropped_in left) r first last) same
         (carrying result next carries failed),
     kept,
   )
 
 -- by other parameters that are the same
 pub stands_moved : {R : Type 0} (view : SourceView R) (serial : Bool) (f : Cnf) (run_params other : RunParamsValue) (firsts : List R)
-    (reports : List Report) (left : LeftClauses) → run_params ≡ other → StandsBehind view serial f run_params firsts reports left
-    → StandsBehind view serial f other firsts reports left
-stands_moved view serial f run_params other firsts reports left same =
-    subst (λ (t : RunParamsValue). StandsBehind view serial f t firsts reports left) same
+    (reports : List Report) (verdict : Verdict) (left : LeftClauses) → run_params ≡ other
+    → StandsBehind view serial f run_params firsts reports verdict left → StandsBehind view serial f other firsts reports verdict left
+stands_moved view serial f run_params other firsts reports verdict left same =
+    subst (λ (t : RunParamsValue). StandsBehind view serial f t firsts reports verdict left) same
+
+-- What was saved of what was left was saved of the run: by its layout, and with what its streams dropped.
+pub left_moved : {R : Type 0} {view : SourceView R} {serial : Bool} {f : Cnf} {run_params : RunParamsValue} {firsts : List R}
+    {reports : List Report} {verdict : Verdict} {left : LeftClauses}
+    (stands : StandsBehind view serial f run_params firsts reports verdict left) (P : LayoutValue → List DroppedValue → Type 0)
+    → P (left_layout left) (dropped_in left) → P run_params.layout stands.checked.dropped
+left_moved {run_params = run_params} {left = left} stands P is =
+    subst (P run_params.layout) stands.dropped (subst (λ (p : LayoutValue). P p (dropped_in left)) stands.layout is)

@@ -14,7 +14,7 @@ use Rattle.checkpoint.specs.declared.saving.SaveFault.{SaveFault}
 use Rattle.command_line.specs.CommandLine.{AskToSave}
 use Rattle.command.specs.Commands.{Deeds, EndsWithFault, EndsWithReport, FilesView, IsAssumeCause, IsCause, ClosesSink, IsOutcome}
 use Rattle.command.specs.Commands.{LeavesBehind, LeavesFile, NameCheckpoint, SavesCheckpoint, SinkChange, Text, WasLeftEmpty, WasReadIn}
-use Rattle.command.specs.Commands.{WasSavedBy, assumed_at, checkpoint_at, report_status, run_params_given}
+use Rattle.command.specs.Commands.{WasSavedBy, assumed_at, checkpoint_at, layout_at, report_status}
 use Rattle.command.specs.Faults.{status_of}
 use Rattle.command.specs.declared.fault.CommandFault.{CommandFault}
 use Rattle.command.specs.declared.fault.CommandFault.TheVariants as faults
@@ -165,8 +165,8 @@ module _ (files : FilesView) where
   abbrev Saves : (words : List Text) (reports : List Report) (verdict : Verdict) → IsOutcome files words reports verdict
       → Result (Unit {0}) SaveFault → files.its.Output → files.its.Output → Type 0
   Saves words reports verdict outcome =
-      SavesCheckpoint files.its outcome.given.serial outcome.formula (run_params_given outcome.given outcome.cube outcome.formula)
-      outcome.readers reports
+      SavesCheckpoint files.its outcome.formula (layout_at outcome.given outcome.formula) outcome.checked.ran.run.history
+      outcome.checked.dropped
 
   -- what was left at the path that is asked for
   left_at : (words : List Text) (after : files.its.State) (out err : SinkChange) (status : ℕ)
@@ -251,17 +251,17 @@ ends_empty files words after out err status (inr fault) path ask is = absurd (no
 
 -- ---- the same, where the program may end in rounds
 
-module _ (its : Deeds) (plan : Plan) (number : ℕ) (last : Round its.State its.Reader) (after : its.State) where
+module _ {its : Deeds} {plan : Plan} (number : ℕ) (last : Round its plan) (after : its.State) where
   -- no cause of a round is one of the writing of a report
-  never_next : IsNextCause its plan number last faults.Unwritten after → ⊥
+  never_next : IsNextCause number last faults.Unwritten after → ⊥
   never_next (next, on, inl sizes) = sizes
   never_next (next, on, inr (sizes, sized, are, inl (inl first))) = first
   never_next (next, on, inr (sizes, sized, are, inl (inr others))) = others.3
   never_next (next, on, inr (sizes, sized, are, inr (readers, opened, were, start))) = start
 
-  next_not_7 : (fault : CommandFault) → IsNextCause its plan number last fault after → status_of fault ≡ 7 → ⊥
+  next_not_7 : (fault : CommandFault) → IsNextCause number last fault after → status_of fault ≡ 7 → ⊥
   next_not_7 fault cause is =
-      never_next (subst (λ (f : CommandFault). IsNextCause its plan number last f after) (seven_is fault is) cause)
+      never_next (subst (λ (f : CommandFault). IsNextCause number last f after) (seven_is fault is) cause)
 
 module _ (files : FilesView) (words : List Text) where
   in_rounds_unwritten : (after : files.its.State) (out err : SinkChange) (status : ℕ) → EndsInRounds files words after out err status
@@ -273,7 +273,7 @@ module _ (files : FilesView) (words : List Text) where
     )
     | inr fails ↦ (
       (λ failed. absurd (let no : false ≡ true = sym fails.untouched.failed ∙ failed in cc)),
-      (λ seven. absurd (next_not_7 files.its _ _ fails.last after fails.fault fails.cause (sym fails.status_is ∙ seven))),
+      (λ seven. absurd (next_not_7 _ fails.last after fails.fault fails.cause (sym fails.status_is ∙ seven))),
     )
   ]
 

@@ -5,8 +5,10 @@ use Rattle.std.specs.Borrow.{Bor}
 use Rattle.std.specs.Option.{ForSome}
 use Rattle.lrup_model.specs.Cube.{CubeValue, IsUnsatisfiableUnder}
 use Rattle.lrup_model.specs.Entailment.{IsUnsatisfiable}
+use Rattle.lrup_model.specs.Event.{History}
 use Rattle.lrup_model.specs.Formula.{Cnf}
 use Rattle.lrup_model.specs.Layout.{LayoutValue, IsFault, IsStream}
+use Rattle.lrup_model.specs.State.{state}
 use Rattle.lrup_model.specs.declared.layout.LayoutFault.{LayoutFault}
 use Rattle.dimacs.specs.FormulaFault.{IsFormulaFault}
 use Rattle.dimacs.specs.FormulaText.{IsFormulaText}
@@ -19,9 +21,10 @@ use Rattle.lrup_text.specs.Reads.{GaveAll, ReadsOf}
 use Rattle.lrup_text.specs.Cubes.{IsCubeFault, IsCubeText}
 use Rattle.lrup_text.specs.declared.cube.CubeFault.TheVariants as cubes
 use Rattle.stream_check.specs.declared.report.Report.{Report}
-use Rattle.portfolio.specs.Histories.{IsRunOf, SavesRun, way_of}
+use Rattle.portfolio.specs.Histories.{IsRunOf, way_of}
 use Rattle.portfolio.specs.Outcomes.{OptionsValue, layout_of, run_params_of, verdict_of}
 use Rattle.portfolio.specs.ReportText.{report_text}
+use Rattle.portfolio.specs.Saving.{SavesState, is_wanted}
 use Rattle.runs.specs.Readings.{readers_view}
 use Rattle.runs.specs.Streams.{RunParamsValue}
 use Rattle.stream_check.specs.DroppedValue.{DroppedValue}
@@ -291,19 +294,17 @@ pub record IsOutcome (files : FilesView) (words : List Text) (reports : List Rep
 
 -- What is saved.
 
--- What became of the saving of a checkpoint of the formula to a sink that was the first and is the last. What was written whole is a text of
--- a formula over the same variables, each clause of which follows from this one. It is that of the clauses that a history of the run
--- leaves live, by which its streams are judged as reported, but for those that all streams dropped. Just where the sink failed, a
--- write is told to have failed.
-pub record SavesCheckpoint (its : Deeds) (serial : Bool) (formula : Cnf)
-    (run_params : RunParamsValue)
-    (readers : List its.Reader) (reports : List Report) (result : Result (Unit {0}) SaveFault)
+-- What became of the saving of a checkpoint to a sink that was the first and is the last, after a run of the formula with this layout, whose
+-- history and dropped identities these are. What was written whole is a text of a formula over the same variables, each clause of which
+-- follows from this one. It is that of the clauses that the history leaves live, but for those that all streams dropped, and no others.
+-- Just where the sink failed, a write is told to have failed.
+pub record SavesCheckpoint (its : Deeds) (formula : Cnf) (layout : LayoutValue) (history : History)
+    (dropped : List DroppedValue) (result : Result (Unit {0}) SaveFault)
     (first last : its.Output) : Type 0 where
   pub checkpoint : IfOk result (λ _. (bytes : List ℕ)
       × Appends (its.written first) (its.written last) bytes × IsCheckpoint formula bytes)
-  pub exactly : SavesRun its.reading its.written serial formula run_params readers reports
-      result first
-      last
+  pub exactly : SavesState its.written result (state formula history) layout (is_wanted dropped)
+      first last
   pub failed : IsTrue (its.has_failed last) ↔ (result ≡ Err saves.Unwritten)
 
 -- How a sink was closed, to which something was saved with this result, and why that isn't saved, if it isn't: what was saved was kept,
@@ -347,8 +348,8 @@ abbrev pub LeavesCheckpoint : (files : FilesView) (words : List Text) (reports :
     → files.its.State → Type 0
 LeavesCheckpoint files words reports verdict outcome unsaved after =
     LeavesBehind files.its
-    (SavesCheckpoint files.its outcome.given.serial outcome.formula
-    (run_params_given outcome.given outcome.cube outcome.formula) outcome.readers reports)
+    (SavesCheckpoint files.its outcome.formula (layout_at outcome.given outcome.formula)
+    outcome.checked.ran.run.history outcome.checked.dropped)
     verdict outcome.last (checkpoint_at outcome.given) unsaved after
 
 -- Causes, and the files then: what was opened and created of them by then, in order, and nothing more. Nothing shows afterwards that

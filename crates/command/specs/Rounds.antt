@@ -5,14 +5,18 @@ use Rattle.std.specs.Io.KnownBytes.{Appends}
 use Rattle.std.specs.List.{AllByRecursion}
 use Rattle.std.specs.Option.{ForSome}
 use Rattle.lrup_model.specs.Cube.{CubeValue}
+use Rattle.lrup_model.specs.Event.{History}
 use Rattle.lrup_model.specs.Formula.{Cnf}
+use Rattle.lrup_model.specs.Layout.{LayoutValue}
+use Rattle.lrup_model.specs.State.{state}
 use Rattle.lrup_text.specs.Reads.{Gave}
 use Rattle.runs.specs.Streams.{RunParamsValue}
+use Rattle.stream_check.specs.DroppedValue.{DroppedValue}
 use Rattle.stream_check.specs.declared.report.Ending.TheVariants as endings
 use Rattle.stream_check.specs.declared.report.Report.{Report}
-use Rattle.portfolio.specs.Histories.{CarriesRun}
 use Rattle.portfolio.specs.Outcomes.{OptionsValue, run_params_of}
 use Rattle.portfolio.specs.ReportText.{report_text}
+use Rattle.portfolio.specs.Saving.{CarriesState, is_wanted}
 use Rattle.portfolio.specs.declared.outcome.Verdict.{Verdict}
 use Rattle.portfolio.specs.declared.outcome.Verdict.TheVariants.{Unknown}
 use Rattle.checkpoint.specs.Checkpoints.{IsCheckpoint, IsCheckpointOf}
@@ -58,24 +62,19 @@ run_params_by plan formula sizes =
     run_params_of (options_by plan.tries sizes) plan.cube formula sizes.streams
 
 -- A round: its formula and its sizes; the readers of its streams as they were opened, and the files after that; its reports, its
--- verdict, and why its checkpoint wasn't saved, if it wasn't; and the files after that.
-pub record Round (F R : Type 0) : Type 0 where
+-- verdict, and why its checkpoint wasn't saved, if it wasn't; and the files after that. Its streams were checked as those of a run are.
+pub record Round (its : Deeds) (plan : Plan) : Type 0 where
   pub formula : Cnf
   pub sizes : Sizes
-  pub readers : List R
-  pub opened : F
+  pub readers : List its.Reader
+  pub opened : its.State
   pub reports : List Report
   pub verdict : Verdict
   pub unsaved : Option SaveFault
-  pub after : F
-
--- the streams of the round were checked, as those of a run are
-abbrev pub WasChecked : (its : Deeds) → Plan → Round its.State its.Reader → Type 0
-WasChecked its plan round =
-    (length round.readers ≡ round.sizes.streams)
-    × AreChecked its.reading plan.serial round.formula
-    (run_params_by plan round.formula round.sizes)
-    round.readers round.reports round.verdict
+  pub after : its.State
+  pub count : length readers ≡ sizes.streams
+  pub checked : AreChecked its.reading plan.serial formula (run_params_by plan formula sizes)
+      readers reports verdict
 
 -- The files at the paths were opened as these readers, in order, and where files tell what a path has, its reader has just that left.
 pub record StreamsOpened (its : Deeds) (before : its.State) (paths : List Text)
@@ -87,57 +86,53 @@ pub record StreamsOpened (its : Deeds) (before : its.State) (paths : List Text)
 abbrev pub HaveEnded : List Report → Type 0
 HaveEnded reports = AllByRecursion (λ report. report.ending ≡ endings.Ended) reports
 
--- What became of the carrying of a round's clauses to a sink that was the first and is the last. What was written whole is a text of just the
--- next formula, each clause of which follows from the round's. They are those that a history of the round leaves live, by which its
--- streams are judged as reported, but for those that all streams dropped, and no others. Just where the sink failed, a write is
--- told to have failed.
-pub record CarriesCheckpoint (its : Deeds) (serial : Bool) (formula : Cnf)
-    (run_params : RunParamsValue)
-    (readers : List its.Reader) (reports : List Report) (result : Result Cnf SaveFault)
+-- What became of the carrying of clauses to a sink that was the first and is the last, after a run of the formula with this layout, whose
+-- history and dropped identities these are. What was written whole is a text of just the next formula, each clause of which follows from
+-- this one. They are those that the history leaves live, but for those that all streams dropped, and no others. Just where the sink failed,
+-- a write is told to have failed.
+pub record CarriesCheckpoint (its : Deeds) (formula : Cnf) (layout : LayoutValue)
+    (history : History) (dropped : List DroppedValue) (result : Result Cnf SaveFault)
     (first last : its.Output) : Type 0 where
   pub checkpoint : IfOk result (λ next. (bytes : List ℕ)
       × Appends (its.written first) (its.written last) bytes × IsCheckpointOf formula bytes next)
-  pub exactly : CarriesRun its.reading its.written serial formula run_params readers reports
-      result first
-      last
+  pub exactly : CarriesState its.written result (state formula history) layout
+      (is_wanted dropped) first last
   pub failed : IsTrue (its.has_failed last) ↔ (result ≡ Err saves.Unwritten)
 
 -- the same, of a round
-abbrev pub CarriesRound : (its : Deeds) → Plan → Round its.State its.Reader
-    → Result Cnf SaveFault → its.Output → its.Output → Type 0
-CarriesRound its plan round =
-    CarriesCheckpoint its plan.serial round.formula (run_params_by plan round.formula round.sizes)
-    round.readers round.reports
+abbrev pub CarriesRound : {its : Deeds} {plan : Plan} → Round its plan → Result Cnf SaveFault
+    → its.Output → its.Output → Type 0
+CarriesRound {its} {plan} round =
+    CarriesCheckpoint its round.formula (run_params_by plan round.formula round.sizes).layout
+    round.checked.ran.run.history round.checked.dropped
 
 -- The checkpoint of the round with this number was saved: a text of just this next formula, each clause of which follows from the round's.
--- They are those that a history of the round leaves live, by which its streams are judged as reported, but for those that all streams
--- dropped, and no others.
-pub record SavesRound (its : Deeds) (plan : Plan) (number : ℕ)
-    (round : Round its.State its.Reader) (next : Cnf) : Type 0 where
+-- They are those that the round's history leaves live, but for those that all streams dropped, and no others.
+pub record SavesRound {its : Deeds} {plan : Plan} (number : ℕ) (round : Round its plan)
+    (next : Cnf) : Type 0 where
   pub bytes : List ℕ
   pub saved : WasSavedBy its round.opened (formula_path plan.folder (number + 1)) bytes
       round.after
   pub carried : IsCheckpointOf round.formula bytes next
-  pub exactly : CarriesRun its.reading its.written plan.serial round.formula
-      (run_params_by plan round.formula round.sizes) round.readers round.reports
-      (Ok next) saved.first
-      saved.last
+  pub exactly : CarriesState its.written (Ok next)
+      (state round.formula round.checked.ran.run.history)
+      (run_params_by plan round.formula round.sizes).layout (is_wanted round.checked.dropped)
+      saved.first saved.last
 
 -- The round goes on: its verdict is 'unknown', its streams ended, and its checkpoint was saved.
-pub record CarriesOn (its : Deeds) (plan : Plan) (number : ℕ)
-    (round : Round its.State its.Reader) (next : Cnf) : Type 0 where
+pub record CarriesOn {its : Deeds} {plan : Plan} (number : ℕ) (round : Round its plan)
+    (next : Cnf) : Type 0 where
   pub verdict : round.verdict ≡ Unknown
   pub ended : HaveEnded round.reports
   pub unsaved : round.unsaved ≡ None
-  pub saving : SavesRound its plan number round next
+  pub saving : SavesRound number round next
 
 -- It doesn't: it has another verdict, its checkpoint wasn't saved, or a stream didn't end. What it left is as of a run with
 -- `--checkpoint`.
-pub record IsBarred (its : Deeds) (plan : Plan) (number : ℕ)
-    (round : Round its.State its.Reader) : Type 0 where
+pub record IsBarred {its : Deeds} {plan : Plan} (number : ℕ) (round : Round its plan) : Type 0 where
   pub why : (¬ (round.verdict ≡ Unknown))
       ⊎ (((fault : SaveFault) × (round.unsaved ≡ Some fault)) ⊎ (¬ HaveEnded round.reports))
-  pub checkpoint : LeavesBehind its (CarriesRound its plan round) round.verdict round.opened
+  pub checkpoint : LeavesBehind its (CarriesRound round) round.verdict round.opened
       (Some (formula_path plan.folder (number + 1))) round.unsaved round.after
 
 -- the sizes of the round after: those before, if there is no file of them; else what was read of the file is a text of them
@@ -148,47 +143,44 @@ AreSized its path old before new after =
     × WasRead its.opens its.reading.reads (its.tells before) before path bytes after
     × IsSizesText bytes new)
 
--- A round follows the one with this number: it has the formula that was carried on, its sizes were read, then its streams were opened,
--- and they were checked.
-pub record ComesNext (its : Deeds) (plan : Plan) (number : ℕ)
-    (before round : Round its.State its.Reader) : Type 0 where
-  pub goes_on : CarriesOn its plan number before round.formula
+-- A round follows the one with this number: it has the formula that was carried on, its sizes were read, and then its streams were
+-- opened.
+pub record ComesNext {its : Deeds} {plan : Plan} (number : ℕ) (before round : Round its plan)
+    : Type 0 where
+  pub goes_on : CarriesOn number before round.formula
   pub sized : its.State
   pub sizes : AreSized its (sizes_path plan.folder (number + 1)) before.sizes before.after
       round.sizes sized
   pub opened : StreamsOpened its sized
       (stream_paths plan.folder (number + 1) round.sizes.streams) round.readers round.opened
-  pub checked : WasChecked its plan round
 
 -- The first round: its streams are those at the paths.
-pub record IsFirst (its : Deeds) (plan : Plan) (formula : Cnf) (sizes : Sizes) (first : its.State)
-    (paths : List Text) (round : Round its.State its.Reader) : Type 0 where
+pub record IsFirst {its : Deeds} {plan : Plan} (formula : Cnf) (sizes : Sizes) (first : its.State)
+    (paths : List Text) (round : Round its plan) : Type 0 where
   pub formula_is : round.formula ≡ formula
   pub sizes_are : round.sizes ≡ sizes
   pub opened : StreamsOpened its first paths round.readers round.opened
-  pub checked : WasChecked its plan round
 
 -- Rounds, the last one first. The first of them has this formula and these sizes, and its streams are those at these paths; each other
 -- comes next after the one before it. A round's number is how many there are up to it.
-abbrev pub AreRounds : (its : Deeds) → Plan → Cnf → Sizes → its.State → List Text
-    → List (Round its.State its.Reader) → Type 0
-AreRounds its plan formula sizes first paths [] = ⊥
-AreRounds its plan formula sizes first paths (round ∷ []) =
-    IsFirst its plan formula sizes first paths round
-AreRounds its plan formula sizes first paths (round ∷ before ∷ more) =
-    ComesNext its plan (length (before ∷ more)) before round
-    × AreRounds its plan formula sizes first paths (before ∷ more)
+abbrev pub AreRounds : {its : Deeds} {plan : Plan} → Cnf → Sizes → its.State → List Text
+    → List (Round its plan) → Type 0
+AreRounds formula sizes first paths [] = ⊥
+AreRounds formula sizes first paths (round ∷ []) = IsFirst formula sizes first paths round
+AreRounds formula sizes first paths (round ∷ before ∷ more) =
+    ComesNext (length (before ∷ more)) before round
+    × AreRounds formula sizes first paths (before ∷ more)
 
 -- why there is no round after the last one, with this number, and what became of the files: it doesn't go on; or the next one has its
 -- sizes, and there is no file of its stream 1; or it goes on, and the next one's number would be 2 ^ 64 - 1 or more
-abbrev pub RoundsEnd : (its : Deeds) → Plan → ℕ → Round its.State its.Reader → its.State → Type 0
-RoundsEnd its plan number last after =
-    (IsBarred its plan number last × (after ≡ last.after))
-    ⊎ (((next : Cnf) × CarriesOn its plan number last next
+abbrev pub RoundsEnd : {its : Deeds} {plan : Plan} → ℕ → Round its plan → its.State → Type 0
+RoundsEnd {its} {plan} number last after =
+    (IsBarred number last × (after ≡ last.after))
+    ⊎ (((next : Cnf) × CarriesOn number last next
     × ((sizes : Sizes) × (sized : its.State)
     × AreSized its (sizes_path plan.folder (number + 1)) last.sizes last.after sizes sized
     × its.lacks sized (stream_path plan.folder (number + 1) 1) after))
-    ⊎ (((next : Cnf) × CarriesOn its plan number last next) × (2 ^ 64 < number + 3)
+    ⊎ (((next : Cnf) × CarriesOn number last next) × (2 ^ 64 < number + 3)
     × (after ≡ last.after)))
 
 -- Causes.
@@ -269,10 +261,10 @@ IsRoundCause its plan number old formula before fault after =
     × IsRoundStartCause its plan (number + 1) formula sizes opened fault after)))
 
 -- why the round after the one with this number, which goes on, has no report, and the files then
-abbrev pub IsNextCause : (its : Deeds) → Plan → ℕ → Round its.State its.Reader → CommandFault
+abbrev pub IsNextCause : {its : Deeds} {plan : Plan} → ℕ → Round its plan → CommandFault
     → its.State → Type 0
-IsNextCause its plan number last fault after =
-    (next : Cnf) × CarriesOn its plan number last next
+IsNextCause {its} {plan} number last fault after =
+    (next : Cnf) × CarriesOn number last next
     × IsRoundCause its plan number last.sizes next last.after fault after
 
 -- What goes out.
@@ -288,44 +280,41 @@ last_text number reports verdict =
 
 -- The formula and the assumed literals were read, and then came these rounds.
 pub record WereRounds (files : FilesView) (given : CommandLine) (folder : Text)
-    (last : Round files.its.State files.its.Reader)
-    (before : List (Round files.its.State files.its.Reader)) : Type 0 where
+    (cube : CubeValue) (last : Round files.its (plan_at given cube folder))
+    (before : List (Round files.its (plan_at given cube folder))) : Type 0 where
   pub alone : checkpoint_at given ≡ None
   pub formula : Cnf
   pub next : files.its.State
   pub is_formula : IsFormulaAt files given.formula.now formula next
-  pub cube : CubeValue
   pub later : files.its.State
   pub assumed : AreAssumed (WasReadIn files) formula.vars next (assumed_at given) cube later
   pub told : files.its.tells later ≡ files.tells
-  pub rounds : AreRounds files.its (plan_at given cube folder) formula (sizes_of given)
-      later given.streams (last ∷ before)
+  pub rounds : AreRounds formula (sizes_of given) later given.streams (last ∷ before)
 
 -- The report of the last round.
 pub record ReportsRounds (files : FilesView) (given : CommandLine) (folder : Text)
     (after : files.its.State) (out err : SinkChange) (status : ℕ) : Type 0 where
-  pub last : Round files.its.State files.its.Reader
-  pub before : List (Round files.its.State files.its.Reader)
-  pub were : WereRounds files given folder last before
-  pub over : RoundsEnd files.its (plan_at given were.cube folder) (length (last ∷ before))
-      last after
+  pub cube : CubeValue
+  pub last : Round files.its (plan_at given cube folder)
+  pub before : List (Round files.its (plan_at given cube folder))
+  pub were : WereRounds files given folder cube last before
+  pub over : RoundsEnd (length (last ∷ before)) last after
   pub printed : SinkTook out (last_text (length (last ∷ before)) last.reports last.verdict)
   pub said : SaysOfRound (length (last ∷ before)) out.failed last.unsaved err
   pub status_is : status ≡ report_status out.failed last.unsaved last.verdict
 
 -- The round with this number saved the next one's formula: a text of a formula each clause of which follows from this one.
-abbrev pub SavesEntailed : (its : Deeds) → Text → Cnf → ℕ → Round its.State its.Reader → Type 0
-SavesEntailed its folder formula number round =
+abbrev pub SavesEntailed : {its : Deeds} {plan : Plan} → Cnf → ℕ → Round its plan → Type 0
+SavesEntailed {its} {plan} formula number round =
     (bytes : List ℕ)
-    × WasSavedBy its round.opened (formula_path folder (number + 1)) bytes round.after
+    × WasSavedBy its round.opened (formula_path plan.folder (number + 1)) bytes round.after
     × IsCheckpoint formula bytes
 
 -- so did each of these rounds, the last one first
-abbrev pub SaveEntailed : (its : Deeds) → Text → Cnf → List (Round its.State its.Reader) → Type 0
-SaveEntailed its folder formula [] = Unit {0}
-SaveEntailed its folder formula (round ∷ before) =
-    SavesEntailed its folder formula (length (round ∷ before)) round
-    × SaveEntailed its folder formula before
+abbrev pub SaveEntailed : {its : Deeds} {plan : Plan} → Cnf → List (Round its plan) → Type 0
+SaveEntailed formula [] = Unit {0}
+SaveEntailed formula (round ∷ before) =
+    SavesEntailed formula (length (round ∷ before)) round × SaveEntailed formula before
 
 -- The words have a command line, and the program ends with the report of rounds. Each round but the last saved the next one's formula: a text
 -- of a formula each clause of which follows from that of FORMULA. With status 3 or 8 the last one did so, too.
@@ -334,20 +323,19 @@ pub record ReportsEntailed (files : FilesView) (words : List Text) (folder : Tex
   pub given : CommandLine
   pub command_line : IsCommandLineOf words given
   pub ending : ReportsRounds files given folder after out err status
-  pub saved : SaveEntailed files.its folder ending.were.formula ending.before
+  pub saved : SaveEntailed ending.were.formula ending.before
   pub last_saved : (status ≡ 3) ⊎ (status ≡ 8)
-      → SavesEntailed files.its folder ending.were.formula (length (ending.last ∷ ending.before))
-      ending.last
+      → SavesEntailed ending.were.formula (length (ending.last ∷ ending.before)) ending.last
 
 -- No report, why the round after the last one has none, and the files then.
 pub record FailsInRound (files : FilesView) (given : CommandLine) (folder : Text)
     (after : files.its.State) (out err : SinkChange) (status : ℕ) : Type 0 where
-  pub last : Round files.its.State files.its.Reader
-  pub before : List (Round files.its.State files.its.Reader)
-  pub were : WereRounds files given folder last before
+  pub cube : CubeValue
+  pub last : Round files.its (plan_at given cube folder)
+  pub before : List (Round files.its (plan_at given cube folder))
+  pub were : WereRounds files given folder cube last before
   pub fault : CommandFault
-  pub cause : IsNextCause files.its (plan_at given were.cube folder)
-      (length (last ∷ before)) last fault after
+  pub cause : IsNextCause (length (last ∷ before)) last fault after
   pub untouched : IsUntouched out
   pub said : SinkTook err (round_error_text (length (last ∷ before) + 1) fault)
   pub status_is : status ≡ status_of fault

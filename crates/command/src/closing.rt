@@ -1,12 +1,11 @@
 //! A checkpoint's file, from its creation to its end.
-ghost use Rattle.std.specs.Prelude.{◌≡◌, ◌⊎◌, [], Bool, List, None, Some, false, IfErr, IfOk};
+ghost use Rattle.std.specs.Prelude.{◌≡◌, ◌⊎◌, [], None, Some, false, IfErr, IfOk};
 ghost use Rattle.std.specs.Option.{ForSome};
+ghost use Rattle.lrup_model.specs.Event.{History};
 ghost use Rattle.lrup_model.specs.Formula.{Cnf};
-ghost use Rattle.runs.specs.Streams.{RunParamsValue};
 ghost use Rattle.command.specs.Commands.{SavesCheckpoint, deeds, path_of};
-ghost use Rattle.runs.specs.Readings.{readers_view};
 ghost use Rattle.command.specs.Rounds.{CarriesCheckpoint};
-ghost use Rattle.command.specs.internal.Running.{CanBeSaved, StandsBehind};
+ghost use Rattle.command.specs.internal.Running.{CanBeSaved, HasHistory, dropped_in, left_layout};
 ghost use Rattle.command.specs.internal.Saving.{ClosesCheckpoint, CreatesCheckpoint, DiscardsIt, IsNotCreated, KeepsNext, SavesAndCloses};
 
 use crate::fault::CommandFault;
@@ -17,7 +16,6 @@ use lrup_model::Formula;
 use lrup_text::WriteFault;
 use portfolio::Verdict;
 use std::alloc::Global;
-use stream_check::Report;
 
 /// Creates the checkpoint's file, if there is to be one.
 pub(crate) fn create_checkpoint<F: Machine>(
@@ -80,11 +78,9 @@ pub(crate) fn close_checkpoint<F: Machine>(
     requires ready { CanBeSaved left }
     requires running { ForSome output (λ sink. F.Output.Sink.has_failed sink ≡ false) }
     ensures { let its = deeds F.Files F.Machine.own F.Input.Source F.Output.Sink in
-        (serial : Bool) (f : Cnf) (run_params : RunParamsValue) (readers : List F.Input)
-        (reports : List Report)
-        → StandsBehind (readers_view F.Input.Source) serial f run_params readers reports left
-        → ClosesCheckpoint its (SavesCheckpoint its serial f run_params readers reports) verdict
-        files.old output result files.new }
+        (f : Cnf) (h : History) → HasHistory f h left
+        → ClosesCheckpoint its (SavesCheckpoint its f (left_layout left) h (dropped_in left))
+        verdict files.old output result files.new }
 {
     let Some(output) = output else {
         return None;
@@ -110,12 +106,9 @@ fn save_and_close<F: Machine>(
     requires ready { CanBeSaved left }
     requires running { F.Output.Sink.has_failed output ≡ false }
     ensures { let its = deeds F.Files F.Machine.own F.Input.Source F.Output.Sink in
-        (serial : Bool) (f : Cnf) (run_params : RunParamsValue) (readers : List F.Input)
-        (reports : List Report)
-        → StandsBehind (readers_view F.Input.Source) serial f run_params readers reports left
-        → SavesAndCloses its (SavesCheckpoint its serial f run_params readers reports)
-        files.old output
-        result files.new }
+        (f : Cnf) (h : History) → HasHistory f h left
+        → SavesAndCloses its (SavesCheckpoint its f (left_layout left) h (dropped_in left))
+        files.old output result files.new }
 {
     match save_left(alloc, left, &mut output) {
         Ok(()) => match files.keep(output) {
@@ -148,17 +141,14 @@ pub(crate) fn close_round<F: Machine>(
     requires ready { CanBeSaved left }
     requires running { F.Output.Sink.has_failed output ≡ false }
     ensures closes { let its = deeds F.Files F.Machine.own F.Input.Source F.Output.Sink in
-        (serial : Bool) (f : Cnf) (run_params : RunParamsValue) (readers : List F.Input)
-        (reports : List Report)
-        → StandsBehind (readers_view F.Input.Source) serial f run_params readers reports left
-        → ClosesCheckpoint its (CarriesCheckpoint its serial f run_params readers reports) verdict
-        files.old (Some output) result.unsaved files.new }
+        (f : Cnf) (h : History) → HasHistory f h left
+        → ClosesCheckpoint its (CarriesCheckpoint its f (left_layout left) h (dropped_in left))
+        verdict files.old (Some output) result.unsaved files.new }
     ensures next { let its = deeds F.Files F.Machine.own F.Input.Source F.Output.Sink in
-        (serial : Bool) (f : Cnf) (run_params : RunParamsValue) (readers : List F.Input)
-        (reports : List Report)
-        → StandsBehind (readers_view F.Input.Source) serial f run_params readers reports left
+        (f : Cnf) (h : History) → HasHistory f h left
         → ForSome result.next (KeepsNext its
-        (CarriesCheckpoint its serial f run_params readers reports) files.old output files.new) }
+        (CarriesCheckpoint its f (left_layout left) h (dropped_in left))
+        files.old output files.new) }
     ensures none { result.next ≡ None → (verdict ≡ Verdict.Unsatisfiable)
         ⊎ ((fault : SaveFault) × (result.unsaved ≡ Some fault)) }
 {
@@ -186,17 +176,14 @@ fn carry_and_close<F: Machine>(
     requires ready { CanBeSaved left }
     requires running { F.Output.Sink.has_failed output ≡ false }
     ensures closes { let its = deeds F.Files F.Machine.own F.Input.Source F.Output.Sink in
-        (serial : Bool) (f : Cnf) (run_params : RunParamsValue) (readers : List F.Input)
-        (reports : List Report)
-        → StandsBehind (readers_view F.Input.Source) serial f run_params readers reports left
-        → SavesAndCloses its (CarriesCheckpoint its serial f run_params readers reports) files.old
-        output result.unsaved files.new }
+        (f : Cnf) (h : History) → HasHistory f h left
+        → SavesAndCloses its (CarriesCheckpoint its f (left_layout left) h (dropped_in left))
+        files.old output result.unsaved files.new }
     ensures next { let its = deeds F.Files F.Machine.own F.Input.Source F.Output.Sink in
-        (serial : Bool) (f : Cnf) (run_params : RunParamsValue) (readers : List F.Input)
-        (reports : List Report)
-        → StandsBehind (readers_view F.Input.Source) serial f run_params readers reports left
+        (f : Cnf) (h : History) → HasHistory f h left
         → ForSome result.next (KeepsNext its
-        (CarriesCheckpoint its serial f run_params readers reports) files.old output files.new) }
+        (CarriesCheckpoint its f (left_layout left) h (dropped_in left))
+        files.old output files.new) }
     ensures none { result.next ≡ None
         → (fault : SaveFault) × (result.unsaved ≡ Some fault) }
 {

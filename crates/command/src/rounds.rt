@@ -10,11 +10,11 @@ ghost use Rattle.command_line.specs.CommandLine.{IsCommandLineOf};
 ghost use Rattle.command.specs.Commands.{AreAssumed, AreOpened, IsCause, IsOpenCause, Text, WasRead, WasReadIn, assumed_at, deeds, files_view, from_first};
 ghost use Rattle.command.specs.Commands.{rounds_at};
 ghost use Rattle.command.specs.Paths.{formula_path, stream_path, stream_paths};
-ghost use Rattle.command.specs.Rounds.{CarriesOn, HaveEnded, IsBarred, IsRoundStartCause, IsStreamCause, StreamsOpened, WasChecked};
+ghost use Rattle.command.specs.Rounds.{HaveEnded, IsRoundStartCause, IsStreamCause, StreamsOpened};
 ghost use Rattle.command_line.specs.declared.sizes.Sizes.{Sizes};
 ghost use Rattle.clap.specs.Walk.{texts};
 ghost use Rattle.command.specs.internal.RoundProgress.{EndsAt, FailsAt, IsAlone, IsReported, IsRoundsFault, IsUnchecked, RoundsStand};
-ghost use Rattle.command.specs.internal.RoundProgress.{plan_of, round_of};
+ghost use Rattle.command.specs.internal.RoundProgress.{WasFound, plan_of};
 ghost use Rattle.stream_check.specs.StreamParams.{max_tries};
 
 use crate::arguments::words_of;
@@ -58,17 +58,9 @@ fn check_round<T: Threads + Wait + Sync, C: Clock + Sync, F: Machine>(
         round.readers.items }
     requires count { length round.readers.items ≡ round.sizes.streams }
     requires number { round.number < u64.MAX }
-    ensures checked { IfOk result (λ found. WasChecked
-        (deeds F.Files F.Machine.own F.Input.Source F.Output.Sink) (plan_of course.now)
-        (round_of round.formula round.readers.items files.old found.last files.new)) }
-    ensures next { IfOk result (λ found. ForSome found.next
-        (CarriesOn (deeds F.Files F.Machine.own F.Input.Source F.Output.Sink) (plan_of course.now)
-        round.number
-        (round_of round.formula round.readers.items files.old found.last files.new))) }
-    ensures over { IfOk result (λ found. found.next ≡ None
-        → IsBarred (deeds F.Files F.Machine.own F.Input.Source F.Output.Sink) (plan_of course.now)
-        round.number
-        (round_of round.formula round.readers.items files.old found.last files.new)) }
+    ensures found { let its = deeds F.Files F.Machine.own F.Input.Source F.Output.Sink in
+        IfOk result (λ found. WasFound its (plan_of course.now) round.formula round.readers.items
+        files.old found.last found.next files.new) }
     ensures number { IfOk result (λ found. found.last.number ≡ round.number) }
     ensures sizes { IfOk result (λ found. found.last.sizes ≡ round.sizes) }
     ensures cause { IfErr result (λ fault. IsRoundStartCause

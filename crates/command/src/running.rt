@@ -7,7 +7,6 @@ ghost use Rattle.lrup_model.specs.Formula.{Cnf};
 ghost use Rattle.lrup_model.specs.State.{state};
 ghost use Rattle.checkpoint.specs.Checkpoints.{IsCheckpoint, IsCheckpointOf};
 ghost use Rattle.portfolio.specs.Saving.{CarriesState, SavesState, is_wanted};
-ghost use Rattle.command.specs.Commands.{AreChecked};
 ghost use Rattle.command.specs.internal.Running.{run_params_on, HasHistory, CanBeSaved, IsRunCause, StandsBehind, dropped_in, left_layout};
 ghost use Rattle.runs.specs.Readings.{readers_view};
 
@@ -79,12 +78,9 @@ pub(crate) fn run_streams<T: Threads + Wait + Sync, C: Clock + Sync, F: Machine>
     readers: Vec<F::Input>,
 ) -> Result<EndedRun, CommandFault>
     requires running { AllByRecursion (λ r. F.Input.Source.has_failed r ≡ false) readers.items }
-    ensures checked { let run_params = run_params_on setup.now (length readers.items) in
-        IfOk result (λ run. AreChecked (readers_view F.Input.Source) setup.now.serial
-        setup.now.formula.now run_params readers.items run.reports.items run.verdict) }
     ensures stands { let run_params = run_params_on setup.now (length readers.items) in
         IfOk result (λ run. StandsBehind (readers_view F.Input.Source) setup.now.serial
-        setup.now.formula.now run_params readers.items run.reports.items run.left) }
+        setup.now.formula.now run_params readers.items run.reports.items run.verdict run.left) }
     ensures ready { IfOk result (λ run. CanBeSaved run.left) }
     ensures cause { let run_params = run_params_on setup.now (length readers.items) in
         IfErr result (IsRunCause setup.now.serial run_params.layout) }
@@ -106,12 +102,9 @@ fn run_by_turns<W: Wait, C: Clock + Sync, F: Machine>(
     readers: Vec<F::Input>,
 ) -> Result<EndedRun, CommandFault>
     requires running { AllByRecursion (λ r. F.Input.Source.has_failed r ≡ false) readers.items }
-    ensures checked { let run_params = run_params_on setup.now (length readers.items) in
-        IfOk result (λ run. AreChecked (readers_view F.Input.Source) true setup.now.formula.now
-        run_params readers.items run.reports.items run.verdict) }
     ensures stands { let run_params = run_params_on setup.now (length readers.items) in
         IfOk result (λ run. StandsBehind (readers_view F.Input.Source) true setup.now.formula.now
-        run_params readers.items run.reports.items run.left) }
+        run_params readers.items run.reports.items run.verdict run.left) }
     ensures ready { IfOk result (λ run. CanBeSaved run.left) }
     ensures cause { let run_params = run_params_on setup.now (length readers.items) in
         IfErr result (IsRunCause true run_params.layout) }
@@ -150,12 +143,9 @@ fn run_in_threads<T: Threads + Wait + Sync, C: Clock + Sync, F: Machine>(
     readers: Vec<F::Input>,
 ) -> Result<EndedRun, CommandFault>
     requires running { AllByRecursion (λ r. F.Input.Source.has_failed r ≡ false) readers.items }
-    ensures checked { let run_params = run_params_on setup.now (length readers.items) in
-        IfOk result (λ run. AreChecked (readers_view F.Input.Source) false setup.now.formula.now
-        run_params readers.items run.reports.items run.verdict) }
     ensures stands { let run_params = run_params_on setup.now (length readers.items) in
         IfOk result (λ run. StandsBehind (readers_view F.Input.Source) false setup.now.formula.now
-        run_params readers.items run.reports.items run.left) }
+        run_params readers.items run.reports.items run.verdict run.left) }
     ensures ready { IfOk result (λ run. CanBeSaved run.left) }
     ensures cause { let run_params = run_params_on setup.now (length readers.items) in
         IfErr result (IsRunCause false run_params.layout) }

@@ -1,32 +1,33 @@
 -- Runs of the program one after the other.
 use Rattle.std.proofs.Common.{◌≡◌, ℕ, Bool, true, false, List, [], ◌∷◌, Option, None, Some, Result, Ok, Err, refl, subst}
 use Rattle.lrup_model.specs.Cube.{CubeValue, IsUnsatisfiableUnder}
+use Rattle.lrup_model.specs.Event.{History}
 use Rattle.lrup_model.specs.Formula.{Cnf}
+use Rattle.lrup_model.specs.Layout.{LayoutValue}
 use Rattle.dimacs.specs.FormulaText.{IsFormulaText}
 use Rattle.portfolio.specs.declared.outcome.Verdict.{Verdict}
 use Rattle.portfolio.specs.declared.outcome.Verdict.TheVariants.{Unsatisfiable, UnsatisfiableUnder, Unknown}
 use Rattle.checkpoint.specs.Checkpoints.{AreCheckpoints, FilesRefute, FilesRefuteUnder, IsCheckpoint, IsUnsatisfiableText}
 use Rattle.checkpoint.specs.Checkpoints.{IsUnsatisfiableTextUnder, last_file}
 use Rattle.checkpoint.specs.declared.saving.SaveFault.{SaveFault}
-use Rattle.runs.specs.Streams.{RunParamsValue}
-use Rattle.stream_check.specs.declared.report.Report.{Report}
-use Rattle.command.specs.Commands.{Deeds, FilesView, LeavesBehind, SavesCheckpoint, Text, checkpoint_at, report_status, run_params_given}
+use Rattle.stream_check.specs.DroppedValue.{DroppedValue}
+use Rattle.command.specs.Commands.{Deeds, FilesView, LeavesBehind, SavesCheckpoint, Text, checkpoint_at, layout_at, report_status}
 use Rattle.outcome_laws.specs.Refuting.{AreRuns, IsRunOn, OutcomesRefute, OutcomesRefuteUnder, saved_bytes, written_bytes}
 use Rattle.outcome_laws.proofs.StatusLemmas.{refuted}
 
 -- what was saved is a checkpoint
-module _ (its : Deeds) (serial : Bool) (f : Cnf) (run_params : RunParamsValue) (readers : List its.Reader) (reports : List Report) where
+module _ (its : Deeds) (f : Cnf) (layout : LayoutValue) (history : History) (dropped : List DroppedValue) where
   is_written : (result : Result (Unit {0}) SaveFault) (first last : its.Output)
-      (saves : SavesCheckpoint its serial f run_params readers reports result first last) (saved : List ℕ)
-      → written_bytes its serial f run_params readers reports result first last saves ≡ Some saved → IsCheckpoint f saved
+      (saves : SavesCheckpoint its f layout history dropped result first last) (saved : List ℕ)
+      → written_bytes result first last saves ≡ Some saved → IsCheckpoint f saved
   is_written (Ok done) first last saves saved is =
       let same : saves.checkpoint.0 ≡ saved = cc in subst (IsCheckpoint f) same saves.checkpoint.2
   is_written (Err fault) first last saves saved is = absurd (let no : None ≡ Some saved = is in cc)
 
   is_saved : (verdict : Verdict) (before : its.State) (path : Option Text) (unsaved : Option SaveFault) (after : its.State)
-      (leaves : LeavesBehind its (SavesCheckpoint its serial f run_params readers reports) verdict before path unsaved after)
+      (leaves : LeavesBehind its (SavesCheckpoint its f layout history dropped) verdict before path unsaved after)
       (saved : List ℕ)
-      → saved_bytes its serial f run_params readers reports verdict before path unsaved after leaves ≡ Some saved → IsCheckpoint f saved
+      → saved_bytes its f layout history dropped verdict before path unsaved after leaves ≡ Some saved → IsCheckpoint f saved
   is_saved verdict before None unsaved after leaves saved is = absurd (let no : None ≡ Some saved = is in cc)
   is_saved Unsatisfiable before (Some path) unsaved after leaves saved is = absurd (let no : None ≡ Some saved = is in cc)
   is_saved UnsatisfiableUnder before (Some path) (Some fault) after leaves saved is = absurd (let no : None ≡ Some saved = is in cc)
@@ -52,8 +53,7 @@ module _ {F : Type 0} (view : F → FilesView) (IsLast : F → List ℕ → Type
         (
           o.formula,
           is_read files bytes runs.0.1 run,
-          is_saved files.its o.given.serial o.formula (run_params_given o.given o.cube o.formula) o.readers run.ends.reports
-              run.ends.verdict
+          is_saved files.its o.formula (layout_at o.given o.formula) o.checked.ran.run.history o.checked.dropped run.ends.verdict
               o.last (checkpoint_at o.given) run.ends.unsaved run.after run.ends.checkpoint next runs.0.3,
         ),
         are_checkpoints next more runs.1,

@@ -3,6 +3,7 @@ use Rattle.std.proofs.Common.{◌≡◌, ◌⊎◌, ◌<◌, ◌≤◌, ◌-◌,
 use Rattle.std.proofs.Common.{refl, sym, ap, subst, drop, ◌∙◌, arith}
 use Rattle.std.proofs.lemmas.Bool.{cases_lt}
 use Rattle.std.proofs.lemmas.List.{length-map}
+use Rattle.lrup_model.specs.Cube.{CubeValue}
 use Rattle.lrup_model.specs.Formula.{Cnf, IsCnf}
 use Rattle.lrup_model.specs.Layout.{LayoutValue}
 use Rattle.dimacs.specs.FormulaText.{IsFormulaText}
@@ -24,7 +25,7 @@ use Rattle.command.specs.Commands.{SinkChange, Text, options_of, report_status}
 use Rattle.command.specs.Faults.{status_of}
 use Rattle.command.specs.Paths.{formula_path, sizes_path, stream_path, stream_paths}
 use Rattle.command.specs.Rounds.{AreSized, CarriesOn, FailsInRound, HaveEnded, IsFirstCause, IsRoundCause, IsSizesCause, ProgramEnds}
-use Rattle.command.specs.Rounds.{ReportsRounds, Round, Plan, WasChecked, WereRounds, plan_at, sizes_of, run_params_by}
+use Rattle.command.specs.Rounds.{ReportsRounds, Round, Plan, WereRounds, plan_at, sizes_of, run_params_by}
 use Rattle.command.specs.declared.fault.CommandFault.{CommandFault}
 use Rattle.command.specs.declared.fault.CommandFault.TheVariants as faults
 use Rattle.outcome_laws.specs.Laws.{SameWordsAskAlike}
@@ -107,42 +108,40 @@ sizes_alike given other options streams =
     ∙ ap (λ (x : List Text). record { streams = length x; lines = other.lines; room = other.room }) streams
 
 -- What is known of a round whose streams were checked: its formula is one, and this was asked of its streams.
-pub record IsAsked (Before Last : RoundAsk) (last : ℕ) (its : Deeds) (plan : Plan) (number : ℕ)
-    (round : Round its.State its.Reader) : Type 0 where
+pub record IsAsked (Before Last : RoundAsk) (last : ℕ) {its : Deeds} {plan : Plan} (number : ℕ)
+    (round : Round its plan) : Type 0 where
   pub cnf : IsCnf round.formula
   pub tells : Text → Option (List ℕ)
   pub paths : List Text
   pub left : map its.reading.left round.readers ≡ map tells paths
-  pub checked : WasChecked its plan round
   pub asked : IsAskedOf Before Last last number round.formula round.sizes tells paths
 
-abbrev check_in : (Before Last : RoundAsk) (last : ℕ) (its : Deeds) (plan : Plan) (number : ℕ) (round : Round its.State its.Reader)
-    → IsAsked Before Last last its plan number round → Check its.reading
-check_in Before Last last its plan number round is = record {
+abbrev check_in : (Before Last : RoundAsk) (last : ℕ) {its : Deeds} {plan : Plan} (number : ℕ) (round : Round its plan)
+    → IsAsked Before Last last number round → Check its.reading
+check_in Before Last last {its} {plan} number round is = record {
   serial = plan.serial;
   formula = round.formula;
   run_params = run_params_by plan round.formula round.sizes;
   fits = record { vars = refl; clauses = refl; literals = refl };
   tells = is.tells;
   paths = is.paths;
-  count = sym (length-map is.paths is.tells) ∙ sym (ap length is.left) ∙ length-map round.readers its.reading.left ∙ is.checked.0;
+  count = sym (length-map is.paths is.tells) ∙ sym (ap length is.left) ∙ length-map round.readers its.reading.left ∙ round.count;
   readers = round.readers;
   left = is.left;
   reports = round.reports;
   verdict = round.verdict;
-  checked = is.checked.1;
+  checked = round.checked;
 }
 
 -- the rounds before one that follows another
-abbrev before_them : (files : FilesView) (given : CommandLine) (folder : Text) (round b : Round files.its.State files.its.Reader)
-    (more : List (Round files.its.State files.its.Reader)) → WereRounds files given folder round (b ∷ more) → WereRounds files given folder
-    b more
-before_them files given folder round b more were = record {
+abbrev before_them : (files : FilesView) (given : CommandLine) (folder : Text) (cube : CubeValue)
+    (round b : Round files.its (plan_at given cube folder)) (more : List (Round files.its (plan_at given cube folder)))
+    → WereRounds files given folder cube round (b ∷ more) → WereRounds files given folder cube b more
+before_them files given folder cube round b more were = record {
   alone = were.alone;
   formula = were.formula;
   next = were.next;
   is_formula = were.is_formula;
-  cube = were.cube;
   later = were.later;
   assumed = were.assumed;
   told = were.told;
@@ -165,10 +164,11 @@ module _ (Mode : Bool → Type 0) (Before Last : RoundAsk) (Early Late : Loss) (
 
   -- a round that was reached was asked for
   is_asked : (given : CommandLine) → IsCommandLineOf words given
-      → (round : Round files.its.State files.its.Reader) (before : List (Round files.its.State files.its.Reader))
-      → (were : WereRounds files given folder round before) → length (round ∷ before) ≤ last
-      → IsAsked Before Last last files.its (plan_at given were.cube folder) (length (round ∷ before)) round
-  is_asked given line round [] were few =
+      → (cube : CubeValue) (round : Round files.its (plan_at given cube folder))
+      (before : List (Round files.its (plan_at given cube folder)))
+      → (were : WereRounds files given folder cube round before) → length (round ∷ before) ≤ last
+      → IsAsked Before Last last (length (round ∷ before)) round
+  is_asked given line cube round [] were few =
       let first = were.rounds in
       let asks = ask.asks in
       let same = alike words asks.given given asks.command_line line in
@@ -182,18 +182,17 @@ module _ (Mode : Bool → Type 0) (Before Last : RoundAsk) (Early Late : Loss) (
         tells = files.tells;
         paths = given.streams;
         left = first.opened.left ∙ ap (λ (t : Text → Option (List ℕ)). map t given.streams) were.told;
-        checked = first.checked;
         asked = subst (λ (n : ℕ). IsAskedOf Before Last last n round.formula round.sizes files.tells given.streams) one
             (subst (λ (p : List Text). IsAskedOf Before Last last 1 round.formula round.sizes files.tells p) (sym same.1)
             (subst (λ (z : Sizes). IsAskedOf Before Last last 1 round.formula z files.tells asks.given.streams) (sym sizes)
             (subst (λ (f : Cnf). IsAskedOf Before Last last 1 f (sizes_of asks.given) files.tells asks.given.streams) (sym formulas)
             ask.first)));
       }
-  is_asked given line round (b ∷ more) were few =
+  is_asked given line cube round (b ∷ more) were few =
       let comes = were.rounds.0 in
-      let earlier = before_them files given folder round b more were in
+      let earlier = before_them files given folder cube round b more were in
       let below : length (b ∷ more) < last = omega (arith, few) in
-      let provided = ask.later given b more round.formula line earlier below comes.goes_on in
+      let provided = ask.later given cube b more round.formula line earlier below comes.goes_on in
       let ready = provided.ready round.sizes comes.sized comes.sizes in
       let number : length (b ∷ more) + 1 ≡ length (round ∷ b ∷ more) = omega arith in
       record {
@@ -201,17 +200,16 @@ module _ (Mode : Bool → Type 0) (Before Last : RoundAsk) (Early Late : Loss) (
         tells = files.its.tells comes.sized;
         paths = stream_paths folder (length (b ∷ more) + 1) round.sizes.streams;
         left = comes.opened.left;
-        checked = comes.checked;
         asked = subst (λ (n : ℕ). IsAskedOf Before Last last n round.formula round.sizes (files.its.tells comes.sized)
             (stream_paths folder (length (b ∷ more) + 1) round.sizes.streams)) number ready.streams;
       }
 
   -- in the round with this number some stream was stopped
-  abbrev Lost : ℕ → Round files.its.State files.its.Reader → Type 0
+  abbrev Lost : {plan : Plan} → ℕ → Round files.its plan → Type 0
   Lost number round = HasStopped Early Late last number round
 
   -- who was stopped hasn't ended
-  unended : (number : ℕ) (round : Round files.its.State files.its.Reader) → Lost number round → ¬ HaveEnded round.reports
+  unended : {plan : Plan} (number : ℕ) (round : Round files.its plan) → Lost number round → ¬ HaveEnded round.reports
   unended number round (s, report, says, inl early) ended =
       early_open (layout_in round.formula round.sizes) s report early.1 (ended_at round.reports (s - 1) report says.1 ended)
   unended number round (s, report, says, inr late) ended =
@@ -219,16 +217,15 @@ module _ (Mode : Bool → Type 0) (Before Last : RoundAsk) (Early Late : Loss) (
 
   -- what became of it
   fate : (given : CommandLine) → IsCommandLineOf words given
-      → (round : Round files.its.State files.its.Reader) (before : List (Round files.its.State files.its.Reader))
-      → WereRounds files given folder round before → length (round ∷ before) ≤ last
+      → (cube : CubeValue) (round : Round files.its (plan_at given cube folder))
+      (before : List (Round files.its (plan_at given cube folder)))
+      → WereRounds files given folder cube round before → length (round ∷ before) ≤ last
       → (HaveEnded round.reports × (length (round ∷ before) < last))
       ⊎ ((round.verdict ≡ Unsatisfiable) ⊎ Lost (length (round ∷ before)) round)
-  fate given line round before were few =
-      let its = files.its in
-      let plan = plan_at given were.cube folder in
+  fate given line cube round before were few =
       let number = length (round ∷ before) in
-      let is = is_asked given line round before were few in
-      let check = check_in Before Last last its plan number round is in
+      let is = is_asked given line cube round before were few in
+      let check = check_in Before Last last number round is in
       elim (cases_lt number last) [
         | inl below ↦ elim (ends_so files.its.Reader files.its.reading check (mode given line) is.cnf (is.asked.earlier below)) [
           | inl ended ↦ inl (ended, below)
@@ -244,11 +241,12 @@ module _ (Mode : Bool → Type 0) (Before Last : RoundAsk) (Early Late : Loss) (
 
   -- one that goes on isn't the last
   goes_below : (given : CommandLine) → IsCommandLineOf words given
-      → (round : Round files.its.State files.its.Reader) (before : List (Round files.its.State files.its.Reader))
-      → (were : WereRounds files given folder round before) → length (round ∷ before) ≤ last → (next : Cnf)
-      → CarriesOn files.its (plan_at given were.cube folder) (length (round ∷ before)) round next
+      → (cube : CubeValue) (round : Round files.its (plan_at given cube folder))
+      (before : List (Round files.its (plan_at given cube folder)))
+      → (were : WereRounds files given folder cube round before) → length (round ∷ before) ≤ last → (next : Cnf)
+      → CarriesOn (length (round ∷ before)) round next
       → length (round ∷ before) < last
-  goes_below given line round before were few next goes = elim (fate given line round before were few) [
+  goes_below given line cube round before were few next goes = elim (fate given line cube round before were few) [
     | inl (ended, below) ↦ below
     | inr (inl refuted) ↦ absurd (let no : Unsatisfiable ≡ Unknown = sym refuted ∙ goes.verdict in cc)
     | inr (inr lost) ↦ absurd (unended (length (round ∷ before)) round lost goes.ended)
@@ -256,52 +254,55 @@ module _ (Mode : Bool → Type 0) (Before Last : RoundAsk) (Early Late : Loss) (
 
   -- there are no more
   few_rounds : (given : CommandLine) → IsCommandLineOf words given
-      → (round : Round files.its.State files.its.Reader) (before : List (Round files.its.State files.its.Reader))
-      → WereRounds files given folder round before → length (round ∷ before) ≤ last
-  few_rounds given line round [] were = omega (arith, ask.some)
-  few_rounds given line round (b ∷ more) were =
-      let earlier = before_them files given folder round b more were in
+      → (cube : CubeValue) (round : Round files.its (plan_at given cube folder))
+      (before : List (Round files.its (plan_at given cube folder)))
+      → WereRounds files given folder cube round before → length (round ∷ before) ≤ last
+  few_rounds given line cube round [] were = omega (arith, ask.some)
+  few_rounds given line cube round (b ∷ more) were =
+      let earlier = before_them files given folder cube round b more were in
       let below =
-      goes_below given line b more earlier (few_rounds given line b more earlier) round.formula were.rounds.0.goes_on in
+      goes_below given line cube b more earlier (few_rounds given line cube b more earlier) round.formula were.rounds.0.goes_on in
       omega (arith, below)
 
   -- a round that is asked for is provided for
   provided_for : (given : CommandLine) → IsCommandLineOf words given
-      → (round : Round files.its.State files.its.Reader) (before : List (Round files.its.State files.its.Reader))
-      → (were : WereRounds files given folder round before) → (next : Cnf)
-      → CarriesOn files.its (plan_at given were.cube folder) (length (round ∷ before)) round next
+      → (cube : CubeValue) (round : Round files.its (plan_at given cube folder))
+      (before : List (Round files.its (plan_at given cube folder)))
+      → (were : WereRounds files given folder cube round before) → (next : Cnf)
+      → CarriesOn (length (round ∷ before)) round next
       → IsProvided Before Last last files.its folder (length (round ∷ before) + 1) round.sizes next round.after
-  provided_for given line round before were next goes =
-      let few = few_rounds given line round before were in
-      ask.later given round before next line were (goes_below given line round before were few next goes) goes
+  provided_for given line cube round before were next goes =
+      let few = few_rounds given line cube round before were in
+      ask.later given cube round before next line were (goes_below given line cube round before were few next goes) goes
 
   -- without assumed literals nothing is said of them
   under_some : (given : CommandLine) → IsCommandLineOf words given
-      → (round : Round files.its.State files.its.Reader) (before : List (Round files.its.State files.its.Reader))
-      → (were : WereRounds files given folder round before) → (path : Option Text) → assumed_at given ≡ path
-      → AreAssumed (WasReadIn files) were.formula.vars were.next path were.cube were.later
+      → (cube : CubeValue) (round : Round files.its (plan_at given cube folder))
+      (before : List (Round files.its (plan_at given cube folder)))
+      → (were : WereRounds files given folder cube round before) → (path : Option Text) → assumed_at given ≡ path
+      → AreAssumed (WasReadIn files) were.formula.vars were.next path cube were.later
       → round.verdict ≡ UnsatisfiableUnder → (asked : Text) × (assumed_at given ≡ Some asked)
-  under_some given line round before were (Some path) is assumed under = (path, is)
-  under_some given line round before were None is assumed under =
-      let plan = plan_at given were.cube folder in
+  under_some given line cube round before were (Some path) is assumed under = (path, is)
+  under_some given line cube round before were None is assumed under =
       let number = length (round ∷ before) in
-      let asked = is_asked given line round before were (few_rounds given line round before were) in
-      absurd (never_under files.its.reading (check_in Before Last last files.its plan number round asked) bare assumed.0 under)
+      let asked = is_asked given line cube round before were (few_rounds given line cube round before were) in
+      absurd (never_under files.its.reading (check_in Before Last last number round asked) bare assumed.0 under)
 
   asked_under : (given : CommandLine) → IsCommandLineOf words given
-      → (round : Round files.its.State files.its.Reader) (before : List (Round files.its.State files.its.Reader))
-      → WereRounds files given folder round before → round.verdict ≡ UnsatisfiableUnder
+      → (cube : CubeValue) (round : Round files.its (plan_at given cube folder))
+      (before : List (Round files.its (plan_at given cube folder)))
+      → WereRounds files given folder cube round before → round.verdict ≡ UnsatisfiableUnder
       → (asked : Text) × (assumed_at given ≡ Some asked)
-  asked_under given line round before were under =
-      under_some given line round before were (assumed_at given) refl were.assumed under
+  asked_under given line cube round before were under =
+      under_some given line cube round before were (assumed_at given) refl were.assumed under
 
   -- The rounds are over without an answer: a stream was stopped.
   lost_in : (given : CommandLine) → IsCommandLineOf words given → (after : files.its.State) (out err : SinkChange) (status : ℕ)
       → (ends : ReportsRounds files given folder after out err status) → ends.last.verdict ≡ Unknown → ends.last.unsaved ≡ None
       → Lost (length (ends.last ∷ ends.before)) ends.last
   lost_in given line after out err status ends unknown saved =
-      let few = few_rounds given line ends.last ends.before ends.were in
-      elim (fate given line ends.last ends.before ends.were few) [
+      let few = few_rounds given line ends.cube ends.last ends.before ends.were in
+      elim (fate given line ends.cube ends.last ends.before ends.were few) [
         | inr (inr lost) ↦ lost
         | inr (inl refuted) ↦ absurd (let no : Unsatisfiable ≡ Unknown = sym refuted ∙ unknown in cc)
         | inl (ended, below) ↦ absurd (elim ends.over [
@@ -311,7 +312,7 @@ module _ (Mode : Bool → Type 0) (Before Last : RoundAsk) (Early Late : Loss) (
             | inr (inr not_ended) ↦ not_ended ended
           ]
           | inr (inl (next, goes, (sizes, sized, are, lacks))) ↦
-              ((provided_for given line ends.last ends.before ends.were next goes).ready sizes sized are).there after lacks
+              ((provided_for given line ends.cube ends.last ends.before ends.were next goes).ready sizes sized are).there after lacks
           | inr (inr (goes, high, same)) ↦ omega (arith, high, below, ask.few)
         ])
       ]
@@ -327,7 +328,7 @@ module _ (Mode : Bool → Type 0) (Before Last : RoundAsk) (Early Late : Loss) (
     told_of_streams : (given : CommandLine) → IsCommandLineOf words given → (ends : ReportsRounds files given folder after out err status)
         → (ends.last.verdict ≡ Unsatisfiable) ⊎ EndedOrStopped Early Late last (length (ends.last ∷ ends.before)) ends.last
     told_of_streams given line ends =
-        elim (fate given line ends.last ends.before ends.were (few_rounds given line ends.last ends.before ends.were)) [
+        elim (fate given line ends.cube ends.last ends.before ends.were (few_rounds given line ends.cube ends.last ends.before ends.were)) [
           | inl (ended, below) ↦ inr (inl ended)
           | inr (inl refuted) ↦ inl refuted
           | inr (inr lost) ↦ inr (inr lost)
@@ -341,7 +342,7 @@ module _ (Mode : Bool → Type 0) (Before Last : RoundAsk) (Early Late : Loss) (
     short_so given line ends (Some fault) u verdict v = inr (not_kept fault u (told_of_streams given line ends) refl)
     short_so given line ends None u Unsatisfiable v = inl (v, refl)
     short_so given line ends None u UnsatisfiableUnder v =
-        let asked = asked_under given line ends.last ends.before ends.were v in
+        let asked = asked_under given line ends.cube ends.last ends.before ends.were v in
         elim (told_of_streams given line ends) [
           | inl refuted ↦ absurd (let no : UnsatisfiableUnder ≡ Unsatisfiable = sym v ∙ refuted in cc)
           | inr streams ↦ inr (under_cube asked.0 asked.1 v streams refl)
@@ -365,8 +366,8 @@ module _ (Mode : Bool → Type 0) (Before Last : RoundAsk) (Early Late : Loss) (
     failed_so : (given : CommandLine) → IsCommandLineOf words given → FailsInRound files given folder after out err status → Goal
     failed_so given line ends =
         let cause = ends.cause in
-        let provided = provided_for given line ends.last ends.before ends.were cause.0 cause.1 in
-        let machine = of_round files.its (plan_at given ends.were.cube folder) (length (ends.last ∷ ends.before)) ends.last.sizes
+        let provided = provided_for given line ends.cube ends.last ends.before ends.were cause.0 cause.1 in
+        let machine = of_round files.its (plan_at given ends.cube folder) (length (ends.last ∷ ends.before)) ends.last.sizes
         cause.0 ends.last.after after Before Last last provided ends.fault cause.2 in
         inr (not_gone_on given line ends machine
         (subst (λ (n : ℕ). (n ≡ 5) ⊎ (n ≡ 6)) (sym ends.status_is) (round_status ends.fault machine)))

@@ -1,15 +1,16 @@
 -- Runs of the program one after the other, each on what the one before it saved (this project's own).
-use Rattle.std.specs.Prelude.{◌≡◌, ℕ, Bool, List, [], ◌∷◌, Option, None, Some, Result, Ok, Err}
+use Rattle.std.specs.Prelude.{◌≡◌, ℕ, List, [], ◌∷◌, Option, None, Some, Result, Ok, Err}
 use Rattle.lrup_model.specs.Cube.{CubeValue}
+use Rattle.lrup_model.specs.Event.{History}
 use Rattle.lrup_model.specs.Formula.{Cnf}
+use Rattle.lrup_model.specs.Layout.{LayoutValue}
 use Rattle.portfolio.specs.declared.outcome.Verdict.{Verdict}
 use Rattle.portfolio.specs.declared.outcome.Verdict.TheVariants.{Unsatisfiable}
 use Rattle.checkpoint.specs.Checkpoints.{IsUnsatisfiableText, IsUnsatisfiableTextUnder}
 use Rattle.checkpoint.specs.declared.saving.SaveFault.{SaveFault}
-use Rattle.runs.specs.Streams.{RunParamsValue}
-use Rattle.stream_check.specs.declared.report.Report.{Report}
+use Rattle.stream_check.specs.DroppedValue.{DroppedValue}
 use Rattle.command.specs.Commands.{Deeds, EndsWithReport, FilesView, LeavesBehind, SavesCheckpoint, SinkChange, Text, checkpoint_at}
-use Rattle.command.specs.Commands.{run_params_given}
+use Rattle.command.specs.Commands.{layout_at}
 
 -- A run ended with a report and this status, and these bytes were read of its FORMULA.
 pub record IsRunOn (files : FilesView) (bytes : List ℕ) (status : ℕ) : Type 0 where
@@ -21,46 +22,34 @@ pub record IsRunOn (files : FilesView) (bytes : List ℕ) (status : ℕ) : Type 
   pub read : ends.outcome.is_formula.0 ≡ bytes
 
 -- the bytes that were written to a sink, where that succeeded
-abbrev pub written_bytes : (its : Deeds) (serial : Bool) (formula : Cnf)
-    (run_params : RunParamsValue)
-    (readers : List its.Reader) (reports : List Report) (result : Result (Unit {0}) SaveFault)
-    (first last : its.Output)
-    → SavesCheckpoint its serial formula run_params readers reports result first last
-    → Option (List ℕ)
-written_bytes its serial formula run_params readers reports (Ok _) first last saves =
-    Some saves.checkpoint.0
-written_bytes its serial formula run_params readers reports (Err fault) first last saves = None
+abbrev pub written_bytes : {its : Deeds} {formula : Cnf} {layout : LayoutValue} {history : History}
+    {dropped : List DroppedValue} (result : Result (Unit {0}) SaveFault) (first last : its.Output)
+    → SavesCheckpoint its formula layout history dropped result first last → Option (List ℕ)
+written_bytes (Ok _) first last saves = Some saves.checkpoint.0
+written_bytes (Err fault) first last saves = None
 
 -- the bytes that were saved as a checkpoint, if there is one
-abbrev pub saved_bytes : (its : Deeds) (serial : Bool) (formula : Cnf) (run_params : RunParamsValue)
-    (readers : List its.Reader) (reports : List Report) (verdict : Verdict) (before : its.State)
-    (path : Option Text) (unsaved : Option SaveFault) (after : its.State)
-    → LeavesBehind its (SavesCheckpoint its serial formula run_params readers reports)
-    verdict before
-    path unsaved after → Option (List ℕ)
-saved_bytes its serial formula run_params readers reports verdict before None unsaved after
+abbrev pub saved_bytes : (its : Deeds) (formula : Cnf) (layout : LayoutValue) (history : History)
+    (dropped : List DroppedValue) (verdict : Verdict) (before : its.State) (path : Option Text)
+    (unsaved : Option SaveFault) (after : its.State)
+    → LeavesBehind its (SavesCheckpoint its formula layout history dropped) verdict before path
+    unsaved after → Option (List ℕ)
+saved_bytes its formula layout history dropped verdict before None unsaved after leaves = None
+saved_bytes its formula layout history dropped Unsatisfiable before (Some path) unsaved after
     leaves = None
-saved_bytes its serial formula run_params readers reports Unsatisfiable before (Some path)
-    unsaved after
+saved_bytes its formula layout history dropped verdict before (Some path) (Some fault) after
     leaves = None
-saved_bytes its serial formula run_params readers reports verdict before (Some path)
-    (Some fault) after
-    leaves = None
-saved_bytes its serial formula run_params readers reports verdict before (Some path) None
-    after leaves =
-    written_bytes its serial formula run_params readers reports leaves.result
-    leaves.first leaves.last
-    leaves.saving
+saved_bytes its formula layout history dropped verdict before (Some path) None after leaves =
+    written_bytes leaves.result leaves.first leaves.last leaves.saving
 
 -- the same, of a run
 abbrev pub saved_by : (files : FilesView) (bytes : List ℕ) (status : ℕ)
     → IsRunOn files bytes status → Option (List ℕ)
 saved_by files bytes status run =
     let outcome = run.ends.outcome in
-    saved_bytes files.its outcome.given.serial outcome.formula
-    (run_params_given outcome.given outcome.cube outcome.formula) outcome.readers run.ends.reports
-    run.ends.verdict outcome.last (checkpoint_at outcome.given) run.ends.unsaved run.after
-    run.ends.checkpoint
+    saved_bytes files.its outcome.formula (layout_at outcome.given outcome.formula)
+    outcome.checked.ran.run.history outcome.checked.dropped run.ends.verdict outcome.last
+    (checkpoint_at outcome.given) run.ends.unsaved run.after run.ends.checkpoint
 
 -- Runs over files as they were before each: the first read these bytes, each further one what the one before it saved, and the last
 -- one is as wanted.

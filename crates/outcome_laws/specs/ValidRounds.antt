@@ -1,6 +1,7 @@
 -- What the program says of valid proofs in rounds, and the laws that say so (this project's own).
 use Rattle.std.specs.Prelude.{◌≡◌, ◌⊎◌, ◌++◌, ◌+◌, ◌∷◌, ◌<◌, ◌≤◌, ◌^◌, ℕ, Bool, true, false, IsTrue, List, [], length, map, Option, None, Some}
 use Rattle.std.specs.List.{AllByRecursion, Any, flat_map}
+use Rattle.lrup_model.specs.Cube.{CubeValue}
 use Rattle.lrup_model.specs.Formula.{Cnf}
 use Rattle.lrup_model.specs.Layout.{IsFault, LayoutValue}
 use Rattle.lrup_model.specs.declared.layout.LayoutFault.{LayoutFault}
@@ -22,7 +23,7 @@ use Rattle.command_line.specs.declared.words.CommandLine.{CommandLine}
 use Rattle.command.specs.Commands.{Deeds, EndsWithFault, FilesView, SinkChange, Text, assumed_at, checkpoint_at}
 use Rattle.command.specs.Paths.{sizes_path, stream_path, stream_paths}
 use Rattle.command.specs.Rounds.{AreSized, CarriesOn, FailsInRound, HaveEnded, HoldsNoSizes, ProgramEnds, ReportsRounds, Round, WereRounds}
-use Rattle.command.specs.Rounds.{options_by, plan_at, sizes_of}
+use Rattle.command.specs.Rounds.{Plan, options_by, plan_at, sizes_of}
 use Rattle.command.specs.declared.fault.CommandFault.{CommandFault}
 use Rattle.command.specs.declared.fault.CommandFault.TheVariants as faults
 use Rattle.outcome_laws.specs.Valid.{AskWell, IsOfMachine}
@@ -112,12 +113,11 @@ pub record AskForValidRounds (Before Last : RoundAsk) (files : FilesView) (words
   pub few : last + 2 ≤ 2 ^ 64
   pub first : IsAskedOf Before Last last 1 asks.formula (sizes_of asks.given) files.tells
       asks.given.streams
-  pub later : (given : CommandLine) (round : Round files.its.State files.its.Reader)
-      (before : List (Round files.its.State files.its.Reader)) (next : Cnf)
-      → IsCommandLineOf words given → (were : WereRounds files given folder round before)
-      → length (round ∷ before) < last
-      → CarriesOn files.its (plan_at given were.cube folder) (length (round ∷ before)) round
-      next
+  pub later : (given : CommandLine) (cube : CubeValue)
+      (round : Round files.its (plan_at given cube folder))
+      (before : List (Round files.its (plan_at given cube folder))) (next : Cnf)
+      → IsCommandLineOf words given → WereRounds files given folder cube round before
+      → length (round ∷ before) < last → CarriesOn (length (round ∷ before)) round next
       → IsProvided Before Last last files.its folder (length (round ∷ before) + 1)
       round.sizes next round.after
 
@@ -135,21 +135,22 @@ WasStopped Early Late last number layout s report =
     ((number < last) × Early layout s report) ⊎ ((number ≡ last) × Late layout s report)
 
 -- a stream of the round with this number was stopped, for such a reason
-abbrev pub HasStopped : {F R : Type 0} (Early Late : Loss) (last number : ℕ) → Round F R → Type 0
+abbrev pub HasStopped : {its : Deeds} {plan : Plan} (Early Late : Loss) (last number : ℕ)
+    → Round its plan → Type 0
 HasStopped Early Late last number round =
     (s : ℕ) × (report : Report) × IsOfStream round.reports s report
     × WasStopped Early Late last number (layout_in round.formula round.sizes) s report
 
 -- all streams of the round ended, or one was stopped, for such a reason
-abbrev pub EndedOrStopped : {F R : Type 0} (Early Late : Loss) (last number : ℕ) → Round F R
-    → Type 0
+abbrev pub EndedOrStopped : {its : Deeds} {plan : Plan} (Early Late : Loss) (last number : ℕ)
+    → Round its plan → Type 0
 EndedOrStopped Early Late last number round =
     HaveEnded round.reports ⊎ HasStopped Early Late last number round
 
 -- Why the report of the last round that there was, with this number, doesn't say 'unsatisfiable', or its checkpoint wasn't saved, where
 -- rounds are valid; and the status that it has once it is written. None of these says that a line is wrong.
-pub data FallsShort {F R : Type 0} (given : CommandLine) (Early Late : Loss) (last number : ℕ)
-    (round : Round F R) (status : ℕ) : Type 0 where
+pub data FallsShort {its : Deeds} {plan : Plan} (given : CommandLine) (Early Late : Loss)
+    (last number : ℕ) (round : Round its plan) (status : ℕ) : Type 0 where
   -- the formula of the next round wasn't saved
   not_kept :
       (fault : SaveFault) (why : round.unsaved ≡ Some fault)

@@ -1,10 +1,8 @@
--- What a run promises of its streams, on one thread or with two threads for each, and what of its clauses goes on to a later round
--- (this project's own).
-use Rattle.std.specs.Prelude.{◌≡◌, ℕ, Bool, true, false, List, map, IsSome, Option, Result}
+-- What a run promises of its streams, on one thread or with two threads for each (this project's own).
+use Rattle.std.specs.Prelude.{◌≡◌, ℕ, Bool, true, false, List, map, IsSome}
 use Rattle.std.specs.List.{AllByRecursion}
 use Rattle.lrup_model.specs.Event.{History}
 use Rattle.lrup_model.specs.Formula.{Cnf}
-use Rattle.lrup_model.specs.State.{state}
 use Rattle.lrup_text.specs.ReadOut.{SourceView}
 use Rattle.stream_check.specs.DroppedValue.{DroppedValue}
 use Rattle.stream_check.specs.declared.report.Report.{Report}
@@ -12,9 +10,7 @@ use Rattle.runs.specs.Readings.{AreRead}
 use Rattle.runs.specs.Streams.{Stream, RunParamsValue, events_in, observations}
 use Rattle.runs.specs.Turns.{IsOrderedByTurns}
 use Rattle.run_laws.specs.Groups.{IsRun}
-use Rattle.checkpoint.specs.declared.saving.SaveFault.{SaveFault}
 use Rattle.portfolio.specs.Dropping.{HaveDropped}
-use Rattle.portfolio.specs.Saving.{CarriesState, SavesState, is_wanted}
 
 -- in which way the streams were checked: what more is known of a run's history, its streams and its reports
 abbrev pub Way : Type 1
@@ -54,28 +50,3 @@ abbrev pub IsOfRun : {S : Type 0} → Way → (view : SourceView S) (formula : C
     → (IsRun formula run_params (observations view firsts lasts) reports → Type 0) → Type 0
 IsOfRun Checked view formula run_params firsts lasts reports dropped Holds =
     (ran : IsRunOf Checked view formula run_params firsts lasts reports dropped) × Holds ran.run
-
--- What became of the saving of a run's clauses to a sink that was the first and is the last: those that a history leaves live by
--- which it is a run with these reports, but for those that all streams dropped, and no others, were saved, as the result says.
-pub record SavesRun {S W : Type 0} (view : SourceView S) (written : W → Option (List ℕ))
-    (serial : Bool) (formula : Cnf) (run_params : RunParamsValue) (firsts : List S)
-    (reports : List Report)
-    (result : Result (Unit {0}) SaveFault) (first last : W) : Type 0 where
-  pub lasts : List S
-  pub dropped : List DroppedValue
-  pub ran : IsRunOf (way_of serial) view formula run_params firsts lasts reports dropped
-  pub saves : SavesState written result (state formula ran.run.history) run_params.layout
-      (is_wanted dropped) first last
-
--- What became of the carrying of a run's clauses to a later round, by a sink that was the first and is the last: those that a history
--- leaves live by which it is a run with these reports, but for those that all streams dropped, and no others, were carried, as the
--- result says.
-pub record CarriesRun {S W : Type 0} (view : SourceView S) (written : W → Option (List ℕ))
-    (serial : Bool) (formula : Cnf) (run_params : RunParamsValue) (firsts : List S)
-    (reports : List Report)
-    (result : Result Cnf SaveFault) (first last : W) : Type 0 where
-  pub lasts : List S
-  pub dropped : List DroppedValue
-  pub ran : IsRunOf (way_of serial) view formula run_params firsts lasts reports dropped
-  pub carries : CarriesState written result (state formula ran.run.history) run_params.layout
-      (is_wanted dropped) first last

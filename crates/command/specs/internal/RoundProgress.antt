@@ -8,10 +8,10 @@ use Rattle.lrup_text.specs.Reads.{Gave, GaveAll}
 use Rattle.command_line.specs.Sizes.{HaveNoSizes, IsSizesText}
 use Rattle.command_line.specs.declared.sizes.Sizes.{Sizes}
 use Rattle.command_line.specs.declared.words.CommandLine.{CommandLine}
-use Rattle.command.specs.Commands.{AreAssumed, AreOpened, Deeds, FilesView, HasBrokenOff, IsCause, Text, WasReadIn, assumed_at}
+use Rattle.command.specs.Commands.{AreAssumed, AreChecked, AreOpened, Deeds, FilesView, HasBrokenOff, IsCause, Text, WasReadIn, assumed_at}
 use Rattle.command.specs.Paths.{sizes_path, stream_path}
 use Rattle.command.specs.Rounds.{AreRounds, AreSized, CarriesOn, IsBarred, IsNextCause, IsRoundCause, IsRoundStartCause, Plan, Round}
-use Rattle.command.specs.Rounds.{RoundsEnd, WereRounds, plan_at}
+use Rattle.command.specs.Rounds.{RoundsEnd, WereRounds, plan_at, run_params_by}
 use Rattle.command.specs.declared.fault.CommandFault.{CommandFault}
 use Rattle.command.specs.declared.fault.CommandFault.TheVariants as faults
 use Rattle.command.specs.declared.course.Course.{Course}
@@ -27,9 +27,18 @@ plan_of course = record {
   folder = course.folder.now;
 }
 
--- a round of this formula, whose streams were opened as these readers, by what was found
-abbrev pub round_of : {F R : Type 0} → Cnf → List R → F → LastRound → F → Round F R
-round_of formula readers opened last after = record {
+-- The streams of a round of this formula, opened as these readers, were checked as those of a run, and this was found of them.
+pub record WasChecked (its : Deeds) (plan : Plan) (formula : Cnf) (readers : List its.Reader)
+    (last : LastRound) : Type 0 where
+  pub count : length readers ≡ last.sizes.streams
+  pub checked : AreChecked its.reading plan.serial formula
+      (run_params_by plan formula last.sizes) readers last.found.reports.items last.found.verdict
+
+-- that round, by the files after the opening of its streams and those after its check
+abbrev pub round_of : {its : Deeds} {plan : Plan} (formula : Cnf) (readers : List its.Reader)
+    (opened : its.State) (last : LastRound) (after : its.State)
+    → WasChecked its plan formula readers last → Round its plan
+round_of formula readers opened last after was = record {
   formula = formula;
   sizes = last.sizes;
   readers = readers;
@@ -38,28 +47,31 @@ round_of formula readers opened last after = record {
   verdict = last.found.verdict;
   unsaved = last.found.unsaved;
   after = after;
+  count = was.count;
+  checked = was.checked;
 }
 
--- What was found of a round, and the next formula, where there is one, with which the round goes on.
-pub record WasFound (its : Deeds) (plan : Plan) (last : LastRound) (next : Option Cnf)
-    (round : Round its.State its.Reader) : Type 0 where
-  pub sizes : round.sizes ≡ last.sizes
-  pub reports : round.reports ≡ last.found.reports.items
-  pub verdict : round.verdict ≡ last.found.verdict
-  pub unsaved : round.unsaved ≡ last.found.unsaved
-  pub goes_on : ForSome next (CarriesOn its plan last.number round)
-  pub over : next ≡ None → IsBarred its plan last.number round
+-- It was checked, and there is a next formula with which it goes on; or none, and it doesn't.
+pub record WasFound (its : Deeds) (plan : Plan) (formula : Cnf) (readers : List its.Reader)
+    (opened : its.State) (last : LastRound) (next : Option Cnf) (after : its.State) : Type 0 where
+  pub was : WasChecked its plan formula readers last
+  pub goes_on : ForSome next
+      (CarriesOn last.number (round_of formula readers opened last after was))
+  pub over : next ≡ None → IsBarred last.number (round_of formula readers opened last after was)
 
 -- The rounds up to this one, which was found so and left these files.
 pub record RoundsStand (its : Deeds) (plan : Plan) (formula : Cnf) (sizes : Sizes)
     (first : its.State) (paths : List Text) (last : LastRound) (next : Option Cnf)
     (after : its.State) : Type 0 where
-  pub round : Round its.State its.Reader
-  pub before : List (Round its.State its.Reader)
-  pub rounds : AreRounds its plan formula sizes first paths (round ∷ before)
-  pub number : last.number ≡ length (round ∷ before)
-  pub is_found : WasFound its plan last next round
-  pub left : after ≡ round.after
+  pub current : Cnf
+  pub readers : List its.Reader
+  pub opened : its.State
+  pub is_found : WasFound its plan current readers opened last next after
+  pub before : List (Round its plan)
+  pub rounds : AreRounds formula sizes first paths
+      (round_of current readers opened last after is_found.was ∷ before)
+  pub number : last.number
+      ≡ length (round_of current readers opened last after is_found.was ∷ before)
 
 -- There is no round after this one, which was to go on: the sizes of the next were read, and there is no file of its stream 1.
 abbrev pub IsAlone : (its : Deeds) → Plan → LastRound → its.State → its.State → Type 0
@@ -77,23 +89,23 @@ IsUnchecked its plan last next before fault after =
 -- The rounds ended with this one, and these are the files then.
 pub record EndsAt (its : Deeds) (plan : Plan) (formula : Cnf) (sizes : Sizes) (first : its.State)
     (paths : List Text) (last : LastRound) (after : its.State) : Type 0 where
-  pub round : Round its.State its.Reader
-  pub before : List (Round its.State its.Reader)
-  pub rounds : AreRounds its plan formula sizes first paths (round ∷ before)
+  pub round : Round its plan
+  pub before : List (Round its plan)
+  pub rounds : AreRounds formula sizes first paths (round ∷ before)
   pub number : last.number ≡ length (round ∷ before)
   pub reports : round.reports ≡ last.found.reports.items
   pub verdict : round.verdict ≡ last.found.verdict
   pub unsaved : round.unsaved ≡ last.found.unsaved
-  pub over : RoundsEnd its plan (length (round ∷ before)) round after
+  pub over : RoundsEnd (length (round ∷ before)) round after
 
 -- After these rounds the next one had no report, and these are the files then.
 pub record FailsAfter (its : Deeds) (plan : Plan) (formula : Cnf) (sizes : Sizes)
     (first : its.State) (paths : List Text) (failed : RoundFault) (after : its.State) : Type 0 where
-  pub last : Round its.State its.Reader
-  pub before : List (Round its.State its.Reader)
-  pub rounds : AreRounds its plan formula sizes first paths (last ∷ before)
+  pub last : Round its plan
+  pub before : List (Round its plan)
+  pub rounds : AreRounds formula sizes first paths (last ∷ before)
   pub number : failed.round ≡ length (last ∷ before) + 1
-  pub cause : IsNextCause its plan (length (last ∷ before)) last failed.fault after
+  pub cause : IsNextCause (length (last ∷ before)) last failed.fault after
 
 -- a fault of round 1, whose streams were opened and left these files; or of a round after it
 abbrev pub FailsAt : (its : Deeds) → Plan → Cnf → Sizes → its.State → List Text → its.State
@@ -105,25 +117,25 @@ FailsAt its plan formula sizes first paths opened failed after =
 -- what is known of the end of the rounds, by the command line
 pub record IsReported (files : FilesView) (given : CommandLine) (folder : Text) (last : LastRound)
     (after : files.its.State) : Type 0 where
-  pub round : Round files.its.State files.its.Reader
-  pub before : List (Round files.its.State files.its.Reader)
-  pub were : WereRounds files given folder round before
+  pub cube : CubeValue
+  pub round : Round files.its (plan_at given cube folder)
+  pub before : List (Round files.its (plan_at given cube folder))
+  pub were : WereRounds files given folder cube round before
   pub number : last.number ≡ length (round ∷ before)
   pub reports : round.reports ≡ last.found.reports.items
   pub verdict : round.verdict ≡ last.found.verdict
   pub unsaved : round.unsaved ≡ last.found.unsaved
-  pub over : RoundsEnd files.its (plan_at given were.cube folder) (length (round ∷ before))
-      round after
+  pub over : RoundsEnd (length (round ∷ before)) round after
 
 -- what is known of a fault of the rounds, by the words, and of the files then
 pub record FailsLater (files : FilesView) (given : CommandLine) (folder : Text)
     (failed : RoundFault) (after : files.its.State) : Type 0 where
-  pub last : Round files.its.State files.its.Reader
-  pub before : List (Round files.its.State files.its.Reader)
-  pub were : WereRounds files given folder last before
+  pub cube : CubeValue
+  pub last : Round files.its (plan_at given cube folder)
+  pub before : List (Round files.its (plan_at given cube folder))
+  pub were : WereRounds files given folder cube last before
   pub number : failed.round ≡ length (last ∷ before) + 1
-  pub cause : IsNextCause files.its (plan_at given were.cube folder)
-      (length (last ∷ before)) last failed.fault after
+  pub cause : IsNextCause (length (last ∷ before)) last failed.fault after
 
 abbrev pub IsRoundsFault : (files : FilesView) → List Text → CommandLine → Text → RoundFault
     → files.its.State → Type 0

@@ -12,15 +12,14 @@ use Rattle.runs.specs.SequentialConsistency.{HaveOneHistory}
 use Rattle.runs.specs.Streams.{RunParamsValue}
 use Rattle.stream_check.specs.DroppedValue.{DroppedValue}
 use Rattle.stream_check.specs.declared.report.Report.{Report}
-use Rattle.portfolio.specs.Histories.{IsRunOf, way_of}
 use Rattle.portfolio.specs.Outcomes.{run_params_of}
-use Rattle.command.specs.Commands.{HasNoFault}
+use Rattle.portfolio.specs.declared.outcome.Verdict.{Verdict}
+use Rattle.command.specs.Commands.{AreChecked, HasBrokenOff, HasNoFault}
 use Rattle.command.specs.declared.fault.CommandFault.{CommandFault}
 use Rattle.command.specs.declared.fault.CommandFault.TheVariants as faults
 use Rattle.command.specs.declared.running.LeftClauses.{LeftClauses}
 use Rattle.command.specs.declared.running.LeftClauses.TheVariants as lefts
 use Rattle.command.specs.declared.running.Setup.{Setup}
-use Rattle.command.specs.Commands.{HasBrokenOff}
 
 -- the layout by which clauses were left
 abbrev pub left_layout : LeftClauses → LayoutValue
@@ -45,14 +44,14 @@ CanBeSaved (lefts.Shared left) =
     AreOf left.store left.passes.items × (0 < vec_len left.passes)
 CanBeSaved (lefts.Plain left) = Fits left.map.layout (formula_of left.map)
 
--- It is a run that has these reports, and these clauses were left by its history.
+-- The streams were checked, and these clauses were left by the run's history, with what its streams dropped.
 pub record StandsBehind {R : Type 0} (view : SourceView R) (serial : Bool) (formula : Cnf)
-    (run_params : RunParamsValue) (firsts : List R) (reports : List Report)
+    (run_params : RunParamsValue) (firsts : List R) (reports : List Report) (verdict : Verdict)
     (left : LeftClauses) : Type 0 where
-  pub lasts : List R
-  pub ran : IsRunOf (way_of serial) view formula run_params firsts lasts reports (dropped_in left)
+  pub checked : AreChecked view serial formula run_params firsts reports verdict
   pub layout : left_layout left ≡ run_params.layout
-  pub has : HasHistory formula ran.run.history left
+  pub dropped : dropped_in left ≡ checked.dropped
+  pub has : HasHistory formula checked.ran.run.history left
 
 -- why streams aren't checked: there is no layout
 abbrev pub IsLayoutCause : LayoutValue → CommandFault → Type 0

@@ -1,14 +1,14 @@
 use Rattle.std.proofs.Common.{◌≡◌, ◌∙◌, ℕ, List, Option, inl, length, sym, subst}
 use Rattle.lrup_model.specs.Layout.{LayoutValue}
-use Rattle.portfolio.specs.Outcomes.{layout_of, run_params_of}
+use Rattle.portfolio.specs.Outcomes.{layout_of}
 use Rattle.command_line.specs.CommandLine.{IsCommandLineOf}
 use Rattle.command.specs.Commands.{FilesView, HasNoFault, IsCause, IsFormulaAt, IsLeftUnused, IsStartCause, Text, WasReadIn, checkpoint_at}
-use Rattle.command.specs.Commands.{created_at, created_path, files_view, from_first}
+use Rattle.command.specs.Commands.{SavesCheckpoint, created_at, created_path, files_view, from_first}
 use Rattle.command.specs.internal.Running.{IsLayoutCause}
-use Rattle.command.specs.internal.Saving.{IsNotCreated}
+use Rattle.command.specs.internal.Saving.{ClosesCheckpoint, IsNotCreated}
 use Rattle.command.specs.declared.fault.CommandFault.{CommandFault}
 use Rattle.command.proofs.CheckingLemmas.{begun_cause, create_start, err_given, is_outcome, layout_start, run_start, some_given}
-use Rattle.command.proofs.SavingLemmas.{leaves_behind, left_unused}
+use Rattle.command.proofs.SavingLemmas.{leaves_behind, left_moved, left_unused}
 use Rattle.command.proofs.checking.check_asked.Given as given
 use Rattle.command.proofs.checking.check_asked.Goals as goal
 use Rattle.command.proofs.checking.check_asked.Goals.{After-unwrap-options}
@@ -108,20 +108,24 @@ returns-clause-outcome g c words first good at =
     (c.args.asked.formula.items, at, c.in_ok-begun.ensures.formula) in
     let options = some_given _ c.unwrap-options.ensures c.new.ensures.some in
     let count : c.len.result ≡ length readers = c.len.ensures ∙ begun.readers.ok.0 in
-    let layout = layout_of c.unwrap-options.result begun.formula (length readers) in
     let run = c.in-Ok.run' in
+    let stands = c.in-Ok.ensures.stands in
+    let h = stands.checked.ran.run.history in
     let after = c.close_checkpoint-unsaved.new.files in
     let unsaved = c.close_checkpoint-unsaved.result in
-    let closes = c.close_checkpoint-unsaved.ensures line.serial begun.formula
-    (run_params_of c.unwrap-options.result begun.cube begun.formula (length readers)) readers run.reports.items c.in-Ok.ensures.stands in
+    let f = begun.formula in
+    let closes = left_moved stands (λ p dropped. ClosesCheckpoint files.its (SavesCheckpoint files.its f p h dropped) run.verdict
+    c.create_checkpoint.new.files c.in_ok-output.output unsaved after) (c.close_checkpoint-unsaved.ensures f h stands.has) in
     is_outcome files words line begun.formula begun.cube c.unwrap-options.result readers c.args.files.now of.later last good is_formula
-    of.assumed options of.opened of.left run.reports.items run.verdict unsaved after c.in-Ok.ensures.checked
-    (leaves_behind files.its _ run.verdict last c.create_checkpoint.new.files after (checkpoint_at line) c.in_ok-output.output unsaved
-    c.in_ok-output.ensures.created closes)
+    of.assumed options of.opened of.left run.reports.items run.verdict unsaved after (
+      stands.checked,
+      leaves_behind files.its _ run.verdict last c.create_checkpoint.new.files after (checkpoint_at line) c.in_ok-output.output unsaved
+          c.in_ok-output.ensures.created closes,
+    )
 
 pub returns-clause-sound : goal.returns-clause-sound
 returns-clause-sound g c unsatisfiable =
-    (c.in_ok-begun.begun.formula, c.in_ok-begun.ensures.formula, c.in-Ok.ensures.checked.sound unsatisfiable)
+    (c.in_ok-begun.begun.formula, c.in_ok-begun.ensures.formula, c.in-Ok.ensures.stands.checked.sound unsatisfiable)
 
 pub returns-clause-sound_under : goal.returns-clause-sound_under
 returns-clause-sound_under g c unsatisfiable = (
@@ -130,5 +134,5 @@ returns-clause-sound_under g c unsatisfiable = (
   c.in_ok-begun.ensures.begun.later,
   c.in_ok-begun.ensures.formula,
   c.in_ok-begun.ensures.begun.assumed,
-  c.in-Ok.ensures.checked.sound_under unsatisfiable,
+  c.in-Ok.ensures.stands.checked.sound_under unsatisfiable,
 )

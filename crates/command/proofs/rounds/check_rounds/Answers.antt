@@ -65,6 +65,7 @@ returns-clause-reported g c words first good at =
     let alone : checkpoint_at line ≡ None = no_path line.checkpoint c.if-is_some.ensures in
     if_ok c.go_on.result _ (λ last. IsReported files line folder last c.go_on.new.files)
     (λ last ends. record {
+      cube = begun.cube;
       round = ends.round;
       before = ends.before;
       were = record {
@@ -72,7 +73,6 @@ returns-clause-reported g c words first good at =
         formula = begun.formula;
         next = c.args.files.now;
         is_formula = is_formula;
-        cube = begun.cube;
         later = of.later;
         assumed = of.assumed;
         told = of.told;
@@ -144,6 +144,7 @@ returns-clause-cause g c words first good at =
             one.1),
       )
       | inr after ↦ inr (record {
+        cube = begun.cube;
         last = after.last;
         before = after.before;
         were = record {
@@ -151,7 +152,6 @@ returns-clause-cause g c words first good at =
           formula = begun.formula;
           next = c.args.files.now;
           is_formula = is_formula;
-          cube = begun.cube;
           later = of.later;
           assumed = of.assumed;
           told = of.told;

@@ -14,7 +14,7 @@ loop-number-init g c =
     record {
       stands = λ first paths opened.
           stands_first its (plan_of c.args.course.now) round.formula round.sizes first paths checked.last checked.next c.args.files.now
-          c.check_round.new.files round.readers.items round.number c.requires.one opened of.checked of.next of.over of.number of.sizes;
+          c.check_round.new.files round.readers.items (of.number ∙ c.requires.one) opened of.found of.sizes;
       number = omega (arith, of.number, c.requires.one);
     }
 

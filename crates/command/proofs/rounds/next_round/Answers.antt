@@ -1,4 +1,4 @@
-use Rattle.std.proofs.Common.{inl, inr, subst, sym, ℕ}
+use Rattle.std.proofs.Common.{◌∙◌, inl, inr, subst, sym, ℕ}
 use Rattle.command_line.specs.declared.sizes.Sizes.{Sizes}
 use Rattle.command.specs.Paths.{sizes_path, stream_paths}
 use Rattle.command.specs.Commands.{deeds}
@@ -14,19 +14,18 @@ returns-in-Ok-clause-stands g c given sizes first paths stands =
     let before = c.args.files.now in
     let sized = c.sizes_of_round.new.files in
     let opened = c.open_round.new.files in
-    let number = c.args.number in
     let found = c.in-Ok.found in
     let of = c.in-Ok.ensures in
     let readers = c.in-Ok-Some.readers.items in
-    let are_sized = subst (λ (s : Sizes). AreSized its (sizes_path plan.folder number) c.args.last.now.sizes before s sized) (sym of.sizes)
-    c.in_ok-sizes.ensures.sized in
-    let are : StreamsOpened its sized (stream_paths plan.folder number c.in_ok-sizes.sizes.streams) readers opened =
-    rw c.in-Ok-Some.field-0-is at c.in-Ok-Some.ensures.opened in
+    let Sized : ℕ → Sizes → Type 0 = λ n s. AreSized its (sizes_path plan.folder n) c.args.last.now.sizes before s sized in
+    let Opened : ℕ → Sizes → Type 0 = λ n s. StreamsOpened its sized (stream_paths plan.folder n s.streams) readers opened in
+    let are : Opened c.args.number c.in_ok-sizes.sizes = rw c.in-Ok-Some.field-0-is at c.in-Ok-Some.ensures.opened in
     for_some (λ x. RoundsStand its plan given sizes first paths x.last x.next c.check_round.new.files) found
     (stands_next its plan given sizes first paths c.args.last.now found.last c.args.formula found.next before sized opened
-    c.check_round.new.files readers number c.requires.after stands are_sized
-    (subst (λ (s : Sizes). StreamsOpened its sized (stream_paths plan.folder number s.streams) readers opened) (sym of.sizes) are)
-    of.checked of.next of.over of.number)
+    c.check_round.new.files readers (of.number ∙ c.requires.after) stands
+    (subst (λ (n : ℕ). Sized n found.last.sizes) (sym of.number) (subst (Sized c.args.number) (sym of.sizes) c.in_ok-sizes.ensures.sized))
+    (subst (λ (n : ℕ). Opened n found.last.sizes) (sym of.number) (subst (Opened c.args.number) (sym of.sizes) are))
+    of.found)
 
 -- the streams of the round were opened, and then came the fault
 pub returns-in-Err-check_round-clause-cause : goal.returns-in-Err-check_round-clause-cause

@@ -1,29 +1,24 @@
-use Rattle.std.proofs.Common.{length, subst, sym, true}
+use Rattle.std.proofs.Common.{length, refl, subst, sym, true}
 use Rattle.command.specs.internal.Running.{run_params_on, IsRunCause}
 use Rattle.command.proofs.CheckingLemmas.{err_given, has_layout, run_cause}
 use Rattle.command.proofs.running.run_by_turns.Goals as goal
 
-pub returns-clause-checked : goal.returns-clause-checked
-returns-clause-checked g c =
+pub returns-clause-stands : goal.returns-clause-stands
+returns-clause-stands g c =
     let p = (run_params_on c.args.setup.now (length c.args.readers.items)).layout in
     let found = c.in_ok-outcome.ensures in
     record {
-      layout = has_layout p c.run_serial.result c.in_ok-outcome.outcome c.in_ok-outcome.was c.run_serial.ensures.layout;
-      lasts = c.in_ok-outcome.outcome.readers.items;
-      dropped = c.in_ok-outcome.outcome.dropped.items;
-      ran = found.ordered.0;
-      is_verdict = found.verdict;
-      sound = found.sound;
-      sound_under = found.sound_under;
-    }
-
-pub returns-clause-stands : goal.returns-clause-stands
-returns-clause-stands g c =
-    let found = c.in_ok-outcome.ensures in
-    record {
-      lasts = c.in_ok-outcome.outcome.readers.items;
-      ran = found.ordered.0;
+      checked = record {
+        layout = has_layout p c.run_serial.result c.in_ok-outcome.outcome c.in_ok-outcome.was c.run_serial.ensures.layout;
+        lasts = c.in_ok-outcome.outcome.readers.items;
+        dropped = c.in_ok-outcome.outcome.dropped.items;
+        ran = found.ordered.0;
+        is_verdict = found.verdict;
+        sound = found.sound;
+        sound_under = found.sound_under;
+      };
       layout = found.kept.1;
+      dropped = refl;
       has = (found.kept.0, found.ordered.1);
     }
 

@@ -7,30 +7,25 @@ use Rattle.command.specs.internal.Running.{run_params_on, IsRunCause}
 use Rattle.command.proofs.CheckingLemmas.{err_given, has_layout, run_cause}
 use Rattle.command.proofs.running.run_in_threads.Goals as goal
 
-pub returns-clause-checked : goal.returns-clause-checked
-returns-clause-checked g c =
-    let p = (run_params_on c.args.setup.now (length c.args.readers.items)).layout in
-    let found = c.in_ok-outcome.ensures in
-    record {
-      layout = has_layout p c.run.result c.in_ok-outcome.outcome c.in_ok-outcome.was c.run.ensures.layout;
-      lasts = c.in_ok-outcome.outcome.readers.items;
-      dropped = c.in_ok-outcome.outcome.dropped.items;
-      ran = found.reports.0;
-      is_verdict = found.verdict;
-      sound = found.sound;
-      sound_under = found.sound_under;
-    }
-
 pub returns-clause-stands : goal.returns-clause-stands
 returns-clause-stands g c =
     let outcome = c.in_ok-outcome.outcome in
     let found = c.in_ok-outcome.ensures in
     let f = c.args.setup.now.formula.now in
+    let p = (run_params_on c.args.setup.now (length c.args.readers.items)).layout in
     let passes = views outcome.passes.items in
     record {
-      lasts = outcome.readers.items;
-      ran = found.reports.0;
+      checked = record {
+        layout = has_layout p c.run.result outcome c.in_ok-outcome.was c.run.ensures.layout;
+        lasts = outcome.readers.items;
+        dropped = outcome.dropped.items;
+        ran = found.reports.0;
+        is_verdict = found.verdict;
+        sound = found.sound;
+        sound_under = found.sound_under;
+      };
       layout = found.store.1;
+      dropped = refl;
       has = subst (λ (h : History). HaveOneHistory f outcome.store.layout h passes) (sym found.reports.1)
           (subst (λ (p : LayoutValue). HaveOneHistory f p (seen_by passes) passes) (sym found.store.1) found.history);
     }
