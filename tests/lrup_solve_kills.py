@@ -23,8 +23,8 @@ from solving import (EARLY, Answer, children_of, command, in_environment, is_ali
                      solve, want_answer)
 
 COUNT = int((words_given(__doc__, most=3) + ["-O2", "10"][len(sys.argv) - 2:])[2])
-FRONT = "lrup-solve"
-NAMES = [FRONT, "lrup-engines", "engine 1", "engine 2", "filter 1", "filter 2", "lrupd", "its reading", "opener", "cleaner"]
+FRONT, READING = "lrup-solve", "its reading"
+NAMES = [FRONT, "lrup-engines", "engine 1", "engine 2", "filter 1", "filter 2", "lrupd", READING, "opener", "cleaner"]
 SOON = 6        # seconds, after a run has come to its end
 
 
@@ -34,7 +34,7 @@ def processes_of_run(pid: int) -> Dict[str, int]:
     for child in map(int, of_process(pid, f"task/{pid}/children").split()):
         title, words = of_process(child, "comm").strip(), of_process(child, "cmdline")
         if title == "lrupd" and "--rounds" not in words:
-            found["its reading"] = child
+            found[READING] = child
     return found
 
 
@@ -65,7 +65,8 @@ def kills(seed: int, work: Path) -> None:
     lasts = time.monotonic() - begun
     want_answer(whole, whole.status if whole.status in (10, 20) else 20, formula)
     for name in NAMES:
-        answer = killed_one(name, numbers.uniform(0, lasts), formula, hooks, work)
+        after = numbers.uniform(0, lasts) if name != READING else 0        # which is over soon
+        answer = killed_one(name, after, formula, hooks, work)
         answer.said = ""        # an engine's last words
         if answer.status == -signal.SIGKILL:
             want((name, answer.answers in ([], whole.answers)), (FRONT, True), f"the answer of\n{answer.out}")
