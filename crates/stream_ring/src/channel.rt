@@ -3,7 +3,7 @@
 //! An end that can't go on spins for a while, and then parks until the other end unparks it. `rtrb` and the parkers order memory: an item
 //! that is popped is the one that was pushed. A park that was unparked before returns at once, so no wake-up is lost.
 ghost use Rattle.std.specs.Prelude.{◌≡◌, ◌<◌, ◌≤◌, ℕ, List, [], ◌++◌, ◌∷◌, false, length, take, map, All, IfOk};
-ghost use Rattle.rtrb.specs.Ring.{sent, received, SameProducer, SameConsumer, IsPair};
+ghost use Rattle.rtrb.specs.Ring.{sent, received, producer_capacity, consumer_capacity, SameProducer, SameConsumer, IsPair};
 ghost use Rattle.lrup_text.specs.ReadOut.{EndsSo, source_view};
 ghost use Rattle.stream_ring.specs.Items.{EndsAtMark, EndsBeforeMark, IsSentOf, SendsAll, byte_of, end_told};
 
@@ -69,6 +69,8 @@ pub fn ring(alloc: Global, capacity: usize) -> Result<(Sender, Receiver), AllocE
     ensures pair { IfOk result (λ r. IsPair r.0.producer r.1.consumer) }
     ensures sent { IfOk result (λ r. sent r.0.producer ≡ []) }
     ensures received { IfOk result (λ r. received r.1.consumer ≡ []) }
+    ensures capacity { IfOk result (λ r. (producer_capacity r.0.producer ≡ capacity)
+        × (consumer_capacity r.1.consumer ≡ capacity)) }
 {
     let (producer, consumer) = RingBuffer::new(alloc, capacity)?;
     let full = Parker::new(alloc)?;
