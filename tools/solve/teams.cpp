@@ -13,6 +13,7 @@
 namespace {
 
 const int PROOF_PIPE = 1 << 20, ALL_PROOF_PIPES = 1 << 24;     // the system gives a user no more than 1 << 26 for all pipes
+const int CROWDED_PIPE = 1 << 16;
 const double MOMENT = 0.1;      // seconds in which the first engine is alone, beside READINGS of the formula
 const int READINGS = 2;
 
@@ -106,6 +107,12 @@ double Teams::next_start() const {
     return list[0].told ? 0 : LOAD(engine_status(0).answer) == 0 ? others_start : INFINITY;
 }
 
+// Where there are fewer cores than processes an engine far ahead of its filter has taken them from others, and is proved late.
+int Teams::size_of_pipes() const {
+    bool is_crowded = shared->engines_here > half_of_the_cores();
+    return is_crowded ? CROWDED_PIPE : std::min(PROOF_PIPE, ALL_PROOF_PIPES / inputs.options.engines);
+}
+
 // No other child gets these pipes: one that is stopped as it starts would hold their ends. Those of other hosts start there.
 void Teams::start_team(size_t k) {
     Team &team = list[k];
@@ -113,7 +120,7 @@ void Teams::start_team(size_t k) {
         for (Child *child : { &team.engine, &team.filter }) child->pid = ELSEWHERE, child->running = true;
         return;
     }
-    team.proof = make_pipe(std::min(PROOF_PIPE, ALL_PROOF_PIPES / inputs.options.engines));
+    team.proof = make_pipe(size_of_pipes());
     start_filter(k);
     start_engine(k);
     close_file(team.proof.read);

@@ -62,6 +62,7 @@ private:
     std::vector<Team> list;
     double others_start = 0;            // 0: they have
 
+    int size_of_pipes() const;
     void start_team(size_t k);
     void start_filter(size_t k);
     void start_engine(size_t k);
