@@ -1,15 +1,17 @@
-use Rattle.std.proofs.Common.{◌≡◌, pos, negsuc, inl, inr, refl, arith}
+use Rattle.std.proofs.Common.{◌≡◌, [], ◌∷◌, pos, negsuc, inl, inr, refl, arith}
 use Rattle.test_support.specs.Worked.{first}
-use Rattle.stream_check_tests.proofs.WorkedLemmas.{first_looked, six_looked}
+use Rattle.stream_check_tests.proofs.WorkedLemmas.{first_looked, one_is_the_formulas, six_is_anothers, six_looked}
+use Rattle.stream_check_tests.specs.Worked.{first_found}
 use Rattle.test_support.specs.lemmas.WorkedLemmas.{same_first}
 use Rattle.stream_check_tests.proofs.worked.imports_are_judged.Goals as goal
 
 pub returns-clause-good : goal.returns-clause-good
 returns-clause-good c = record {
-  shared = refl;
+  identity = one_is_the_formulas.0;
+  other = one_is_the_formulas.1;
   literals = (omega arith, (omega arith, (omega arith, tt)));
   clause = first;
-  found = first_looked;
+  named = (first_found ∷ [], [], refl, first_looked, refl);
   same = same_first;
 }
 
@@ -18,7 +20,7 @@ pub returns-clause-differs : goal.returns-clause-differs
 returns-clause-differs c = (
   refl,
   inr (
-    refl,
+    one_is_the_formulas,
     inr (
       (omega arith, tt),
       inr (
@@ -36,7 +38,7 @@ pub returns-clause-tautology : goal.returns-clause-tautology
 returns-clause-tautology c = (
   refl,
   inr (
-    refl,
+    one_is_the_formulas,
     inr (
       (omega arith, (omega arith, tt)),
       inr (
@@ -53,4 +55,4 @@ returns-clause-tautology c = (
 )
 
 pub returns-clause-missing : goal.returns-clause-missing
-returns-clause-missing c = (refl, inr (refl, inr ((omega arith, tt), inl six_looked)))
+returns-clause-missing c = (refl, inr (six_is_anothers, inr ((omega arith, tt), inl six_looked)))
