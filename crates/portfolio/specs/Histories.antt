@@ -1,5 +1,5 @@
 -- What a run promises of its streams, on one thread or with two threads for each (this project's own).
-use Rattle.std.specs.Prelude.{◌≡◌, Bool, true, false, List, map, IsSome}
+use Rattle.std.specs.Prelude.{◌≡◌, ℕ, Bool, true, false, List, map, IsSome}
 use Rattle.std.specs.List.{AllByRecursion}
 use Rattle.lrup_model.specs.Event.{History}
 use Rattle.lrup_model.specs.Formula.{Cnf}
