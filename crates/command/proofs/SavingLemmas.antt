@@ -11,7 +11,7 @@ use Rattle.portfolio.specs.Saving.{CarriesState, SavesState, is_wanted}
 use Rattle.portfolio.specs.declared.outcome.Verdict.{Verdict}
 use Rattle.portfolio.specs.declared.outcome.Verdict.TheVariants.{Unsatisfiable, UnsatisfiableUnder, Unknown}
 use Rattle.runs.specs.Streams.{RunParamsValue}
-use Rattle.stream_check.specs.DroppedValue.{DroppedValue}
+use Rattle.stream_check.specs.DroppedIdsValue.{DroppedIdsValue}
 use Rattle.stream_check.specs.declared.report.Report.{Report}
 use Rattle.checkpoint.specs.Checkpoints.{IsCheckpoint, IsCheckpointOf}
 use Rattle.checkpoint.specs.declared.saving.SaveFault.{SaveFault}
@@ -140,7 +140,7 @@ stands_moved view serial f run_params other firsts reports verdict left same =
 -- What was saved of what was left was saved of the run: by its layout, and with what its streams dropped.
 pub left_moved : {R : Type 0} {view : SourceView R} {serial : Bool} {f : Cnf} {run_params : RunParamsValue} {firsts : List R}
     {reports : List Report} {verdict : Verdict} {left : LeftClauses}
-    (stands : StandsBehind view serial f run_params firsts reports verdict left) (P : LayoutValue → List DroppedValue → Type 0)
+    (stands : StandsBehind view serial f run_params firsts reports verdict left) (P : LayoutValue → List DroppedIdsValue → Type 0)
     → P (left_layout left) (dropped_in left) → P run_params.layout stands.checked.dropped
 left_moved {run_params = run_params} {left = left} stands P is =
     subst (P run_params.layout) stands.dropped (subst (λ (p : LayoutValue). P p (dropped_in left)) stands.layout is)

@@ -27,7 +27,7 @@ use Rattle.portfolio.specs.ReportText.{report_text}
 use Rattle.portfolio.specs.Saving.{SavesState, is_wanted}
 use Rattle.runs.specs.Readings.{readers_view}
 use Rattle.runs.specs.Streams.{RunParamsValue}
-use Rattle.stream_check.specs.DroppedValue.{DroppedValue}
+use Rattle.stream_check.specs.DroppedIdsValue.{DroppedIdsValue}
 use Rattle.portfolio.specs.declared.outcome.Verdict.{Verdict}
 use Rattle.portfolio.specs.declared.outcome.Verdict.TheVariants.{Unsatisfiable, UnsatisfiableUnder, Unknown}
 use Rattle.checkpoint.specs.Checkpoints.{IsCheckpoint}
@@ -175,7 +175,7 @@ pub record AreChecked {R : Type 0} (reading : SourceView R) (serial : Bool) (for
     (verdict : Verdict) : Type 0 where
   pub layout : (fault : LayoutFault) → IsFault run_params.layout fault → ⊥
   pub lasts : List R
-  pub dropped : List DroppedValue
+  pub dropped : List DroppedIdsValue
   pub ran : IsRunOf (way_of serial) reading formula run_params firsts lasts reports dropped
   pub is_verdict : verdict ≡ verdict_of reports
   pub sound : verdict ≡ Unsatisfiable → IsUnsatisfiable formula
@@ -299,7 +299,7 @@ pub record IsOutcome (files : FilesView) (words : List Text) (reports : List Rep
 -- follows from this one. It is that of the clauses that the history leaves live, but for those that all streams dropped, and no others.
 -- Just where the sink failed, a write is told to have failed.
 pub record SavesCheckpoint (its : Deeds) (formula : Cnf) (layout : LayoutValue) (history : History)
-    (dropped : List DroppedValue) (result : Result (Unit {0}) SaveFault)
+    (dropped : List DroppedIdsValue) (result : Result (Unit {0}) SaveFault)
     (first last : its.Output) : Type 0 where
   pub checkpoint : IfOk result (λ _. (bytes : List ℕ)
       × Appends (its.written first) (its.written last) bytes × IsCheckpoint formula bytes)

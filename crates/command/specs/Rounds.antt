@@ -11,7 +11,7 @@ use Rattle.lrup_model.specs.Layout.{LayoutValue}
 use Rattle.lrup_model.specs.State.{state}
 use Rattle.lrup_text.specs.Reads.{Gave}
 use Rattle.runs.specs.Streams.{RunParamsValue}
-use Rattle.stream_check.specs.DroppedValue.{DroppedValue}
+use Rattle.stream_check.specs.DroppedIdsValue.{DroppedIdsValue}
 use Rattle.stream_check.specs.declared.report.Ending.TheVariants as endings
 use Rattle.stream_check.specs.declared.report.Report.{Report}
 use Rattle.portfolio.specs.Outcomes.{OptionsValue, run_params_of}
@@ -91,7 +91,7 @@ HaveEnded reports = AllByRecursion (λ report. report.ending ≡ endings.Ended) 
 -- this one. They are those that the history leaves live, but for those that all streams dropped, and no others. Just where the sink failed,
 -- a write is told to have failed.
 pub record CarriesCheckpoint (its : Deeds) (formula : Cnf) (layout : LayoutValue)
-    (history : History) (dropped : List DroppedValue) (result : Result Cnf SaveFault)
+    (history : History) (dropped : List DroppedIdsValue) (result : Result Cnf SaveFault)
     (first last : its.Output) : Type 0 where
   pub checkpoint : IfOk result (λ next. (bytes : List ℕ)
       × Appends (its.written first) (its.written last) bytes × IsCheckpointOf formula bytes next)

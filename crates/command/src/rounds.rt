@@ -25,7 +25,7 @@ use crate::fault::CommandFault;
 use crate::files::{Machine, OpenFault};
 use crate::running::{EndedRun, Setup, run_streams};
 use crate::sizing::sizes_of_round;
-use crate::watching::{now_if, tell_begin};
+use crate::watching::{now_if, report_begin};
 use checkpoint::SaveFault;
 use checkpoint::laws::{refutes_back, refutes_back_under};
 use command_line::Sizes;
@@ -276,7 +276,7 @@ fn next_round<T: Threads + Wait + Sync, C: Clock + Sync, F: Machine>(
         Err(fault) => return Err(fault),
     };
     if course.watch {
-        tell_begin(clock, alloc, files, number, &formula, last.ended);
+        report_begin(clock, alloc, files, number, &formula, last.ended);
     }
     let round = OpenRound {
         number,

@@ -24,7 +24,7 @@ use std::alloc::{AllocError, Global};
 use std::sync::Wait;
 use std::thread::Threads;
 use std::time::Clock;
-use stream_check::{Dropped, Report};
+use stream_check::{DroppedIds, Report};
 
 /// The parameters by which streams are checked, and whether by turns on one thread.
 #[derive(Clone, Copy)]
@@ -40,14 +40,14 @@ pub(crate) struct Setup<'a> {
 pub(crate) struct SharedClauses {
     store: Store,
     passes: Vec<Pass>,
-    dropped: Vec<Dropped>,
+    dropped: Vec<DroppedIds>,
 }
 
 /// What streams that were checked on one thread left.
 #[derive(Drop)]
 pub(crate) struct PlainClauses {
     map: PlainMap,
-    dropped: Vec<Dropped>,
+    dropped: Vec<DroppedIds>,
 }
 
 /// The clauses that a run left, and the identities that its streams dropped.

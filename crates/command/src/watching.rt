@@ -19,7 +19,7 @@ pub(crate) fn now_if<C: Clock + Sync>(clock: &C, asked: bool) -> Option<Instant>
 
 /// Reports on a watcher of the files that a round begins, with which formula, and how long after the end of the one before it. What the
 /// clock or the memory doesn't give is left out.
-pub(crate) fn tell_begin<C: Clock + Sync, F: Machine>(
+pub(crate) fn report_begin<C: Clock + Sync, F: Machine>(
     clock: &C,
     alloc: Global,
     files: &F,

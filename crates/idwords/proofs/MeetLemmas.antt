@@ -314,14 +314,14 @@ module _ {S : Type 0} where
 
 module _ {S : Type 0} where
   -- the first thread state goes to a new seat
-  pub splits_deal : (f : Cnf) (p : LayoutValue) (id : ℕ) (vs : List ThreadState)
+  pub splits_first : (f : Cnf) (p : LayoutValue) (id : ℕ) (vs : List ThreadState)
       → Splits {S = S} (HoldsRowInvariant f p) id vs (others vs) (first_only vs)
-  splits_deal f p id [] = splits_front f p id [] []
-  splits_deal f p id (v ∷ vs) = splits_front f p id (v ∷ []) vs
+  splits_first f p id [] = splits_front f p id [] []
+  splits_first f p id (v ∷ vs) = splits_front f p id (v ∷ []) vs
 
   -- all thread states do
-  pub splits_hand : (f : Cnf) (p : LayoutValue) (id : ℕ) (vs : List ThreadState) → Splits {S = S} (HoldsRowInvariant f p) id vs [] vs
-  splits_hand f p id vs = splits_back f p id [] vs
+  pub splits_all : (f : Cnf) (p : LayoutValue) (id : ℕ) (vs : List ThreadState) → Splits {S = S} (HoldsRowInvariant f p) id vs [] vs
+  splits_all f p id vs = splits_back f p id [] vs
 
   -- all thread states but the first do
   pub splits_thread : (f : Cnf) (p : LayoutValue) (id : ℕ) (vs : List ThreadState)

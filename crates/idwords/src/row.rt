@@ -17,7 +17,8 @@ ghost use Rattle.idwords.specs.RowCalls.{Calls, IsText, top_after_reply};
 
 use crate::opening::all_words;
 use crate::rule::{
-    Claim, Deal, Find, Hand, Look, Meet, Plan, Read, Retire, SplitRest, Token, Unite, Words, Write,
+    Claim, Find, JoinAll, Look, Meet, Plan, Read, Retire, SplitAll, SplitFirst, SplitRest,
+    StepToken, WordTable, Write,
 };
 use crate::seat::Seat;
 use crate::word::{LIVE, VACANT, live_word, pair_word, state};
@@ -27,10 +28,10 @@ use std::marker::Model;
 use std::snapshot::Snapshot;
 
 /// Makes a seat for each stream, in their order, from the one token that has the thread states of all.
-fn deal(
+fn seats_of(
     alloc: Global,
-    table: &Words,
-    mut token: Token,
+    table: &WordTable,
+    mut token: StepToken,
     layout: &Layout,
 ) -> Result<Vec<Seat>, AllocError>
     requires plan { IsPlan table.now.shared.key.formula.value layout.now }
@@ -48,7 +49,7 @@ fn deal(
     let mut seats = Vec::with_capacity(alloc, layout.streams() as usize)?;
     let mut top = layout.row_words() - layout.all_room();
     for _s in 0..layout.streams() {
-        let thread = table.shared.split_seat::<Deal>(&mut token);
+        let thread = table.shared.split_seat::<SplitFirst>(&mut token);
         seats.push_reserved(Seat {
             token: thread,
             top,
@@ -65,7 +66,7 @@ fn deal(
 /// row by its name alone.
 #[derive(Drop)]
 pub struct Row {
-    table: Words,
+    table: WordTable,
 }
 
 impl Model for Row {
@@ -101,9 +102,9 @@ impl Row {
             formula: Snapshot::of(formula),
             layout: *layout,
         };
-        let (table, token) = Words::of_words(alloc, words.as_slice(), &plan)?;
+        let (table, token) = WordTable::of_words(alloc, words.as_slice(), &plan)?;
         drop(words);
-        let seats = deal(alloc, &table, token, layout)?;
+        let seats = seats_of(alloc, &table, token, layout)?;
         Ok((Row { table }, seats))
     }
 
@@ -222,8 +223,8 @@ impl Row {
         // One token has both streams' thread states while word 0 is loaded: that load is the step at which each learns what the
         // other has seen. Then the second thread state goes back to its own token.
         let shared = &self.table.shared;
-        let token = shared.split_seat::<Hand>(&mut second.token);
-        shared.join_seat::<Unite>(&mut first.token, token);
+        let token = shared.split_seat::<SplitAll>(&mut second.token);
+        shared.join_seat::<JoinAll>(&mut first.token, token);
         shared.load::<Meet>(&mut first.token, 0);
         second.token = shared.split_seat::<SplitRest>(&mut first.token);
     }

@@ -39,10 +39,10 @@ impl TableRule<u8, Knowledge, Plan> for RowInvariant {
 }
 
 /// The table of words. Of what `atomic_table` offers it has no slots, which would hold values of other types.
-pub type Words = Table<u8, Knowledge, Plan, RowInvariant, Global>;
+pub type WordTable = Table<u8, Knowledge, Plan, RowInvariant, Global>;
 
 /// The right to take steps at the table, which `atomic_table` calls a seat.
-pub type Token = atomic_table::Seat<u8, Knowledge>;
+pub type StepToken = atomic_table::Seat<u8, Knowledge>;
 
 /// The load of a fetch.
 pub struct Look;
@@ -108,9 +108,9 @@ impl Play<u8, Knowledge> for Meet {
 }
 
 /// A token's first thread state goes to a new token.
-pub struct Deal;
+pub struct SplitFirst;
 
-impl Split<Knowledge> for Deal {
+impl Split<Knowledge> for SplitFirst {
     ghost use Rattle.idwords.specs.internal.Seating.{first_only, others};
 
     ghost left = { others };
@@ -119,9 +119,9 @@ impl Split<Knowledge> for Deal {
 }
 
 /// All thread states of a token go to a new token.
-pub struct Hand;
+pub struct SplitAll;
 
-impl Split<Knowledge> for Hand {
+impl Split<Knowledge> for SplitAll {
     ghost use Rattle.std.specs.Prelude.{[]};
 
     ghost left = { λ _. [] };
@@ -141,9 +141,9 @@ impl Split<Knowledge> for SplitRest {
 }
 
 /// A token takes over the thread states of another.
-pub struct Unite;
+pub struct JoinAll;
 
-impl Join<Knowledge> for Unite {
+impl Join<Knowledge> for JoinAll {
     ghost use Rattle.std.specs.Prelude.{◌++◌, []};
 
     ghost both = { λ vs ws. vs ++ ws };

@@ -2,7 +2,7 @@
 ghost use Rattle.std.specs.Prelude.{◌≡◌};
 ghost use Rattle.lrup_model.specs.Pass.{pass_caller_view};
 
-use crate::rule::Token;
+use crate::rule::StepToken;
 use std::marker::Model;
 
 /// A stream's right to take steps at the row, and to write into its own room there. It can't be copied, so each stream's steps have one
@@ -10,7 +10,7 @@ use std::marker::Model;
 /// still fit, in literals.
 #[derive(Drop)]
 pub struct Seat {
-    pub(crate) token: Token,
+    pub(crate) token: StepToken,
     pub(crate) top: u64,
     pub(crate) drafted: u64,
     pub(crate) room: u64,

@@ -9,8 +9,8 @@ use Rattle.std.proofs.lemmas.List.{flat_map_more}
 use Rattle.lrup_model.specs.lemmas.ListLemmas.{All-push}
 use Rattle.lrup_text.specs.declared.LineFault.{LineFault}
 use Rattle.lrup_text.specs.declared.LineFault.TheVariants.{Spelling, TooLong, Truncated, RatHint}
-use Rattle.lrup_text.specs.declared.reader.ReaderTurn.{ReaderTurn}
-use Rattle.lrup_text.specs.declared.reader.ReaderTurn.TheVariants.{Line, NeedMore, Fault}
+use Rattle.lrup_text.specs.declared.reader.ReaderStatus.{ReaderStatus}
+use Rattle.lrup_text.specs.declared.reader.ReaderStatus.TheVariants.{Line, NeedMore, Fault}
 use Rattle.lrup_text.specs.internal.ByteNames.{minus}
 use Rattle.lrup_text.specs.Grammar.{standard, IsDigit, SpellsNumber, SpellsLiteral, AreFew, Words, Adds, Deletes, Imports, AreWordsWithin}
 use Rattle.lrup_text.specs.Grammar.{IsLine, text, Begins}
@@ -299,15 +299,16 @@ cut_line stream lines read more line cut text none = record {
   last = none;
 }
 
-cut_call : (stream : List ℕ) (lines : List StreamLine) (old new : ReaderState) (piece : List ℕ) (used : ℕ) (turn : ReaderTurn)
-    → IsCut stream lines old → Feeds old piece used turn → ReaderReaches old piece turn new
-    → IsCut (stream ++ take used piece) (lines ++ line_given turn) new
-cut_call stream lines (Err fault) new piece used turn cut gives reaches =
+cut_call : (stream : List ℕ) (lines : List StreamLine) (old new : ReaderState) (piece : List ℕ) (used : ℕ) (status : ReaderStatus)
+    → IsCut stream lines old → Feeds old piece used status → ReaderReaches old piece status new
+    → IsCut (stream ++ take used piece) (lines ++ line_given status) new
+cut_call stream lines (Err fault) new piece used status cut gives reaches =
     let given : new ≡ Err fault = subst (λ t. ReaderReaches (Err fault) piece t new) gives.1 reaches in
     let nothing : stream ++ take used piece ≡ stream = ap (λ k. stream ++ take k piece) gives.0 ∙ append-nil stream in
-    let no_lines : lines ++ line_given turn ≡ lines = ap (λ t. lines ++ line_given t) gives.1 ∙ append-nil lines in
-    subst (λ x. IsCut (stream ++ take used piece) (lines ++ line_given turn) x) (sym given)
-    (subst (λ x. IsCut x (lines ++ line_given turn) (Err fault)) (sym nothing) (subst (λ x. IsCut stream x (Err fault)) (sym no_lines) cut))
+    let no_lines : lines ++ line_given status ≡ lines = ap (λ t. lines ++ line_given t) gives.1 ∙ append-nil lines in
+    subst (λ x. IsCut (stream ++ take used piece) (lines ++ line_given status) x) (sym given)
+    (subst (λ x. IsCut x (lines ++ line_given status) (Err fault)) (sym nothing)
+    (subst (λ x. IsCut stream x (Err fault)) (sym no_lines) cut))
 cut_call stream lines (Ok read) new piece used (Line line) cut gives reaches =
     subst (λ x. IsCut (stream ++ take used piece) (lines ++ line_of line ∷ []) x) (sym reaches.0)
     (cut_line stream lines read (take used piece) (line_of line) cut gives.2 reaches.1.whole)
@@ -330,9 +331,9 @@ calls_cut stream lines old new [] cut same =
     subst (λ x. IsCut (stream ++ []) (lines ++ []) x) (sym same)
     (subst (λ x. IsCut x (lines ++ []) old) (sym (append-nil stream)) (subst (λ x. IsCut stream x old) (sym (append-nil lines)) cut))
 calls_cut stream lines old new (call ∷ calls) cut h =
-    let next = cut_call stream lines old h.0 call.piece call.used call.turn cut h.1 h.2 in
-    let all = calls_cut (stream ++ take call.used call.piece) (lines ++ line_given call.turn) h.0 new calls next h.3 in
-    subst (λ x. IsCut x (lines ++ (line_given call.turn ++ lines_given calls)) new)
+    let next = cut_call stream lines old h.0 call.piece call.used call.status cut h.1 h.2 in
+    let all = calls_cut (stream ++ take call.used call.piece) (lines ++ line_given call.status) h.0 new calls next h.3 in
+    subst (λ x. IsCut x (lines ++ (line_given call.status ++ lines_given calls)) new)
     (append_assoc stream (take call.used call.piece) (used_bytes calls))
     (subst (λ x. IsCut ((stream ++ take call.used call.piece) ++ used_bytes calls) x new)
-    (append_assoc lines (line_given call.turn) (lines_given calls)) all)
+    (append_assoc lines (line_given call.status) (lines_given calls)) all)

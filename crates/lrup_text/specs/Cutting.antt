@@ -1,7 +1,7 @@
 -- Whole streams: the calls of a reader over pieces, and the lines that the stream is cut into.
 use Rattle.std.specs.Prelude.{◌≡◌, ℕ, List, [], ◌∷◌, ◌++◌, take, Ok, Err}
-use Rattle.lrup_text.specs.declared.reader.ReaderTurn.{ReaderTurn}
-use Rattle.lrup_text.specs.declared.reader.ReaderTurn.TheVariants.{Line, NeedMore, Fault}
+use Rattle.lrup_text.specs.declared.reader.ReaderStatus.{ReaderStatus}
+use Rattle.lrup_text.specs.declared.reader.ReaderStatus.TheVariants.{Line, NeedMore, Fault}
 use Rattle.lrup_text.specs.Faults.{IsRefused}
 use Rattle.lrup_text.specs.Lines.{StreamLine, line_of, Cut}
 use Rattle.lrup_text.specs.Feeding.{ReaderState, Feeds, ReaderReaches}
@@ -10,14 +10,14 @@ use Rattle.lrup_text.specs.Feeding.{ReaderState, Feeds, ReaderReaches}
 pub record Call : Type 0 where
   pub piece : List ℕ
   pub used : ℕ
-  pub turn : ReaderTurn
+  pub status : ReaderStatus
 
 -- calls in order, from one state of the reader to another
 abbrev pub AreCalls : ReaderState → List Call → ReaderState → Type 0
 AreCalls old [] new = new ≡ old
 AreCalls old (call ∷ calls) new =
-    (state : ReaderState) × Feeds old call.piece call.used call.turn
-    × ReaderReaches old call.piece call.turn state × AreCalls state calls new
+    (state : ReaderState) × Feeds old call.piece call.used call.status
+    × ReaderReaches old call.piece call.status state × AreCalls state calls new
 
 -- the bytes that the calls used
 abbrev pub used_bytes : List Call → List ℕ
@@ -25,7 +25,7 @@ used_bytes [] = []
 used_bytes (call ∷ calls) = take call.used call.piece ++ used_bytes calls
 
 -- the line that a call gave
-abbrev pub line_given : ReaderTurn → List StreamLine
+abbrev pub line_given : ReaderStatus → List StreamLine
 line_given (Line line) = line_of line ∷ []
 line_given NeedMore = []
 line_given (Fault fault) = []
@@ -33,7 +33,7 @@ line_given (Fault fault) = []
 -- the lines that the calls gave
 abbrev pub lines_given : List Call → List StreamLine
 lines_given [] = []
-lines_given (call ∷ calls) = line_given call.turn ++ lines_given calls
+lines_given (call ∷ calls) = line_given call.status ++ lines_given calls
 
 -- the stream so far: its lines, and the text read of the next; or, after a fault, a text that begins no line
 abbrev pub IsCut : List ℕ → List StreamLine → ReaderState → Type 0

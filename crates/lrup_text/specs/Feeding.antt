@@ -3,8 +3,8 @@
 use Rattle.std.specs.Prelude.{◌≡◌, ℕ, ◌<◌, ◌≤◌, List, [], ◌++◌, length, take, Result, Ok, Err, IfOk}
 use Rattle.lrup_text.specs.declared.LineFault.{LineFault}
 use Rattle.lrup_text.specs.declared.LineFault.TheVariants.{Truncated}
-use Rattle.lrup_text.specs.declared.reader.ReaderTurn.{ReaderTurn}
-use Rattle.lrup_text.specs.declared.reader.ReaderTurn.TheVariants.{Line, NeedMore, Fault}
+use Rattle.lrup_text.specs.declared.reader.ReaderStatus.{ReaderStatus}
+use Rattle.lrup_text.specs.declared.reader.ReaderStatus.TheVariants.{Line, NeedMore, Fault}
 use Rattle.lrup_text.specs.declared.reader.End.{End}
 use Rattle.lrup_text.specs.declared.reader.End.TheVariants as ends
 use Rattle.lrup_text.specs.Faults.{IsRefused}
@@ -14,8 +14,8 @@ abbrev pub ReaderState : Type 0
 ReaderState = Result (List ℕ) LineFault
 
 -- what a reader gives for a piece, of which it uses so many bytes
-abbrev pub Feeds : ReaderState → List ℕ → ℕ → ReaderTurn → Type 0
-Feeds (Err fault) piece used turn = (used ≡ 0) × (turn ≡ Fault fault)
+abbrev pub Feeds : ReaderState → List ℕ → ℕ → ReaderStatus → Type 0
+Feeds (Err fault) piece used status = (used ≡ 0) × (status ≡ Fault fault)
 Feeds (Ok read) piece used (Line line) =
     (0 < used) × (used ≤ length piece) × LineText (line_of line) (read ++ take used piece)
 Feeds (Ok read) piece used NeedMore = used ≡ length piece
@@ -23,7 +23,7 @@ Feeds (Ok read) piece used (Fault fault) =
     (0 < used) × (used ≤ length piece) × IsRefused (read ++ take used piece) fault
 
 -- what the reader is afterwards
-abbrev pub ReaderReaches : ReaderState → List ℕ → ReaderTurn → ReaderState → Type 0
+abbrev pub ReaderReaches : ReaderState → List ℕ → ReaderStatus → ReaderState → Type 0
 ReaderReaches old piece (Line line) new = (new ≡ Ok []) × IsPending []
 ReaderReaches old piece NeedMore new =
     IfOk old (λ read. (new ≡ Ok (read ++ piece)) × IsPending (read ++ piece))

@@ -4,7 +4,7 @@ use Rattle.lrup_text.specs.declared.LineFault.{LineFault}
 use Rattle.lrup_text.specs.Faults.{IsRefused, HasTextFault}
 use Rattle.lrup_text.specs.Grammar.{IsLine, standard, Begins}
 use Rattle.lrup_text.specs.Lines.{StreamLine, IsWithinLimits, line_text, LineText, HasNoLine, IsPending, Cut}
-use Rattle.lrup_text.specs.declared.reader.ReaderTurn.{ReaderTurn}
+use Rattle.lrup_text.specs.declared.reader.ReaderStatus.{ReaderStatus}
 use Rattle.lrup_text.specs.Feeding.{ReaderState, Feeds, ReaderReaches}
 use Rattle.lrup_text.specs.Cutting.{Call, AreCalls, used_bytes, line_given, lines_given, IsCut}
 
@@ -81,9 +81,9 @@ EmptyCut = IsCut [] [] (Ok [])
 -- a call goes on with the cut, by the line that it gave, if any
 abbrev pub CallCuts : Type 0
 CallCuts = (stream : List ℕ) (lines : List StreamLine) (old new : ReaderState) (piece : List ℕ)
-    (used : ℕ) (turn : ReaderTurn)
-    → IsCut stream lines old → Feeds old piece used turn → ReaderReaches old piece turn new
-    → IsCut (stream ++ take used piece) (lines ++ line_given turn) new
+    (used : ℕ) (status : ReaderStatus)
+    → IsCut stream lines old → Feeds old piece used status → ReaderReaches old piece status new
+    → IsCut (stream ++ take used piece) (lines ++ line_given status) new
 
 -- However a stream comes in pieces, the lines given are those that the bytes used are cut into.
 abbrev pub CallsCut : Type 0

@@ -18,7 +18,7 @@ pub use cube::{CubeFault, read_cube};
 pub use device::{PIECE, ReadFault, Reading, Sink, Source, StreamEnd, WriteFault, Writing};
 pub use machine::MAX_LITERALS;
 use machine::{MAX_IDENTITIES, MAX_NUMBER};
-pub use reader::{End, Fed, LineReader, ReaderTurn};
+pub use reader::{End, Fed, LineReader, ReaderStatus};
 use thiserror::Error;
 pub use writer::{WriteBuffer, write_all, write_line};
 

@@ -14,12 +14,12 @@ pub struct Fed<'a> {
     /// How many bytes of the piece were used.
     pub used: usize,
     /// What they came to.
-    pub turn: ReaderTurn<'a>,
+    pub status: ReaderStatus<'a>,
 }
 
 /// What the bytes used by a call of `feed` came to.
 #[derive(Clone, Copy, Debug, PartialEq, Eq)]
-pub enum ReaderTurn<'a> {
+pub enum ReaderStatus<'a> {
     /// They end a line, which is this one. It is lent until the next call.
     Line(Line<'a>),
     /// All bytes were used, and no line ended.
@@ -74,28 +74,28 @@ impl LineReader {
     /// Takes bytes of a piece: through the LF of a line, through the first byte with which no line can go on, or all of them. It takes no
     /// memory.
     pub fn feed(&mut self, piece: &[u8]) -> Fed<'_>
-        ensures gives { Feeds self.old piece.now result.used result.turn }
+        ensures gives { Feeds self.old piece.now result.used result.status }
         ensures bound { result.used ≤ length piece.now }
-        ensures* reaches { sem 𝓛 (FeedEnds self.entry piece.now result.turn) }
+        ensures* reaches { sem 𝓛 (FeedEnds self.entry piece.now result.status) }
     {
         if let Some(fault) = self.fault {
             return Fed {
                 used: 0,
-                turn: ReaderTurn::Fault(fault),
+                status: ReaderStatus::Fault(fault),
             };
         }
         let taken = self.line.read(piece);
-        let turn = match taken.step {
-            ByteStep::More => ReaderTurn::NeedMore,
-            ByteStep::Done => ReaderTurn::Line(self.line.line()),
+        let status = match taken.step {
+            ByteStep::More => ReaderStatus::NeedMore,
+            ByteStep::Done => ReaderStatus::Line(self.line.line()),
             ByteStep::Refused(fault) => {
                 self.fault = Some(fault);
-                ReaderTurn::Fault(fault)
+                ReaderStatus::Fault(fault)
             }
         };
         Fed {
             used: taken.used,
-            turn,
+            status,
         }
     }
 

@@ -2,7 +2,7 @@
 ghost use Rattle.std.specs.Prelude.{◌≡◌, false, IsTrue};
 
 use lrup_text::{
-    End, Line, LineFault, LineReader, ReaderTurn, Reading, Sink, Source, WriteBuffer, WriteFault,
+    End, Line, LineFault, LineReader, ReaderStatus, Reading, Sink, Source, WriteBuffer, WriteFault,
     Writing, write_all, write_line,
 };
 use std::alloc::{AllocError, Global};
@@ -29,9 +29,9 @@ fn holds(rt: &impl Abort, fact: bool)
 }
 
 /// Feeds a piece: how much of it is used, and what that gives.
-fn feed(rt: &impl Abort, reader: &mut LineReader, piece: &[u8], used: usize, turn: ReaderTurn) {
+fn feed(rt: &impl Abort, reader: &mut LineReader, piece: &[u8], used: usize, status: ReaderStatus) {
     let fed = reader.feed(piece);
-    same(rt, (fed.used, fed.turn), (used, turn));
+    same(rt, (fed.used, fed.status), (used, status));
 }
 
 /// Feeds the bytes in two pieces, cut at a place.
@@ -41,15 +41,15 @@ fn feed_pieces(
     bytes: &[u8],
     cut: usize,
     used: usize,
-    turn: ReaderTurn,
+    status: ReaderStatus,
 ) {
     let (front, rest) = bytes.split_at(cut.min(bytes.len()));
-    if used <= front.len() && turn != ReaderTurn::NeedMore {
-        feed(rt, reader, front, used, turn);
+    if used <= front.len() && status != ReaderStatus::NeedMore {
+        feed(rt, reader, front, used, status);
         return;
     }
-    feed(rt, reader, front, front.len(), ReaderTurn::NeedMore);
-    feed(rt, reader, rest, used.saturating_sub(front.len()), turn);
+    feed(rt, reader, front, front.len(), ReaderStatus::NeedMore);
+    feed(rt, reader, rest, used.saturating_sub(front.len()), status);
 }
 
 /// Feeds the bytes one by one, up to the last one used.
@@ -58,26 +58,26 @@ fn feed_bytes(
     reader: &mut LineReader,
     bytes: &[u8],
     used: usize,
-    turn: ReaderTurn,
+    status: ReaderStatus,
 ) {
     let (front, rest) = bytes.split_at(used.saturating_sub(1).min(bytes.len()));
     for byte in front {
-        feed(rt, reader, &[*byte], 1, ReaderTurn::NeedMore);
+        feed(rt, reader, &[*byte], 1, ReaderStatus::NeedMore);
     }
-    feed(rt, reader, &rest[..rest.len().min(1)], used.min(1), turn);
+    feed(rt, reader, &rest[..rest.len().min(1)], used.min(1), status);
 }
 
 /// How a stream of these bytes ends, after what they gave.
-fn end_after(bytes: &[u8], turn: ReaderTurn) -> End {
-    match turn {
-        ReaderTurn::Fault(fault) => End::Fault(fault),
-        ReaderTurn::NeedMore if !bytes.is_empty() => End::Fault(LineFault::Truncated),
+fn end_after(bytes: &[u8], status: ReaderStatus) -> End {
+    match status {
+        ReaderStatus::Fault(fault) => End::Fault(fault),
+        ReaderStatus::NeedMore if !bytes.is_empty() => End::Fault(LineFault::Truncated),
         _ => End::Clean,
     }
 }
 
 /// A text, how many bytes of it are used, and what these give.
-type Row = (&'static [u8], usize, ReaderTurn<'static>);
+type Row = (&'static [u8], usize, ReaderStatus<'static>);
 
 /// Feeds a new reader the text in two pieces, or else byte by byte, and then the end.
 fn feed_one_way(
@@ -85,15 +85,15 @@ fn feed_one_way(
     alloc: Global,
     text: &[u8],
     used: usize,
-    turn: ReaderTurn,
+    status: ReaderStatus,
     cut: Option<usize>,
 ) -> Result<(), AllocError> {
     let mut reader = LineReader::new(alloc)?;
     match cut {
-        Some(cut) => feed_pieces(rt, &mut reader, text, cut, used, turn),
-        None => feed_bytes(rt, &mut reader, text, used, turn),
+        Some(cut) => feed_pieces(rt, &mut reader, text, cut, used, status),
+        None => feed_bytes(rt, &mut reader, text, used, status),
     }
-    same(rt, reader.end(), end_after(text, turn));
+    same(rt, reader.end(), end_after(text, status));
     Ok(())
 }
 
@@ -103,18 +103,18 @@ fn feed_every_way(
     alloc: Global,
     text: &[u8],
     used: usize,
-    turn: ReaderTurn,
+    status: ReaderStatus,
 ) -> Result<(), AllocError> {
     for cut in 0..=text.len() {
-        feed_one_way(rt, alloc, text, used, turn, Some(cut))?;
+        feed_one_way(rt, alloc, text, used, status, Some(cut))?;
     }
-    feed_one_way(rt, alloc, text, used, turn, None)
+    feed_one_way(rt, alloc, text, used, status, None)
 }
 
 /// Feeds each text in every way.
 fn feed_texts(rt: &impl Abort, alloc: Global, rows: &[Row]) -> Result<(), AllocError> {
-    for &(text, used, turn) in rows {
-        feed_every_way(rt, alloc, text, used, turn)?;
+    for &(text, used, status) in rows {
+        feed_every_way(rt, alloc, text, used, status)?;
     }
     Ok(())
 }
@@ -124,7 +124,7 @@ static LINES: [Row; 7] = [
     (
         b"5 2 0 1 2 0\n",
         12,
-        ReaderTurn::Line(Line::Add {
+        ReaderStatus::Line(Line::Add {
             id: 5,
             lits: &[2],
             hints: &[1, 2],
@@ -133,7 +133,7 @@ static LINES: [Row; 7] = [
     (
         b"5 2 0 1 2 0\n6 0",
         12,
-        ReaderTurn::Line(Line::Add {
+        ReaderStatus::Line(Line::Add {
             id: 5,
             lits: &[2],
             hints: &[1, 2],
@@ -142,7 +142,7 @@ static LINES: [Row; 7] = [
     (
         b"6 0 5 3 4 0\n",
         12,
-        ReaderTurn::Line(Line::Add {
+        ReaderStatus::Line(Line::Add {
             id: 6,
             lits: &[],
             hints: &[5, 3, 4],
@@ -151,12 +151,12 @@ static LINES: [Row; 7] = [
     (
         b"5 d 0\n",
         6,
-        ReaderTurn::Line(Line::Delete { lead: 5, ids: &[] }),
+        ReaderStatus::Line(Line::Delete { lead: 5, ids: &[] }),
     ),
     (
         b"9 d 5 6 0\n",
         10,
-        ReaderTurn::Line(Line::Delete {
+        ReaderStatus::Line(Line::Delete {
             lead: 9,
             ids: &[5, 6],
         }),
@@ -164,7 +164,7 @@ static LINES: [Row; 7] = [
     (
         b"5 2 0 0\n",
         8,
-        ReaderTurn::Line(Line::Add {
+        ReaderStatus::Line(Line::Add {
             id: 5,
             lits: &[2],
             hints: &[],
@@ -173,7 +173,7 @@ static LINES: [Row; 7] = [
     (
         b"999999999999999999 -1 999999999999999999 -999999999999999999 0 10 0\n",
         68,
-        ReaderTurn::Line(Line::Add {
+        ReaderStatus::Line(Line::Add {
             id: 999_999_999_999_999_999,
             lits: &[-1, 999_999_999_999_999_999, -999_999_999_999_999_999],
             hints: &[10],
@@ -188,8 +188,8 @@ fn lines(rt: HostRuntime) -> Result<(), AllocError> {
 
 /// Texts in which no line ends.
 static UNFINISHED: [Row; 2] = [
-    (b"", 0, ReaderTurn::NeedMore),
-    (b"5 2 0", 5, ReaderTurn::NeedMore),
+    (b"", 0, ReaderStatus::NeedMore),
+    (b"5 2 0", 5, ReaderStatus::NeedMore),
 ];
 
 #[test]
@@ -197,11 +197,11 @@ fn unfinished(rt: HostRuntime) -> Result<(), AllocError> {
     feed_texts(&rt, rt.alloc(), &UNFINISHED)
 }
 
-const SPELLING: ReaderTurn = ReaderTurn::Fault(LineFault::Spelling);
+const SPELLING: ReaderStatus = ReaderStatus::Fault(LineFault::Spelling);
 
-const TOO_LONG: ReaderTurn = ReaderTurn::Fault(LineFault::TooLong);
+const TOO_LONG: ReaderStatus = ReaderStatus::Fault(LineFault::TooLong);
 
-const RAT_HINT: ReaderTurn = ReaderTurn::Fault(LineFault::RatHint);
+const RAT_HINT: ReaderStatus = ReaderStatus::Fault(LineFault::RatHint);
 
 /// Texts of no line, where that shows, and why.
 static FAULTY: [Row; 13] = [
@@ -252,10 +252,10 @@ fn feed_long(
     alloc: Global,
     text: &[u8],
     used: usize,
-    turn: ReaderTurn,
+    status: ReaderStatus,
 ) -> Result<(), AllocError> {
     for cut in [Some(0), Some(65_536), None] {
-        feed_one_way(rt, alloc, text, used, turn, cut)?;
+        feed_one_way(rt, alloc, text, used, status, cut)?;
     }
     Ok(())
 }
@@ -265,14 +265,14 @@ type LongRow = (
     (&'static [u8], &'static [u8], &'static [u8]),
     usize,
     usize,
-    ReaderTurn<'static>,
+    ReaderStatus<'static>,
 );
 
 /// Feeds the text of each row.
 fn feed_all_repeated(rt: &impl Abort, alloc: Global, rows: &[LongRow]) -> Result<(), AllocError> {
-    for &(texts, count, used, turn) in rows {
+    for &(texts, count, used, status) in rows {
         let text = repeated(alloc, texts, count)?;
-        feed_long(rt, alloc, &text, used, turn)?;
+        feed_long(rt, alloc, &text, used, status)?;
     }
     Ok(())
 }
@@ -287,7 +287,7 @@ static LONG_LINES: [LongRow; 6] = [
         (b"5 ", b"1 ", b"0 0\n"),
         65_535,
         131_076,
-        ReaderTurn::Line(Line::Add {
+        ReaderStatus::Line(Line::Add {
             id: 5,
             lits: &[1; 65_535],
             hints: &[],
@@ -297,7 +297,7 @@ static LONG_LINES: [LongRow; 6] = [
         (b"5 d", b" 1", b" 0\n"),
         65_536,
         131_078,
-        ReaderTurn::Line(Line::Delete {
+        ReaderStatus::Line(Line::Delete {
             lead: 5,
             ids: &[1; 65_536],
         }),
@@ -310,12 +310,12 @@ fn limits(rt: HostRuntime) -> Result<(), AllocError> {
 }
 
 /// A piece, how much of it is used, what that gives, and, where it is asked for then, how the stream would end.
-type Step = (&'static [u8], usize, ReaderTurn<'static>, Option<End>);
+type Step = (&'static [u8], usize, ReaderStatus<'static>, Option<End>);
 
 /// Feeds a reader these pieces, one after the other.
 fn feed_steps(rt: &impl Abort, reader: &mut LineReader, steps: &[Step]) {
-    for &(piece, used, turn, end) in steps {
-        feed(rt, reader, piece, used, turn);
+    for &(piece, used, status, end) in steps {
+        feed(rt, reader, piece, used, status);
         if let Some(end) = end {
             same(rt, (piece, reader.end()), (piece, end));
         }
@@ -329,13 +329,13 @@ fn feed_new(rt: &impl Abort, alloc: Global, steps: &[Step]) -> Result<(), AllocE
     Ok(())
 }
 
-const FIVE: ReaderTurn = ReaderTurn::Line(Line::Add {
+const FIVE: ReaderStatus = ReaderStatus::Line(Line::Add {
     id: 5,
     lits: &[2],
     hints: &[],
 });
 
-const SIX: ReaderTurn = ReaderTurn::Line(Line::Add {
+const SIX: ReaderStatus = ReaderStatus::Line(Line::Add {
     id: 6,
     lits: &[],
     hints: &[5],
@@ -345,14 +345,14 @@ const TRUNCATED: LineFault = LineFault::Truncated;
 
 /// Two lines and the beginning of a third.
 static TWO_AND_A_PART: [Step; 5] = [
-    (b"", 0, ReaderTurn::NeedMore, Some(End::Clean)),
+    (b"", 0, ReaderStatus::NeedMore, Some(End::Clean)),
     (b"5 2 0 0\n6 0 5 0\n7", 8, FIVE, Some(End::Clean)),
     (b"6 0 5 0\n7", 8, SIX, None),
-    (b"7", 1, ReaderTurn::NeedMore, Some(End::Fault(TRUNCATED))),
+    (b"7", 1, ReaderStatus::NeedMore, Some(End::Fault(TRUNCATED))),
     (
         b"5 2 0 0\n6 0 5 0\n7",
         0,
-        ReaderTurn::Fault(TRUNCATED),
+        ReaderStatus::Fault(TRUNCATED),
         Some(End::Fault(TRUNCATED)),
     ),
 ];
@@ -633,10 +633,10 @@ fn lines_in(rt: &impl Abort, reader: &mut LineReader, piece: &[u8]) -> usize {
     for _ in 0..4 {
         let fed = reader.feed(rest);
         rest = &rest[fed.used..];
-        match fed.turn {
-            ReaderTurn::Line(_) => lines = lines.saturating_add(1),
-            ReaderTurn::NeedMore => {}
-            ReaderTurn::Fault(_) => holds(rt, false),
+        match fed.status {
+            ReaderStatus::Line(_) => lines = lines.saturating_add(1),
+            ReaderStatus::NeedMore => {}
+            ReaderStatus::Fault(_) => holds(rt, false),
         }
     }
     lines

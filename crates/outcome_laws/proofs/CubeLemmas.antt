@@ -12,7 +12,7 @@ use Rattle.stream_check.specs.declared.params.Ownership.TheVariants as ownership
 use Rattle.stream_check.specs.StreamParams.{StreamParams, ownership_of}
 use Rattle.stream_check.specs.StreamContext.{context_of, additions_of}
 use Rattle.stream_check.specs.Verdicts.{LineVerdict, Good, Bad}
-use Rattle.stream_check.specs.Lookup.{AsksAt, LooksUp}
+use Rattle.stream_check.specs.Lookup.{FetchesHintAt, LooksUp}
 use Rattle.stream_check.specs.lemmas.MappingLemmas.{LooksOn, line_maps}
 use Rattle.stream_check.specs.Judging.{JudgesLine, AreGood, report_of, EndsAfter, at_bad_line, at_bad_text, at_memory, at_end}
 use Rattle.stream_check.specs.lemmas.ReportLemmas.{all_only_empty}
@@ -21,18 +21,18 @@ use Rattle.outcome_laws.specs.Laws.{NoCubeJudgesAlike}
 
 -- Lines
 
-asks_bare : (ownership : Ownership) (c : StreamParams) (h : ℕ) (es : History) (r : Reply) → AsksAt ownership c h es r
-    → AsksAt ownership (bare_params c) h es r
+asks_bare : (ownership : Ownership) (c : StreamParams) (h : ℕ) (es : History) (r : Reply) → FetchesHintAt ownership c h es r
+    → FetchesHintAt ownership (bare_params c) h es r
 asks_bare ownerships.Formula c h es r asks = asks
 asks_bare ownerships.Own c h es r asks = asks
 asks_bare ownerships.Foreign c h es r asks = asks
 asks_bare ownerships.Outside c h es r asks = asks
 
-looks_bare : (c : StreamParams) (gone : ℕ → Bool) (h : ℕ) (asked rest : History) (answer : Result Clause Fault)
-    → LooksUp c gone h asked answer
-    → LooksOn (bare_params c) (λ es. es) gone h asked rest answer
-looks_bare c gone h asked rest answer (inl dropped) = record { fewer = asked; events = refl; looks = inl dropped }
-looks_bare c gone h asked rest answer (inr found) = record {
+looks_bare : (c : StreamParams) (is_dropped : ℕ → Bool) (h : ℕ) (asked rest : History) (answer : Result Clause Fault)
+    → LooksUp c is_dropped h asked answer
+    → LooksOn (bare_params c) (λ es. es) is_dropped h asked rest answer
+looks_bare c is_dropped h asked rest answer (inl dropped) = record { fewer = asked; events = refl; looks = inl dropped }
+looks_bare c is_dropped h asked rest answer (inr found) = record {
   fewer = asked;
   events = refl;
   looks = inr (found.0, found.1, asks_bare (ownership_of c h) c h asked found.1 found.2, found.3);
@@ -42,7 +42,7 @@ line_bare : (c : StreamParams) (before : List StreamLine) (line : StreamLine) (e
     → JudgesLine c (context_of c before) line es v → JudgesLine (bare_params c) (context_of (bare_params c) before) line es v
 line_bare c before line es v judged =
     line_maps c [] (λ e. e) refl (λ id lits. refl) (λ id r rest. refl)
-    (λ gone h asked rest answer looks ends. looks_bare c gone h asked rest answer looks) (context_of c before) line es v judged
+    (λ is_dropped h asked rest answer looks ends. looks_bare c is_dropped h asked rest answer looks) (context_of c before) line es v judged
 
 good_bare : (c : StreamParams) (before lines : List StreamLine) (blocks : List History) → AreGood c before lines blocks
     → AreGood (bare_params c) before lines blocks

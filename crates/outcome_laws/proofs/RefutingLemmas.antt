@@ -10,13 +10,13 @@ use Rattle.portfolio.specs.declared.outcome.Verdict.TheVariants.{Unsatisfiable, 
 use Rattle.checkpoint.specs.Checkpoints.{AreCheckpoints, FilesRefute, FilesRefuteUnder, IsCheckpoint, IsUnsatisfiableText}
 use Rattle.checkpoint.specs.Checkpoints.{IsUnsatisfiableTextUnder, last_file}
 use Rattle.checkpoint.specs.declared.saving.SaveFault.{SaveFault}
-use Rattle.stream_check.specs.DroppedValue.{DroppedValue}
+use Rattle.stream_check.specs.DroppedIdsValue.{DroppedIdsValue}
 use Rattle.command.specs.Commands.{Deeds, FilesView, LeavesBehind, SavesCheckpoint, Text, checkpoint_at, layout_at, report_status}
 use Rattle.outcome_laws.specs.Refuting.{AreRuns, IsRunOn, OutcomesRefute, OutcomesRefuteUnder, saved_bytes, written_bytes}
 use Rattle.outcome_laws.proofs.StatusLemmas.{refuted}
 
 -- what was saved is a checkpoint
-module _ (its : Deeds) (f : Cnf) (layout : LayoutValue) (history : History) (dropped : List DroppedValue) where
+module _ (its : Deeds) (f : Cnf) (layout : LayoutValue) (history : History) (dropped : List DroppedIdsValue) where
   is_written : (result : Result (Unit {0}) SaveFault) (first last : its.Output)
       (saves : SavesCheckpoint its f layout history dropped result first last) (saved : List ℕ)
       → written_bytes result first last saves ≡ Some saved → IsCheckpoint f saved

@@ -8,7 +8,7 @@ use Rattle.portfolio.specs.declared.outcome.Verdict.{Verdict}
 use Rattle.portfolio.specs.declared.outcome.Verdict.TheVariants.{Unsatisfiable}
 use Rattle.checkpoint.specs.Checkpoints.{IsUnsatisfiableText, IsUnsatisfiableTextUnder}
 use Rattle.checkpoint.specs.declared.saving.SaveFault.{SaveFault}
-use Rattle.stream_check.specs.DroppedValue.{DroppedValue}
+use Rattle.stream_check.specs.DroppedIdsValue.{DroppedIdsValue}
 use Rattle.command.specs.Commands.{Deeds, EndsWithReport, FilesView, LeavesBehind, SavesCheckpoint, SinkChange, Text, checkpoint_at}
 use Rattle.command.specs.Commands.{layout_at}
 
@@ -23,14 +23,15 @@ pub record IsRunOn (files : FilesView) (bytes : List ℕ) (status : ℕ) : Type 
 
 -- the bytes that were written to a sink, where that succeeded
 abbrev pub written_bytes : {its : Deeds} {formula : Cnf} {layout : LayoutValue} {history : History}
-    {dropped : List DroppedValue} (result : Result (Unit {0}) SaveFault) (first last : its.Output)
+    {dropped : List DroppedIdsValue} (result : Result (Unit {0}) SaveFault)
+    (first last : its.Output)
     → SavesCheckpoint its formula layout history dropped result first last → Option (List ℕ)
 written_bytes (Ok _) first last saves = Some saves.checkpoint.0
 written_bytes (Err fault) first last saves = None
 
 -- the bytes that were saved as a checkpoint, if there is one
 abbrev pub saved_bytes : (its : Deeds) (formula : Cnf) (layout : LayoutValue) (history : History)
-    (dropped : List DroppedValue) (verdict : Verdict) (before : its.State) (path : Option Text)
+    (dropped : List DroppedIdsValue) (verdict : Verdict) (before : its.State) (path : Option Text)
     (unsaved : Option SaveFault) (after : its.State)
     → LeavesBehind its (SavesCheckpoint its formula layout history dropped) verdict before path
     unsaved after → Option (List ℕ)

@@ -24,7 +24,7 @@ use Rattle.stream_check.specs.declared.report.Report.{Report}
 use Rattle.stream_check.specs.Checker.{checker_state}
 use Rattle.stream_check.specs.Judging.{joined}
 use Rattle.stream_check.specs.Reaching.{ReachesState}
-use Rattle.stream_check.specs.DroppedValue.{DroppedValue}
+use Rattle.stream_check.specs.DroppedIdsValue.{DroppedIdsValue}
 use Rattle.stream_check.specs.StreamParams.{StreamParams}
 use Rattle.portfolio.specs.declared.outcome.RunFault.{RunFault}
 use Rattle.portfolio.specs.declared.outcome.RunFault.TheVariants.{Layout, Memory, Ring, Spawn}
@@ -39,7 +39,7 @@ use Rattle.runs.specs.Each.{EachOfThree}
 use Rattle.runs.specs.lemmas.EachLemmas.{each_count, each_take, zip_count}
 use Rattle.runs.specs.lemmas.StreamLemmas.{IsJudgedBy, observed_as_many, observed_count}
 use Rattle.runs.specs.SequentialConsistency.{HaveOneHistory, AreJudgedIn, seen_by}
-use Rattle.stream_threads.specs.Jobs.{JobsValue, FoundValue, CanBegin, Finishes, AllFinish, AreJobs, MissesMark}
+use Rattle.stream_threads.specs.Jobs.{StreamJobsValue, StreamResultValue, CanBegin, Finishes, AllFinish, AreJobs, MissesMark}
 use Rattle.lrup_text.specs.ReadOut.{SourceView}
 use Rattle.runs.specs.Readings.{AreRead, IsStreamOf}
 use Rattle.runs.specs.Streams.{Stream, InputObservation, observations, MatchesInput, JudgesStream, RunParamsValue, stream_params}
@@ -181,7 +181,7 @@ HasCalls f p h s v = (v.caller ≡ record { formula = f; layout = p; stream = s 
 
 module _ {S : Type 0} (view : SourceView S) where
   are_ready : (store : StoreValue) (f : Cnf) (run_params : RunParamsValue) (s : ℕ) (firsts : List S) (ps : List PassValue)
-      (js : List (JobsValue S))
+      (js : List (StreamJobsValue S))
       → AreJobs run_params s firsts ps js → AreOpened store f s ps → HaveReadyJobs store f run_params s firsts js
   are_ready store f run_params s [] [] [] all opened = tt
   are_ready store f run_params s [] [] (j ∷ js) all opened = absurd all
@@ -195,14 +195,14 @@ module _ {S : Type 0} (view : SourceView S) where
 
   -- the same of a run's jobs, at the passes that its store has opened
   pub run_ready : {store : StoreValue} {f : Cnf} {n : ℕ} (run_params : RunParamsValue) (p : LayoutValue) (firsts : List S)
-      (passes : List PassValue) (js : List (JobsValue S)) → n ≡ length passes → n ≡ p.streams
+      (passes : List PassValue) (js : List (StreamJobsValue S)) → n ≡ length passes → n ≡ p.streams
       → ((s : ℕ) (pass : PassValue) → IsStream p s → slice_get passes (s - 1) ≡ Some pass → IsOpened store f s pass)
       → AreJobs run_params 1 firsts passes js → HaveReadyJobs store f run_params 1 firsts js
   run_ready {store = store} {f = f} run_params p firsts passes js are count opened jobs =
       are_ready store f run_params 1 firsts passes js jobs (are_opened store f p passes (sym are ∙ count) opened)
 
   -- the first byte may be taken where nothing was called yet
-  ready_can : (f : Cnf) (run_params : RunParamsValue) (store : StoreValue) (s : ℕ) (first : S) (j : JobsValue S)
+  ready_can : (f : Cnf) (run_params : RunParamsValue) (store : StoreValue) (s : ℕ) (first : S) (j : StreamJobsValue S)
       → Fits run_params.layout f → store.layout ≡ run_params.layout → HasReadyJobs store f run_params s first j → CanBegin store j
   ready_can f run_params store s first j fits same ready =
       let opened = ready.opened in
@@ -226,7 +226,7 @@ module _ {S : Type 0} (view : SourceView S) where
 
   pub all_can_begin : (f : Cnf) (run_params : RunParamsValue) (store : StoreValue) → Fits run_params.layout f
       → store.layout ≡ run_params.layout
-      → (s : ℕ) (firsts : List S) (js : List (JobsValue S)) → HaveReadyJobs store f run_params s firsts js
+      → (s : ℕ) (firsts : List S) (js : List (StreamJobsValue S)) → HaveReadyJobs store f run_params s firsts js
       → AllByRecursion (CanBegin store) js
   all_can_begin f run_params store fits same s [] [] ready = tt
   all_can_begin f run_params store fits same s [] (j ∷ js) ready = absurd ready
@@ -234,41 +234,41 @@ module _ {S : Type 0} (view : SourceView S) where
   all_can_begin f run_params store fits same s (e ∷ es) (j ∷ js) ready =
       (ready_can f run_params store s e j fits same ready.0, all_can_begin f run_params store fits same (s + 1) es js ready.1)
 
-  pub ready_count : (store : StoreValue) (f : Cnf) (run_params : RunParamsValue) (s : ℕ) (firsts : List S) (js : List (JobsValue S))
+  pub ready_count : (store : StoreValue) (f : Cnf) (run_params : RunParamsValue) (s : ℕ) (firsts : List S) (js : List (StreamJobsValue S))
       → HaveReadyJobs store f run_params s firsts js → length js ≡ length firsts
   ready_count store f run_params s firsts js ready = each_count _ s firsts js ready
 
   -- the jobs of the first streams
-  pub ready_take : (store : StoreValue) (f : Cnf) (run_params : RunParamsValue) (s n : ℕ) (firsts : List S) (js : List (JobsValue S))
+  pub ready_take : (store : StoreValue) (f : Cnf) (run_params : RunParamsValue) (s n : ℕ) (firsts : List S) (js : List (StreamJobsValue S))
       → HaveReadyJobs store f run_params s firsts js → HaveReadyJobs store f run_params s (take n firsts) (take n js)
   ready_take store f run_params s n firsts js ready = each_take _ n s firsts js ready
 
   -- ---- what was found, and the passes when all have met
 
-  pub finish_of : (store : StoreValue) (js : List (JobsValue S)) (fs : List (FoundValue S))
+  pub finish_of : (store : StoreValue) (js : List (StreamJobsValue S)) (fs : List (StreamResultValue S))
       → AllByRecursion (CanBegin store) js → AllFinish view js fs → AreOf store (map (λ x. x.pass) fs)
   finish_of store [] [] begin all = tt
   finish_of store [] (x ∷ fs) begin all = absurd all
   finish_of store (j ∷ js) [] begin all = absurd all
   finish_of store (j ∷ js) (x ∷ fs) begin all = (all.0.store ∙ begin.0.here, finish_of store js fs begin.1 all.1)
 
-  pub begin_take : (store : StoreValue) (n : ℕ) (js : List (JobsValue S)) → AllByRecursion (CanBegin store) js
+  pub begin_take : (store : StoreValue) (n : ℕ) (js : List (StreamJobsValue S)) → AllByRecursion (CanBegin store) js
       → AllByRecursion (CanBegin store) (take n js)
   begin_take store zero [] begin = tt
   begin_take store zero (j ∷ js) begin = tt
   begin_take store (suc n) [] begin = tt
   begin_take store (suc n) (j ∷ js) begin = (begin.0, begin_take store n js begin.1)
 
-  pub finish_count : (js : List (JobsValue S)) (fs : List (FoundValue S)) → AllFinish view js fs → length fs ≡ length js
+  pub finish_count : (js : List (StreamJobsValue S)) (fs : List (StreamResultValue S)) → AllFinish view js fs → length fs ≡ length js
   finish_count js fs all = zip_count (Finishes view) js fs all
 
-  synced_count : (fs : List (FoundValue S)) (vs : List View) → AreSynced (views (map (λ x. x.pass) fs)) vs → length vs ≡ length fs
+  synced_count : (fs : List (StreamResultValue S)) (vs : List View) → AreSynced (views (map (λ x. x.pass) fs)) vs → length vs ≡ length fs
   synced_count [] [] synced = refl
   synced_count [] (v ∷ vs) synced = absurd synced
   synced_count (x ∷ fs) [] synced = absurd synced
   synced_count (x ∷ fs) (v ∷ vs) synced = omega (arith, synced_count fs vs synced.2)
 
-  ends : (f : Cnf) (p : LayoutValue) (store : StoreValue) (s : ℕ) (j : JobsValue S) (x : FoundValue S) (v : View)
+  ends : (f : Cnf) (p : LayoutValue) (store : StoreValue) (s : ℕ) (j : StreamJobsValue S) (x : StreamResultValue S) (v : View)
       → store.layout ≡ p → IsOpened store f s j.pass → (fin : Finishes view j x) → PassMoves x.pass.view v [] → IsFair v
       → Ends f p s (joined fin.blocks) v
   ends f p store s j x v same opened fin synced fair = record {
@@ -279,7 +279,7 @@ module _ {S : Type 0} (view : SourceView S) where
   }
 
   have_calls : (f : Cnf) (run_params : RunParamsValue) (store : StoreValue) (h : History) → store.layout ≡ run_params.layout
-      → (s : ℕ) (firsts : List S) (js : List (JobsValue S)) (fs : List (FoundValue S)) (vs : List View)
+      → (s : ℕ) (firsts : List S) (js : List (StreamJobsValue S)) (fs : List (StreamResultValue S)) (vs : List View)
       → HaveReadyJobs store f run_params s firsts js → AllFinish view js fs → AreSynced (views (map (λ x. x.pass) fs)) vs → AllSaw h vs
       → (k : ℕ) (w : View) → slice_get vs k ≡ Some w → HasCalls f run_params.layout h (s + k) w
   have_calls f run_params store h same s [] [] [] [] ready all synced saw k w at = absurd (cc)
@@ -302,7 +302,7 @@ module _ {S : Type 0} (view : SourceView S) where
       (have_calls f run_params store h same (s + 1) es js fs vs ready.1 all.1 synced.2 saw.1 k w at)
 
   have_legal : (f : Cnf) (run_params : RunParamsValue) (store : StoreValue) (h : History) → store.layout ≡ run_params.layout
-      → (s : ℕ) (firsts : List S) (js : List (JobsValue S)) (fs : List (FoundValue S)) (vs : List View)
+      → (s : ℕ) (firsts : List S) (js : List (StreamJobsValue S)) (fs : List (StreamResultValue S)) (vs : List View)
       → HaveReadyJobs store f run_params s firsts js → AllFinish view js fs → AreSynced (views (map (λ x. x.pass) fs)) vs
       → AllSaw h vs → 0 < length js
       → IsLegal f run_params.layout h
@@ -315,8 +315,8 @@ module _ {S : Type 0} (view : SourceView S) where
       (ends f run_params.layout store s j x v same ready.0.opened all.0 synced.0 synced.1) saw.0
 
   -- all passes of a run have one history
-  pub one_history : (f : Cnf) (run_params : RunParamsValue) (store : StoreValue) (firsts : List S) (js : List (JobsValue S))
-      (fs : List (FoundValue S)) (vs : List View)
+  pub one_history : (f : Cnf) (run_params : RunParamsValue) (store : StoreValue) (firsts : List S) (js : List (StreamJobsValue S))
+      (fs : List (StreamResultValue S)) (vs : List View)
       → IsLayout run_params.layout → store.layout ≡ run_params.layout → length js ≡ run_params.layout.streams
       → HaveReadyJobs store f run_params 1 firsts js → AllFinish view js fs → AreSynced (views (map (λ x. x.pass) fs)) vs → ShareHistory vs
       → HaveOneHistory f run_params.layout (seen_by vs) vs
@@ -346,7 +346,8 @@ module _ {S : Type 0} (view : SourceView S) where
 
   -- The streams that match what is observed of the readers, and that their reads gave, by which the reports and the dropped identities
   -- hold.
-  pub record Judged (run_params : RunParamsValue) (s : ℕ) (firsts : List S) (fs : List (FoundValue S)) (vs : List View) : Type 0 where
+  pub record Judged (run_params : RunParamsValue) (s : ℕ) (firsts : List S) (fs : List (StreamResultValue S))
+      (vs : List View) : Type 0 where
     pub streams : List Stream
     pub out : AllByRecursion (λ stream. IsSome stream.end) streams
     pub told : AllZip MatchesInput (observations view firsts (map (λ x. x.reader) fs)) streams
@@ -355,7 +356,7 @@ module _ {S : Type 0} (view : SourceView S) where
     pub dropped : HaveDropped run_params s streams (map (λ x. x.report) fs) (map (λ x. x.dropped.ids) fs)
 
   pub judged_by : (f : Cnf) (run_params : RunParamsValue) (store : StoreValue) → store.layout ≡ run_params.layout
-      → (s : ℕ) (firsts : List S) (js : List (JobsValue S)) (fs : List (FoundValue S)) (vs : List View)
+      → (s : ℕ) (firsts : List S) (js : List (StreamJobsValue S)) (fs : List (StreamResultValue S)) (vs : List View)
       → HaveReadyJobs store f run_params s firsts js → AllFinish view js fs → AreSynced (views (map (λ x. x.pass) fs)) vs
       → Judged run_params s firsts fs vs
   judged_by f run_params store same s [] [] [] [] ready all synced = record {
@@ -393,7 +394,8 @@ module _ {S : Type 0} (view : SourceView S) where
       }
 
   -- By a legal history that has their calls, it is a run as far as these streams go.
-  abbrev first_run : (f : Cnf) (run_params : RunParamsValue) (h : History) (firsts : List S) (fs : List (FoundValue S)) (vs : List View)
+  abbrev first_run : (f : Cnf) (run_params : RunParamsValue) (h : History) (firsts : List S) (fs : List (StreamResultValue S))
+      (vs : List View)
       → (j : Judged run_params 1 firsts fs vs) → IsLegal f run_params.layout h
       → ((k : ℕ) (v : View) → slice_get vs k ≡ Some v → v.mine ≡ own h (1 + k))
       → IsRunOfFirst (length firsts) f run_params (observations view firsts (map (λ x. x.reader) fs)) (map (λ x. x.report) fs)
@@ -408,7 +410,7 @@ module _ {S : Type 0} (view : SourceView S) where
 
   -- Of the first streams alone, whose passes have met: so by the history that they have.
   pub were_judged : (f : Cnf) (run_params : RunParamsValue) (store : StoreValue) → store.layout ≡ run_params.layout
-      → (firsts : List S) (js : List (JobsValue S)) (fs : List (FoundValue S)) (vs : List View)
+      → (firsts : List S) (js : List (StreamJobsValue S)) (fs : List (StreamResultValue S)) (vs : List View)
       → HaveReadyJobs store f run_params 1 firsts js → AllFinish view js fs → AreSynced (views (map (λ x. x.pass) fs)) vs → ShareHistory vs
       → WereJudged view f run_params firsts
   were_judged f run_params store same [] [] [] vs ready all synced one = record {
@@ -442,32 +444,32 @@ module _ {S : Type 0} (view : SourceView S) where
 
   -- ---- the run as a whole
 
-  begun_count : {f : Cnf} {run_params : RunParamsValue} {store : StoreValue} {firsts : List S} {js : List (JobsValue S)}
+  begun_count : {f : Cnf} {run_params : RunParamsValue} {store : StoreValue} {firsts : List S} {js : List (StreamJobsValue S)}
       → IsBegun f run_params store firsts js → length js ≡ run_params.layout.streams
   begun_count begun = ready_count _ _ _ _ _ _ begun.ready ∙ begun.count
 
-  pub can_begin : {f : Cnf} {run_params : RunParamsValue} {store : StoreValue} {firsts : List S} {js : List (JobsValue S)}
+  pub can_begin : {f : Cnf} {run_params : RunParamsValue} {store : StoreValue} {firsts : List S} {js : List (StreamJobsValue S)}
       → IsBegun f run_params store firsts js → AllByRecursion (CanBegin store) js
   can_begin begun = all_can_begin _ _ _ begun.fits begun.store_is _ _ _ begun.ready
 
   -- one of so many jobs is one of the streams
-  pub stream_within : {f : Cnf} {run_params : RunParamsValue} {store : StoreValue} {firsts : List S} {js : List (JobsValue S)}
+  pub stream_within : {f : Cnf} {run_params : RunParamsValue} {store : StoreValue} {firsts : List S} {js : List (StreamJobsValue S)}
       → IsBegun f run_params store firsts js → (s : ℕ) → (0 < s) × (s ≤ length js) → IsStream run_params.layout s
   stream_within begun s within = (omega (arith, within.0), omega (arith, within.1, begun_count begun))
 
-  pub run_history : {f : Cnf} {run_params : RunParamsValue} {store : StoreValue} {firsts : List S} {js : List (JobsValue S)}
+  pub run_history : {f : Cnf} {run_params : RunParamsValue} {store : StoreValue} {firsts : List S} {js : List (StreamJobsValue S)}
       → IsBegun f run_params store firsts js
-      → (vs : List View) (reports : List Report) (lasts : List S) (dropped : List DroppedValue)
+      → (vs : List View) (reports : List Report) (lasts : List S) (dropped : List DroppedIdsValue)
       → AreGathered view js vs reports lasts dropped → HaveOneHistory f run_params.layout (seen_by vs) vs
   run_history {f} {run_params} begun vs reports lasts dropped so =
       one_history f run_params _ _ _ so.found vs begun.is begun.store_is (begun_count begun) begun.ready so.finish so.synced so.one
 
   -- the outcome's lists are those of what was found
-  gathered : (f : Cnf) (run_params : RunParamsValue) (store : StoreValue) (firsts : List S) (js : List (JobsValue S))
+  gathered : (f : Cnf) (run_params : RunParamsValue) (store : StoreValue) (firsts : List S) (js : List (StreamJobsValue S))
       → IsBegun f run_params store firsts js
-      → (vs : List View) (fs : List (FoundValue S)) → AllFinish view js fs → AreSynced (views (map (λ x. x.pass) fs)) vs
+      → (vs : List View) (fs : List (StreamResultValue S)) → AllFinish view js fs → AreSynced (views (map (λ x. x.pass) fs)) vs
       → HaveOneHistory f run_params.layout (seen_by vs) vs
-      → (reports : List Report) (lasts : List S) (dropped : List DroppedValue) → reports ≡ map (λ x. x.report) fs
+      → (reports : List Report) (lasts : List S) (dropped : List DroppedIdsValue) → reports ≡ map (λ x. x.report) fs
       → lasts ≡ map (λ x. x.reader) fs → map (λ d. d.ids) dropped ≡ map (λ x. x.dropped.ids) fs
       → (ran : IsRunOf InThreads view f run_params firsts lasts reports dropped) × (ran.run.history ≡ seen_by vs)
   gathered f run_params store firsts js begun vs fs finish synced one reports lasts dropped reports_are lasts_are dropped_are =
@@ -491,33 +493,34 @@ module _ {S : Type 0} (view : SourceView S) where
         refl,
       )
 
-  pub run_reports : {f : Cnf} {run_params : RunParamsValue} {store : StoreValue} {firsts : List S} {js : List (JobsValue S)}
+  pub run_reports : {f : Cnf} {run_params : RunParamsValue} {store : StoreValue} {firsts : List S} {js : List (StreamJobsValue S)}
       → IsBegun f run_params store firsts js
-      → (vs : List View) (reports : List Report) (lasts : List S) (dropped : List DroppedValue)
+      → (vs : List View) (reports : List Report) (lasts : List S) (dropped : List DroppedIdsValue)
       → AreGathered view js vs reports lasts dropped
       → (ran : IsRunOf InThreads view f run_params firsts lasts reports dropped) × (ran.run.history ≡ seen_by vs)
   run_reports {f} {run_params} {store} {firsts} {js} begun vs reports lasts dropped so =
-      let gone : map (λ (d : DroppedValue). d.ids) dropped ≡ map (λ (x : FoundValue S). x.dropped.ids) so.found =
-      ap (map (λ (d : DroppedValue). d.ids)) so.dropped_are
-      ∙ map-map (λ (d : DroppedValue). d.ids) (λ (x : FoundValue S). x.dropped) so.found in
+      let same_dropped : map (λ (d : DroppedIdsValue). d.ids) dropped ≡ map (λ (x : StreamResultValue S). x.dropped.ids) so.found =
+      ap (map (λ (d : DroppedIdsValue). d.ids)) so.dropped_are
+      ∙ map-map (λ (d : DroppedIdsValue). d.ids) (λ (x : StreamResultValue S). x.dropped) so.found in
       gathered f run_params store firsts js begun vs so.found so.finish so.synced (run_history begun vs reports lasts dropped so)
       reports lasts
-      dropped so.reports_are so.readers_are gone
+      dropped so.reports_are so.readers_are same_dropped
 
   -- the streams before the one that a ring's fault names
-  pub run_before : {f : Cnf} {run_params : RunParamsValue} {store : StoreValue} {firsts : List S} {js : List (JobsValue S)}
+  pub run_before : {f : Cnf} {run_params : RunParamsValue} {store : StoreValue} {firsts : List S} {js : List (StreamJobsValue S)}
       → IsBegun f run_params store firsts js → (n : ℕ) → WereGathered view (take n js)
       → WereJudged view f run_params (take n firsts)
   run_before {f} {run_params} begun n (vs, reports, lasts, dropped, so) =
       were_judged f run_params _ begun.store_is _ _ so.found vs (ready_take _ _ _ _ n _ _ begun.ready) so.finish so.synced so.one
 
   -- whose mark was missed was read out
-  pub read_out_of : (one : Option (JobsValue S)) → IsSomeAnd one (λ j. MissesMark view j.reader)
+  pub read_out_of : (one : Option (StreamJobsValue S)) → IsSomeAnd one (λ j. MissesMark view j.reader)
       → IsSomeAnd one (λ j. WasReadOut view j.reader)
   read_out_of None missed = absurd missed
   read_out_of (Some j) missed = record { last = missed.last; stream = missed.stream; ended = missed.ended; read = missed.read }
 
-  reader_read_out : (f : Cnf) (run_params : RunParamsValue) (store : StoreValue) (s : ℕ) (firsts : List S) (js : List (JobsValue S)) (n : ℕ)
+  reader_read_out : (f : Cnf) (run_params : RunParamsValue) (store : StoreValue) (s : ℕ) (firsts : List S) (js : List (StreamJobsValue S))
+      (n : ℕ)
       → HaveReadyJobs store f run_params s firsts js → IsSomeAnd (slice_get js n) (λ one. WasReadOut view one.reader)
       → IsSomeAnd (slice_get firsts n) (WasReadOut view)
   reader_read_out f run_params store s [] [] n ready read = absurd read
@@ -528,7 +531,7 @@ module _ {S : Type 0} (view : SourceView S) where
       reader_read_out f run_params store (s + 1) es js n ready.1 read
 
   -- and that one's reader was read out
-  pub run_read_out : {f : Cnf} {run_params : RunParamsValue} {store : StoreValue} {firsts : List S} {js : List (JobsValue S)}
+  pub run_read_out : {f : Cnf} {run_params : RunParamsValue} {store : StoreValue} {firsts : List S} {js : List (StreamJobsValue S)}
       → IsBegun f run_params store firsts js → (n : ℕ) → IsSomeAnd (slice_get js n) (λ one. WasReadOut view one.reader)
       → IsSomeAnd (slice_get firsts n) (WasReadOut view)
   run_read_out begun n read = reader_read_out _ _ _ _ _ _ n begun.ready read

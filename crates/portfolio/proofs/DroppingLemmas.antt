@@ -19,13 +19,13 @@ use Rattle.portfolio.specs.Dropping.{AreDroppedBy, HasDropped}
 
 -- where a checker isn't over, all lines were good
 good_drops : (c : StreamParams) (bytes : List ℕ) (blocks : List History) (now : GoingState) (ids : List ℕ) → ReachesGoing c bytes blocks now
-    → ((id : ℕ) → is_among ids id ≡ now.context.gone id) → AreDroppedBy c bytes ids
+    → ((id : ℕ) → is_among ids id ≡ now.context.is_dropped id) → AreDroppedBy c bytes ids
 good_drops c bytes blocks now ids left same =
-    record { lines = left.lines; rest = now.pending; cut = left.cut; are = λ id. same id ∙ left.context.gone id }
+    record { lines = left.lines; rest = now.pending; cut = left.cut; are = λ id. same id ∙ left.context.is_dropped id }
 
 -- so they were where the stream ended in the middle of a line, which dropped nothing
 ended_by : (end : StreamEnd) (rest : List ℕ) (c : StreamParams) (bytes : List ℕ) (blocks : List History) (now : GoingState) (ids : List ℕ)
-    → ReachesGoing c bytes blocks now → ((id : ℕ) → is_among ids id ≡ now.context.gone id)
+    → ReachesGoing c bytes blocks now → ((id : ℕ) → is_among ids id ≡ now.context.is_dropped id)
     → HasDropped c bytes (report_of_tally now.tally (ending_at end rest now.line)) ids
 ended_by stream_ends.Ended [] c bytes blocks now ids left same = good_drops c bytes blocks now ids left same
 ended_by stream_ends.Ended (byte ∷ rest) c bytes blocks now ids left same = record {
@@ -37,7 +37,7 @@ ended_by stream_ends.Ended (byte ∷ rest) c bytes blocks now ids left same = re
   ids = [];
   are_first = inl refl;
   count = ap (λ (r : Report). r.deleted) (left.tally (ending_at stream_ends.Ended (byte ∷ rest) now.line));
-  drops = λ id. same id ∙ left.context.gone id ∙ drops_none c (context_of c left.lines).gone id;
+  drops = λ id. same id ∙ left.context.is_dropped id ∙ drops_none c (context_of c left.lines).is_dropped id;
 }
 ended_by stream_ends.Failed rest c bytes blocks now ids left same = good_drops c bytes blocks now ids left same
 

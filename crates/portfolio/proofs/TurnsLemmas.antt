@@ -21,7 +21,7 @@ use Rattle.stream_check.specs.declared.report.Ending.{Ending}
 use Rattle.stream_check.specs.declared.report.Report.{Report}
 use Rattle.stream_check.specs.StreamParams.{StreamParams}
 use Rattle.stream_check.specs.Judging.{joined}
-use Rattle.stream_check.specs.DroppedValue.{DroppedValue}
+use Rattle.stream_check.specs.DroppedIdsValue.{DroppedIdsValue}
 use Rattle.stream_check.specs.CheckerValue.{Tally, report_of_tally}
 use Rattle.stream_check.specs.Checker.{IsReadyAt}
 use Rattle.stream_check.specs.Laws.{ReadyBeside}
@@ -420,7 +420,7 @@ module _ {S : Type 0} (view : SourceView S) where
 -- the whole run: begun, gone on with, and over
 pub run_ordered : {S : Type 0} (view : SourceView S) (f : Cnf) (run_params : RunParamsValue) (firsts : List S) (m : Plain)
     (ws : List (WorkerValue S)) → length firsts ≡ run_params.layout.streams → SerialInvariant view f run_params firsts 0 m ws
-    → (n : Plain) (reports : List Report) (lasts : List S) (dropped : List DroppedValue) → SerialEnd view m ws n reports lasts dropped
+    → (n : Plain) (reports : List Report) (lasts : List S) (dropped : List DroppedIdsValue) → SerialEnd view m ws n reports lasts dropped
     → (ran : IsRunOf OnOneThread view f run_params firsts lasts reports dropped) × (plain_state n ≡ state f ran.run.history)
 run_ordered {S} view f run_params firsts m ws count begun n reports lasts dropped so =
     let over = ordered_over view f run_params firsts n so.ended reports (so.goes f run_params firsts begun) so.reports_are in

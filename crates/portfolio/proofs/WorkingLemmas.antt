@@ -13,8 +13,8 @@ use Rattle.stream_check.specs.declared.report.Ending.{Ending}
 use Rattle.stream_check.specs.declared.report.Report.{Report}
 use Rattle.stream_check.specs.StreamParams.{StreamParams}
 use Rattle.stream_check.specs.Judging.{ending_at, JudgesBlocks}
-use Rattle.stream_check.specs.declared.progress.CheckTurn.{CheckTurn}
-use Rattle.stream_check.specs.declared.progress.CheckTurn.TheVariants as turns
+use Rattle.stream_check.specs.declared.progress.CheckStatus.{CheckStatus}
+use Rattle.stream_check.specs.declared.progress.CheckStatus.TheVariants as statuses
 use Rattle.stream_check.specs.Reaching.{ReachesState}
 use Rattle.stream_check.specs.CheckerValue.{Tally, report_of_tally, CheckerValue}
 use Rattle.stream_check.specs.Checker.{AreBlocksOf, state_by, checker_state, Extends, EndsBy, Ends, ReportsEnd}
@@ -46,13 +46,13 @@ either_end c bytes blocks report stream_ends.Failed at_end at_failure = at_failu
 
 -- ---- the blocks of a turn
 
-pub turn_blocks : (turn : CheckTurn) (ending : Option Ending) (blocks : List History) → (turn ≡ turns.More → ⊥)
-    → (turn ≡ turns.Over → IsSome ending) → AreBlocksOf turn blocks → AreBlocksOfTurn ending blocks
-turn_blocks turns.Line None blocks ends over are = are
-turn_blocks turns.Line (Some ending) blocks ends over are = omega (arith, are)
-turn_blocks turns.More ending blocks ends over are = absurd (ends refl)
-turn_blocks turns.Over None blocks ends over are = absurd (let none : false ≡ true = over refl in cc)
-turn_blocks turns.Over (Some ending) blocks ends over are = are
+pub turn_blocks : (status : CheckStatus) (ending : Option Ending) (blocks : List History) → (status ≡ statuses.More → ⊥)
+    → (status ≡ statuses.Over → IsSome ending) → AreBlocksOf status blocks → AreBlocksOfTurn ending blocks
+turn_blocks statuses.Line None blocks ends over are = are
+turn_blocks statuses.Line (Some ending) blocks ends over are = omega (arith, are)
+turn_blocks statuses.More ending blocks ends over are = absurd (ends refl)
+turn_blocks statuses.Over None blocks ends over are = absurd (let none : false ≡ true = over refl in cc)
+turn_blocks statuses.Over (Some ending) blocks ends over are = are
 
 -- the end of a stream has none
 pub over_without : (ending : Option Ending) → IsSome ending → AreBlocksOfTurn ending []

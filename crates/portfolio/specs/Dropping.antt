@@ -16,7 +16,7 @@ pub record AreDroppedBy (params : StreamParams) (bytes ids : List ℕ) : Type 0 
   pub lines : List StreamLine
   pub rest : List ℕ
   pub cut : Cut bytes lines rest
-  pub are : (id : ℕ) → is_among ids id ≡ (context_of params lines).gone id
+  pub are : (id : ℕ) → is_among ids id ≡ (context_of params lines).is_dropped id
 
 -- what a stream dropped that ended so
 abbrev pub HasDroppedBy : Ending → StreamParams → List ℕ → Report → List ℕ → Type 0

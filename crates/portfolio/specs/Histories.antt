@@ -4,7 +4,7 @@ use Rattle.std.specs.List.{AllByRecursion}
 use Rattle.lrup_model.specs.Event.{History}
 use Rattle.lrup_model.specs.Formula.{Cnf}
 use Rattle.lrup_text.specs.ReadOut.{SourceView}
-use Rattle.stream_check.specs.DroppedValue.{DroppedValue}
+use Rattle.stream_check.specs.DroppedIdsValue.{DroppedIdsValue}
 use Rattle.stream_check.specs.declared.report.Report.{Report}
 use Rattle.runs.specs.Readings.{AreRead}
 use Rattle.runs.specs.Streams.{Stream, RunParamsValue, events_in, observations}
@@ -37,7 +37,7 @@ way_of false = InThreads
 -- or where one stopped it what was dropped until then.
 pub record IsRunOf {S : Type 0} (Checked : Way) (view : SourceView S) (formula : Cnf)
     (run_params : RunParamsValue) (firsts lasts : List S) (reports : List Report)
-    (dropped : List DroppedValue) : Type 0 where
+    (dropped : List DroppedIdsValue) : Type 0 where
   pub run : IsRun formula run_params (observations view firsts lasts) reports
   pub way : Checked formula run_params run.history run.streams reports
   pub read : AreRead S view.reads firsts lasts run.streams
@@ -46,7 +46,7 @@ pub record IsRunOf {S : Type 0} (Checked : Way) (view : SourceView S) (formula :
 -- It is of a run that was checked in this way, of which this holds.
 abbrev pub IsOfRun : {S : Type 0} → Way → (view : SourceView S) (formula : Cnf)
     (run_params : RunParamsValue) (firsts lasts : List S) (reports : List Report)
-    → List DroppedValue
+    → List DroppedIdsValue
     → (IsRun formula run_params (observations view firsts lasts) reports → Type 0) → Type 0
 IsOfRun Checked view formula run_params firsts lasts reports dropped Holds =
     (ran : IsRunOf Checked view formula run_params firsts lasts reports dropped) × Holds ran.run

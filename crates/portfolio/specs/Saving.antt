@@ -5,7 +5,7 @@ use Rattle.lrup_model.specs.Event.{Reply}
 use Rattle.lrup_model.specs.Formula.{Cnf}
 use Rattle.lrup_model.specs.Layout.{LayoutValue, last_identity}
 use Rattle.lrup_model.specs.State.{State, Answers}
-use Rattle.stream_check.specs.DroppedValue.{DroppedValue}
+use Rattle.stream_check.specs.DroppedIdsValue.{DroppedIdsValue}
 use Rattle.stream_check.specs.StreamContext.{is_among}
 use Rattle.checkpoint.specs.Checkpoints.{Carries, Saves}
 use Rattle.checkpoint.specs.Live.{fetches, wanted_of}
@@ -13,7 +13,7 @@ use Rattle.checkpoint.specs.declared.saving.SaveFault.{SaveFault}
 use Rattle.checkpoint.specs.declared.saving.SaveFault.TheVariants as faults
 
 -- some stream hasn't dropped the identity, or there are no streams
-abbrev pub is_wanted : List DroppedValue → ℕ → Bool
+abbrev pub is_wanted : List DroppedIdsValue → ℕ → Bool
 is_wanted dropped id = length dropped == 0 || list_any (λ d. not (is_among d.ids id)) dropped
 
 -- These replies answered fetches of the identities from 1 on. All were fetched, and what was found live and is wanted was saved,

@@ -5,7 +5,7 @@ ghost use Rattle.portfolio.specs.Outcomes.{verdict_of};
 use clause_store::{Pass, Store};
 use lrup_model::{LayoutFault, PlainMap};
 use std::alloc::AllocError;
-use stream_check::{Dropped, Report};
+use stream_check::{DroppedIds, Report};
 use thiserror::Error;
 
 /// What a run says of its formula, by the reports of all streams.
@@ -84,7 +84,7 @@ pub struct SerialOutcome<R: Drop> {
     /// The readers, as far as they were read, in order.
     pub readers: Vec<R>,
     /// The identities that each stream dropped, in order.
-    pub dropped: Vec<Dropped>,
+    pub dropped: Vec<DroppedIds>,
 }
 
 /// The results of a run with threads.
@@ -101,5 +101,5 @@ pub struct Outcome<R: Drop> {
     /// The readers, as far as they were read, in order.
     pub readers: Vec<R>,
     /// The identities that each stream dropped, in order.
-    pub dropped: Vec<Dropped>,
+    pub dropped: Vec<DroppedIds>,
 }

@@ -17,12 +17,12 @@ use clause_store::{Desk, Pass, Store};
 use lrup_model::{Formula, Id, PlainMap};
 use lrup_text::Sink;
 use std::alloc::Global;
-use stream_check::Dropped;
+use stream_check::DroppedIds;
 
 /// Wants each clause that some stream hasn't dropped; all, if there are no streams.
 #[derive(Drop)]
 struct NotAllDropped<'a> {
-    dropped: &'a [Dropped],
+    dropped: &'a [DroppedIds],
 }
 
 impl Wanted for NotAllDropped<'_> {
@@ -38,7 +38,7 @@ pub fn save_live<W: Sink>(
     alloc: Global,
     store: &Store,
     passes: Vec<Pass>,
-    dropped: &[Dropped],
+    dropped: &[DroppedIds],
     sink: &mut W,
 ) -> Result<(), SaveFault>
     requires of { AreOf store.now passes.items }
@@ -76,7 +76,7 @@ pub fn save_live<W: Sink>(
 pub fn save_plain<W: Sink>(
     alloc: Global,
     map: &mut PlainMap,
-    dropped: &[Dropped],
+    dropped: &[DroppedIds],
     sink: &mut W,
 ) -> Result<(), SaveFault>
     requires fits { Fits map.old.layout (formula_of map.old) }
@@ -105,7 +105,7 @@ pub fn carry_live<W: Sink>(
     alloc: Global,
     store: &Store,
     passes: Vec<Pass>,
-    dropped: &[Dropped],
+    dropped: &[DroppedIds],
     sink: &mut W,
 ) -> Result<Formula, SaveFault>
     requires of { AreOf store.now passes.items }
@@ -142,7 +142,7 @@ pub fn carry_live<W: Sink>(
 pub fn carry_plain<W: Sink>(
     alloc: Global,
     map: &mut PlainMap,
-    dropped: &[Dropped],
+    dropped: &[DroppedIds],
     sink: &mut W,
 ) -> Result<Formula, SaveFault>
     requires fits { Fits map.old.layout (formula_of map.old) }

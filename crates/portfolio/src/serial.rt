@@ -27,7 +27,7 @@ use runs::RunParams;
 use std::alloc::{AllocError, Global};
 use std::sync::Wait;
 use stream_check::laws::ready_beside;
-use stream_check::{Dropped, Gate, Report};
+use stream_check::{DroppedIds, Gate, Report};
 
 /// Checks all streams of a formula on this thread, in turn, stream 1 first: in its turn a stream is read until one line was taken, or the
 /// stream is over. The outcome has a report for each stream, and the verdict of these: whether a stream added the empty clause, or one
@@ -231,7 +231,7 @@ fn outcome_of<R: Source + Drop, G: Gate + Drop>(
     workers: Vec<Worker<R, G>>,
     mut reports: Vec<Report>,
     mut readers: Vec<R>,
-    mut dropped: Vec<Dropped>,
+    mut dropped: Vec<DroppedIds>,
 ) -> SerialOutcome<R>
     requires over { AreOver workers.items }
     requires none { (reports.items ≡ []) × (readers.items ≡ []) × (dropped.items ≡ []) }
@@ -246,10 +246,10 @@ fn outcome_of<R: Source + Drop, G: Gate + Drop>(
     ensures kept { result.map ≡ plain }
 {
     for worker in workers {
-        let (report, reader, gone) = worker.into_parts();
+        let (report, reader, its_dropped) = worker.into_parts();
         reports.push_reserved(report);
         readers.push_reserved(reader);
-        dropped.push_reserved(gone);
+        dropped.push_reserved(its_dropped);
     }
     let verdict = Verdict::of(&reports);
     SerialOutcome {

@@ -28,9 +28,9 @@ use runs::RunParams;
 use std::alloc::{AllocError, Global};
 use std::sync::Wait;
 use std::thread::Threads;
-use stream_check::{Dropped, Gate, Report};
+use stream_check::{DroppedIds, Gate, Report};
 use stream_threads::{
-    Room, StartSignal, StreamJobs, StreamResult, ThreadFault, check_all, jobs_of,
+    StartSignal, StreamJobs, StreamResult, ThreadFault, ThreadLists, check_all, jobs_of,
 };
 
 /// Checks all streams of a formula, with two threads for each: one reads the stream's bytes to the end, and the other checks them, against
@@ -159,13 +159,13 @@ fn check<T: Threads + Wait + Sync, R: Source + Send + Drop, G: Gate + Send + Dro
 {
     let signal = StartSignal::new();
     let Lists {
-        room,
+        thread_lists,
         reports,
         synced,
         readers,
         dropped,
     } = lists_for(alloc, &signal, jobs.len())?;
-    match check_all(threads, &store, jobs, room) {
+    match check_all(threads, &store, jobs, thread_lists) {
         Ok(found) => Ok(outcome_of(store, found, reports, synced, readers, dropped)),
         Err(ThreadFault::Spawn(stream)) => Err(RunFault::Spawn(stream)),
         Err(ThreadFault::Ring(found)) => {
@@ -180,11 +180,11 @@ fn check<T: Threads + Wait + Sync, R: Source + Send + Drop, G: Gate + Send + Dro
 /// Empty lists with room for what a run gathers of its streams, so that gathering takes no memory.
 #[derive(Drop)]
 struct Lists<'a, R: Source + Drop, G: Gate + Drop> {
-    room: Room<'a, R, G>,
+    thread_lists: ThreadLists<'a, R, G>,
     reports: Vec<Report>,
     synced: Vec<Pass>,
     readers: Vec<R>,
-    dropped: Vec<Dropped>,
+    dropped: Vec<DroppedIds>,
 }
 
 /// Lists with room for `count` streams, whose threads wait for this signal.
@@ -193,7 +193,7 @@ fn lists_for<'a, R: Source + Drop, G: Gate + Drop>(
     signal: &'a StartSignal,
     count: usize,
 ) -> Result<Lists<'a, R, G>, AllocError>
-    ensures room { IfOk result (λ lists. lists.room ≡ count) }
+    ensures thread_lists { IfOk result (λ lists. lists.thread_lists ≡ count) }
     ensures reports { IfOk result (λ lists.
         (lists.reports.items ≡ []) × (vec_capacity lists.reports ≡ count)) }
     ensures synced { IfOk result (λ lists.
@@ -204,7 +204,7 @@ fn lists_for<'a, R: Source + Drop, G: Gate + Drop>(
         (lists.dropped.items ≡ []) × (vec_capacity lists.dropped ≡ count)) }
 {
     Ok(Lists {
-        room: Room::new(alloc, signal, count)?,
+        thread_lists: ThreadLists::new(alloc, signal, count)?,
         reports: Vec::with_capacity(alloc, count)?,
         synced: Vec::with_capacity(alloc, count)?,
         readers: Vec::with_capacity(alloc, count)?,
@@ -219,7 +219,7 @@ fn outcome_of<R: Source + Drop>(
     mut reports: Vec<Report>,
     mut passes: Vec<Pass>,
     mut readers: Vec<R>,
-    mut dropped: Vec<Dropped>,
+    mut dropped: Vec<DroppedIds>,
 ) -> Outcome<R>
     requires store { AreOf store (map (λ f. f.pass) found.items) }
     requires none { (reports.items ≡ []) × (passes.items ≡ []) × (readers.items ≡ [])
@@ -242,12 +242,12 @@ fn outcome_of<R: Source + Drop>(
             report,
             reader,
             pass,
-            dropped: gone,
+            dropped: its_dropped,
         } = one;
         reports.push_reserved(report);
         passes.push_reserved(pass);
         readers.push_reserved(reader);
-        dropped.push_reserved(gone);
+        dropped.push_reserved(its_dropped);
     }
     store.meet_all(&mut passes);
     let verdict = Verdict::of(&reports);

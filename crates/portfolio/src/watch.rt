@@ -21,7 +21,7 @@ const INTERVAL: u64 = 10;
 /// fails nothing more is reported.
 // Its methods are cold: a run that isn't watched has a test in their place, and no more.
 #[derive(Drop)]
-struct Teller<C: Clock + Drop, S: Sink + Drop> {
+struct Reporter<C: Clock + Drop, S: Sink + Drop> {
     clock: C,
     sink: S,
     /// How many clauses were published.
@@ -32,11 +32,11 @@ struct Teller<C: Clock + Drop, S: Sink + Drop> {
     asked: Option<Instant>,
 }
 
-impl<C: Clock + Drop, S: Sink + Drop> Teller<C, S> {
+impl<C: Clock + Drop, S: Sink + Drop> Reporter<C, S> {
     /// Makes one that reports on the sink, if there is a sink.
-    fn over(clock: C, sink: Option<S>) -> Option<Teller<C, S>> {
+    fn with_sink(clock: C, sink: Option<S>) -> Option<Reporter<C, S>> {
         let sink = sink?;
-        Some(Teller {
+        Some(Reporter {
             clock,
             sink,
             added: 0,
@@ -56,12 +56,12 @@ impl<C: Clock + Drop, S: Sink + Drop> Teller<C, S> {
     fn count(&mut self, stream: u64) {
         self.added = self.added.saturating_add(1);
         if self.added % PUBLISHES == 0 {
-            self.tell_count(stream);
+            self.report_count(stream);
         }
     }
 
     /// Reports how many clauses the stream has added, if the last such report is at least ten seconds old.
-    fn tell_count(&mut self, stream: u64) {
+    fn report_count(&mut self, stream: u64) {
         let Some(now) = self.now() else {
             return;
         };
@@ -85,12 +85,12 @@ impl<C: Clock + Drop, S: Sink + Drop> Teller<C, S> {
         if attempt == 2 {
             self.asked = self.now();
         } else if attempt % ATTEMPTS == 0 {
-            self.tell_wait(stream, id);
+            self.report_wait(stream, id);
         }
     }
 
     /// Reports that the stream waits for an identity, if it has waited for a second.
-    fn tell_wait(&mut self, stream: u64, id: Id) {
+    fn report_wait(&mut self, stream: u64, id: Id) {
         let (Some(asked), Some(now)) = (self.asked, self.now()) else {
             return;
         };
@@ -106,7 +106,7 @@ impl<C: Clock + Drop, S: Sink + Drop> Teller<C, S> {
     /// Reports that the stream is over, and how it is judged.
     #[cold]
     #[inline(never)]
-    fn tell_over(&mut self, stream: u64, report: &Report) {
+    fn report_over(&mut self, stream: u64, report: &Report) {
         if !self.sink.failed() {
             let _ = write_over(stream, report, &mut self.sink);
         }
@@ -120,7 +120,7 @@ impl<C: Clock + Drop, S: Sink + Drop> Teller<C, S> {
 #[derive(Drop)]
 pub struct Watch<G: Gate + Drop, C: Clock + Drop, S: Sink + Drop> {
     gate: G,
-    teller: Option<Teller<C, S>>,
+    reporter: Option<Reporter<C, S>>,
 }
 
 impl<G: Gate + Drop, C: Clock + Drop, S: Sink + Drop> Watch<G, C, S> {
@@ -128,7 +128,7 @@ impl<G: Gate + Drop, C: Clock + Drop, S: Sink + Drop> Watch<G, C, S> {
     pub fn new(gate: G, clock: C, sink: Option<S>) -> Watch<G, C, S> {
         Watch {
             gate,
-            teller: Teller::over(clock, sink),
+            reporter: Reporter::with_sink(clock, sink),
         }
     }
 }
@@ -137,8 +137,8 @@ impl<G: Gate + Drop, C: Clock + Drop, S: Sink + Drop> Gate for Watch<G, C, S> {
     #[inline]
     fn before_fetch(&mut self, stream: u64, id: Id, attempt: u64) {
         if attempt > 1 {
-            if let Some(teller) = &mut self.teller {
-                teller.note_attempt(stream, id, attempt);
+            if let Some(reporter) = &mut self.reporter {
+                reporter.note_attempt(stream, id, attempt);
             }
         }
         self.gate.before_fetch(stream, id, attempt);
@@ -146,15 +146,15 @@ impl<G: Gate + Drop, C: Clock + Drop, S: Sink + Drop> Gate for Watch<G, C, S> {
 
     #[inline]
     fn after_publish(&mut self, stream: u64, id: Id) {
-        if let Some(teller) = &mut self.teller {
-            teller.count(stream);
+        if let Some(reporter) = &mut self.reporter {
+            reporter.count(stream);
         }
         self.gate.after_publish(stream, id);
     }
 
     fn when_over(&mut self, stream: u64, report: &Report) {
-        if let Some(teller) = &mut self.teller {
-            teller.tell_over(stream, report);
+        if let Some(reporter) = &mut self.reporter {
+            reporter.report_over(stream, report);
         }
         self.gate.when_over(stream, report);
     }
@@ -164,14 +164,14 @@ impl<G: Gate + Drop, C: Clock + Drop, S: Sink + Drop> Gate for Watch<G, C, S> {
 /// does, except for waits: a call before each fetch would cost each hint some instructions.
 #[derive(Drop)]
 pub struct TurnWatch<C: Clock + Drop, S: Sink + Drop> {
-    teller: Option<Teller<C, S>>,
+    reporter: Option<Reporter<C, S>>,
 }
 
 impl<C: Clock + Drop, S: Sink + Drop> TurnWatch<C, S> {
     /// The gate of one stream, before its first line. Without a sink nothing is reported.
     pub fn new(clock: C, sink: Option<S>) -> TurnWatch<C, S> {
         TurnWatch {
-            teller: Teller::over(clock, sink),
+            reporter: Reporter::with_sink(clock, sink),
         }
     }
 }
@@ -182,14 +182,14 @@ impl<C: Clock + Drop, S: Sink + Drop> Gate for TurnWatch<C, S> {
 
     #[inline]
     fn after_publish(&mut self, stream: u64, _id: Id) {
-        if let Some(teller) = &mut self.teller {
-            teller.count(stream);
+        if let Some(reporter) = &mut self.reporter {
+            reporter.count(stream);
         }
     }
 
     fn when_over(&mut self, stream: u64, report: &Report) {
-        if let Some(teller) = &mut self.teller {
-            teller.tell_over(stream, report);
+        if let Some(reporter) = &mut self.reporter {
+            reporter.report_over(stream, report);
         }
     }
 }

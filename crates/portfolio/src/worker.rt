@@ -15,7 +15,7 @@ use runs::RunParams;
 use std::alloc::{AllocError, Global};
 use std::marker::Model;
 use std::sync::Wait;
-use stream_check::{CheckTurn, Checker, Dropped, Gate, Report};
+use stream_check::{CheckStatus, Checker, DroppedIds, Gate, Report};
 
 /// What a run on one thread has of a stream: its reader, its gate and its checker, and a buffer of what was read. The bytes that aren't
 /// checked yet lie in the buffer between `from` and `to`.
@@ -100,7 +100,7 @@ impl<R: Source + Drop, G: Gate + Drop> Worker<R, G> {
                     .when_over(self.checker.stream(), &self.checker.report());
                 return;
             }
-            if self.feed(map) != CheckTurn::More {
+            if self.feed(map) != CheckStatus::More {
                 return;
             }
         }
@@ -138,26 +138,26 @@ impl<R: Source + Drop, G: Gate + Drop> Worker<R, G> {
     }
 
     /// Feeds the checker the bytes that were read, up to the end of a line.
-    fn feed<M: ClauseMap>(&mut self, map: &mut M) -> CheckTurn
+    fn feed<M: ClauseMap>(&mut self, map: &mut M) -> CheckStatus
         requires ready { IsReadyAt self.old.checker (M.caller_view map.old) }
         requires going { self.old.checker.ending ≡ None }
         ensures holds { (blocks : List History) × M.moves map.old map.new (joined blocks)
             × AreBlocksOf result blocks
             × WorkerStep (readers_view R.Source) self.old (M.caller_view map.old).room
             blocks self.new (M.caller_view map.new).room }
-        ensures going { result ≡ CheckTurn.More → self.new.checker.ending ≡ None }
-        ensures over { result ≡ CheckTurn.Over → IsSome self.new.checker.ending }
+        ensures going { result ≡ CheckStatus.More → self.new.checker.ending ≡ None }
+        ensures over { result ≡ CheckStatus.Over → IsSome self.new.checker.ending }
         ensures ready { IsReadyAt self.new.checker (M.caller_view map.new) }
         ensures params { self.new.checker.params ≡ self.old.checker.params }
     {
         let piece = &self.buffer[self.from..self.to];
         let progress = self.checker.feed(map, &mut self.gate, piece);
         self.from += progress.used;
-        progress.turn
+        progress.status
     }
 
     /// The stream's report, its reader, and the identities that it dropped.
-    pub fn into_parts(self) -> (Report, R, Dropped)
+    pub fn into_parts(self) -> (Report, R, DroppedIds)
         requires { IsSome self.checker.ending }
         ensures report { IfSome self.checker.ending (λ ending.
             result.0 ≡ report_of_tally self.checker.tally ending) }

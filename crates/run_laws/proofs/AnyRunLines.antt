@@ -20,7 +20,7 @@ use Rattle.stream_check.specs.declared.params.Ownership.{Ownership}
 use Rattle.stream_check.specs.declared.params.Ownership.TheVariants as ownerships
 use Rattle.stream_check.specs.lemmas.AdditionLemmas.{run-fetches, valid_passes, found_live, no_help, refutes_on}
 use Rattle.stream_check.specs.Additions.{FailsBy, FailsHints, JudgesAddition, published_by}
-use Rattle.stream_check.specs.Lookup.{AsksAt, answer_of, LooksUp, AreFound}
+use Rattle.stream_check.specs.Lookup.{FetchesHintAt, answer_of, LooksUp, AreFound}
 use Rattle.stream_check.specs.internal.Checking.{IsFetch}
 use Rattle.stream_check.specs.Deletions.{IsRetire, DeletesAt, JudgesDeletion}
 use Rattle.stream_check.specs.lemmas.EventLemmas.{found_all, addition_all, import_all}
@@ -73,7 +73,7 @@ vacants_fair c Found m h (suc n) r rest fair = vacants_fair c Found m h n r rest
 
 pub asked_fair : (ownership : Ownership) (c : StreamParams) (Found : ℕ → Clause → Type 0) (m : State) (h : ℕ)
     (asked rest : History) (r : Reply)
-    → ownership_of c h ≡ ownership → AsksAt ownership c h asked r → AreFair c Found m (asked ++ rest) → IsAsked c Found m h r rest
+    → ownership_of c h ≡ ownership → FetchesHintAt ownership c h asked r → AreFair c Found m (asked ++ rest) → IsAsked c Found m h r rest
 asked_fair ownerships.Formula c Found m h asked rest r is asks fair =
     let here = subst (λ (a : History). AreFair c Found m (a ++ rest)) asks fair in record { near = here.0; found = here.1; later = here.2 }
 asked_fair ownerships.Own c Found m h asked rest r is asks fair =
@@ -120,7 +120,7 @@ foreign_agree c Mine Theirs m h rest left d (events.live e) alike is mine theirs
 replies_agree : (ownership : Ownership) (c : StreamParams) (Mine Theirs : ℕ → Clause → Type 0) (m : State) (h : ℕ) (rest left : History)
     (d : Clause)
     (r : Reply) (asked : History)
-    → FindAlike c Mine Theirs → ownership_of c h ≡ ownership → AsksAt ownership c h asked (events.live d)
+    → FindAlike c Mine Theirs → ownership_of c h ≡ ownership → FetchesHintAt ownership c h asked (events.live d)
     → IsAsked c Mine m h (events.live d) rest
     → IsAsked c Theirs m h r left → IsThatOrLacks c Mine h d (answer_of h r)
 replies_agree ownerships.Formula c Mine Theirs m h rest left d r asked alike is asks mine theirs =
@@ -141,15 +141,15 @@ record LooksAlike (c : StreamParams) (Mine Theirs : ℕ → Clause → Type 0) (
   mine : AreFair c Mine m rest
   theirs : AreFair c Theirs m left
 
-looks_agree : (c : StreamParams) (Mine Theirs : ℕ → Clause → Type 0) (m : State) (gone : ℕ → Bool) (h : ℕ)
+looks_agree : (c : StreamParams) (Mine Theirs : ℕ → Clause → Type 0) (m : State) (is_dropped : ℕ → Bool) (h : ℕ)
     (fs asked rest es also left : History)
     (d : Clause) (answer : Result Clause Fault)
     → FindAlike c Mine Theirs → fs ≡ asked ++ rest → es ≡ also ++ left → AreFair c Mine m fs → AreFair c Theirs m es
-    → LooksUp c gone h asked (Ok d) → LooksUp c gone h also answer → LooksAlike c Mine Theirs m h d answer rest left
-looks_agree c Mine Theirs m gone h fs asked rest es also left d answer alike one two mine theirs found (inl dropped) =
-    absurd (true≢false (sym dropped.0 ∙ (found_live c gone h asked d found).0))
-looks_agree c Mine Theirs m gone h fs asked rest es also left d answer alike one two mine theirs found (inr other) =
-    let was = found_live c gone h asked d found in
+    → LooksUp c is_dropped h asked (Ok d) → LooksUp c is_dropped h also answer → LooksAlike c Mine Theirs m h d answer rest left
+looks_agree c Mine Theirs m is_dropped h fs asked rest es also left d answer alike one two mine theirs found (inl dropped) =
+    absurd (true≢false (sym dropped.0 ∙ (found_live c is_dropped h asked d found).0))
+looks_agree c Mine Theirs m is_dropped h fs asked rest es also left d answer alike one two mine theirs found (inr other) =
+    let was = found_live c is_dropped h asked d found in
     let here = asked_fair (ownership_of c h) c Mine m h asked rest (events.live d) refl was.1 (subst (AreFair c Mine m) one mine) in
     let there = asked_fair (ownership_of c h) c Theirs m h also left other.1 refl other.2 (subst (AreFair c Theirs m) two theirs) in
     record {
@@ -172,33 +172,36 @@ fails_not deleted fault es f = let e : Good ≡ Bad deleted fault = f.1 in cc
 lacks_it : (c : StreamParams) (Mine : ℕ → Clause → Type 0) (h : ℕ) (d : Clause) (its fault : Fault) → fault ≡ its → IsLackOf c Mine h d its
     → Lacks c Mine fault
 lacks_it c Mine h d its fault same lack =
-    (h, d, lack.0, lack.1, elim lack.2 [ inl none ↦ inl (same ∙ none) | inr gone ↦ inr (same ∙ gone) ])
+    (h, d, lack.0, lack.1, elim lack.2 [ inl none ↦ inl (same ∙ none) | inr is_dropped ↦ inr (same ∙ is_dropped) ])
 
-by_agrees : (c : StreamParams) (Mine : ℕ → Clause → Type 0) (gone : ℕ → Bool) (n : List ℤ) (d : Clause) (ds : List Clause) (h : ℕ)
+by_agrees : (c : StreamParams) (Mine : ℕ → Clause → Type 0) (is_dropped : ℕ → Bool) (n : List ℤ) (d : Clause) (ds : List Clause) (h : ℕ)
     (hints : List ℕ) (rest : History) (answer : Result Clause Fault) (es : History) (fault : Fault) (A : List ℤ → Type 0)
-    → Refutes n (d ∷ ds) → AreFound c gone hints ds rest
+    → Refutes n (d ∷ ds) → AreFound c is_dropped hints ds rest
     → ((l : ℤ) → Refutes (n ++ neg_ℤ l ∷ []) ds → A (n ++ neg_ℤ l ∷ []) → Lacks c Mine fault)
     → IsThatOrLacks c Mine h d answer → FailsBy answer n h hints es fault A → Lacks c Mine fault
-by_agrees c Mine gone n d ds h hints rest answer es fault A refutes found next (inl that) fails =
+by_agrees c Mine is_dropped n d ds h hints rest answer es fault A refutes found next (inl that) fails =
     elim (subst (λ (x : Result Clause Fault). FailsBy x n h hints es fault A) that fails) [
       | inl unit ↦ next unit.0 (refutes_on n d ds unit.0 refutes unit.1) unit.2
-      | inr misleads ↦ absurd (no_help n d ds c gone h hints rest fault refutes found misleads.1)
+      | inr misleads ↦ absurd (no_help n d ds c is_dropped h hints rest fault refutes found misleads.1)
     ]
-by_agrees c Mine gone n d ds h hints rest answer es fault A refutes found next (inr (its, is, lack)) fails =
+by_agrees c Mine is_dropped n d ds h hints rest answer es fault A refutes found next (inr (its, is, lack)) fails =
     lacks_it c Mine h d its fault (subst (λ (x : Result Clause Fault). FailsBy x n h hints es fault A) is fails).1 lack
 
-hints_agree : (c : StreamParams) (Mine Theirs : ℕ → Clause → Type 0) (m : State) (gone : ℕ → Bool) (n : List ℤ) (hints : List ℕ)
+hints_agree : (c : StreamParams) (Mine Theirs : ℕ → Clause → Type 0) (m : State) (is_dropped : ℕ → Bool) (n : List ℤ) (hints : List ℕ)
     (ds : List Clause) (fetches tail es : History) (fault : Fault)
-    → FindAlike c Mine Theirs → AreFound c gone hints ds fetches → Refutes n ds → AreFair c Mine m (fetches ++ tail) → AreFair c Theirs m es
-    → FailsHints c gone n hints es fault → Lacks c Mine fault
-hints_agree c Mine Theirs m gone n [] [] fetches tail es fault alike found refutes mine theirs fails = absurd refutes
-hints_agree c Mine Theirs m gone n [] (d ∷ ds) fetches tail es fault alike found refutes mine theirs fails = absurd found
-hints_agree c Mine Theirs m gone n (h ∷ hints) [] fetches tail es fault alike found refutes mine theirs fails = absurd found
-hints_agree c Mine Theirs m gone n (h ∷ hints) (d ∷ ds) fetches tail es fault alike found refutes mine theirs fails =
-    let both = looks_agree c Mine Theirs m gone h (fetches ++ tail) found.0 (found.1 ++ tail) es fails.0 fails.1 d fails.3 alike
+    → FindAlike c Mine Theirs → AreFound c is_dropped hints ds fetches → Refutes n ds → AreFair c Mine m (fetches ++ tail)
+    → AreFair c Theirs m es
+    → FailsHints c is_dropped n hints es fault → Lacks c Mine fault
+hints_agree c Mine Theirs m is_dropped n [] [] fetches tail es fault alike found refutes mine theirs fails = absurd refutes
+hints_agree c Mine Theirs m is_dropped n [] (d ∷ ds) fetches tail es fault alike found refutes mine theirs fails = absurd found
+hints_agree c Mine Theirs m is_dropped n (h ∷ hints) [] fetches tail es fault alike found refutes mine theirs fails = absurd found
+hints_agree c Mine Theirs m is_dropped n (h ∷ hints) (d ∷ ds) fetches tail es fault alike found refutes mine theirs fails =
+    let both = looks_agree c Mine Theirs m is_dropped h (fetches ++ tail) found.0 (found.1 ++ tail) es fails.0 fails.1 d fails.3 alike
     (ap (λ (x : History). x ++ tail) found.2 ∙ append_assoc found.0 found.1 tail) fails.2 mine theirs found.3 fails.4 in
-    by_agrees c Mine gone n d ds h hints found.1 fails.3 fails.1 fault (λ p. FailsHints c gone p hints fails.1 fault) refutes found.4
-    (λ l more next. hints_agree c Mine Theirs m gone (n ++ neg_ℤ l ∷ []) hints ds found.1 tail fails.1 fault alike found.4 more both.mine
+    by_agrees c Mine is_dropped n d ds h hints found.1 fails.3 fails.1 fault
+    (λ p. FailsHints c is_dropped p hints fails.1 fault) refutes found.4
+    (λ l more next. hints_agree c Mine Theirs m is_dropped
+    (n ++ neg_ℤ l ∷ []) hints ds found.1 tail fails.1 fault alike found.4 more both.mine
     both.theirs next) both.that fails.5
 
 -- Imports
@@ -212,14 +215,14 @@ import_agrees c Mine Theirs m st id lits fs es deleted fault alike good mine the
     absurd (bad.0 (good.identity, good.other))
 import_agrees c Mine Theirs m st id lits fs es deleted fault alike good mine theirs (none, inr (a, inl bad)) = absurd (bad.0 good.literals)
 import_agrees c Mine Theirs m st id lits fs es deleted fault alike good mine theirs (none, inr (a, inr (b, inl unfound))) =
-    let both = looks_agree c Mine Theirs m st.gone id fs good.named.0 good.named.1 es es [] good.clause (Err fault) alike
+    let both = looks_agree c Mine Theirs m st.is_dropped id fs good.named.0 good.named.1 es es [] good.clause (Err fault) alike
     good.named.2 (sym (append-nil es)) mine theirs good.named.3 unfound in
     elim both.that [
       | inl that ↦ absurd (cc)
       | inr lack ↦ lacks_it c Mine id good.clause lack.0 fault (let is = lack.1 in cc) lack.2
     ]
 import_agrees c Mine Theirs m st id lits fs es deleted fault alike good mine theirs (none, inr (a, inr (b, inr differs))) =
-    let both = looks_agree c Mine Theirs m st.gone id fs good.named.0 good.named.1 es es [] good.clause (Ok differs.0) alike
+    let both = looks_agree c Mine Theirs m st.is_dropped id fs good.named.0 good.named.1 es es [] good.clause (Ok differs.0) alike
     good.named.2 (sym (append-nil es)) mine theirs good.named.3 differs.1 in
     elim both.that [
       | inl that ↦
@@ -231,28 +234,28 @@ import_agrees c Mine Theirs m st id lits fs es deleted fault alike good mine the
 -- Deletions
 
 -- a deletion that is good in the one is good in the other, by the same events
-at_agrees : (ownership : Ownership) (c : StreamParams) (Mine Theirs : ℕ → Clause → Type 0) (m : State) (gone : ℕ → Bool)
+at_agrees : (ownership : Ownership) (c : StreamParams) (Mine Theirs : ℕ → Clause → Type 0) (m : State) (is_dropped : ℕ → Bool)
     (earlier : List ℕ) (id : ℕ)
     (fs es : History) (v : LineVerdict) (A B : History → Type 0)
     → ownership_of c id ≡ ownership
     → ((n : State) (xs ys : History) → A xs → B ys → AreFair c Mine n xs → AreFair c Theirs n ys → (v ≡ Good) × (xs ≡ ys))
     → AreFair c Mine m fs → AreFair c Theirs m es
-    → DeletesAt ownership c gone earlier id fs Good A → DeletesAt ownership c gone earlier id es v B → (v ≡ Good) × (fs ≡ es)
-at_agrees ownerships.Formula c Mine Theirs m gone earlier id fs es v A B is next mine theirs (inl bad) at =
+    → DeletesAt ownership c is_dropped earlier id fs Good A → DeletesAt ownership c is_dropped earlier id es v B → (v ≡ Good) × (fs ≡ es)
+at_agrees ownerships.Formula c Mine Theirs m is_dropped earlier id fs es v A B is next mine theirs (inl bad) at =
     absurd (fails_not (length earlier) (faults.NotLive id) fs bad.1)
-at_agrees ownerships.Formula c Mine Theirs m gone earlier id fs es v A B is next mine theirs (inr good) (inl bad) =
+at_agrees ownerships.Formula c Mine Theirs m is_dropped earlier id fs es v A B is next mine theirs (inr good) (inl bad) =
     absurd (true≢false (sym bad.0 ∙ good.0))
-at_agrees ownerships.Formula c Mine Theirs m gone earlier id fs es v A B is next mine theirs (inr good) (inr also) =
+at_agrees ownerships.Formula c Mine Theirs m is_dropped earlier id fs es v A B is next mine theirs (inr good) (inr also) =
     next m fs es good.1 also.1 mine theirs
-at_agrees ownerships.Foreign c Mine Theirs m gone earlier id fs es v A B is next mine theirs (inl bad) at =
+at_agrees ownerships.Foreign c Mine Theirs m is_dropped earlier id fs es v A B is next mine theirs (inl bad) at =
     absurd (fails_not (length earlier) (faults.NotLive id) fs bad.1)
-at_agrees ownerships.Foreign c Mine Theirs m gone earlier id fs es v A B is next mine theirs (inr good) (inl bad) =
+at_agrees ownerships.Foreign c Mine Theirs m is_dropped earlier id fs es v A B is next mine theirs (inr good) (inl bad) =
     absurd (true≢false (sym bad.0 ∙ good.0))
-at_agrees ownerships.Foreign c Mine Theirs m gone earlier id fs es v A B is next mine theirs (inr good) (inr also) =
+at_agrees ownerships.Foreign c Mine Theirs m is_dropped earlier id fs es v A B is next mine theirs (inr good) (inr also) =
     next m fs es good.1 also.1 mine theirs
-at_agrees ownerships.Outside c Mine Theirs m gone earlier id fs es v A B is next mine theirs bad at =
+at_agrees ownerships.Outside c Mine Theirs m is_dropped earlier id fs es v A B is next mine theirs bad at =
     absurd (fails_not (length earlier) (faults.NotLive id) fs bad)
-at_agrees ownerships.Own c Mine Theirs m gone earlier id fs es v A B is next mine theirs one at =
+at_agrees ownerships.Own c Mine Theirs m is_dropped earlier id fs es v A B is next mine theirs one at =
     let near : IsNear (ownership_of c id) = subst IsNear (sym is) tt in
     let done = events.retire c.stream id retiring.Done in
     elim one.decided [
@@ -268,15 +271,18 @@ at_agrees ownerships.Own c Mine Theirs m gone earlier id fs es v A B is next min
           ]
     ]
 
-pub deletion_agrees : (c : StreamParams) (Mine Theirs : ℕ → Clause → Type 0) (m : State) (gone : ℕ → Bool) (earlier ids : List ℕ)
+pub deletion_agrees : (c : StreamParams) (Mine Theirs : ℕ → Clause → Type 0) (m : State) (is_dropped : ℕ → Bool) (earlier ids : List ℕ)
     (fs es : History) (v : LineVerdict)
-    → AreFair c Mine m fs → AreFair c Theirs m es → JudgesDeletion c gone earlier ids fs Good → JudgesDeletion c gone earlier ids es v
+    → AreFair c Mine m fs → AreFair c Theirs m es → JudgesDeletion c is_dropped earlier ids fs Good
+    → JudgesDeletion c is_dropped earlier ids es v
     → (v ≡ Good) × (fs ≡ es)
-deletion_agrees c Mine Theirs m gone earlier [] fs es v mine theirs one other = (other.1, one.0 ∙ sym other.0)
-deletion_agrees c Mine Theirs m gone earlier (id ∷ ids) fs es v mine theirs one other =
-    at_agrees (ownership_of c id) c Mine Theirs m gone earlier id fs es v
-    (λ rest. JudgesDeletion c gone (earlier ++ id ∷ []) ids rest Good) (λ rest. JudgesDeletion c gone (earlier ++ id ∷ []) ids rest v) refl
-    (λ n xs ys a b fair also. deletion_agrees c Mine Theirs n gone (earlier ++ id ∷ []) ids xs ys v fair also a b) mine theirs one other
+deletion_agrees c Mine Theirs m is_dropped earlier [] fs es v mine theirs one other = (other.1, one.0 ∙ sym other.0)
+deletion_agrees c Mine Theirs m is_dropped earlier (id ∷ ids) fs es v mine theirs one other =
+    at_agrees (ownership_of c id) c Mine Theirs m is_dropped earlier id fs es v
+    (λ rest. JudgesDeletion c is_dropped (earlier ++ id ∷ []) ids rest Good)
+    (λ rest. JudgesDeletion c is_dropped (earlier ++ id ∷ []) ids rest v) refl
+    (λ n xs ys a b fair also. deletion_agrees c Mine Theirs n is_dropped
+    (earlier ++ id ∷ []) ids xs ys v fair also a b) mine theirs one other
 
 -- Lines
 
@@ -286,10 +292,11 @@ pub line_agrees : (c : StreamParams) (Mine Theirs : ℕ → Clause → Type 0) (
     → FindAlike c Mine Theirs → AreFair c Mine m fs → AreFair c Theirs m es → JudgesLine c st line fs Good
     → JudgesLine c st line es (Bad deleted fault) → Lacks c Mine fault
 line_agrees c Mine Theirs m st (Addition id lits hints) fs es deleted fault alike mine theirs (fetches, good, is) other =
-    hints_agree c Mine Theirs m st.gone (distinct lits) hints good.clauses fetches (published_by c id lits ∷ []) es fault alike good.named
+    hints_agree c Mine Theirs m st.is_dropped (distinct lits) hints good.clauses fetches
+    (published_by c id lits ∷ []) es fault alike good.named
     good.shown.1 (subst (AreFair c Mine m) is mine) theirs (valid_passes c st fetches id lits hints es fault _ good other.1)
 line_agrees c Mine Theirs m st (Deletion lead ids) fs es deleted fault alike mine theirs one other =
-    let good = (deletion_agrees c Mine Theirs m st.gone [] ids fs es (Bad deleted fault) mine theirs one other).0 in absurd (cc)
+    let good = (deletion_agrees c Mine Theirs m st.is_dropped [] ids fs es (Bad deleted fault) mine theirs one other).0 in absurd (cc)
 line_agrees c Mine Theirs m st (Import id lits) fs es deleted fault alike mine theirs one other =
     import_agrees c Mine Theirs m st id lits fs es deleted fault alike one mine theirs other
 
@@ -312,7 +319,7 @@ pub good_runs : (c : StreamParams) (st : StreamContext) (m : State) (id : ℕ) (
 good_runs c st m id lits hints es (fetches, good, is) =
     ap (run m) is ∙ run-append m fetches (published_by c id lits ∷ [])
     ∙ ap (λ (n : State). after n (published_by c id lits)) (run-fetches m fetches
-    (found_all c IsFetch (λ h r. tt) st.gone hints good.clauses fetches good.named))
+    (found_all c IsFetch (λ h r. tt) st.is_dropped hints good.clauses fetches good.named))
 
 pub line_reaches : (c : StreamParams) (Mine Theirs : ℕ → Clause → Type 0) (m : State) (st : StreamContext) (line : StreamLine)
     (fs es : History)
@@ -320,7 +327,7 @@ pub line_reaches : (c : StreamParams) (Mine Theirs : ℕ → Clause → Type 0) 
 line_reaches c Mine Theirs m st (Addition id lits hints) fs es mine theirs one other =
     good_runs c st m id lits hints fs one ∙ sym (good_runs c st m id lits hints es other)
 line_reaches c Mine Theirs m st (Deletion lead ids) fs es mine theirs one other =
-    ap (run m) (deletion_agrees c Mine Theirs m st.gone [] ids fs es Good mine theirs one other).1
+    ap (run m) (deletion_agrees c Mine Theirs m st.is_dropped [] ids fs es Good mine theirs one other).1
 line_reaches c Mine Theirs m st (Import id lits) fs es mine theirs one other =
     run-fetches m fs (import_all c IsFetch (λ h r. tt) st id lits fs Good one)
     ∙ sym (run-fetches m es (import_all c IsFetch (λ h r. tt) st id lits es Good other))
@@ -330,9 +337,9 @@ pub good_publishes : (c : StreamParams) (st : StreamContext) (line : StreamLine)
 good_publishes c st (Addition id lits hints) es (fetches, good, is) =
     ap published is ∙ published-append fetches (published_by c id lits ∷ [])
     ∙ ap (λ (x : List (ℕ × Clause)). x ++ published (published_by c id lits ∷ [])) (published-fetches fetches
-    (found_all c IsFetch (λ h r. tt) st.gone hints good.clauses fetches good.named))
+    (found_all c IsFetch (λ h r. tt) st.is_dropped hints good.clauses fetches good.named))
 good_publishes c st (Deletion lead ids) es judged =
-    published-retires es (identities_all c IsRetire st.gone [] ids es Good (all_retire c.stream ids) judged)
+    published-retires es (identities_all c IsRetire st.is_dropped [] ids es Good (all_retire c.stream ids) judged)
 good_publishes c st (Import id lits) es judged = published-fetches es (import_all c IsFetch (λ h r. tt) st id lits es Good judged)
 
 pub bad_publishes : (c : StreamParams) (st : StreamContext) (line : StreamLine) (es : History) (deleted : ℕ) (fault : Fault)
@@ -340,11 +347,12 @@ pub bad_publishes : (c : StreamParams) (st : StreamContext) (line : StreamLine) 
 bad_publishes c st (Addition id lits hints) es deleted fault judged =
     published-fetches es (addition_all c IsFetch (λ h r. tt) id lits (Bad deleted fault) (λ good. absurd (cc)) st hints es judged)
 bad_publishes c st (Deletion lead ids) es deleted fault judged =
-    published-retires es (identities_all c IsRetire st.gone [] ids es (Bad deleted fault) (all_retire c.stream ids) judged)
+    published-retires es (identities_all c IsRetire st.is_dropped [] ids es (Bad deleted fault) (all_retire c.stream ids) judged)
 bad_publishes c st (Import id lits) es deleted fault judged =
     published-fetches es (import_all c IsFetch (λ h r. tt) st id lits es (Bad deleted fault) judged)
 
 -- some identities of a deletion publish nothing
-pub deletes_publish : (c : StreamParams) (gone : ℕ → Bool) (ids : List ℕ) (es : History) → JudgesDeletion c gone [] ids es Good
+pub deletes_publish : (c : StreamParams) (is_dropped : ℕ → Bool) (ids : List ℕ) (es : History) → JudgesDeletion c is_dropped [] ids es Good
     → published es ≡ []
-deletes_publish c gone ids es judged = published-retires es (identities_all c IsRetire gone [] ids es Good (all_retire c.stream ids) judged)
+deletes_publish c is_dropped ids es judged = published-retires es
+    (identities_all c IsRetire is_dropped [] ids es Good (all_retire c.stream ids) judged)

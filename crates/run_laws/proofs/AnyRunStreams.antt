@@ -203,7 +203,7 @@ module _ (c : StreamParams) where
       one_publishes block back is_one (bad_publishes c (context_of c lines) line block deleted fault bad)
   ends_publish lines rest end back report (at_bad_text fault text no_block says) = ap (λ (x : List History). published (joined x)) no_block
   ends_publish lines rest end back report (at_memory lead ids more text fits block is_one earlier stops says) =
-      one_publishes block back is_one (deletes_publish c (context_of c lines).gone earlier block stops.before)
+      one_publishes block back is_one (deletes_publish c (context_of c lines).is_dropped earlier block stops.before)
   ends_publish lines rest end back report (at_end pending no_block says) = ap (λ (x : List History). published (joined x)) no_block
 
   -- a judged stream publishes the additions of its good lines
@@ -268,8 +268,8 @@ module _ (first : OneFirstLine) (refused : RefusedStays) (c : StreamParams) (Min
       → LacksFound c Mine count report
   lacks n count fault report below says (h, d, foreign, was, inl missing) =
       (d, n, h, was, below, foreign, inl (says ∙ ap (λ (x : Fault). endings.Bad n x) missing))
-  lacks n count fault report below says (h, d, foreign, was, inr gone) =
-      (d, n, h, was, below, foreign, inr (says ∙ ap (λ (x : Fault). endings.Bad n x) gone))
+  lacks n count fault report below says (h, d, foreign, was, inr is_dropped) =
+      (d, n, h, was, below, foreign, inr (says ∙ ap (λ (x : Fault). endings.Bad n x) is_dropped))
 
   -- where a whole line is left, the stream didn't come to its end
   at_its_end : (line : StreamLine) (later rest left : List ℕ) (end : StreamEnd) (before : List StreamLine) (n count : ℕ) (report : Report)

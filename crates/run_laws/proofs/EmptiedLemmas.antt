@@ -28,7 +28,12 @@ fresh c = record {
 nothing_judged : FreshLeft → EndJudged → (c : StreamParams) → JudgesStream c empty_stream [] empty_report
 unfolding fresh
 nothing_judged first last c = judged_out c [] [] stream_ends.Ended [] empty_report (last c [] [] (fresh c) stream_ends.Ended (first c
-    (fresh c) (record { tally = refl; context = record { last = refl; free = refl; gone = λ id. refl }; pending = refl; line = refl })))
+    (fresh c) (record {
+      tally = refl;
+      context = record { last = refl; free = refl; is_dropped = λ id. refl };
+      pending = refl;
+      line = refl;
+    })))
 
 others_call : (set : ℕ → Bool) (s : ℕ) (h : History) → set s ≡ false → AllByRecursion (λ e. IsTrue (set (stream_of e))) h
     → AllByRecursion (λ e. stream_of e ≡ s → ⊥) h

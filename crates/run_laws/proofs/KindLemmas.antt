@@ -16,12 +16,12 @@ use Rattle.run_laws.specs.Lines.{RetiresLast}
 use Rattle.run_laws.specs.OrderLaws.{RetiresOnly}
 
 -- what holds of the retires of a deletion's identities holds of its events
-pub identities_all : (c : StreamParams) (P : Event → Type 0) (gone : ℕ → Bool) (earlier ids : List ℕ) (es : History) (v : LineVerdict)
-    → AllByRecursion (λ id. (r : Retired) → P (events.retire c.stream id r)) ids → JudgesDeletion c gone earlier ids es v
+pub identities_all : (c : StreamParams) (P : Event → Type 0) (is_dropped : ℕ → Bool) (earlier ids : List ℕ) (es : History) (v : LineVerdict)
+    → AllByRecursion (λ id. (r : Retired) → P (events.retire c.stream id r)) ids → JudgesDeletion c is_dropped earlier ids es v
     → AllByRecursion P es
-identities_all c P gone earlier ids es v each judged =
+identities_all c P is_dropped earlier ids es v each judged =
     identities_hold c (AllByRecursion P) tt (λ id. (r : Retired) → P (events.retire c.stream id r))
-    (λ id rest retires all. (retires _, all)) (λ id retires. (retires _, tt)) gone earlier ids es v each judged
+    (λ id rest retires all. (retires _, all)) (λ id retires. (retires _, tt)) is_dropped earlier ids es v each judged
 
 -- Retires
 
@@ -45,7 +45,7 @@ line_last c st (Addition id lits hints) es v judged =
 line_last c st (Import id lits) es v judged =
     never_last es (import_all c (λ e. ¬ IsRetire e) (λ h r is. is) st id lits es v judged)
 line_last c st (Deletion lead ids) es v judged =
-    retires_last es (identities_all c IsRetire st.gone [] ids es v (all_retire c.stream ids) judged)
+    retires_last es (identities_all c IsRetire st.is_dropped [] ids es v (all_retire c.stream ids) judged)
 
 all_pass : (p : ℕ → Bool) (s : ℕ) (ids : List ℕ) → AllByRecursion (λ id. IsTrue (p id)) ids
     → AllByRecursion (λ id. (r : Retired) → RetiresOnly p (events.retire s id r)) ids
@@ -60,4 +60,4 @@ line_retires c p st (Addition id lits hints) es v all judged =
 line_retires c p st (Import id lits) es v all judged =
     import_all c (RetiresOnly p) (λ h r. tt) st id lits es v judged
 line_retires c p st (Deletion lead ids) es v all judged =
-    identities_all c (RetiresOnly p) st.gone [] ids es v (all_pass p c.stream ids all) judged
+    identities_all c (RetiresOnly p) st.is_dropped [] ids es v (all_pass p c.stream ids all) judged

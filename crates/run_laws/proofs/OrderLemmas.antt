@@ -206,7 +206,7 @@ lines_in_order f p set h blocks fits legal finds owns lines stays =
     ] in
     let made : HasOrder f p (state f h) (opening f) rest
     = walk f p (state f h) part (members_are p set part members)
-    (settles_among f p inside (state f h) (opening f) h legal.events (λ id gone. gone)
+    (settles_among f p inside (state f h) (opening f) h legal.events (λ id is_dropped. is_dropped)
     (own_each (FindsKept p (state f h)) inside h (λ s member. stays s (streams_are p set s member).1 (streams_are p set s member).0)))
     (opening f) rest is_legal.events
     (record {

@@ -34,24 +34,24 @@ use Rattle.run_laws.proofs.StreamLemmas.{IsJudgedStream, judged_stream, is_insid
 -- What a history leaves retired it retires
 
 gone_back : (m : State) (e : Event) (id : ℕ) → IsRetired (after m e id) → IsRetired (m id) ⊎ IsRetireOf id e
-gone_back m (events.fetch s j r) id gone = inl gone
-gone_back m (events.publish s j c publishing.Done) id gone =
+gone_back m (events.fetch s j r) id is_dropped = inl is_dropped
+gone_back m (events.publish s j c publishing.Done) id is_dropped =
     elim (cases_eq id j) [
-      | inl same ↦ absurd (subst IsRetired (put-same m j (live c) id same) gone)
-      | inr other ↦ inl (subst IsRetired (put-other m j (live c) id other) gone)
+      | inl same ↦ absurd (subst IsRetired (put-same m j (live c) id same) is_dropped)
+      | inr other ↦ inl (subst IsRetired (put-other m j (live c) id other) is_dropped)
     ]
-gone_back m (events.publish s j c publishing.Taken) id gone = inl gone
-gone_back m (events.retire s j retiring.Done) id gone =
+gone_back m (events.publish s j c publishing.Taken) id is_dropped = inl is_dropped
+gone_back m (events.retire s j retiring.Done) id is_dropped =
     elim (cases_eq id j) [
       | inl same ↦ inr (sym same)
-      | inr other ↦ inl (subst IsRetired (put-other m j (retire_slot (m j)) id other) gone)
+      | inr other ↦ inl (subst IsRetired (put-other m j (retire_slot (m j)) id other) is_dropped)
     ]
-gone_back m (events.retire s j retiring.NotLive) id gone = inl gone
+gone_back m (events.retire s j retiring.NotLive) id is_dropped = inl is_dropped
 
 gone_retires : (m : State) (h : History) (id : ℕ) → IsRetired (run m h id) → IsRetired (m id) ⊎ HistoryRetires h id
-gone_retires m [] id gone = inl gone
-gone_retires m (e ∷ h) id gone =
-    elim (gone_retires (after m e) h id gone) [
+gone_retires m [] id is_dropped = inl is_dropped
+gone_retires m (e ∷ h) id is_dropped =
+    elim (gone_retires (after m e) h id is_dropped) [
       | inl before ↦ elim (gone_back m e id before) [
         | inl first ↦ inl first
         | inr here ↦ inr (inl here)
@@ -60,16 +60,17 @@ gone_retires m (e ∷ h) id gone =
     ]
 
 opening_kept : (f : Cnf) (id : ℕ) → IsRetired (opening f id) → ⊥
-opening_kept f id gone =
+opening_kept f id is_dropped =
     elim (cases_Bool (ltb 0 id && leb id (length f.clauses))) [
       | inl formula ↦
-          absurd (subst IsRetired (cond-true (ltb 0 id && leb id (length f.clauses)) (live (clause_at f id)) absent formula) gone)
-      | inr other ↦ absurd (subst IsRetired (cond-false (ltb 0 id && leb id (length f.clauses)) (live (clause_at f id)) absent other) gone)
+          absurd (subst IsRetired (cond-true (ltb 0 id && leb id (length f.clauses)) (live (clause_at f id)) absent formula) is_dropped)
+      | inr other ↦ absurd (subst IsRetired (cond-false (ltb 0 id && leb id (length f.clauses))
+          (live (clause_at f id)) absent other) is_dropped)
     ]
 
 opening_retires : (f : Cnf) (h : History) (id : ℕ) → IsRetired (state f h id) → HistoryRetires h id
-opening_retires f h id gone =
-    elim (gone_retires (opening f) h id gone) [
+opening_retires f h id is_dropped =
+    elim (gone_retires (opening f) h id is_dropped) [
       | inl before ↦ absurd (opening_kept f id before)
       | inr retires ↦ retires
     ]
@@ -95,7 +96,7 @@ pub kept_by_events : KeptByEvents
 kept_by_events f p h legal (events.fetch s id events.vacant) = ((λ kept. tt), (λ kept. tt))
 kept_by_events f p h legal (events.fetch s id (events.live c)) = (
   λ kept other retires. kept other (retires_gone f p (opening f) h id legal.events retires),
-  λ kept other gone. kept other (opening_retires f h id gone),
+  λ kept other is_dropped. kept other (opening_retires f h id is_dropped),
 )
 kept_by_events f p h legal (events.fetch s id events.retired) = ((λ kept. tt), (λ kept. tt))
 kept_by_events f p h legal (events.publish s id c r) = ((λ kept. tt), (λ kept. tt))
@@ -233,9 +234,9 @@ shared_stays cited_fetched deleted_retired f run_params set h streams reports fi
     (cited_fetched (stream_params run_params s) mine.stream.bytes mine.end mine.blocks mine.report my_lines.lines my_lines.rest
     (cites my_lines.lines) mine.judges my_lines.cut (all_named cited_by my_lines.lines)) in
     shared_each p (state f h) s my_lines.lines (is_inside p set)
-    (λ id is_cited inside other gone.
+    (λ id is_cited inside other is_dropped.
     let retires : (t : ℕ) × Owns p t id × HistoryRetires (own h t) id
-    = retirer f p (opening f) h id legal.events (opening_retires f h id gone) in
+    = retirer f p (opening f) h id legal.events (opening_retires f h id is_dropped) in
     let t : ℕ = retires.0 in
     let theirs : IsOwned p t id = owned p t id (omega (arith, is.0, is.1)) retires.1 in
     let also : IsTrue (set t) = inside_owner p set id t inside retires.1 in

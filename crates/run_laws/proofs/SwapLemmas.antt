@@ -165,13 +165,13 @@ alive_some (retired c) alive is = absurd alive
 fetch-after : (p : LayoutValue) (final m : State) (s id t j : ℕ) (r : Reply)
     → (s ≡ t → ⊥) → Owns p s id → IsRetired (final id) → Settles p final (events.fetch t j r)
     → IsLive (m id) → Answers m (events.fetch t j r) → Answers (after m (events.retire s id retiring.Done)) (events.fetch t j r)
-fetch-after p final m s id t j events.vacant other owns gone settles alive answers =
+fetch-after p final m s id t j events.vacant other owns is_dropped settles alive answers =
     put-other m id (retire_slot (m id)) j (λ same. alive_some (m id) alive (subst (λ (i : ℕ). m i ≡ absent) same answers)) ∙ answers
-fetch-after p final m s id t j (events.live c) other owns gone settles alive answers =
+fetch-after p final m s id t j (events.live c) other owns is_dropped settles alive answers =
     put-other m id (retire_slot (m id)) j (λ same. settles
     (λ theirs. other (one_owner p s t id owns (subst (λ (i : ℕ). Owns p t i) same theirs)))
-    (subst (λ (i : ℕ). IsRetired (final i)) (sym same) gone)) ∙ answers
-fetch-after p final m s id t j events.retired other owns gone settles alive answers =
+    (subst (λ (i : ℕ). IsRetired (final i)) (sym same) is_dropped)) ∙ answers
+fetch-after p final m s id t j events.retired other owns is_dropped settles alive answers =
     gone_stays (m j) (after m (events.retire s id retiring.Done) j) (after-advances m (events.retire s id retiring.Done) j alive) answers
 
 after-retire : (f : Cnf) (p : LayoutValue) (final m : State) (e d : Event)

@@ -101,7 +101,7 @@ module _ (taken : GoodLineTaken) (f : Cnf) (run_params : RunParamsValue)
     reaches = taken (stream_params run_params step.stream) track.bytes (line_text step.line) track.blocks g.block track.going
         (next_going (stream_params run_params step.stream) track.going step.line) step.line on.reaches
         (limits, ap (λ (p : List ℕ). p ++ line_text step.line) on.pending) g.judged
-        (record { tally = refl; context = record { last = refl; free = refl; gone = λ id. refl }; pending = refl; line = refl });
+        (record { tally = refl; context = record { last = refl; free = refl; is_dropped = λ id. refl }; pending = refl; line = refl });
   }
 
   -- and any other
@@ -452,7 +452,7 @@ module _ (taken : GoodLineTaken) (fresh : FreshLeft) (ends : EndJudged)
         pending = refl;
         agrees = first_agrees f (stream_params run_params t) cnf fits;
         reaches = fresh (stream_params run_params t) (first t).going
-            (record { tally = refl; context = record { last = refl; free = refl; gone = λ id. refl }; pending = refl; line = refl });
+            (record { tally = refl; context = record { last = refl; free = refl; is_dropped = λ id. refl }; pending = refl; line = refl });
       }) in (
         all.order,
         record {

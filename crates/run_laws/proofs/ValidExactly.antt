@@ -28,7 +28,7 @@ use Rattle.stream_check.specs.Additions.{IsValidAddition, published_by, JudgesAd
 use Rattle.stream_check.specs.Laws.{cited_by, OverStays}
 use Rattle.stream_check.specs.internal.Checking.{IsFetch}
 use Rattle.stream_check.specs.Judging.{JudgesLine, AreGood, joined}
-use Rattle.stream_check.specs.Lookup.{AsksAt, Asks, AreFound}
+use Rattle.stream_check.specs.Lookup.{FetchesHintAt, FetchesHint, AreFound}
 use Rattle.stream_check.specs.Deletions.{DeletesAt, JudgesDeletion}
 use Rattle.stream_check.specs.Imports.{IsValidImport, JudgesImport}
 use Rattle.stream_check.specs.Reaching.{SameContext, context_after}
@@ -81,9 +81,9 @@ formula_or_own c id near = by_ownership c id (owner c.layout id) refl near
 pub record Mirrors (f : Cnf) (c : StreamParams) (base : Database) (st : StreamContext) (m : State) : Type 0 where
   pub last : st.last ≡ base.last
   pub free : st.free ≡ base.free
-  pub there : (id : ℕ) (d : Clause) → IsNear (ownership_of c id) → m id ≡ live d → st.gone id ≡ false → base.clauses id ≡ Some d
+  pub there : (id : ℕ) (d : Clause) → IsNear (ownership_of c id) → m id ≡ live d → st.is_dropped id ≡ false → base.clauses id ≡ Some d
   pub formulas : (id : ℕ) → owner c.layout id ≡ owners.Formula → m id ≡ live (clause_at f id)
-  pub own : (id : ℕ) → Owns c.layout c.stream id → st.gone id ≡ false
+  pub own : (id : ℕ) → Owns c.layout c.stream id → st.is_dropped id ≡ false
 
 -- the line cites no clause of another stream
 abbrev CitesNear : StreamParams → StreamLine → Type 0
@@ -95,22 +95,22 @@ DeletesNear c line = AllByRecursion (IsOwnedWithin c.layout (one c.stream)) (del
 
 -- Additions
 
-not_outside : (c : StreamParams) (h : ℕ) (asked : History) (d : Clause) → Asks c h asked (events.live d)
+not_outside : (c : StreamParams) (h : ℕ) (asked : History) (d : Clause) → FetchesHint c h asked (events.live d)
     → ownership_of c h ≡ ownerships.Outside → ⊥
 not_outside c h asked d asks is =
-    let at : AsksAt ownerships.Outside c h asked (events.live d) = subst
-    (λ (ownership : Ownership). AsksAt ownership c h asked (events.live d)) is asks in
+    let at : FetchesHintAt ownerships.Outside c h asked (events.live d) = subst
+    (λ (ownership : Ownership). FetchesHintAt ownership c h asked (events.live d)) is asks in
     let no : events.live d ≡ events.vacant = at.1 in cc
 
 found_named : (f : Cnf) (c : StreamParams) (Found : ℕ → Clause → Type 0) (m : State) (base : Database) (st : StreamContext) (hints : List ℕ)
     (ds : List Clause) (fetches tail : History)
-    → Mirrors f c base st m → AllByRecursion (IsOwnedWithin c.layout (one c.stream)) hints → AreFound c st.gone hints ds fetches
+    → Mirrors f c base st m → AllByRecursion (IsOwnedWithin c.layout (one c.stream)) hints → AreFound c st.is_dropped hints ds fetches
     → AreFair c Found m (fetches ++ tail) → AllZip (λ h d. base.clauses h ≡ Some d) hints ds
 found_named f c Found m base st [] [] fetches tail a within found fair = tt
 found_named f c Found m base st [] (d ∷ ds) fetches tail a within found fair = absurd found
 found_named f c Found m base st (h ∷ hints) [] fetches tail a within found fair = absurd found
 found_named f c Found m base st (h ∷ hints) (d ∷ ds) fetches tail a within found fair =
-    let was = found_live c st.gone h found.0 d found.3 in
+    let was = found_live c st.is_dropped h found.0 d found.3 in
     let cut : fetches ++ tail ≡ found.0 ++ (found.1 ++ tail) =
     ap (λ (x : History). x ++ tail) found.2 ∙ append_assoc found.0 found.1 tail in
     let here : IsAsked c Found m h (events.live d) (found.1 ++ tail) =
@@ -137,15 +137,15 @@ valid_addition f c Found m base st id lits hints es a within (fetches, good, is)
 
 -- the parts of what is gone one line further
 was_kept : (c : StreamParams) (st next : StreamContext) (line : StreamLine) (j : ℕ) → SameContext (context_after c st line) next
-    → next.gone j ≡ false → (st.gone j ≡ false) × ((is_shared (ownership_of c j) && is_among (deleted_by line) j) ≡ false)
+    → next.is_dropped j ≡ false → (st.is_dropped j ≡ false) × ((is_shared (ownership_of c j) && is_among (deleted_by line) j) ≡ false)
 was_kept c st next line j same kept =
-    not_or (st.gone j) (is_shared (ownership_of c j) && is_among (deleted_by line) j) (same.gone j ∙ kept)
+    not_or (st.is_dropped j) (is_shared (ownership_of c j) && is_among (deleted_by line) j) (same.is_dropped j ∙ kept)
 
 own_kept : (c : StreamParams) (st next : StreamContext) (line : StreamLine) (j : ℕ) → SameContext (context_after c st line) next
-    → Owns c.layout c.stream j → st.gone j ≡ false → next.gone j ≡ false
+    → Owns c.layout c.stream j → st.is_dropped j ≡ false → next.is_dropped j ≡ false
 own_kept c st next line j same owns kept =
-    sym (same.gone j)
-    ∙ or_none (st.gone j) (is_shared (ownership_of c j) && is_among (deleted_by line) j) kept
+    sym (same.is_dropped j)
+    ∙ or_none (st.is_dropped j) (is_shared (ownership_of c j) && is_among (deleted_by line) j) kept
     (ap (λ (ownership : Ownership). is_shared ownership && is_among (deleted_by line) j) (own_ownership c j owns))
 
 pub addition_mirrors : (f : Cnf) (c : StreamParams) (m : State) (base : Database) (before : List StreamLine) (id : ℕ) (lits : List ℤ)
@@ -180,13 +180,13 @@ addition_mirrors f c m base before id lits hints es a judged =
 
 -- the identity can go: an own one is live, and one of the formula isn't gone
 abbrev CanGo : StreamParams → (ℕ → Bool) → List ℕ → State → ℕ → Type 0
-CanGo c gone earlier m id =
+CanGo c is_dropped earlier m id =
     ((ownership_of c id ≡ ownerships.Own) × IsLive (m id))
-    ⊎ ((ownership_of c id ≡ ownerships.Formula) × ((gone id || is_among earlier id) ≡ false))
+    ⊎ ((ownership_of c id ≡ ownerships.Formula) × ((is_dropped id || is_among earlier id) ≡ false))
 
 -- what a good deletion of near identities says of them
-record HasGone (c : StreamParams) (gone : ℕ → Bool) (earlier ids : List ℕ) (m after_it : State) : Type 0 where
-  can : AllByRecursion (CanGo c gone earlier m) ids
+record HasGone (c : StreamParams) (is_dropped : ℕ → Bool) (earlier ids : List ℕ) (m after_it : State) : Type 0 where
+  can : AllByRecursion (CanGo c is_dropped earlier m) ids
   once : AreDistinct ids
   apart : (j : ℕ) → is_among ids j ≡ false → after_it j ≡ m j
   formulas : (j : ℕ) → ownership_of c j ≡ ownerships.Formula → after_it j ≡ m j
@@ -205,58 +205,58 @@ among_last (i ∷ earlier) id = elim (cases_Bool (i == id)) [
 ]
 
 -- none of the others is this one, if this one can't go any more
-none_same : (c : StreamParams) (gone : ℕ → Bool) (earlier ids : List ℕ) (n : State) (id : ℕ) → ¬ CanGo c gone earlier n id
-    → AllByRecursion (CanGo c gone earlier n) ids → is_among ids id ≡ false
-none_same c gone earlier [] n id cannot can = refl
-none_same c gone earlier (j ∷ ids) n id cannot can =
+none_same : (c : StreamParams) (is_dropped : ℕ → Bool) (earlier ids : List ℕ) (n : State) (id : ℕ) → ¬ CanGo c is_dropped earlier n id
+    → AllByRecursion (CanGo c is_dropped earlier n) ids → is_among ids id ≡ false
+none_same c is_dropped earlier [] n id cannot can = refl
+none_same c is_dropped earlier (j ∷ ids) n id cannot can =
     or_none (j == id) (is_among ids id)
-    (ne_eqb j id (λ same. cannot (subst (CanGo c gone earlier n) same can.0)))
-    (none_same c gone earlier ids n id cannot can.1)
+    (ne_eqb j id (λ same. cannot (subst (CanGo c is_dropped earlier n) same can.0)))
+    (none_same c is_dropped earlier ids n id cannot can.1)
 
 -- what holds of the others before this one
-others_can : (c : StreamParams) (gone : ℕ → Bool) (earlier ids : List ℕ) (id : ℕ) (m n : State) → is_among ids id ≡ false
-    → ((j : ℕ) → j ≢ id → n j ≡ m j) → AllByRecursion (CanGo c gone (earlier ++ id ∷ []) n) ids
-    → AllByRecursion (CanGo c gone earlier m) ids
-others_can c gone earlier [] id m n none same can = tt
-others_can c gone earlier (j ∷ ids) id m n none same can =
+others_can : (c : StreamParams) (is_dropped : ℕ → Bool) (earlier ids : List ℕ) (id : ℕ) (m n : State) → is_among ids id ≡ false
+    → ((j : ℕ) → j ≢ id → n j ≡ m j) → AllByRecursion (CanGo c is_dropped (earlier ++ id ∷ []) n) ids
+    → AllByRecursion (CanGo c is_dropped earlier m) ids
+others_can c is_dropped earlier [] id m n none same can = tt
+others_can c is_dropped earlier (j ∷ ids) id m n none same can =
     let parts = not_or (j == id) (is_among ids id) none in (
       elim can.0 [
         | inl own ↦ inl (own.0, subst IsLive (same j (not_same j id parts.0)) own.1)
         | inr formula ↦
-            let kept = not_or (gone j) (is_among (earlier ++ id ∷ []) j) formula.1 in
+            let kept = not_or (is_dropped j) (is_among (earlier ++ id ∷ []) j) formula.1 in
             let new = not_or (is_among earlier j) (is_among (id ∷ []) j) (sym (list_any-append (λ i. i == j) earlier (id ∷ [])) ∙ kept.1) in
-            inr (formula.0, or_none (gone j) (is_among earlier j) kept.0 new.0)
+            inr (formula.0, or_none (is_dropped j) (is_among earlier j) kept.0 new.0)
       ],
-      others_can c gone earlier ids id m n parts.1 same can.1,
+      others_can c is_dropped earlier ids id m n parts.1 same can.1,
     )
 
 ownerships_differ : (a b : Ownership) (c : StreamParams) (id : ℕ) → ownership_of c id ≡ a → ownership_of c id ≡ b → a ≡ b
 ownerships_differ a b c id is also = sym is ∙ also
 
-gone_at : (ownership : Ownership) (c : StreamParams) (Found : ℕ → Clause → Type 0) (gone : ℕ → Bool) (earlier ids : List ℕ) (id : ℕ)
+gone_at : (ownership : Ownership) (c : StreamParams) (Found : ℕ → Clause → Type 0) (is_dropped : ℕ → Bool) (earlier ids : List ℕ) (id : ℕ)
     (m : State) (es : History)
     → ownership_of c id ≡ ownership → IsNear ownership ⊎ (ownership ≡ ownerships.Outside)
-    → ((n : State) (rest : History) → AreFair c Found n rest → JudgesDeletion c gone (earlier ++ id ∷ []) ids rest Good
-    → HasGone c gone (earlier ++ id ∷ []) ids n (run n rest))
+    → ((n : State) (rest : History) → AreFair c Found n rest → JudgesDeletion c is_dropped (earlier ++ id ∷ []) ids rest Good
+    → HasGone c is_dropped (earlier ++ id ∷ []) ids n (run n rest))
     → AreFair c Found m es
-    → DeletesAt ownership c gone earlier id es Good (λ rest. JudgesDeletion c gone (earlier ++ id ∷ []) ids rest Good)
-    → HasGone c gone earlier (id ∷ ids) m (run m es)
-gone_at ownerships.Foreign c Found gone earlier ids id m es is (inl near) next fair at = absurd near
-gone_at ownerships.Foreign c Found gone earlier ids id m es is (inr out) next fair at =
+    → DeletesAt ownership c is_dropped earlier id es Good (λ rest. JudgesDeletion c is_dropped (earlier ++ id ∷ []) ids rest Good)
+    → HasGone c is_dropped earlier (id ∷ ids) m (run m es)
+gone_at ownerships.Foreign c Found is_dropped earlier ids id m es is (inl near) next fair at = absurd near
+gone_at ownerships.Foreign c Found is_dropped earlier ids id m es is (inr out) next fair at =
     absurd (let no : ownerships.Foreign ≡ ownerships.Outside = out in cc)
-gone_at ownerships.Outside c Found gone earlier ids id m es is near next fair at =
+gone_at ownerships.Outside c Found is_dropped earlier ids id m es is near next fair at =
     absurd (fails_not (length earlier) (faults.NotLive id) es at)
-gone_at ownerships.Formula c Found gone earlier ids id m es is near next fair (inl bad) =
+gone_at ownerships.Formula c Found is_dropped earlier ids id m es is near next fair (inl bad) =
     absurd (fails_not (length earlier) (faults.NotLive id) es bad.1)
-gone_at ownerships.Formula c Found gone earlier ids id m es is near next fair (inr good) =
-    let rest : HasGone c gone (earlier ++ id ∷ []) ids m (run m es) = next m es fair good.1 in
-    let none : is_among ids id ≡ false = none_same c gone (earlier ++ id ∷ []) ids m id
+gone_at ownerships.Formula c Found is_dropped earlier ids id m es is near next fair (inr good) =
+    let rest : HasGone c is_dropped (earlier ++ id ∷ []) ids m (run m es) = next m es fair good.1 in
+    let none : is_among ids id ≡ false = none_same c is_dropped (earlier ++ id ∷ []) ids m id
     (λ can. elim can [
       | inl own ↦ let no : ownerships.Formula ≡ ownerships.Own = ownerships_differ ownerships.Formula ownerships.Own c id is own.0 in cc
-      | inr formula ↦ true≢false (sym (or_right (gone id) (is_among (earlier ++ id ∷ []) id) (among_last earlier id)) ∙ formula.1)
+      | inr formula ↦ true≢false (sym (or_right (is_dropped id) (is_among (earlier ++ id ∷ []) id) (among_last earlier id)) ∙ formula.1)
     ]) rest.can in
     record {
-      can = (inr (is, good.0), others_can c gone earlier ids id m m none (λ j other. refl) rest.can);
+      can = (inr (is, good.0), others_can c is_dropped earlier ids id m m none (λ j other. refl) rest.can);
       once = (none, rest.once);
       apart = λ j out. rest.apart j (not_or (id == j) (is_among ids j) out).1;
       formulas = rest.formulas;
@@ -265,7 +265,7 @@ gone_at ownerships.Formula c Found gone earlier ids id m es is near next fair (i
         | inr other ↦ rest.dead j own (sym (ap (λ (b : Bool). b || is_among ids j) (ne_eqb id j other)) ∙ among)
       ];
     }
-gone_at ownerships.Own c Found gone earlier ids id m es is near next fair at =
+gone_at ownerships.Own c Found is_dropped earlier ids id m es is near next fair at =
     let done = events.retire c.stream id retiring.Done in
     let n : State = put m id (retire_slot (m id)) in
     elim at.decided [
@@ -274,17 +274,17 @@ gone_at ownerships.Own c Found gone earlier ids id m es is near next fair at =
           let here : AreFair c Found m (done ∷ at.rest) = subst (AreFair c Found m) good.0 fair in
           let alive : IsLive (m id) = here.0 (subst IsNear (sym is) tt) in
           let gone_then : n id ≡ retire_slot (m id) = put-same m id (retire_slot (m id)) id refl in
-          let rest : HasGone c gone (earlier ++ id ∷ []) ids n (run n at.rest) = next n at.rest here.2 good.1 in
-          let none : is_among ids id ≡ false = none_same c gone (earlier ++ id ∷ []) ids n id
+          let rest : HasGone c is_dropped (earlier ++ id ∷ []) ids n (run n at.rest) = next n at.rest here.2 good.1 in
+          let none : is_among ids id ≡ false = none_same c is_dropped (earlier ++ id ∷ []) ids n id
           (λ can. elim can [
             | inl own ↦ retired_is_dead (m id) (subst IsLive gone_then own.1)
             | inr formula ↦ let no : ownerships.Own
                 ≡ ownerships.Formula = ownerships_differ ownerships.Own ownerships.Formula c id is formula.0 in cc
           ]) rest.can in
-          subst (λ (x : History). HasGone c gone earlier (id ∷ ids) m (run m x)) (sym good.0) (record {
+          subst (λ (x : History). HasGone c is_dropped earlier (id ∷ ids) m (run m x)) (sym good.0) (record {
             can = (
               inl (is, alive),
-              others_can c gone earlier ids id m n none (λ j other. put-other m id (retire_slot (m id)) j other) rest.can,
+              others_can c is_dropped earlier ids id m n none (λ j other. put-other m id (retire_slot (m id)) j other) rest.can,
             );
             once = (none, rest.once);
             apart = λ j out.
@@ -303,20 +303,20 @@ gone_at ownerships.Own c Found gone earlier ids id m es is near next fair at =
           })
     ]
 
-has_gone : (c : StreamParams) (Found : ℕ → Clause → Type 0) (gone : ℕ → Bool) (earlier ids : List ℕ) (m : State) (es : History)
+has_gone : (c : StreamParams) (Found : ℕ → Clause → Type 0) (is_dropped : ℕ → Bool) (earlier ids : List ℕ) (m : State) (es : History)
     → AllByRecursion (λ id. IsNear (ownership_of c id) ⊎ (ownership_of c id ≡ ownerships.Outside)) ids → AreFair c Found m es
-    → JudgesDeletion c gone earlier ids es Good → HasGone c gone earlier ids m (run m es)
-has_gone c Found gone earlier [] m es near fair judged =
-    subst (λ (x : History). HasGone c gone earlier [] m (run m x)) (sym judged.0) (record {
+    → JudgesDeletion c is_dropped earlier ids es Good → HasGone c is_dropped earlier ids m (run m es)
+has_gone c Found is_dropped earlier [] m es near fair judged =
+    subst (λ (x : History). HasGone c is_dropped earlier [] m (run m x)) (sym judged.0) (record {
       can = tt;
       once = tt;
       apart = λ j out. refl;
       formulas = λ j is. refl;
       dead = λ j own among. absurd (true≢false (sym among));
     })
-has_gone c Found gone earlier (id ∷ ids) m es near fair judged =
-    gone_at (ownership_of c id) c Found gone earlier ids id m es refl near.0
-    (λ n rest also good. has_gone c Found gone (earlier ++ id ∷ []) ids n rest near.1 also good) fair judged
+has_gone c Found is_dropped earlier (id ∷ ids) m es near fair judged =
+    gone_at (ownership_of c id) c Found is_dropped earlier ids id m es refl near.0
+    (λ n rest also good. has_gone c Found is_dropped (earlier ++ id ∷ []) ids n rest near.1 also good) fair judged
 
 near_one : (c : StreamParams) (id : ℕ) (ownership : Ownership) → ownership_of c id ≡ ownership → IsOwnedWithin c.layout (one c.stream) id
     → IsNear (ownership_of c id) ⊎ (ownership_of c id ≡ ownerships.Outside)
@@ -341,7 +341,7 @@ has_clause None x is = absurd (let no : None ≡ Some x = is in cc)
 has_clause (Some y) x is = refl
 
 all_have : (f : Cnf) (c : StreamParams) (m : State) (base : Database) (st : StreamContext) (ids : List ℕ) → Mirrors f c base st m
-    → AllByRecursion (CanGo c st.gone [] m) ids → AllByRecursion (λ id. IsSome (base.clauses id)) ids
+    → AllByRecursion (CanGo c st.is_dropped [] m) ids → AllByRecursion (λ id. IsSome (base.clauses id)) ids
 all_have f c m base st [] a can = tt
 all_have f c m base st (id ∷ ids) a can = (
   elim can.0 [
@@ -360,7 +360,7 @@ all_have f c m base st (id ∷ ids) a can = (
           | inr owns ↦ absurd (let no : ownerships.Own ≡ ownerships.Formula = sym (own_ownership c id owns) ∙ formula.0 in cc)
         ] in
         has_clause (base.clauses id) (clause_at f id)
-        (a.there id (clause_at f id) near (a.formulas id its) (not_or (st.gone id) false formula.1).0)
+        (a.there id (clause_at f id) near (a.formulas id its) (not_or (st.is_dropped id) false formula.1).0)
   ],
   all_have f c m base st ids a can.1,
 )
@@ -368,10 +368,10 @@ all_have f c m base st (id ∷ ids) a can = (
 pub valid_deletion : (f : Cnf) (c : StreamParams) (Found : ℕ → Clause → Type 0) (m : State) (base : Database) (st : StreamContext)
     (ids : List ℕ) (es : History)
     → Mirrors f c base st m → AllByRecursion (IsOwnedWithin c.layout (one c.stream)) ids → AreFair c Found m es
-    → JudgesDeletion c st.gone [] ids es Good → IsValidDeletion base ids
+    → JudgesDeletion c st.is_dropped [] ids es Good → IsValidDeletion base ids
 valid_deletion f c Found m base st ids es a within fair judged =
-    let gone = has_gone c Found st.gone [] ids m es (near_all c ids within) fair judged in
-    record { there = all_have f c m base st ids a gone.can; once = gone.once }
+    let is_dropped = has_gone c Found st.is_dropped [] ids m es (near_all c ids within) fair judged in
+    record { there = all_have f c m base st ids a is_dropped.can; once = is_dropped.once }
 
 -- what is shared and deleted is gone
 kept_apart : (ownership : Ownership) (among : Bool) → ownership ≡ ownerships.Formula → (is_shared ownership && among) ≡ false
@@ -381,14 +381,14 @@ kept_apart ownership among is kept = sym (ap (λ (x : Ownership). is_shared x &&
 pub deletion_mirrors : (f : Cnf) (c : StreamParams) (Found : ℕ → Clause → Type 0) (m : State) (base : Database) (before : List StreamLine)
     (lead : ℕ) (ids : List ℕ) (es : History)
     → Mirrors f c base (context_of c before) m → AllByRecursion (IsOwnedWithin c.layout (one c.stream)) ids → AreFair c Found m es
-    → JudgesDeletion c (context_of c before).gone [] ids es Good
+    → JudgesDeletion c (context_of c before).is_dropped [] ids es Good
     → Mirrors f c (after_line base (Deletion lead ids)) (context_of c (before ++ Deletion lead ids ∷ [])) (run m es)
 deletion_mirrors f c Found m base before lead ids es a within fair judged =
     let line = Deletion lead ids in
     let st = context_of c before in
     let next = context_of c (before ++ line ∷ []) in
     let context = context_of-snoc c before line es judged in
-    let gone = has_gone c Found (context_of c before).gone [] ids m es (near_all c ids within) fair judged in
+    let is_dropped = has_gone c Found (context_of c before).is_dropped [] ids m es (near_all c ids within) fair judged in
     record {
       last = sym context.last ∙ a.last;
       free = omega (arith, context.free, a.free);
@@ -397,12 +397,12 @@ deletion_mirrors f c Found m base before lead ids es a within fair judged =
           let out : is_among ids j ≡ false = elim (formula_or_own c j near) [
             | inl formula ↦ kept_apart (ownership_of c j) (is_among ids j) (formulas_ownership c j formula) parts.1
             | inr owns ↦ elim (cases_Bool (is_among ids j)) [
-              | inl among ↦ absurd (gone.dead j (own_ownership c j owns) among (subst IsLive (sym is) tt))
+              | inl among ↦ absurd (is_dropped.dead j (own_ownership c j owns) among (subst IsLive (sym is) tt))
               | inr out ↦ out
             ]
           ] in
-          cond-false (is_among ids j) None (base.clauses j) out ∙ a.there j d near (sym (gone.apart j out) ∙ is) parts.0;
-      formulas = λ j is. gone.formulas j (formulas_ownership c j is) ∙ a.formulas j is;
+          cond-false (is_among ids j) None (base.clauses j) out ∙ a.there j d near (sym (is_dropped.apart j out) ∙ is) parts.0;
+      formulas = λ j is. is_dropped.formulas j (formulas_ownership c j is) ∙ a.formulas j is;
       own = λ j owns. own_kept c st next line j context owns (a.own j owns);
     }
 

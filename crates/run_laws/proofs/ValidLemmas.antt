@@ -122,7 +122,7 @@ lines_go taken f c fits some (line ∷ lines) base m bytes blocks old pending a 
     let left : ReachesState c (bytes ++ line_text line) (blocks ++ goes.block ∷ []) (Going new) =
     taken c bytes (line_text line) blocks goes.block old new line reaches
     (limits.0, ap (λ (p : List ℕ). p ++ line_text line) pending) goes.judged
-    (record { tally = refl; context = record { last = refl; free = refl; gone = λ id. refl }; pending = refl; line = refl }) in
+    (record { tally = refl; context = record { last = refl; free = refl; is_dropped = λ id. refl }; pending = refl; line = refl }) in
     let rest : LinesGo f c (after_line base line) (run m goes.block) (bytes ++ line_text line) (blocks ++ goes.block ∷ []) lines =
     lines_go taken f c fits some lines (after_line base line) (run m goes.block) (bytes ++ line_text line)
     (blocks ++ goes.block ∷ []) new
@@ -220,7 +220,7 @@ module _ (taken : GoodLineTaken) (fresh : FreshLeft) (ends : EndJudged)
       } in
       let left : ReachesState c [] [] (Going first) = fresh c first (record {
         tally = refl;
-        context = record { last = refl; free = refl; gone = λ id. refl };
+        context = record { last = refl; free = refl; is_dropped = λ id. refl };
         pending = refl;
         line = refl;
       }) in

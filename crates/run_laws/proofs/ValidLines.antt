@@ -29,7 +29,7 @@ use Rattle.stream_check.specs.declared.params.Ownership.{Ownership}
 use Rattle.stream_check.specs.declared.params.Ownership.TheVariants as ownerships
 use Rattle.stream_check.specs.lemmas.AdditionLemmas.{literals_within}
 use Rattle.stream_check.specs.Additions.{IsValidAddition, published_by}
-use Rattle.stream_check.specs.Lookup.{AsksAt, Asks, AreFound}
+use Rattle.stream_check.specs.Lookup.{FetchesHintAt, FetchesHint, AreFound}
 use Rattle.stream_check.specs.Deletions.{DeletesAt, DropsThen, JudgesDeletion}
 use Rattle.stream_check.specs.Imports.{IsValidImport}
 use Rattle.stream_check.specs.Judging.{JudgesLine}
@@ -83,11 +83,11 @@ pub record Agrees (f : Cnf) (p : LayoutValue) (s : ℕ) (base : Database) (st : 
   pub last : st.last ≡ base.last
   pub free : st.free ≡ base.free
   pub there : (id : ℕ) (d : Clause) → base.clauses id ≡ Some d → m id ≡ live d
-  pub kept : (id : ℕ) (d : Clause) → base.clauses id ≡ Some d → st.gone id ≡ false
+  pub kept : (id : ℕ) (d : Clause) → base.clauses id ≡ Some d → st.is_dropped id ≡ false
   pub known : (id : ℕ) (d : Clause) → base.clauses id ≡ Some d → IsOneOf p id
   pub sound : (id : ℕ) (d : Clause) → base.clauses id ≡ Some d → IsClause f.vars d × Follows f d
-  pub own : (id : ℕ) → Owns p s id → st.gone id ≡ false
-  pub unseen : (id : ℕ) → m id ≡ absent → st.gone id ≡ false
+  pub own : (id : ℕ) → Owns p s id → st.is_dropped id ≡ false
+  pub unseen : (id : ℕ) → m id ≡ absent → st.is_dropped id ≡ false
   pub vacant : AreVacantAbove p s m base.last
 
 -- the line is judged good by this block, which is legal there, and takes no more room than the line does
@@ -104,9 +104,9 @@ pub record Goes (f : Cnf) (c : StreamParams) (base : Database) (st : StreamConte
 -- Additions
 
 -- the hints' fetches, which find these clauses
-record Finds (f : Cnf) (c : StreamParams) (gone : ℕ → Bool) (m : State) (hints : List ℕ) (ds : List Clause) : Type 0 where
+record Finds (f : Cnf) (c : StreamParams) (is_dropped : ℕ → Bool) (m : State) (hints : List ℕ) (ds : List Clause) : Type 0 where
   fetches : History
-  found : AreFound c gone hints ds fetches
+  found : AreFound c is_dropped hints ds fetches
   legal : LegalFrom f c.layout m fetches
   callers : AllByRecursion (λ e. stream_of e ≡ c.stream) fetches
   still : run m fetches ≡ m
@@ -122,16 +122,16 @@ formulas_near p id is =
     ]
 
 asks_once : (c : StreamParams) (id : ℕ) (d : Clause) → IsOneOf c.layout id
-    → Asks c id (events.fetch c.stream id (events.live d) ∷ []) (events.live d)
+    → FetchesHint c id (events.fetch c.stream id (events.live d) ∷ []) (events.live d)
 asks_once c id d (inl is) =
-    subst (λ (ownership : Ownership). AsksAt ownership c id (events.fetch c.stream id (events.live d) ∷ []) (events.live d))
+    subst (λ (ownership : Ownership). FetchesHintAt ownership c id (events.fetch c.stream id (events.live d) ∷ []) (events.live d))
     (sym (formulas_ownership c id is)) refl
 asks_once c id d (inr its) = elim (cases_eq its.0 c.stream) [
   | inl same ↦
-      subst (λ (ownership : Ownership). AsksAt ownership c id (events.fetch c.stream id (events.live d) ∷ []) (events.live d))
+      subst (λ (ownership : Ownership). FetchesHintAt ownership c id (events.fetch c.stream id (events.live d) ∷ []) (events.live d))
       (sym (own_ownership c id (subst (λ (t : ℕ). Owns c.layout t id) same its.1))) refl
   | inr other ↦
-      subst (λ (ownership : Ownership). AsksAt ownership c id (events.fetch c.stream id (events.live d) ∷ []) (events.live d))
+      subst (λ (ownership : Ownership). FetchesHintAt ownership c id (events.fetch c.stream id (events.live d) ∷ []) (events.live d))
       (sym (others_ownership c id its.0 its.1 other))
       (0, omega arith, (λ vacant. absurd (let no : events.live d ≡ events.vacant = vacant in cc)), refl)
 ]
@@ -142,7 +142,7 @@ is_identity p id some (inr its) = let is = owned p its.0 id some its.1 in (omega
 
 finds : (f : Cnf) (c : StreamParams) (base : Database) (st : StreamContext) (m : State) (hints : List ℕ) (ds : List Clause)
     → 0 < c.layout.streams → Agrees f c.layout c.stream base st m → AllZip (λ h d. base.clauses h ≡ Some d) hints ds
-    → Finds f c st.gone m hints ds
+    → Finds f c st.is_dropped m hints ds
 finds f c base st m [] [] some a named = record {
   fetches = [];
   found = refl;
@@ -155,7 +155,7 @@ finds f c base st m [] [] some a named = record {
 finds f c base st m [] (d ∷ ds) some a named = absurd named
 finds f c base st m (h ∷ hints) [] some a named = absurd named
 finds f c base st m (h ∷ hints) (d ∷ ds) some a named =
-    let rest : Finds f c st.gone m hints ds = finds f c base st m hints ds some a named.1 in
+    let rest : Finds f c st.is_dropped m hints ds = finds f c base st m hints ds some a named.1 in
     let known = a.known h d named.0 in
     let e = events.fetch c.stream h (events.live d) in
     record {
@@ -195,7 +195,7 @@ addition_goes : (f : Cnf) (c : StreamParams) (base : Database) (st : StreamConte
     → Fits c.layout f → 0 < c.layout.streams → Agrees f c.layout c.stream base st m → IsWithinLimits (Addition id lits hints)
     → IsValidAddition c.layout c.stream (database_context base) id lits hints → Goes f c base st m (Addition id lits hints)
 addition_goes f c base st m id lits hints fits some a limits valid =
-    let found : Finds f c st.gone m hints valid.clauses = finds f c base st m hints valid.clauses some a valid.named in
+    let found : Finds f c st.is_dropped m hints valid.clauses = finds f c base st m hints valid.clauses some a valid.named in
     let e = published_by c id lits in
     let clause = distinct lits in
     let is_clause : IsClause f.vars clause = subst (λ (n : ℕ). IsClause n clause) fits.vars
@@ -244,8 +244,9 @@ addition_goes f c base st m id lits hints fits some a limits valid =
           | inr other ↦ put-other m id (live clause) j other ∙ a.there j d (other_there j (base.clauses j) d other is)
         ];
         kept = λ j d is. elim (cases_eq j id) [
-          | inl same ↦ neither (st.gone j) (is_shared (ownership_of c j)) (a.own j (subst (Owns c.layout c.stream) (sym same) valid.owns))
-          | inr other ↦ neither (st.gone j) (is_shared (ownership_of c j)) (a.kept j d (other_there j (base.clauses j) d other is))
+          | inl same ↦ neither (st.is_dropped j) (is_shared (ownership_of c j))
+              (a.own j (subst (Owns c.layout c.stream) (sym same) valid.owns))
+          | inr other ↦ neither (st.is_dropped j) (is_shared (ownership_of c j)) (a.kept j d (other_there j (base.clauses j) d other is))
         ];
         known = λ j d is. elim (cases_eq j id) [
           | inl same ↦ inr (c.stream, subst (Owns c.layout c.stream) (sym same) valid.owns)
@@ -256,8 +257,8 @@ addition_goes f c base st m id lits hints fits some a limits valid =
               subst (λ (x : Clause). IsClause f.vars x × Follows f x) (same_there j (base.clauses j) d same is) (is_clause, follows)
           | inr other ↦ a.sound j d (other_there j (base.clauses j) d other is)
         ];
-        own = λ j owns. neither (st.gone j) (is_shared (ownership_of c j)) (a.own j owns);
-        unseen = λ j is. neither (st.gone j) (is_shared (ownership_of c j))
+        own = λ j owns. neither (st.is_dropped j) (is_shared (ownership_of c j)) (a.own j owns);
+        unseen = λ j is. neither (st.is_dropped j) (is_shared (ownership_of c j))
             (a.unseen j (was_absent f c.layout m block j legal (ap (λ (n : State). n j) after ∙ is)));
         vacant = λ j owns above. put-other m id (live clause) j (λ same. omega (arith, same, above))
             ∙ a.vacant j owns (omega (arith, above, valid.above));
@@ -291,16 +292,16 @@ addition_goes f c base st m id lits hints fits some a limits valid =
 -- Deletions
 
 -- what can be deleted: an identity whose clause is live, and that isn't gone
-record CanDelete (c : StreamParams) (gone : ℕ → Bool) (earlier : List ℕ) (m : State) (id : ℕ) : Type 0 where
+record CanDelete (c : StreamParams) (is_dropped : ℕ → Bool) (earlier : List ℕ) (m : State) (id : ℕ) : Type 0 where
   known : IsOneOf c.layout id
-  kept : gone id ≡ false
+  kept : is_dropped id ≡ false
   new : is_among earlier id ≡ false
   alive : IsLive (m id)
 
 -- the deletion of these identities is judged good by this block, which is legal there, takes no room, and leaves all others as they are
-record DeletionGoes (f : Cnf) (c : StreamParams) (gone : ℕ → Bool) (earlier ids : List ℕ) (m : State) : Type 0 where
+record DeletionGoes (f : Cnf) (c : StreamParams) (is_dropped : ℕ → Bool) (earlier ids : List ℕ) (m : State) : Type 0 where
   block : History
-  judged : JudgesDeletion c gone earlier ids block Good
+  judged : JudgesDeletion c is_dropped earlier ids block Good
   legal : LegalFrom f c.layout m block
   callers : AllByRecursion (λ e. stream_of e ≡ c.stream) block
   size : sum_by size_of block ≡ 0
@@ -321,11 +322,11 @@ among_snoc (i ∷ earlier) id j none other =
     or_none (i == j) (is_among (earlier ++ id ∷ []) j) parts.0 (among_snoc earlier id j parts.1 other)
 
 -- the others can still be deleted
-still : (c : StreamParams) (gone : ℕ → Bool) (earlier ids : List ℕ) (id : ℕ) (m n : State)
+still : (c : StreamParams) (is_dropped : ℕ → Bool) (earlier ids : List ℕ) (id : ℕ) (m n : State)
     → ((j : ℕ) → j ≢ id → n j ≡ m j) → is_among ids id ≡ false
-    → AllByRecursion (CanDelete c gone earlier m) ids → AllByRecursion (CanDelete c gone (earlier ++ id ∷ []) n) ids
-still c gone earlier [] id m n same once all = tt
-still c gone earlier (j ∷ ids) id m n same once all =
+    → AllByRecursion (CanDelete c is_dropped earlier m) ids → AllByRecursion (CanDelete c is_dropped (earlier ++ id ∷ []) n) ids
+still c is_dropped earlier [] id m n same once all = tt
+still c is_dropped earlier (j ∷ ids) id m n same once all =
     let parts = not_or (j == id) (is_among ids id) once in
     let other : j ≢ id = not_same j id parts.0 in (
       record {
@@ -334,25 +335,26 @@ still c gone earlier (j ∷ ids) id m n same once all =
         new = among_snoc earlier id j all.0.new (λ is. other (sym is));
         alive = subst IsLive (sym (same j other)) all.0.alive;
       },
-      still c gone earlier ids id m n same parts.1 all.1,
+      still c is_dropped earlier ids id m n same parts.1 all.1,
     )
 
 -- one of the formula's or another stream's is dropped, without an event
-dropped : (f : Cnf) (c : StreamParams) (gone : ℕ → Bool) (earlier ids : List ℕ) (id : ℕ) (m : State)
-    → CanDelete c gone earlier m id → AllByRecursion (CanDelete c gone earlier m) ids → is_among ids id ≡ false
-    → ((n : State) → AllByRecursion (CanDelete c gone (earlier ++ id ∷ []) n) ids → DeletionGoes f c gone (earlier ++ id ∷ []) ids n)
+dropped : (f : Cnf) (c : StreamParams) (is_dropped : ℕ → Bool) (earlier ids : List ℕ) (id : ℕ) (m : State)
+    → CanDelete c is_dropped earlier m id → AllByRecursion (CanDelete c is_dropped earlier m) ids → is_among ids id ≡ false
+    → ((n : State) → AllByRecursion (CanDelete c is_dropped (earlier ++ id ∷ []) n) ids
+    → DeletionGoes f c is_dropped (earlier ++ id ∷ []) ids n)
     → (ownership : Ownership) → ownership_of c id ≡ ownership
-    → ((es : History) → DropsThen gone earlier id es Good (λ rest. JudgesDeletion c gone (earlier ++ id ∷ []) ids rest Good)
-    → DeletesAt ownership c gone earlier id es Good (λ rest. JudgesDeletion c gone (earlier ++ id ∷ []) ids rest Good))
-    → DeletionGoes f c gone earlier (id ∷ ids) m
-dropped f c gone earlier ids id m can all once go ownership is at =
-    let rest = go m (still c gone earlier ids id m m (λ j other. refl) once all) in
+    → ((es : History) → DropsThen is_dropped earlier id es Good (λ rest. JudgesDeletion c is_dropped (earlier ++ id ∷ []) ids rest Good)
+    → DeletesAt ownership c is_dropped earlier id es Good (λ rest. JudgesDeletion c is_dropped (earlier ++ id ∷ []) ids rest Good))
+    → DeletionGoes f c is_dropped earlier (id ∷ ids) m
+dropped f c is_dropped earlier ids id m can all once go ownership is at =
+    let rest = go m (still c is_dropped earlier ids id m m (λ j other. refl) once all) in
     record {
       block = rest.block;
       judged =
-          subst (λ (x : Ownership). DeletesAt x c gone earlier id rest.block Good
-          (λ es. JudgesDeletion c gone (earlier ++ id ∷ []) ids es Good))
-          (sym is) (at rest.block (inr (or_none (gone id) (is_among earlier id) can.kept can.new, rest.judged)));
+          subst (λ (x : Ownership). DeletesAt x c is_dropped earlier id rest.block Good
+          (λ es. JudgesDeletion c is_dropped (earlier ++ id ∷ []) ids es Good))
+          (sym is) (at rest.block (inr (or_none (is_dropped id) (is_among earlier id) can.kept can.new, rest.judged)));
       legal = rest.legal;
       callers = rest.callers;
       size = rest.size;
@@ -360,23 +362,25 @@ dropped f c gone earlier ids id m can all once go ownership is at =
       others = rest.others;
     }
 
-deletes_one : (f : Cnf) (c : StreamParams) (gone : ℕ → Bool) (earlier ids : List ℕ) (id : ℕ) (m : State)
-    → CanDelete c gone earlier m id → AllByRecursion (CanDelete c gone earlier m) ids → is_among ids id ≡ false
-    → ((n : State) → AllByRecursion (CanDelete c gone (earlier ++ id ∷ []) n) ids → DeletionGoes f c gone (earlier ++ id ∷ []) ids n)
-    → IsOneOf c.layout id → DeletionGoes f c gone earlier (id ∷ ids) m
-deletes_one f c gone earlier ids id m can all once go (inl is) =
-    dropped f c gone earlier ids id m can all once go ownerships.Formula (formulas_ownership c id is) (λ es at. at)
-deletes_one f c gone earlier ids id m can all once go (inr its) = elim (cases_eq its.0 c.stream) [
-  | inr other ↦ dropped f c gone earlier ids id m can all once go ownerships.Foreign (others_ownership c id its.0 its.1 other) (λ es at. at)
+deletes_one : (f : Cnf) (c : StreamParams) (is_dropped : ℕ → Bool) (earlier ids : List ℕ) (id : ℕ) (m : State)
+    → CanDelete c is_dropped earlier m id → AllByRecursion (CanDelete c is_dropped earlier m) ids → is_among ids id ≡ false
+    → ((n : State) → AllByRecursion (CanDelete c is_dropped (earlier ++ id ∷ []) n) ids
+    → DeletionGoes f c is_dropped (earlier ++ id ∷ []) ids n)
+    → IsOneOf c.layout id → DeletionGoes f c is_dropped earlier (id ∷ ids) m
+deletes_one f c is_dropped earlier ids id m can all once go (inl is) =
+    dropped f c is_dropped earlier ids id m can all once go ownerships.Formula (formulas_ownership c id is) (λ es at. at)
+deletes_one f c is_dropped earlier ids id m can all once go (inr its) = elim (cases_eq its.0 c.stream) [
+  | inr other ↦ dropped f c is_dropped earlier ids id m can all once go ownerships.Foreign (others_ownership c id its.0 its.1 other)
+      (λ es at. at)
   | inl same ↦
       let owns : Owns c.layout c.stream id = subst (λ (t : ℕ). Owns c.layout t id) same its.1 in
       let n = put m id (retire_slot (m id)) in
-      let rest = go n (still c gone earlier ids id m n (λ j other. put-other m id (retire_slot (m id)) j other) once all) in
+      let rest = go n (still c is_dropped earlier ids id m n (λ j other. put-other m id (retire_slot (m id)) j other) once all) in
       let e = events.retire c.stream id retiring.Done in
       record {
         block = e ∷ rest.block;
-        judged = subst (λ (ownership : Ownership). DeletesAt ownership c gone earlier id (e ∷ rest.block) Good
-            (λ es. JudgesDeletion c gone (earlier ++ id ∷ []) ids es Good))
+        judged = subst (λ (ownership : Ownership). DeletesAt ownership c is_dropped earlier id (e ∷ rest.block) Good
+            (λ es. JudgesDeletion c is_dropped (earlier ++ id ∷ []) ids es Good))
             (sym (own_ownership c id owns)) (record { rest = rest.block; decided = inl (refl, rest.judged) });
         legal = (can.alive, owns, rest.legal);
         callers = (refl, rest.callers);
@@ -389,9 +393,9 @@ deletes_one f c gone earlier ids id m can all once go (inr its) = elim (cases_eq
       }
 ]
 
-deletes : (f : Cnf) (c : StreamParams) (gone : ℕ → Bool) (earlier ids : List ℕ) (m : State)
-    → AllByRecursion (CanDelete c gone earlier m) ids → AreDistinct ids → DeletionGoes f c gone earlier ids m
-deletes f c gone earlier [] m all once = record {
+deletes : (f : Cnf) (c : StreamParams) (is_dropped : ℕ → Bool) (earlier ids : List ℕ) (m : State)
+    → AllByRecursion (CanDelete c is_dropped earlier m) ids → AreDistinct ids → DeletionGoes f c is_dropped earlier ids m
+deletes f c is_dropped earlier [] m all once = record {
   block = [];
   judged = (refl, refl);
   legal = tt;
@@ -400,16 +404,17 @@ deletes f c gone earlier [] m all once = record {
   apart = λ j out. refl;
   others = λ j not_mine. refl;
 }
-deletes f c gone earlier (id ∷ ids) m all once =
-    deletes_one f c gone earlier ids id m all.0 all.1 once.0 (λ n can. deletes f c gone (earlier ++ id ∷ []) ids n can once.1) all.0.known
+deletes f c is_dropped earlier (id ∷ ids) m all once =
+    deletes_one f c is_dropped earlier ids id m all.0 all.1 once.0
+    (λ n can. deletes f c is_dropped (earlier ++ id ∷ []) ids n can once.1) all.0.known
 
 -- what is deleted was there
-deleted_there : (c : StreamParams) (gone : ℕ → Bool) (m : State) (ids : List ℕ) (j : ℕ)
-    → AllByRecursion (CanDelete c gone [] m) ids → is_among ids j ≡ true → IsLive (m j)
-deleted_there c gone m [] j all among = absurd (true≢false (sym among))
-deleted_there c gone m (id ∷ ids) j all among = elim (cases_eq id j) [
+deleted_there : (c : StreamParams) (is_dropped : ℕ → Bool) (m : State) (ids : List ℕ) (j : ℕ)
+    → AllByRecursion (CanDelete c is_dropped [] m) ids → is_among ids j ≡ true → IsLive (m j)
+deleted_there c is_dropped m [] j all among = absurd (true≢false (sym among))
+deleted_there c is_dropped m (id ∷ ids) j all among = elim (cases_eq id j) [
   | inl same ↦ subst (λ (k : ℕ). IsLive (m k)) same all.0.alive
-  | inr other ↦ deleted_there c gone m ids j all.1 (sym (ap (λ (b : Bool). b || is_among ids j) (ne_eqb id j other)) ∙ among)
+  | inr other ↦ deleted_there c is_dropped m ids j all.1 (sym (ap (λ (b : Bool). b || is_among ids j) (ne_eqb id j other)) ∙ among)
 ]
 
 some_there : {X : Type 0} (o : Option X) → IsSome o → (x : X) × (o ≡ Some x)
@@ -418,7 +423,7 @@ some_there (Some x) some = (x, refl)
 
 can_delete : (f : Cnf) (c : StreamParams) (base : Database) (st : StreamContext) (m : State) (ids : List ℕ)
     → Agrees f c.layout c.stream base st m
-    → AllByRecursion (λ id. IsSome (base.clauses id)) ids → AllByRecursion (CanDelete c st.gone [] m) ids
+    → AllByRecursion (λ id. IsSome (base.clauses id)) ids → AllByRecursion (CanDelete c st.is_dropped [] m) ids
 can_delete f c base st m [] a all = tt
 can_delete f c base st m (id ∷ ids) a all =
     let d = some_there (base.clauses id) all.0 in (
@@ -437,21 +442,21 @@ left true o d is = absurd (let no : None ≡ Some d = is in cc)
 left false o d is = (refl, is)
 
 -- an own identity is never gone
-not_shared : (gone among : Bool) (ownership : Ownership) → gone ≡ false → ownership ≡ ownerships.Own
-    → (gone || (is_shared ownership && among)) ≡ false
-not_shared gone among ownership kept own =
-    or_none gone (is_shared ownership && among) kept (ap (λ (s : Ownership). is_shared s && among) own)
+not_shared : (is_dropped among : Bool) (ownership : Ownership) → is_dropped ≡ false → ownership ≡ ownerships.Own
+    → (is_dropped || (is_shared ownership && among)) ≡ false
+not_shared is_dropped among ownership kept own =
+    or_none is_dropped (is_shared ownership && among) kept (ap (λ (s : Ownership). is_shared s && among) own)
 
-not_among : (gone shared among : Bool) → gone ≡ false → among ≡ false → (gone || (shared && among)) ≡ false
-not_among gone true among kept out = or_none gone among kept out
-not_among gone false among kept out = or_none gone false kept refl
+not_among : (is_dropped shared among : Bool) → is_dropped ≡ false → among ≡ false → (is_dropped || (shared && among)) ≡ false
+not_among is_dropped true among kept out = or_none is_dropped among kept out
+not_among is_dropped false among kept out = or_none is_dropped false kept refl
 
 -- what is absent isn't deleted
-not_there : (c : StreamParams) (gone : ℕ → Bool) (m : State) (ids : List ℕ) (j : ℕ) → AllByRecursion (CanDelete c gone [] m) ids
+not_there : (c : StreamParams) (is_dropped : ℕ → Bool) (m : State) (ids : List ℕ) (j : ℕ) → AllByRecursion (CanDelete c is_dropped [] m) ids
     → m j ≡ absent
     → is_among ids j ≡ false
-not_there c gone m ids j can is = elim (cases_Bool (is_among ids j)) [
-  | inl among ↦ absurd (subst IsLive is (deleted_there c gone m ids j can among))
+not_there c is_dropped m ids j can is = elim (cases_Bool (is_among ids j)) [
+  | inl among ↦ absurd (subst IsLive is (deleted_there c is_dropped m ids j can among))
   | inr out ↦ out
 ]
 
@@ -468,9 +473,10 @@ not_both true b none is = absurd (true≢false (sym is ∙ none))
 not_both false b none is = refl
 
 -- what isn't the deleter's own, or isn't deleted, stays at the map
-untouched : (f : Cnf) (c : StreamParams) (gone : ℕ → Bool) (ids : List ℕ) (m : State) (d : DeletionGoes f c gone [] ids m) (j : ℕ)
+untouched : (f : Cnf) (c : StreamParams) (is_dropped : ℕ
+    → Bool) (ids : List ℕ) (m : State) (d : DeletionGoes f c is_dropped [] ids m) (j : ℕ)
     → (is_among ids j && is_own c.layout c.stream j) ≡ false → run m d.block j ≡ m j
-untouched f c gone ids m d j none = elim (mine_or_not c.layout c.stream j) [
+untouched f c is_dropped ids m d j none = elim (mine_or_not c.layout c.stream j) [
   | inl owns ↦ d.apart j (not_both (is_among ids j) (is_own c.layout c.stream j) none (own_tested c.layout c.stream j owns))
   | inr other ↦ d.others j other
 ]
@@ -479,44 +485,44 @@ deletion_goes : (f : Cnf) (c : StreamParams) (base : Database) (st : StreamConte
     → Agrees f c.layout c.stream base st m → IsValidDeletion base ids → Goes f c base st m (Deletion lead ids)
 deletion_goes f c base st m lead ids a valid =
     let can = can_delete f c base st m ids a valid.there in
-    let gone = deletes f c st.gone [] ids m can valid.once in
+    let is_dropped = deletes f c st.is_dropped [] ids m can valid.once in
     let line = Deletion lead ids in
     record {
-      block = gone.block;
-      judged = gone.judged;
-      legal = gone.legal;
-      callers = gone.callers;
-      room = omega (arith, gone.size);
+      block = is_dropped.block;
+      judged = is_dropped.judged;
+      legal = is_dropped.legal;
+      callers = is_dropped.callers;
+      room = omega (arith, is_dropped.size);
       next = record {
         last = a.last;
         free = omega (arith, a.free);
-        there = λ j d is. let l = left (is_among ids j) (base.clauses j) d is in gone.apart j l.0 ∙ a.there j d l.1;
+        there = λ j d is. let l = left (is_among ids j) (base.clauses j) d is in is_dropped.apart j l.0 ∙ a.there j d l.1;
         kept = λ j d is.
             let l = left (is_among ids j) (base.clauses j) d is in
-            not_among (st.gone j) (is_shared (ownership_of c j)) (is_among ids j) (a.kept j d l.1) l.0;
+            not_among (st.is_dropped j) (is_shared (ownership_of c j)) (is_among ids j) (a.kept j d l.1) l.0;
         known = λ j d is. a.known j d (left (is_among ids j) (base.clauses j) d is).1;
         sound = λ j d is. a.sound j d (left (is_among ids j) (base.clauses j) d is).1;
-        own = λ j owns. not_shared (st.gone j) (is_among ids j) (ownership_of c j) (a.own j owns) (own_ownership c j owns);
+        own = λ j owns. not_shared (st.is_dropped j) (is_among ids j) (ownership_of c j) (a.own j owns) (own_ownership c j owns);
         unseen = λ j is.
-            let before = was_absent f c.layout m gone.block j gone.legal is in
-            not_among (st.gone j) (is_shared (ownership_of c j)) (is_among ids j) (a.unseen j before)
-            (not_there c st.gone m ids j can before);
+            let before = was_absent f c.layout m is_dropped.block j is_dropped.legal is in
+            not_among (st.is_dropped j) (is_shared (ownership_of c j)) (is_among ids j) (a.unseen j before)
+            (not_there c st.is_dropped m ids j can before);
         vacant = λ j owns above.
-            gone.apart j (not_there c st.gone m ids j can (a.vacant j owns above)) ∙ a.vacant j owns above;
+            is_dropped.apart j (not_there c st.is_dropped m ids j can (a.vacant j owns above)) ∙ a.vacant j owns above;
       };
       beside = λ t its also other b. record {
         last = b.last;
         free = b.free;
         there = λ j d is.
             let l = left (is_among ids j && is_own c.layout c.stream j) (its.clauses j) d is in
-            untouched f c st.gone ids m gone j l.0 ∙ b.there j d l.1;
+            untouched f c st.is_dropped ids m is_dropped j l.0 ∙ b.there j d l.1;
         kept = λ j d is. b.kept j d (left (is_among ids j && is_own c.layout c.stream j) (its.clauses j) d is).1;
         known = λ j d is. b.known j d (left (is_among ids j && is_own c.layout c.stream j) (its.clauses j) d is).1;
         sound = λ j d is. b.sound j d (left (is_among ids j && is_own c.layout c.stream j) (its.clauses j) d is).1;
         own = b.own;
-        unseen = λ j is. b.unseen j (was_absent f c.layout m gone.block j gone.legal is);
-        vacant = vacant_above_stays f c.layout m gone.block t its.last gone.legal
-            (not_callers c.stream t gone.block other gone.callers) b.vacant;
+        unseen = λ j is. b.unseen j (was_absent f c.layout m is_dropped.block j is_dropped.legal is);
+        vacant = vacant_above_stays f c.layout m is_dropped.block t its.last is_dropped.legal
+            (not_callers c.stream t is_dropped.block other is_dropped.callers) b.vacant;
       };
     }
 
@@ -527,7 +533,7 @@ import_goes : (f : Cnf) (c : StreamParams) (base : Database) (st : StreamContext
     → IsValidImport c.layout c.stream (database_context base) id lits → Goes f c base st m (Import id lits)
 import_goes f c base st m id lits some a valid =
     let d = valid.clause in
-    let found : Finds f c st.gone m (id ∷ []) (d ∷ []) = finds f c base st m (id ∷ []) (d ∷ []) some a valid.named in
+    let found : Finds f c st.is_dropped m (id ∷ []) (d ∷ []) = finds f c base st m (id ∷ []) (d ∷ []) some a valid.named in
     record {
       block = found.fetches;
       judged = record {
@@ -545,11 +551,11 @@ import_goes f c base st m id lits some a valid =
         last = a.last;
         free = omega (arith, a.free);
         there = a.there;
-        kept = λ j k is. neither (st.gone j) (is_shared (ownership_of c j)) (a.kept j k is);
+        kept = λ j k is. neither (st.is_dropped j) (is_shared (ownership_of c j)) (a.kept j k is);
         known = a.known;
         sound = a.sound;
-        own = λ j owns. neither (st.gone j) (is_shared (ownership_of c j)) (a.own j owns);
-        unseen = λ j is. neither (st.gone j) (is_shared (ownership_of c j)) (a.unseen j is);
+        own = λ j owns. neither (st.is_dropped j) (is_shared (ownership_of c j)) (a.own j owns);
+        unseen = λ j is. neither (st.is_dropped j) (is_shared (ownership_of c j)) (a.unseen j is);
         vacant = a.vacant;
       });
       beside = λ t its also other b. subst (Agrees f c.layout t its also) (sym found.still) b;

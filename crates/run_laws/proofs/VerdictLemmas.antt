@@ -117,7 +117,7 @@ module _ (c : StreamParams) (passes : Event → Bool) (adds : ℕ × Clause → 
   good_line st (Import id lits) es judged =
       quiet_none passes es (import_all c (IsQuiet passes) tells.fetches_none st id lits es Good judged)
   good_line st (Deletion lead ids) es judged =
-      quiet_none passes es (identities_all c (IsQuiet passes) st.gone [] ids es Good (quiet_retires ids) judged)
+      quiet_none passes es (identities_all c (IsQuiet passes) st.is_dropped [] ids es Good (quiet_retires ids) judged)
 
   -- a bad line doesn't
   bad_line : (st : StreamContext) (line : StreamLine) (es : History) (deleted : ℕ) (fault : Fault)
@@ -128,7 +128,7 @@ module _ (c : StreamParams) (passes : Event → Bool) (adds : ℕ × Clause → 
   bad_line st (Import id lits) es deleted fault judged =
       quiet_none passes es (import_all c (IsQuiet passes) tells.fetches_none st id lits es (Bad deleted fault) judged)
   bad_line st (Deletion lead ids) es deleted fault judged =
-      quiet_none passes es (identities_all c (IsQuiet passes) st.gone [] ids es (Bad deleted fault) (quiet_retires ids) judged)
+      quiet_none passes es (identities_all c (IsQuiet passes) st.is_dropped [] ids es (Bad deleted fault) (quiet_retires ids) judged)
 
   -- The events of a stream
 
@@ -160,7 +160,7 @@ module _ (c : StreamParams) (passes : Event → Bool) (adds : ℕ × Clause → 
   ends_quiet lines rest end back report (at_bad_text fault text no_block observed) = no_quiet back no_block
   ends_quiet lines rest end back report (at_memory lead ids more text fits block one_block earlier stops observed) =
       one_quiet block back one_block (quiet_none passes block
-      (identities_all c (IsQuiet passes) (context_of c lines).gone [] earlier block Good (quiet_retires earlier) stops.before))
+      (identities_all c (IsQuiet passes) (context_of c lines).is_dropped [] earlier block Good (quiet_retires earlier) stops.before))
   ends_quiet lines rest end back report (at_end pending no_block observed) = no_quiet back no_block
 
   -- a stream publishes what passes exactly if its report passes

@@ -79,19 +79,19 @@ pub clause_is : (c : StreamParams) (st : StreamContext) (id : ℕ) (lits : List 
 clause_is c st id lits old new clause admits kept is = is ∙ kept.1 ∙ ap (λ (m : Propagation). m.clause) admits.marks_are
 
 -- the hints show the addition's clause
-pub shown_is : (c : StreamParams) (st : StreamContext) (gone : ℕ → Bool) (f : Cnf) (id : ℕ) (lits : List ℤ) (hints : List ℕ)
+pub shown_is : (c : StreamParams) (st : StreamContext) (is_dropped : ℕ → Bool) (f : Cnf) (id : ℕ) (lits : List ℤ) (hints : List ℕ)
     (marks : Propagation)
     (es : History) → Admits c st id lits marks
-    → Shows c gone f marks.falses hints es (Ok tt) → Shows c gone f (distinct lits) hints es (Ok tt)
-shown_is c st gone f id lits hints marks es admits shown =
-    subst (λ (d : Clause). Shows c gone f d hints es (Ok tt)) (ap (λ (m : Propagation). m.falses) admits.marks_are) shown
+    → Shows c is_dropped f marks.falses hints es (Ok tt) → Shows c is_dropped f (distinct lits) hints es (Ok tt)
+shown_is c st is_dropped f id lits hints marks es admits shown =
+    subst (λ (d : Clause). Shows c is_dropped f d hints es (Ok tt)) (ap (λ (m : Propagation). m.falses) admits.marks_are) shown
 
-pub publishable : (c : StreamParams) (p q : CallerView) (st : StreamContext) (gone : ℕ → Bool) (es : History) (id : ℕ) (lits : List ℤ)
+pub publishable : (c : StreamParams) (p q : CallerView) (st : StreamContext) (is_dropped : ℕ → Bool) (es : History) (id : ℕ) (lits : List ℤ)
     (hints : List ℕ)
     (marks : Propagation) → CallerStep p q es
-    → Admits c st id lits marks → length lits ≤ max_line_literals → Shows c gone p.caller.formula (distinct lits) hints es (Ok tt)
+    → Admits c st id lits marks → length lits ≤ max_line_literals → Shows c is_dropped p.caller.formula (distinct lits) hints es (Ok tt)
     → IsPublishable q.caller.formula (distinct lits)
-publishable c p q st gone es id lits hints marks step admits few shown =
+publishable c p q st is_dropped es id lits hints marks step admits few shown =
     subst (λ (f : Cnf). IsPublishable f (distinct lits)) (sym (ap (λ (r : Caller). r.formula) step.caller))
     (record {
       clause = subst (λ (v : ℕ). IsClause v (distinct lits)) (sym shown.3) admits.clause;
@@ -143,7 +143,7 @@ fails_behind c st id lits es fault A marks admits next =
 -- the addition is valid
 pub valid_is : (c : StreamParams) (st : StreamContext) (f : Cnf) (id : ℕ) (lits : List ℤ) (hints : List ℕ) (es : History)
     (marks : Propagation)
-    → Admits c st id lits marks → Shows c st.gone f (distinct lits) hints es (Ok tt)
+    → Admits c st id lits marks → Shows c st.is_dropped f (distinct lits) hints es (Ok tt)
     → IsValidAddition c.layout c.stream (line_context c st es) id lits hints
 valid_is c st f id lits hints es marks admits shown = record {
   owns = admits.owns;

@@ -58,21 +58,22 @@ record LookedAlike (a : History) (x : Result Clause Fault) (b : History) (y : Re
   answer : x ≡ y
   behind : NeverFork q r
 
-looks_agree : (c : StreamParams) (gone : ℕ → Bool) (h : ℕ) (a b q r : History) (x y : Result Clause Fault) → LooksUp c gone h a x
-    → LooksUp c gone h b y → NeverFork (a ++ q) (b ++ r) → (a ≡ b) × (x ≡ y)
-looks_agree c gone h a b q r x y (inl one) (inl two) never = (one.1 ∙ sym two.1, one.2 ∙ sym two.2)
-looks_agree c gone h a b q r x y (inl one) (inr two) never = absurd (true≢false (sym one.0 ∙ two.0))
-looks_agree c gone h a b q r x y (inr one) (inl two) never = absurd (true≢false (sym two.0 ∙ one.0))
-looks_agree c gone h a b q r x y (inr one) (inr two) never =
+looks_agree : (c : StreamParams) (is_dropped : ℕ → Bool) (h : ℕ) (a b q r : History) (x y : Result Clause Fault)
+    → LooksUp c is_dropped h a x
+    → LooksUp c is_dropped h b y → NeverFork (a ++ q) (b ++ r) → (a ≡ b) × (x ≡ y)
+looks_agree c is_dropped h a b q r x y (inl one) (inl two) never = (one.1 ∙ sym two.1, one.2 ∙ sym two.2)
+looks_agree c is_dropped h a b q r x y (inl one) (inr two) never = absurd (true≢false (sym one.0 ∙ two.0))
+looks_agree c is_dropped h a b q r x y (inr one) (inl two) never = absurd (true≢false (sym two.0 ∙ one.0))
+looks_agree c is_dropped h a b q r x y (inr one) (inr two) never =
     let same = same_asked c h a b q r one.1 two.1 one.2 two.2 never in (same.0, one.3 ∙ ap (answer_of h) same.1 ∙ sym two.3)
 
-after_looks : (c : StreamParams) (gone : ℕ → Bool) (h : ℕ) (es a rest fs b left q r : History) (x y : Result Clause Fault)
-    → es ≡ a ++ rest → fs ≡ b ++ left → LooksUp c gone h a x → LooksUp c gone h b y → NeverFork (es ++ q) (fs ++ r)
+after_looks : (c : StreamParams) (is_dropped : ℕ → Bool) (h : ℕ) (es a rest fs b left q r : History) (x y : Result Clause Fault)
+    → es ≡ a ++ rest → fs ≡ b ++ left → LooksUp c is_dropped h a x → LooksUp c is_dropped h b y → NeverFork (es ++ q) (fs ++ r)
     → LookedAlike a x b y (rest ++ q) (left ++ r)
-after_looks c gone h es a rest fs b left q r x y one two first second never =
+after_looks c is_dropped h es a rest fs b left q r x y one two first second never =
     let split = subst (λ e. NeverFork e (b ++ (left ++ r))) (ap (λ e. e ++ q) one ∙ append_assoc a rest q)
     (subst (NeverFork (es ++ q)) (ap (λ e. e ++ r) two ∙ append_assoc b left r) never) in
-    let same = looks_agree c gone h a b (rest ++ q) (left ++ r) x y first second split in
+    let same = looks_agree c is_dropped h a b (rest ++ q) (left ++ r) x y first second split in
     record {
       asked = same.0;
       answer = same.1;
@@ -83,32 +84,34 @@ after_looks c gone h es a rest fs b left q r x y one two first second never =
 -- Hints
 
 -- found both times
-found_agree : (c : StreamParams) (gone : ℕ → Bool) (hints : List ℕ) (ds es : List Clause) (a b q r : History) → AreFound c gone hints ds a
-    → AreFound c gone hints es b → NeverFork (a ++ q) (b ++ r) → a ≡ b
-found_agree c gone [] [] [] a b q r one two never = one ∙ sym two
-found_agree c gone [] (d ∷ ds) es a b q r one two never = absurd one
-found_agree c gone [] ds (e ∷ es) a b q r one two never = absurd two
-found_agree c gone (h ∷ hints) [] es a b q r one two never = absurd one
-found_agree c gone (h ∷ hints) ds [] a b q r one two never = absurd two
-found_agree c gone (h ∷ hints) (d ∷ ds) (e ∷ es) a b q r one two never =
-    let same = after_looks c gone h a one.0 one.1 b two.0 two.1 q r (Ok d) (Ok e) one.2 two.2 one.3 two.3 never in
+found_agree : (c : StreamParams) (is_dropped : ℕ → Bool) (hints : List ℕ) (ds es : List Clause) (a b q r : History)
+    → AreFound c is_dropped hints ds a
+    → AreFound c is_dropped hints es b → NeverFork (a ++ q) (b ++ r) → a ≡ b
+found_agree c is_dropped [] [] [] a b q r one two never = one ∙ sym two
+found_agree c is_dropped [] (d ∷ ds) es a b q r one two never = absurd one
+found_agree c is_dropped [] ds (e ∷ es) a b q r one two never = absurd two
+found_agree c is_dropped (h ∷ hints) [] es a b q r one two never = absurd one
+found_agree c is_dropped (h ∷ hints) ds [] a b q r one two never = absurd two
+found_agree c is_dropped (h ∷ hints) (d ∷ ds) (e ∷ es) a b q r one two never =
+    let same = after_looks c is_dropped h a one.0 one.1 b two.0 two.1 q r (Ok d) (Ok e) one.2 two.2 one.3 two.3 never in
     one.2 ∙ ap (λ x. x ++ one.1) same.asked
-    ∙ ap (λ x. two.0 ++ x) (found_agree c gone hints ds es one.1 two.1 q r one.4 two.4 same.behind) ∙ sym two.2
+    ∙ ap (λ x. two.0 ++ x) (found_agree c is_dropped hints ds es one.1 two.1 q r one.4 two.4 same.behind) ∙ sym two.2
 
 -- found, where they refute, and failed
-never_both : (c : StreamParams) (gone : ℕ → Bool) (n : List ℤ) (hints : List ℕ) (ds : List Clause) (a b q r : History) (fault : Fault)
-    → AreFound c gone hints ds a → Refutes n ds → FailsHints c gone n hints b fault → NeverFork (a ++ q) (b ++ r) → ⊥
-never_both c gone n [] [] a b q r fault found refutes fails never = refutes
-never_both c gone n [] (d ∷ ds) a b q r fault found refutes fails never = found
-never_both c gone n (h ∷ hints) [] a b q r fault found refutes fails never = found
-never_both c gone n (h ∷ hints) (d ∷ ds) a b q r fault found refutes fails never =
-    let same = after_looks c gone h a found.0 found.1 b fails.0 fails.1 q r (Ok d) fails.3 found.2 fails.2 found.3 fails.4 never in
-    let by = subst (λ (x : Result Clause Fault). FailsBy x n h hints fails.1 fault (λ m. FailsHints c gone m hints fails.1 fault))
+never_both : (c : StreamParams) (is_dropped : ℕ → Bool) (n : List ℤ) (hints : List ℕ) (ds : List Clause) (a b q r : History) (fault : Fault)
+    → AreFound c is_dropped hints ds a → Refutes n ds → FailsHints c is_dropped n hints b fault → NeverFork (a ++ q) (b ++ r) → ⊥
+never_both c is_dropped n [] [] a b q r fault found refutes fails never = refutes
+never_both c is_dropped n [] (d ∷ ds) a b q r fault found refutes fails never = found
+never_both c is_dropped n (h ∷ hints) [] a b q r fault found refutes fails never = found
+never_both c is_dropped n (h ∷ hints) (d ∷ ds) a b q r fault found refutes fails never =
+    let same = after_looks c is_dropped h a found.0 found.1 b fails.0 fails.1 q r (Ok d) fails.3 found.2 fails.2 found.3 fails.4 never in
+    let by = subst (λ (x : Result Clause Fault). FailsBy x n h hints fails.1 fault (λ m. FailsHints c is_dropped m hints fails.1 fault))
     (sym same.answer) fails.5 in
     elim by [
-      | inl unit ↦ never_both c gone (n ++ neg_ℤ unit.0 ∷ []) hints ds found.1 fails.1 q r fault found.4 (refutes_on n d ds unit.0 refutes
+      | inl unit ↦ never_both c is_dropped (n ++ neg_ℤ unit.0 ∷ []) hints ds found.1 fails.1 q r fault found.4
+          (refutes_on n d ds unit.0 refutes
           unit.1) unit.2 same.behind
-      | inr misleads ↦ no_help n d ds c gone h hints found.1 fault refutes found.4 misleads.1
+      | inr misleads ↦ no_help n d ds c is_dropped h hints found.1 fault refutes found.4 misleads.1
     ]
 
 misleads_agree : (n : List ℤ) (d : Clause) (h : ℕ) (hints : List ℕ) (v w : Fault) → Misleads n d h hints v → Misleads n d h hints w → v ≡ w
@@ -134,14 +137,14 @@ by_agree (Ok d) n h hints es fs v w A B next (inr one) (inr two) =
     (one.0 ∙ sym two.0, misleads_agree n d h hints v w one.1 two.1)
 
 -- failed both times
-hints_agree : (c : StreamParams) (gone : ℕ → Bool) (n : List ℤ) (hints : List ℕ) (es fs q r : History) (v w : Fault)
-    → FailsHints c gone n hints es v → FailsHints c gone n hints fs w → NeverFork (es ++ q) (fs ++ r) → SameFault es v fs w
-hints_agree c gone n [] es fs q r v w a b never = (a.0 ∙ sym b.0, a.1 ∙ sym b.1)
-hints_agree c gone n (h ∷ hints) es fs q r v w a b never =
-    let same = after_looks c gone h es a.0 a.1 fs b.0 b.1 q r a.3 b.3 a.2 b.2 a.4 b.4 never in
-    let later = by_agree a.3 n h hints a.1 b.1 v w (λ m. FailsHints c gone m hints a.1 v) (λ m. FailsHints c gone m hints b.1 w)
-    (λ m k l. hints_agree c gone m hints a.1 b.1 q r v w k l same.behind) a.5
-    (subst (λ x. FailsBy x n h hints b.1 w (λ m. FailsHints c gone m hints b.1 w)) (sym same.answer) b.5) in
+hints_agree : (c : StreamParams) (is_dropped : ℕ → Bool) (n : List ℤ) (hints : List ℕ) (es fs q r : History) (v w : Fault)
+    → FailsHints c is_dropped n hints es v → FailsHints c is_dropped n hints fs w → NeverFork (es ++ q) (fs ++ r) → SameFault es v fs w
+hints_agree c is_dropped n [] es fs q r v w a b never = (a.0 ∙ sym b.0, a.1 ∙ sym b.1)
+hints_agree c is_dropped n (h ∷ hints) es fs q r v w a b never =
+    let same = after_looks c is_dropped h es a.0 a.1 fs b.0 b.1 q r a.3 b.3 a.2 b.2 a.4 b.4 never in
+    let later = by_agree a.3 n h hints a.1 b.1 v w (λ m. FailsHints c is_dropped m hints a.1 v) (λ m. FailsHints c is_dropped m hints b.1 w)
+    (λ m k l. hints_agree c is_dropped m hints a.1 b.1 q r v w k l same.behind) a.5
+    (subst (λ x. FailsBy x n h hints b.1 w (λ m. FailsHints c is_dropped m hints b.1 w)) (sym same.answer) b.5) in
     (a.2 ∙ ap (λ e. e ++ a.1) same.asked ∙ ap (λ e. b.0 ++ e) later.0 ∙ sym b.2, later.1)
 
 -- Additions
@@ -152,7 +155,7 @@ good_agrees : (c : StreamParams) (st : StreamContext) (id : ℕ) (lits : List �
     → JudgesAddition c st id lits hints es Good → JudgesAddition c st id lits hints fs (Bad deleted fault) → NeverFork (es ++ q) (fs ++ r)
     → ⊥
 good_agrees c st id lits hints es fs q r deleted fault a b never =
-    never_both c st.gone (distinct lits) hints a.1.clauses a.0 fs _ r fault a.1.named a.1.shown.1
+    never_both c st.is_dropped (distinct lits) hints a.1.clauses a.0 fs _ r fault a.1.named a.1.shown.1
     (valid_passes c st a.0 id lits hints fs fault _ a.1 b.1)
     (subst (λ e. NeverFork e (fs ++ r)) (ap (λ e. e ++ q) a.2 ∙ append_assoc a.0 (published_by c id lits ∷ []) q) never)
 
@@ -163,7 +166,7 @@ addition_agrees c st id lits hints es fs q r Good Good a b never =
     let last = published_by c id lits ∷ [] in
     let behind = subst (λ e. NeverFork e (b.0 ++ (last ++ r))) (ap (λ e. e ++ q) a.2 ∙ append_assoc a.0 last q)
     (subst (NeverFork (es ++ q)) (ap (λ e. e ++ r) b.2 ∙ append_assoc b.0 last r) never) in
-    let same = found_agree c st.gone hints a.1.clauses b.1.clauses a.0 b.0 (last ++ q) (last ++ r) a.1.named b.1.named behind in
+    let same = found_agree c st.is_dropped hints a.1.clauses b.1.clauses a.0 b.0 (last ++ q) (last ++ r) a.1.named b.1.named behind in
     record { events = a.2 ∙ ap (λ e. e ++ last) same ∙ sym b.2; verdict = refl }
 addition_agrees c st id lits hints es fs q r Good (Bad deleted fault) a b never =
     absurd (good_agrees c st id lits hints es fs q r deleted fault a b never)
@@ -172,11 +175,11 @@ addition_agrees c st id lits hints es fs q r (Bad deleted fault) Good a b never 
 addition_agrees c st id lits hints es fs q r (Bad m v) (Bad n w) a b never =
     both_bad m n v w es fs a.0 b.0 (violates_agree _ _ es fs v w _ _ (λ a b. violates_agree _ _ es fs v w _ _
     (λ a b. violates_agree _ _ es fs v w _ _ (λ a b. violates_agree _ _ es fs v w _ _
-    (λ a b. hints_agree c st.gone (distinct lits) hints es fs q r v w a b never) a b) a b) a b) a.1 b.1)
+    (λ a b. hints_agree c st.is_dropped (distinct lits) hints es fs q r v w a b never) a b) a b) a b) a.1 b.1)
 
-drops_agree : (gone : ℕ → Bool) (earlier : List ℕ) (id : ℕ) (es fs : History) (v w : LineVerdict) (A B : History → Type 0)
-    → (A es → B fs → Agree es v fs w) → DropsThen gone earlier id es v A → DropsThen gone earlier id fs w B → Agree es v fs w
-drops_agree gone earlier id es fs v w A B next a b = elim a [
+drops_agree : (is_dropped : ℕ → Bool) (earlier : List ℕ) (id : ℕ) (es fs : History) (v w : LineVerdict) (A B : History → Type 0)
+    → (A es → B fs → Agree es v fs w) → DropsThen is_dropped earlier id es v A → DropsThen is_dropped earlier id fs w B → Agree es v fs w
+drops_agree is_dropped earlier id es fs v w A B next a b = elim a [
   | inl one ↦ elim b [
     | inl two ↦ fails_agree (length earlier) (faults.NotLive id) es fs v w one.1 two.1
     | inr two ↦ absurd (let d = one.0 in let e = two.0 in cc)
@@ -211,27 +214,31 @@ retires_agree c earlier id es fs q r v w A B next a b never =
       ]
     ]
 
-at_agree : (ownership : Ownership) (c : StreamParams) (gone : ℕ → Bool) (earlier : List ℕ) (id : ℕ) (es fs q r : History)
+at_agree : (ownership : Ownership) (c : StreamParams) (is_dropped : ℕ → Bool) (earlier : List ℕ) (id : ℕ) (es fs q r : History)
     (v w : LineVerdict)
     (A B : History → Type 0)
     → ((rest left : History) → NeverFork (rest ++ q) (left ++ r) → A rest → B left → Agree rest v left w)
-    → DeletesAt ownership c gone earlier id es v A → DeletesAt ownership c gone earlier id fs w B → NeverFork (es ++ q) (fs ++ r)
+    → DeletesAt ownership c is_dropped earlier id es v A → DeletesAt ownership c is_dropped earlier id fs w B
+    → NeverFork (es ++ q) (fs ++ r)
     → Agree es v fs w
-at_agree ownerships.Formula c gone earlier id es fs q r v w A B next a b never =
-    drops_agree gone earlier id es fs v w A B (next es fs never) a b
-at_agree ownerships.Own c gone earlier id es fs q r v w A B next a b never = retires_agree c earlier id es fs q r v w A B next a b never
-at_agree ownerships.Foreign c gone earlier id es fs q r v w A B next a b never =
-    drops_agree gone earlier id es fs v w A B (next es fs never) a b
-at_agree ownerships.Outside c gone earlier id es fs q r v w A B next a b never =
+at_agree ownerships.Formula c is_dropped earlier id es fs q r v w A B next a b never =
+    drops_agree is_dropped earlier id es fs v w A B (next es fs never) a b
+at_agree ownerships.Own c is_dropped earlier id es fs q r v w A B next a b never = retires_agree c earlier id es fs q r v w A B next a b
+    never
+at_agree ownerships.Foreign c is_dropped earlier id es fs q r v w A B next a b never =
+    drops_agree is_dropped earlier id es fs v w A B (next es fs never) a b
+at_agree ownerships.Outside c is_dropped earlier id es fs q r v w A B next a b never =
     fails_agree (length earlier) (faults.NotLive id) es fs v w a b
 
-identities_agree : (c : StreamParams) (gone : ℕ → Bool) (earlier ids : List ℕ) (es fs q r : History) (v w : LineVerdict)
-    → JudgesDeletion c gone earlier ids es v → JudgesDeletion c gone earlier ids fs w → NeverFork (es ++ q) (fs ++ r) → Agree es v fs w
-identities_agree c gone earlier [] es fs q r v w a b never = record { events = a.0 ∙ sym b.0; verdict = a.1 ∙ sym b.1 }
-identities_agree c gone earlier (id ∷ ids) es fs q r v w a b never =
-    at_agree (ownership_of c id) c gone earlier id es fs q r v w
-    (λ rest. JudgesDeletion c gone (earlier ++ id ∷ []) ids rest v) (λ rest. JudgesDeletion c gone (earlier ++ id ∷ []) ids rest w)
-    (λ rest left behind one two. identities_agree c gone (earlier ++ id ∷ []) ids rest left q r v w one two behind)
+identities_agree : (c : StreamParams) (is_dropped : ℕ → Bool) (earlier ids : List ℕ) (es fs q r : History) (v w : LineVerdict)
+    → JudgesDeletion c is_dropped earlier ids es v → JudgesDeletion c is_dropped earlier ids fs w → NeverFork (es ++ q) (fs ++ r)
+    → Agree es v fs w
+identities_agree c is_dropped earlier [] es fs q r v w a b never = record { events = a.0 ∙ sym b.0; verdict = a.1 ∙ sym b.1 }
+identities_agree c is_dropped earlier (id ∷ ids) es fs q r v w a b never =
+    at_agree (ownership_of c id) c is_dropped earlier id es fs q r v w
+    (λ rest. JudgesDeletion c is_dropped (earlier ++ id ∷ []) ids rest v)
+    (λ rest. JudgesDeletion c is_dropped (earlier ++ id ∷ []) ids rest w)
+    (λ rest left behind one two. identities_agree c is_dropped (earlier ++ id ∷ []) ids rest left q r v w one two behind)
     a b never
 
 -- Imports
@@ -242,12 +249,12 @@ import_good : (c : StreamParams) (st : StreamContext) (id : ℕ) (lits : List �
 import_good c st id lits es fs q r deleted fault a (none, inl bad) never = bad.0 (a.identity, a.other)
 import_good c st id lits es fs q r deleted fault a (none, inr (shared, inl bad)) never = bad.0 a.literals
 import_good c st id lits es fs q r deleted fault a (none, inr (shared, inr (within, inl unfound))) never =
-    let found = found_one c st.gone id a.clause es a.named in
-    let same = looks_agree c st.gone id es fs q r (Ok a.clause) (Err fault) found unfound never in
+    let found = found_one c st.is_dropped id a.clause es a.named in
+    let same = looks_agree c st.is_dropped id es fs q r (Ok a.clause) (Err fault) found unfound never in
     let answer = same.1 in cc
 import_good c st id lits es fs q r deleted fault a (none, inr (shared, inr (within, inr differs))) never =
-    let found = found_one c st.gone id a.clause es a.named in
-    let same = looks_agree c st.gone id es fs q r (Ok a.clause) (Ok differs.0) found differs.1 never in
+    let found = found_one c st.is_dropped id a.clause es a.named in
+    let same = looks_agree c st.is_dropped id es fs q r (Ok a.clause) (Ok differs.0) found differs.1 never in
     let answer = same.1 in
     let clause : a.clause ≡ differs.0 = cc in
     differs.2 (subst (λ (d : Clause). (l : ℤ) → Has d l ↔ Has lits l) clause a.same)
@@ -255,7 +262,11 @@ import_good c st id lits es fs q r deleted fault a (none, inr (shared, inr (with
 import_agrees : (c : StreamParams) (st : StreamContext) (id : ℕ) (lits : List ℤ) (es fs q r : History) (v w : LineVerdict)
     → JudgesImport c st id lits es v → JudgesImport c st id lits fs w → NeverFork (es ++ q) (fs ++ r) → Agree es v fs w
 import_agrees c st id lits es fs q r Good Good a b never =
-    record { events = found_agree c st.gone (id ∷ []) (a.clause ∷ []) (b.clause ∷ []) es fs q r a.named b.named never; verdict = refl }
+    record {
+      events = found_agree c st.is_dropped (id ∷ []) (a.clause ∷ [])
+          (b.clause ∷ []) es fs q r a.named b.named never;
+      verdict = refl;
+    }
 import_agrees c st id lits es fs q r Good (Bad deleted fault) a b never =
     absurd (import_good c st id lits es fs q r deleted fault a b never)
 import_agrees c st id lits es fs q r (Bad deleted fault) Good a b never =
@@ -264,14 +275,16 @@ import_agrees c st id lits es fs q r (Bad m v) (Bad n w) a b never =
     both_bad m n v w es fs a.0 b.0 (violates_agree _ _ es fs v w _ _ (λ a b. violates_agree _ _ es fs v w _ _ (λ a b. elim a [
       | inl one ↦ elim b [
         | inl two ↦
-            let same = looks_agree c st.gone id es fs q r (Err v) (Err w) one two never in
+            let same = looks_agree c st.is_dropped id es fs q r (Err v) (Err w) one two never in
             let answer = same.1 in let fault : v ≡ w = cc in (same.0, fault)
-        | inr two ↦ absurd (let same = looks_agree c st.gone id es fs q r (Err v) (Ok two.0) one two.1 never in let answer = same.1 in cc)
+        | inr two ↦ absurd (let same = looks_agree c st.is_dropped id es fs q r (Err v)
+            (Ok two.0) one two.1 never in let answer = same.1 in cc)
       ]
       | inr one ↦ elim b [
-        | inl two ↦ absurd (let same = looks_agree c st.gone id es fs q r (Ok one.0) (Err w) one.1 two never in let answer = same.1 in cc)
+        | inl two ↦ absurd (let same = looks_agree c st.is_dropped id es fs q r (Ok one.0)
+            (Err w) one.1 two never in let answer = same.1 in cc)
         | inr two ↦
-            ((looks_agree c st.gone id es fs q r (Ok one.0) (Ok two.0) one.1 two.1 never).0, one.3 ∙ sym two.3)
+            ((looks_agree c st.is_dropped id es fs q r (Ok one.0) (Ok two.0) one.1 two.1 never).0, one.3 ∙ sym two.3)
       ]
     ]) a b) a.1 b.1)
 
@@ -279,5 +292,5 @@ import_agrees c st id lits es fs q r (Bad m v) (Bad n w) a b never =
 pub line_agrees : (c : StreamParams) (st : StreamContext) (line : StreamLine) (es fs q r : History) (v w : LineVerdict)
     → JudgesLine c st line es v → JudgesLine c st line fs w → NeverFork (es ++ q) (fs ++ r) → Agree es v fs w
 line_agrees c st (Addition id lits hints) es fs q r v w a b never = addition_agrees c st id lits hints es fs q r v w a b never
-line_agrees c st (Deletion lead ids) es fs q r v w a b never = identities_agree c st.gone [] ids es fs q r v w a b never
+line_agrees c st (Deletion lead ids) es fs q r v w a b never = identities_agree c st.is_dropped [] ids es fs q r v w a b never
 line_agrees c st (Import id lits) es fs q r v w a b never = import_agrees c st id lits es fs q r v w a b never

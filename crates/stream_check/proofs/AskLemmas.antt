@@ -18,7 +18,7 @@ use Rattle.stream_check.specs.declared.params.Ownership.{Ownership}
 use Rattle.stream_check.specs.declared.params.Ownership.TheVariants as ownerships
 use Rattle.stream_check.specs.StreamParams.{StreamParams, ownership_of}
 use Rattle.stream_check.specs.internal.CheckerInside.{tries_on}
-use Rattle.stream_check.specs.Lookup.{FetchesUpTo, AsksAt, Asks}
+use Rattle.stream_check.specs.Lookup.{FetchesUpTo, FetchesHintAt, FetchesHint}
 use Rattle.stream_check.proofs.TryLemmas.{replicate-more}
 
 -- Fetches after a first one that was vacant
@@ -49,7 +49,7 @@ once s h es r fetches =
     fetches.3 ∙ ap (λ (k : ℕ). replicate k (fetch s h vacant) ++ fetch s h r ∷ []) none
 
 asks_at : (ownership : Ownership) (c : StreamParams) (h : ℕ) (es : History) (r : Reply) → (ownership ≡ ownerships.Outside → ⊥)
-    → FetchesUpTo (tries_on ownership c.tries) c.stream h es r → AsksAt ownership c h es r
+    → FetchesUpTo (tries_on ownership c.tries) c.stream h es r → FetchesHintAt ownership c h es r
 asks_at ownerships.Formula c h es r inside fetches = once c.stream h es r fetches
 asks_at ownerships.Own c h es r inside fetches = once c.stream h es r fetches
 asks_at ownerships.Foreign c h es r inside fetches = fetches
@@ -92,7 +92,7 @@ inside_owner p id is e = elim (eqb_tells id 0) [
 
 -- a first fetch that was vacant, and those after it, are what asking for an identity makes
 pub asks_again : (c : StreamParams) (h s most : ℕ) (es : History) (r : Reply) → IsIdentity c.layout h → s ≡ c.stream
-    → most ≡ tries_on (ownership_of c h) c.tries → FetchesUpTo most s h es r → Asks c h es r
+    → most ≡ tries_on (ownership_of c h) c.tries → FetchesUpTo most s h es r → FetchesHint c h es r
 asks_again c h s most es r is stream tries fetches =
     asks_at (ownership_of c h) c h es r (inside_side c.stream (owner c.layout h) (inside_owner c.layout h is))
     (subst (λ (t : ℕ). FetchesUpTo (tries_on (ownership_of c h) c.tries) t h es r) stream
@@ -100,7 +100,7 @@ asks_again c h s most es r is stream tries fetches =
 
 -- one fetch, where its reply isn't vacant
 pub asks_once : (c : StreamParams) (h s : ℕ) (r : Reply) → IsIdentity c.layout h → s ≡ c.stream → (r ≡ vacant → ⊥)
-    → Asks c h (fetch s h r ∷ []) r
+    → FetchesHint c h (fetch s h r ∷ []) r
 asks_once c h s r is stream other =
     asks_again c h s (tries_on (ownership_of c h) c.tries) (fetch s h r ∷ []) r is stream refl
     (0, omega arith, (λ e. absurd (other e)), refl)
@@ -119,9 +119,10 @@ outside_owner p id never = elim (eqb_tells id 0) [
 ]
 
 -- no event for what is no identity
-pub asks_nothing : (c : StreamParams) (h : ℕ) → (IsIdentity c.layout h → ⊥) → Asks c h [] vacant
+pub asks_nothing : (c : StreamParams) (h : ℕ) → (IsIdentity c.layout h → ⊥) → FetchesHint c h [] vacant
 asks_nothing c h never =
-    subst (λ (ownership : Ownership). AsksAt ownership c h [] vacant) (sym (ap (ownership_for c.stream) (outside_owner c.layout h never)))
+    subst (λ (ownership : Ownership). FetchesHintAt ownership c h [] vacant)
+    (sym (ap (ownership_for c.stream) (outside_owner c.layout h never)))
     (refl, refl)
 
 -- What a fetch answered

@@ -48,13 +48,13 @@ identity_below p id inside = elim (eqb_tells id 0) [
 
 -- it was retired, or it is among the dropped ones
 abbrev pub TakenAt : Ownership → State → (ℕ → Bool) → List ℕ → ℕ → Type 0
-TakenAt ownerships.Formula n gone earlier id = (gone id || is_among earlier id) ≡ true
-TakenAt ownerships.Own n gone earlier id = IsRetired (n id)
-TakenAt ownerships.Foreign n gone earlier id = (gone id || is_among earlier id) ≡ true
-TakenAt ownerships.Outside n gone earlier id = ⊥
+TakenAt ownerships.Formula n is_dropped earlier id = (is_dropped id || is_among earlier id) ≡ true
+TakenAt ownerships.Own n is_dropped earlier id = IsRetired (n id)
+TakenAt ownerships.Foreign n is_dropped earlier id = (is_dropped id || is_among earlier id) ≡ true
+TakenAt ownerships.Outside n is_dropped earlier id = ⊥
 
 abbrev pub Taken : StreamParams → State → (ℕ → Bool) → List ℕ → ℕ → Type 0
-Taken c n gone earlier id = TakenAt (ownership_of c id) n gone earlier id
+Taken c n is_dropped earlier id = TakenAt (ownership_of c id) n is_dropped earlier id
 
 abbrev pub Apart : List ℕ → Type 0
 Apart [] = Unit {0}
@@ -66,10 +66,10 @@ are_distinct [] apart = tt
 are_distinct (x ∷ xs) apart = (apart.0, are_distinct xs apart.1)
 
 -- the identities taken so far: they differ, each was taken, and there are so many
-pub record AreTaken (c : StreamParams) (n : State) (gone : ℕ → Bool) (earlier : List ℕ) (many : ℕ) : Type 0 where
+pub record AreTaken (c : StreamParams) (n : State) (is_dropped : ℕ → Bool) (earlier : List ℕ) (many : ℕ) : Type 0 where
   pub ids : List ℕ
   pub apart : Apart ids
-  pub taken : AllByRecursion (Taken c n gone earlier) ids
+  pub taken : AllByRecursion (Taken c n is_dropped earlier) ids
   pub count : length ids ≡ many
 
 all_map : (P Q : ℕ → Type 0) (xs : List ℕ) → ((x : ℕ) → P x → Q x) → AllByRecursion P xs → AllByRecursion Q xs
@@ -77,12 +77,13 @@ all_map P Q [] maps all = tt
 all_map P Q (x ∷ xs) maps all = (maps x all.0, all_map P Q xs maps all.1)
 
 -- an identity that wasn't taken differs from those that were
-fresh : (c : StreamParams) (n : State) (gone : ℕ → Bool) (earlier : List ℕ) (id : ℕ) (ids : List ℕ) → ¬ Taken c n gone earlier id
-    → AllByRecursion (Taken c n gone earlier) ids → AllByRecursion (λ y. eqb id y ≡ false) ids
-fresh c n gone earlier id [] new all = tt
-fresh c n gone earlier id (y ∷ ids) new all = elim (eqb_tells id y) [
-  | inl same ↦ absurd (new (subst (Taken c n gone earlier) (sym same.1) all.0))
-  | inr other ↦ (other.0, fresh c n gone earlier id ids new all.1)
+fresh : (c : StreamParams) (n : State) (is_dropped : ℕ → Bool) (earlier : List ℕ) (id : ℕ) (ids : List ℕ)
+    → ¬ Taken c n is_dropped earlier id
+    → AllByRecursion (Taken c n is_dropped earlier) ids → AllByRecursion (λ y. eqb id y ≡ false) ids
+fresh c n is_dropped earlier id [] new all = tt
+fresh c n is_dropped earlier id (y ∷ ids) new all = elim (eqb_tells id y) [
+  | inl same ↦ absurd (new (subst (Taken c n is_dropped earlier) (sym same.1) all.0))
+  | inr other ↦ (other.0, fresh c n is_dropped earlier id ids new all.1)
 ]
 
 or_more : (a b d : Bool) → (a || b) ≡ true → (a || (b || d)) ≡ true
@@ -98,36 +99,37 @@ or_last false false = refl
 among_more : (earlier : List ℕ) (id y : ℕ) → is_among (earlier ++ id ∷ []) y ≡ (is_among earlier y || ((id == y) || false))
 among_more earlier id y = list_any-append (λ j. j == y) earlier (id ∷ [])
 
-dropped_more : (gone : ℕ → Bool) (earlier : List ℕ) (id y : ℕ) → (gone y || is_among earlier y) ≡ true
-    → (gone y || is_among (earlier ++ id ∷ []) y) ≡ true
-dropped_more gone earlier id y e = ap (λ b. gone y || b) (among_more earlier id y)
-    ∙ or_more (gone y) (is_among earlier y) ((id == y) || false) e
+dropped_more : (is_dropped : ℕ → Bool) (earlier : List ℕ) (id y : ℕ) → (is_dropped y || is_among earlier y) ≡ true
+    → (is_dropped y || is_among (earlier ++ id ∷ []) y) ≡ true
+dropped_more is_dropped earlier id y e = ap (λ b. is_dropped y || b) (among_more earlier id y)
+    ∙ or_more (is_dropped y) (is_among earlier y) ((id == y) || false) e
 
-dropped_now : (gone : ℕ → Bool) (earlier : List ℕ) (id : ℕ) → (gone id || is_among (earlier ++ id ∷ []) id) ≡ true
-dropped_now gone earlier id =
-    ap (λ b. gone id || b) (among_more earlier id id)
-    ∙ ap (λ b. gone id || (is_among earlier id || (b || false))) ((Decides-eqb id id).1 refl)
-    ∙ or_last (gone id) (is_among earlier id)
+dropped_now : (is_dropped : ℕ → Bool) (earlier : List ℕ) (id : ℕ) → (is_dropped id || is_among (earlier ++ id ∷ []) id) ≡ true
+dropped_now is_dropped earlier id =
+    ap (λ b. is_dropped id || b) (among_more earlier id id)
+    ∙ ap (λ b. is_dropped id || (is_among earlier id || (b || false))) ((Decides-eqb id id).1 refl)
+    ∙ or_last (is_dropped id) (is_among earlier id)
 
-taken_more : (ownership : Ownership) (n m : State) (gone : ℕ → Bool) (earlier : List ℕ) (id y : ℕ) → (IsRetired (n y) → IsRetired (m y))
-    → TakenAt ownership n gone earlier y → TakenAt ownership m gone (earlier ++ id ∷ []) y
-taken_more ownerships.Formula n m gone earlier id y stays t = dropped_more gone earlier id y t
-taken_more ownerships.Own n m gone earlier id y stays t = stays t
-taken_more ownerships.Foreign n m gone earlier id y stays t = dropped_more gone earlier id y t
-taken_more ownerships.Outside n m gone earlier id y stays t = t
+taken_more : (ownership : Ownership) (n m : State) (is_dropped : ℕ → Bool) (earlier : List ℕ) (id y : ℕ)
+    → (IsRetired (n y) → IsRetired (m y))
+    → TakenAt ownership n is_dropped earlier y → TakenAt ownership m is_dropped (earlier ++ id ∷ []) y
+taken_more ownerships.Formula n m is_dropped earlier id y stays t = dropped_more is_dropped earlier id y t
+taken_more ownerships.Own n m is_dropped earlier id y stays t = stays t
+taken_more ownerships.Foreign n m is_dropped earlier id y stays t = dropped_more is_dropped earlier id y t
+taken_more ownerships.Outside n m is_dropped earlier id y stays t = t
 
 -- one identity more
-take_more : (c : StreamParams) (n m : State) (gone : ℕ → Bool) (earlier : List ℕ) (id many : ℕ)
+take_more : (c : StreamParams) (n m : State) (is_dropped : ℕ → Bool) (earlier : List ℕ) (id many : ℕ)
     → ((y : ℕ) → IsRetired (n y) → IsRetired (m y))
-    → ¬ Taken c n gone earlier id → Taken c m gone (earlier ++ id ∷ []) id → AreTaken c n gone earlier many
-    → AreTaken c m gone (earlier ++ id ∷ []) (many + 1)
-take_more c n m gone earlier id many stays new now are = record {
+    → ¬ Taken c n is_dropped earlier id → Taken c m is_dropped (earlier ++ id ∷ []) id → AreTaken c n is_dropped earlier many
+    → AreTaken c m is_dropped (earlier ++ id ∷ []) (many + 1)
+take_more c n m is_dropped earlier id many stays new now are = record {
   ids = id ∷ are.ids;
-  apart = (fresh c n gone earlier id are.ids new are.taken, are.apart);
+  apart = (fresh c n is_dropped earlier id are.ids new are.taken, are.apart);
   taken = (
     now,
-    all_map (Taken c n gone earlier) (Taken c m gone (earlier ++ id ∷ [])) are.ids
-        (λ y t. taken_more (ownership_of c y) n m gone earlier id y (stays y) t) are.taken,
+    all_map (Taken c n is_dropped earlier) (Taken c m is_dropped (earlier ++ id ∷ [])) are.ids
+        (λ y t. taken_more (ownership_of c y) n m is_dropped earlier id y (stays y) t) are.taken,
   );
   count = omega (arith, are.count);
 }
@@ -136,42 +138,42 @@ take_more c n m gone earlier id many stays new now are = record {
 
 -- good: all its identities; bad: those before the fault
 abbrev pub Took : StreamParams → State → (ℕ → Bool) → List ℕ → List ℕ → ℕ → History → LineVerdict → Type 0
-Took c n gone earlier ids many es Good = AreTaken c (run n es) gone (earlier ++ ids) (many + length ids)
-Took c n gone earlier ids many es (Bad deleted fault) =
-    (m : State) × (taken : List ℕ) × (all : ℕ) × AreTaken c m gone taken all × (all + length earlier ≡ many + deleted)
+Took c n is_dropped earlier ids many es Good = AreTaken c (run n es) is_dropped (earlier ++ ids) (many + length ids)
+Took c n is_dropped earlier ids many es (Bad deleted fault) =
+    (m : State) × (taken : List ℕ) × (all : ℕ) × AreTaken c m is_dropped taken all × (all + length earlier ≡ many + deleted)
 
-took_none : (c : StreamParams) (n : State) (gone : ℕ → Bool) (earlier : List ℕ) (many : ℕ) (es : History) (v : LineVerdict)
+took_none : (c : StreamParams) (n : State) (is_dropped : ℕ → Bool) (earlier : List ℕ) (many : ℕ) (es : History) (v : LineVerdict)
     → es ≡ [] → v ≡ Good
-    → AreTaken c n gone earlier many → Took c n gone earlier [] many es v
-took_none c n gone earlier many es v none good are =
-    subst (λ w. Took c n gone earlier [] many es w) (sym good)
-    (subst (λ e. AreTaken c (run n e) gone (earlier ++ []) (many + 0)) (sym none)
-    (subst (λ e. AreTaken c n gone e (many + 0)) (sym (append-nil earlier))
-    (subst (AreTaken c n gone earlier) (omega arith) are)))
+    → AreTaken c n is_dropped earlier many → Took c n is_dropped earlier [] many es v
+took_none c n is_dropped earlier many es v none good are =
+    subst (λ w. Took c n is_dropped earlier [] many es w) (sym good)
+    (subst (λ e. AreTaken c (run n e) is_dropped (earlier ++ []) (many + 0)) (sym none)
+    (subst (λ e. AreTaken c n is_dropped e (many + 0)) (sym (append-nil earlier))
+    (subst (AreTaken c n is_dropped earlier) (omega arith) are)))
 
-took_failed : (c : StreamParams) (n : State) (gone : ℕ → Bool) (earlier ids : List ℕ) (many : ℕ) (es : History) (v : LineVerdict)
+took_failed : (c : StreamParams) (n : State) (is_dropped : ℕ → Bool) (earlier ids : List ℕ) (many : ℕ) (es : History) (v : LineVerdict)
     (fault : Fault)
-    → v ≡ Bad (length earlier) fault → AreTaken c n gone earlier many → Took c n gone earlier ids many es v
-took_failed c n gone earlier ids many es v fault bad are =
-    subst (λ w. Took c n gone earlier ids many es w) (sym bad) (n, earlier, many, are, refl)
+    → v ≡ Bad (length earlier) fault → AreTaken c n is_dropped earlier many → Took c n is_dropped earlier ids many es v
+took_failed c n is_dropped earlier ids many es v fault bad are =
+    subst (λ w. Took c n is_dropped earlier ids many es w) (sym bad) (n, earlier, many, are, refl)
 
 -- what is taken after one identity, counted from before it
-took_back : (c : StreamParams) (n : State) (gone : ℕ → Bool) (earlier : List ℕ) (id : ℕ) (ids : List ℕ) (many : ℕ) (es : History)
+took_back : (c : StreamParams) (n : State) (is_dropped : ℕ → Bool) (earlier : List ℕ) (id : ℕ) (ids : List ℕ) (many : ℕ) (es : History)
     (v : LineVerdict)
-    → Took c n gone (earlier ++ id ∷ []) ids (many + 1) es v → Took c n gone earlier (id ∷ ids) many es v
-took_back c n gone earlier id ids many es Good took =
-    subst (λ e. AreTaken c (run n es) gone e (many + length (id ∷ ids))) (append_assoc earlier (id ∷ []) ids)
-    (subst (AreTaken c (run n es) gone ((earlier ++ id ∷ []) ++ ids)) (omega arith) took)
-took_back c n gone earlier id ids many es (Bad deleted fault) took =
+    → Took c n is_dropped (earlier ++ id ∷ []) ids (many + 1) es v → Took c n is_dropped earlier (id ∷ ids) many es v
+took_back c n is_dropped earlier id ids many es Good took =
+    subst (λ e. AreTaken c (run n es) is_dropped e (many + length (id ∷ ids))) (append_assoc earlier (id ∷ []) ids)
+    (subst (AreTaken c (run n es) is_dropped ((earlier ++ id ∷ []) ++ ids)) (omega arith) took)
+took_back c n is_dropped earlier id ids many es (Bad deleted fault) took =
     (took.0, took.1, took.2, took.3, omega (arith, took.4, length-append earlier (id ∷ [])))
 
 -- and from before one event
-took_later : (c : StreamParams) (n : State) (gone : ℕ → Bool) (earlier ids : List ℕ) (many : ℕ) (e : Event) (es rest : History)
+took_later : (c : StreamParams) (n : State) (is_dropped : ℕ → Bool) (earlier ids : List ℕ) (many : ℕ) (e : Event) (es rest : History)
     (v : LineVerdict)
-    → es ≡ e ∷ rest → Took c (after n e) gone earlier ids many rest v → Took c n gone earlier ids many es v
-took_later c n gone earlier ids many e es rest Good is took =
-    subst (λ x. AreTaken c (run n x) gone (earlier ++ ids) (many + length ids)) (sym is) took
-took_later c n gone earlier ids many e es rest (Bad deleted fault) is took = took
+    → es ≡ e ∷ rest → Took c (after n e) is_dropped earlier ids many rest v → Took c n is_dropped earlier ids many es v
+took_later c n is_dropped earlier ids many e es rest Good is took =
+    subst (λ x. AreTaken c (run n x) is_dropped (earlier ++ ids) (many + length ids)) (sym is) took
+took_later c n is_dropped earlier ids many e es rest (Bad deleted fault) is took = took
 
 live_not_retired : (slot : Slot) → IsLive slot → IsRetired slot → ⊥
 live_not_retired absent a b = a
@@ -179,67 +181,78 @@ live_not_retired (live d) a b = b
 live_not_retired (retired d) a b = a
 
 -- an own identity that was live is retired
-took_own : (c : StreamParams) (n : State) (gone : ℕ → Bool) (earlier : List ℕ) (id many : ℕ) → ownership_of c id ≡ ownerships.Own
+took_own : (c : StreamParams) (n : State) (is_dropped : ℕ → Bool) (earlier : List ℕ) (id many : ℕ) → ownership_of c id ≡ ownerships.Own
     → OwnAnswers n (events.retire c.stream id retiring.Done)
-    → AreTaken c n gone earlier many → AreTaken c (after n (events.retire c.stream id retiring.Done)) gone (earlier ++ id ∷ []) (many + 1)
+    → AreTaken c n is_dropped earlier many → AreTaken c (after n (events.retire c.stream id retiring.Done)) is_dropped (earlier ++ id ∷ [])
+    (many + 1)
 unfolding OwnAnswers
-took_own c n gone earlier id many ownership is_live are =
+took_own c n is_dropped earlier id many ownership is_live are =
     let e = events.retire c.stream id retiring.Done in
-    take_more c n (after n e) gone earlier id many (λ y is. stays_retired n e y is_live is)
-    (λ t. live_not_retired (n id) is_live (subst (λ x. TakenAt x n gone earlier id) ownership t))
-    (subst (λ x. TakenAt x (after n e) gone (earlier ++ id ∷ []) id) (sym ownership)
+    take_more c n (after n e) is_dropped earlier id many (λ y is. stays_retired n e y is_live is)
+    (λ t. live_not_retired (n id) is_live (subst (λ x. TakenAt x n is_dropped earlier id) ownership t))
+    (subst (λ x. TakenAt x (after n e) is_dropped (earlier ++ id ∷ []) id) (sym ownership)
     (subst IsRetired (sym (put_same n id id (retire_slot (n id)) refl)) (retired_now (n id) is_live)))
     are
 
-took_formula : (c : StreamParams) (n : State) (gone : ℕ → Bool) (earlier : List ℕ) (id many : ℕ) → ownership_of c id ≡ ownerships.Formula
-    → (gone id || is_among earlier id) ≡ false → AreTaken c n gone earlier many → AreTaken c n gone (earlier ++ id ∷ []) (many + 1)
-took_formula c n gone earlier id many ownership new are = take_more c n n gone earlier id many (λ y is. is)
-    (λ t. let d : (gone id || is_among earlier id) ≡ true = subst (λ x. TakenAt x n gone earlier id) ownership t in
+took_formula : (c : StreamParams) (n : State) (is_dropped : ℕ → Bool) (earlier : List ℕ) (id many : ℕ)
+    → ownership_of c id ≡ ownerships.Formula
+    → (is_dropped id || is_among earlier id) ≡ false → AreTaken c n is_dropped earlier many
+    → AreTaken c n is_dropped (earlier ++ id ∷ []) (many + 1)
+took_formula c n is_dropped earlier id many ownership new are = take_more c n n is_dropped earlier id many (λ y is. is)
+    (λ t. let d : (is_dropped id || is_among earlier id) ≡ true = subst (λ x. TakenAt x n is_dropped earlier id) ownership t in
     let f : true ≡ false = sym d ∙ new in cc)
-    (subst (λ x. TakenAt x n gone (earlier ++ id ∷ []) id) (sym ownership) (dropped_now gone earlier id)) are
+    (subst (λ x. TakenAt x n is_dropped (earlier ++ id ∷ []) id) (sym ownership) (dropped_now is_dropped earlier id)) are
 
-took_foreign : (c : StreamParams) (n : State) (gone : ℕ → Bool) (earlier : List ℕ) (id many : ℕ) → ownership_of c id ≡ ownerships.Foreign
-    → (gone id || is_among earlier id) ≡ false → AreTaken c n gone earlier many → AreTaken c n gone (earlier ++ id ∷ []) (many + 1)
-took_foreign c n gone earlier id many ownership new are = take_more c n n gone earlier id many (λ y is. is)
-    (λ t. let d : (gone id || is_among earlier id) ≡ true = subst (λ x. TakenAt x n gone earlier id) ownership t in
+took_foreign : (c : StreamParams) (n : State) (is_dropped : ℕ → Bool) (earlier : List ℕ) (id many : ℕ)
+    → ownership_of c id ≡ ownerships.Foreign
+    → (is_dropped id || is_among earlier id) ≡ false → AreTaken c n is_dropped earlier many
+    → AreTaken c n is_dropped (earlier ++ id ∷ []) (many + 1)
+took_foreign c n is_dropped earlier id many ownership new are = take_more c n n is_dropped earlier id many (λ y is. is)
+    (λ t. let d : (is_dropped id || is_among earlier id) ≡ true = subst (λ x. TakenAt x n is_dropped earlier id) ownership t in
     let f : true ≡ false = sym d ∙ new in cc)
-    (subst (λ x. TakenAt x n gone (earlier ++ id ∷ []) id) (sym ownership) (dropped_now gone earlier id)) are
+    (subst (λ x. TakenAt x n is_dropped (earlier ++ id ∷ []) id) (sym ownership) (dropped_now is_dropped earlier id)) are
 
-took_at : (ownership : Ownership) (c : StreamParams) (n : State) (gone : ℕ → Bool) (earlier : List ℕ) (id : ℕ) (ids : List ℕ) (many : ℕ)
+took_at : (ownership : Ownership) (c : StreamParams) (n : State) (is_dropped : ℕ
+    → Bool) (earlier : List ℕ) (id : ℕ) (ids : List ℕ) (many : ℕ)
     (es rest : History) (v : LineVerdict) (A : History → Type 0)
     → ownership_of c id ≡ ownership
-    → ((m : State) (left : History) → A left → OwnRun m (left ++ rest) → AreTaken c m gone (earlier ++ id ∷ []) (many + 1)
-    → Took c m gone (earlier ++ id ∷ []) ids (many + 1) left v)
-    → DeletesAt ownership c gone earlier id es v A → OwnRun n (es ++ rest) → AreTaken c n gone earlier many
-    → Took c n gone earlier (id ∷ ids) many es v
+    → ((m : State) (left : History) → A left → OwnRun m (left ++ rest) → AreTaken c m is_dropped (earlier ++ id ∷ []) (many + 1)
+    → Took c m is_dropped (earlier ++ id ∷ []) ids (many + 1) left v)
+    → DeletesAt ownership c is_dropped earlier id es v A → OwnRun n (es ++ rest) → AreTaken c n is_dropped earlier many
+    → Took c n is_dropped earlier (id ∷ ids) many es v
 unfolding OwnRun
-took_at ownerships.Formula c n gone earlier id ids many es rest v A ownership next (inl bad) answers are =
-    took_failed c n gone earlier (id ∷ ids) many es v (faults.NotLive id) bad.1.1 are
-took_at ownerships.Formula c n gone earlier id ids many es rest v A ownership next (inr good) answers are =
-    took_back c n gone earlier id ids many es v (next n es good.1 answers (took_formula c n gone earlier id many ownership good.0 are))
-took_at ownerships.Foreign c n gone earlier id ids many es rest v A ownership next (inl bad) answers are =
-    took_failed c n gone earlier (id ∷ ids) many es v (faults.NotLive id) bad.1.1 are
-took_at ownerships.Foreign c n gone earlier id ids many es rest v A ownership next (inr good) answers are =
-    took_back c n gone earlier id ids many es v (next n es good.1 answers (took_foreign c n gone earlier id many ownership good.0 are))
-took_at ownerships.Outside c n gone earlier id ids many es rest v A ownership next at answers are =
-    took_failed c n gone earlier (id ∷ ids) many es v (faults.NotLive id) at.1 are
-took_at ownerships.Own c n gone earlier id ids many es rest v A ownership next at answers are = elim at.decided [
+took_at ownerships.Formula c n is_dropped earlier id ids many es rest v A ownership next (inl bad) answers are =
+    took_failed c n is_dropped earlier (id ∷ ids) many es v (faults.NotLive id) bad.1.1 are
+took_at ownerships.Formula c n is_dropped earlier id ids many es rest v A ownership next (inr good) answers are =
+    took_back c n is_dropped earlier id ids many es v
+    (next n es good.1 answers (took_formula c n is_dropped earlier id many ownership good.0 are))
+took_at ownerships.Foreign c n is_dropped earlier id ids many es rest v A ownership next (inl bad) answers are =
+    took_failed c n is_dropped earlier (id ∷ ids) many es v (faults.NotLive id) bad.1.1 are
+took_at ownerships.Foreign c n is_dropped earlier id ids many es rest v A ownership next (inr good) answers are =
+    took_back c n is_dropped earlier id ids many es v
+    (next n es good.1 answers (took_foreign c n is_dropped earlier id many ownership good.0 are))
+took_at ownerships.Outside c n is_dropped earlier id ids many es rest v A ownership next at answers are =
+    took_failed c n is_dropped earlier (id ∷ ids) many es v (faults.NotLive id) at.1 are
+took_at ownerships.Own c n is_dropped earlier id ids many es rest v A ownership next at answers are = elim at.decided [
   | inl good ↦
       let e = events.retire c.stream id retiring.Done in
       let here = subst (λ x. OwnRun n (x ++ rest)) good.0 answers in
-      took_back c n gone earlier id ids many es v
-      (took_later c n gone (earlier ++ id ∷ []) ids (many + 1) e es at.rest v good.0
-      (next (after n e) at.rest good.1 here.1 (took_own c n gone earlier id many ownership here.0 are)))
-  | inr bad ↦ took_failed c n gone earlier (id ∷ ids) many es v (faults.NotLive id) bad.1.1 are
+      took_back c n is_dropped earlier id ids many es v
+      (took_later c n is_dropped (earlier ++ id ∷ []) ids (many + 1) e es at.rest v good.0
+      (next (after n e) at.rest good.1 here.1 (took_own c n is_dropped earlier id many ownership here.0 are)))
+  | inr bad ↦ took_failed c n is_dropped earlier (id ∷ ids) many es v (faults.NotLive id) bad.1.1 are
 ]
 
-pub identities_took : (c : StreamParams) (n : State) (gone : ℕ → Bool) (earlier ids : List ℕ) (many : ℕ) (es rest : History)
+pub identities_took : (c : StreamParams) (n : State) (is_dropped : ℕ → Bool) (earlier ids : List ℕ) (many : ℕ) (es rest : History)
     (v : LineVerdict)
-    → JudgesDeletion c gone earlier ids es v → OwnRun n (es ++ rest) → AreTaken c n gone earlier many → Took c n gone earlier ids many es v
-identities_took c n gone earlier [] many es rest v judged answers are = took_none c n gone earlier many es v judged.0 judged.1 are
-identities_took c n gone earlier (id ∷ ids) many es rest v judged answers are =
-    took_at (ownership_of c id) c n gone earlier id ids many es rest v (λ left. JudgesDeletion c gone (earlier ++ id ∷ []) ids left v) refl
-    (λ m left k answers are. identities_took c m gone (earlier ++ id ∷ []) ids (many + 1) left rest v k answers are)
+    → JudgesDeletion c is_dropped earlier ids es v → OwnRun n (es ++ rest) → AreTaken c n is_dropped earlier many
+    → Took c n is_dropped earlier ids many es v
+identities_took c n is_dropped earlier [] many es rest v judged answers are = took_none c n is_dropped earlier many es v judged.0 judged.1
+    are
+identities_took c n is_dropped earlier (id ∷ ids) many es rest v judged answers are =
+    took_at (ownership_of c id) c n is_dropped earlier id ids many es rest v
+    (λ left. JudgesDeletion c is_dropped (earlier ++ id ∷ []) ids left v) refl
+    (λ m left k answers are. identities_took c m is_dropped (earlier ++ id ∷ []) ids (many + 1) left rest v k answers are)
     judged answers are
 
 -- What lines took
@@ -251,8 +264,8 @@ gone_bool true false false e h = absurd (let f : false ≡ true = h in cc)
 gone_bool false a b e h = absurd (let f : false ≡ true = e in cc)
 
 gone_more : (c : StreamParams) (before : List StreamLine) (line : StreamLine) (y : ℕ) → is_shared (ownership_of c y) ≡ true
-    → ((context_of c before).gone y || is_among (deleted_by line) y) ≡ true
-    → ((context_of c (before ++ line ∷ [])).gone y || is_among [] y) ≡ true
+    → ((context_of c before).is_dropped y || is_among (deleted_by line) y) ≡ true
+    → ((context_of c (before ++ line ∷ [])).is_dropped y || is_among [] y) ≡ true
 gone_more c before line y shared e =
     let test : StreamLine → Bool = λ l. is_among (deleted_by l) y in
     ap (λ b. (is_shared (ownership_of c y) && b) || false) (list_any-append test before (line ∷ []))
@@ -261,8 +274,8 @@ gone_more c before line y shared e =
 taken_line : (ownership : Ownership) (c : StreamParams) (n m : State) (before : List StreamLine) (line : StreamLine) (y : ℕ)
     → ownership_of c y ≡ ownership
     → (IsRetired (n y) → IsRetired (m y))
-    → TakenAt ownership n (context_of c before).gone (deleted_by line) y
-    → TakenAt ownership m (context_of c (before ++ line ∷ [])).gone [] y
+    → TakenAt ownership n (context_of c before).is_dropped (deleted_by line) y
+    → TakenAt ownership m (context_of c (before ++ line ∷ [])).is_dropped [] y
 taken_line ownerships.Formula c n m before line y ownership stays t = gone_more c before line y (ap is_shared ownership) t
 taken_line ownerships.Own c n m before line y ownership stays t = stays t
 taken_line ownerships.Foreign c n m before line y ownership stays t = gone_more c before line y (ap is_shared ownership) t
@@ -270,35 +283,37 @@ taken_line ownerships.Outside c n m before line y ownership stays t = t
 
 line_taken : (c : StreamParams) (n m : State) (before : List StreamLine) (line : StreamLine) (many : ℕ)
     → ((y : ℕ) → IsRetired (n y) → IsRetired (m y))
-    → AreTaken c n (context_of c before).gone (deleted_by line) many → AreTaken c m (context_of c (before ++ line ∷ [])).gone [] many
+    → AreTaken c n (context_of c before).is_dropped (deleted_by line) many
+    → AreTaken c m (context_of c (before ++ line ∷ [])).is_dropped [] many
 line_taken c n m before line many stays are = record {
   ids = are.ids;
   apart = are.apart;
   taken =
-      all_map (Taken c n (context_of c before).gone (deleted_by line)) (Taken c m (context_of c (before ++ line ∷ [])).gone []) are.ids
+      all_map (Taken c n (context_of c before).is_dropped (deleted_by line))
+      (Taken c m (context_of c (before ++ line ∷ [])).is_dropped []) are.ids
       (λ y t. taken_line (ownership_of c y) c n m before line y refl (stays y) t) are.taken;
   count = are.count;
 }
 
 line_took : (c : StreamParams) (n : State) (before : List StreamLine) (line : StreamLine) (many : ℕ) (es rest : History)
-    → JudgesLine c (context_of c before) line es Good → OwnRun n (es ++ rest) → AreTaken c n (context_of c before).gone [] many
-    → AreTaken c (run n es) (context_of c (before ++ line ∷ [])).gone [] (many + length (deleted_by line))
+    → JudgesLine c (context_of c before) line es Good → OwnRun n (es ++ rest) → AreTaken c n (context_of c before).is_dropped [] many
+    → AreTaken c (run n es) (context_of c (before ++ line ∷ [])).is_dropped [] (many + length (deleted_by line))
 line_took c n before (Addition id lits hints) many es rest judged answers are =
-    subst (AreTaken c (run n es) (context_of c (before ++ Addition id lits hints ∷ [])).gone []) (omega arith)
+    subst (AreTaken c (run n es) (context_of c (before ++ Addition id lits hints ∷ [])).is_dropped []) (omega arith)
     (line_taken c n (run n es) before (Addition id lits hints) many (λ y is. run_retired n es rest y answers is) are)
 line_took c n before (Import id lits) many es rest judged answers are =
-    subst (AreTaken c (run n es) (context_of c (before ++ Import id lits ∷ [])).gone []) (omega arith)
+    subst (AreTaken c (run n es) (context_of c (before ++ Import id lits ∷ [])).is_dropped []) (omega arith)
     (line_taken c n (run n es) before (Import id lits) many (λ y is. run_retired n es rest y answers is) are)
 line_took c n before (Deletion lead ids) many es rest judged answers are =
     line_taken c (run n es) (run n es) before (Deletion lead ids) (many + length ids) (λ y is. is)
-    (identities_took c n (context_of c before).gone [] ids many es rest Good judged answers are)
+    (identities_took c n (context_of c before).is_dropped [] ids many es rest Good judged answers are)
 
 pub lines_took : (c : StreamParams) (n : State) (before lines : List StreamLine) (blocks : List History) (many : ℕ) (rest : History)
-    → AreGood c before lines blocks → OwnRun n (joined blocks ++ rest) → AreTaken c n (context_of c before).gone [] many
-    → AreTaken c (run n (joined blocks)) (context_of c (before ++ lines)).gone [] (many + sum_by (λ l. length (deleted_by l)) lines)
+    → AreGood c before lines blocks → OwnRun n (joined blocks ++ rest) → AreTaken c n (context_of c before).is_dropped [] many
+    → AreTaken c (run n (joined blocks)) (context_of c (before ++ lines)).is_dropped [] (many + sum_by (λ l. length (deleted_by l)) lines)
 lines_took c n before [] [] many rest good answers are =
-    subst (λ b. AreTaken c n (context_of c b).gone [] (many + 0)) (sym (append-nil before))
-    (subst (AreTaken c n (context_of c before).gone []) (omega arith) are)
+    subst (λ b. AreTaken c n (context_of c b).is_dropped [] (many + 0)) (sym (append-nil before))
+    (subst (AreTaken c n (context_of c before).is_dropped []) (omega arith) are)
 lines_took c n before [] (block ∷ blocks) many rest good answers are = absurd good
 lines_took c n before (line ∷ lines) [] many rest good answers are = absurd good
 lines_took c n before (line ∷ lines) (block ∷ blocks) many rest good answers are =
@@ -306,9 +321,10 @@ lines_took c n before (line ∷ lines) (block ∷ blocks) many rest good answers
     let one = line_took c n before line many block (joined blocks ++ rest) good.0 split are in
     let later = lines_took c (run n block) (before ++ line ∷ []) lines blocks (many + length (deleted_by line)) rest good.1
     (run_on n block (joined blocks ++ rest) split) one in
-    subst (λ m. AreTaken c m (context_of c (before ++ (line ∷ lines))).gone [] (many + sum_by (λ l. length (deleted_by l)) (line ∷ lines)))
+    subst (λ m. AreTaken c m (context_of c (before ++ (line ∷ lines))).is_dropped []
+    (many + sum_by (λ l. length (deleted_by l)) (line ∷ lines)))
     (sym (run-append n block (joined blocks)))
-    (subst (λ b. AreTaken c (run (run n block) (joined blocks)) (context_of c b).gone []
+    (subst (λ b. AreTaken c (run (run n block) (joined blocks)) (context_of c b).is_dropped []
     (many + sum_by (λ l. length (deleted_by l)) (line ∷ lines))) (append_assoc before (line ∷ []) lines)
-    (subst (AreTaken c (run (run n block) (joined blocks)) (context_of c ((before ++ line ∷ []) ++ lines)).gone [])
+    (subst (AreTaken c (run (run n block) (joined blocks)) (context_of c ((before ++ line ∷ []) ++ lines)).is_dropped [])
     (omega (arith, sum_by-append (λ l. length (deleted_by l)) (line ∷ []) lines)) later))

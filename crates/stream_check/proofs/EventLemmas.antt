@@ -13,7 +13,7 @@ use Rattle.stream_check.specs.declared.params.Ownership.TheVariants as ownership
 use Rattle.stream_check.specs.StreamParams.{StreamParams, ownership_of}
 use Rattle.stream_check.specs.StreamContext.{StreamContext}
 use Rattle.stream_check.specs.Verdicts.{LineVerdict}
-use Rattle.stream_check.specs.Lookup.{AsksAt, Asks}
+use Rattle.stream_check.specs.Lookup.{FetchesHintAt, FetchesHint}
 use Rattle.stream_check.specs.lemmas.EventLemmas.{addition_holds, import_holds, identities_hold, IsAny, all_any, asked_are, asked_more}
 use Rattle.stream_check.specs.Judging.{JudgesLine}
 use Rattle.stream_check.specs.Reducing.{IsEarly, AreEarly, StartsWithFetchOf, TriesAgain}
@@ -25,7 +25,7 @@ use Rattle.stream_check.specs.Laws.{LineCalls, EarlyEvents, VacantTriesAgain, ci
 pub record Holds (c : StreamParams) (IsHint : ℕ → Type 0) (P : History → Type 0) : Type 0 where
   pub none : P []
   pub published : (id : ℕ) (d : Clause) (r : Published) → P (events.publish c.stream id d r ∷ [])
-  pub asked : (h : ℕ) (asked rest : History) (r : Reply) → IsHint h → Asks c h asked r → (r ≡ events.vacant → rest ≡ []) → P rest
+  pub asked : (h : ℕ) (asked rest : History) (r : Reply) → IsHint h → FetchesHint c h asked r → (r ≡ events.vacant → rest ≡ []) → P rest
       → P (asked ++ rest)
   pub retired : (id : ℕ) (rest : History) → P rest → P (events.retire c.stream id retiring.Done ∷ rest)
   pub refused : (id : ℕ) → P (events.retire c.stream id retiring.NotLive ∷ [])
@@ -36,7 +36,7 @@ module _ (c : StreamParams) (IsHint : ℕ → Type 0) (P : History → Type 0) (
   line_holds st (Addition id lits hints) es v all judged =
       addition_holds c P holds.none IsHint holds.asked st id lits hints es v (λ good. holds.published id (distinct lits) _) all judged
   line_holds st (Deletion lead ids) es v all judged =
-      identities_hold c P holds.none IsAny (λ id rest any. holds.retired id rest) (λ id any. holds.refused id) st.gone [] ids es v
+      identities_hold c P holds.none IsAny (λ id rest any. holds.retired id rest) (λ id any. holds.refused id) st.is_dropped [] ids es v
       (all_any ids) judged
   line_holds st (Import id lits) es v all judged = import_holds c P holds.none IsHint holds.asked st id lits es v all.0 judged
 
@@ -87,7 +87,7 @@ tries_vacants s id zero r rest ends tries = tries_last s id r rest ends tries
 tries_vacants s id (suc zero) r rest ends tries = (refl, tries_last s id r rest ends tries)
 tries_vacants s id (suc (suc k)) r rest ends tries = (refl, tries_vacants s id (suc k) r rest ends tries)
 
-tries_asked : (ownership : Ownership) (c : StreamParams) (h : ℕ) (asked rest : History) (r : Reply) → AsksAt ownership c h asked r
+tries_asked : (ownership : Ownership) (c : StreamParams) (h : ℕ) (asked rest : History) (r : Reply) → FetchesHintAt ownership c h asked r
     → (r ≡ events.vacant → rest ≡ []) → TriesAgain rest → TriesAgain (asked ++ rest)
 tries_asked ownerships.Formula c h asked rest r asks ends tries =
     subst (λ a. TriesAgain (a ++ rest)) (sym asks) (tries_last c.stream h r rest ends tries)

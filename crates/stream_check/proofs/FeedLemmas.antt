@@ -125,11 +125,11 @@ reads_on r read e = e ∙ ap (λ (b : List ℕ). Ok b) (sym (ap read_of e))
 
 -- the reading ends
 pub feeds_over : (h : StreamState) (read used : List ℕ) (blocks : List History) (free : ℕ) (ending : Option Ending) (report : Report)
-    (gone : ℕ → Bool) → ending ≡ None
-    → Extends h.params (Going (hold h read free)) used blocks (Over report gone)
-    → Extends h.params (checker_state (value_of h read ending) free) used blocks (Over report gone)
-feeds_over h read used blocks free ending report gone none reaches =
-    subst (λ (o : Option Ending). Extends h.params (checker_state (value_of h read o) free) used blocks (Over report gone)) (sym none)
+    (is_dropped : ℕ → Bool) → ending ≡ None
+    → Extends h.params (Going (hold h read free)) used blocks (Over report is_dropped)
+    → Extends h.params (checker_state (value_of h read ending) free) used blocks (Over report is_dropped)
+feeds_over h read used blocks free ending report is_dropped none reaches =
+    subst (λ (o : Option Ending). Extends h.params (checker_state (value_of h read o) free) used blocks (Over report is_dropped)) (sym none)
     reaches
 
 -- The end of the stream, or a failed read
@@ -204,7 +204,7 @@ new_left law layout cube stream tries h r params last dropped retired added empt
       context = record {
         last = last ∙ sym (ap (λ (l : LayoutValue). l.clauses) same);
         free = omega (arith, ap (λ (l : LayoutValue). l.room) same);
-        gone = λ id. ap (λ (ids : List ℕ). is_among ids id) dropped ∙ none_gone (is_shared (ownership_of c id));
+        is_dropped = λ id. ap (λ (ids : List ℕ). is_among ids id) dropped ∙ none_gone (is_shared (ownership_of c id));
       };
       pending = ap read_of reads;
       line = line;

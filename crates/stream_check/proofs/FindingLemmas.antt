@@ -11,7 +11,7 @@ use Rattle.lrup_model.specs.lemmas.EntailmentLemmas.{propagation_sound}
 use Rattle.stream_check.specs.declared.params.Ownership.{Ownership}
 use Rattle.stream_check.specs.declared.params.Ownership.TheVariants as ownerships
 use Rattle.stream_check.specs.StreamParams.{StreamParams, ownership_of}
-use Rattle.stream_check.specs.Lookup.{AsksAt, AreFound}
+use Rattle.stream_check.specs.Lookup.{FetchesHintAt, AreFound}
 use Rattle.stream_check.specs.Additions.{published_by}
 use Rattle.stream_check.specs.lemmas.AdditionLemmas.{found_live}
 use Rattle.stream_check.specs.Finding.{FindsSound}
@@ -23,7 +23,7 @@ all_front P (e ∷ a) b all = let rest = all_front P a b all.1 in ((all.0, rest.
 
 -- a hint that is live at last has an event that shows its clause
 live_sound : (ownership : Ownership) (f : Cnf) (c : StreamParams) (h : ℕ) (asked : History) (d : Clause)
-    → AsksAt ownership c h asked (events.live d)
+    → FetchesHintAt ownership c h asked (events.live d)
     → AllByRecursion (FindsSound f) asked → IsClause f.vars d × Follows f d
 live_sound ownerships.Formula f c h asked d asks all = (subst (AllByRecursion (FindsSound f)) asks all).0
 live_sound ownerships.Own f c h asked d asks all = (subst (AllByRecursion (FindsSound f)) asks all).0
@@ -32,19 +32,19 @@ live_sound ownerships.Foreign f c h asked d asks all =
     (subst (AllByRecursion (FindsSound f)) asks.3 all)).1.0
 live_sound ownerships.Outside f c h asked d asks all = absurd (let e : events.live d ≡ events.vacant = asks.1 in cc)
 
-found_sound : (f : Cnf) (c : StreamParams) (gone : ℕ → Bool) (hints : List ℕ) (ds : List Clause) (es : History)
-    → AreFound c gone hints ds es
+found_sound : (f : Cnf) (c : StreamParams) (is_dropped : ℕ → Bool) (hints : List ℕ) (ds : List Clause) (es : History)
+    → AreFound c is_dropped hints ds es
     → AllByRecursion (FindsSound f) es → AllByRecursion (λ d. IsClause f.vars d × Follows f d) ds
-found_sound f c gone [] [] es found all = tt
-found_sound f c gone [] (d ∷ ds) es found all = absurd found
-found_sound f c gone (h ∷ hints) [] es found all = absurd found
-found_sound f c gone (h ∷ hints) (d ∷ ds) es found all =
+found_sound f c is_dropped [] [] es found all = tt
+found_sound f c is_dropped [] (d ∷ ds) es found all = absurd found
+found_sound f c is_dropped (h ∷ hints) [] es found all = absurd found
+found_sound f c is_dropped (h ∷ hints) (d ∷ ds) es found all =
     let parts = all_front (FindsSound f) found.0 found.1 (subst (AllByRecursion (FindsSound f)) found.2 all) in
-    let here = found_live c gone h found.0 d found.3 in
-    (live_sound (ownership_of c h) f c h found.0 d here.1 parts.0, found_sound f c gone hints ds found.1 found.4 parts.1)
+    let here = found_live c is_dropped h found.0 d found.3 in
+    (live_sound (ownership_of c h) f c h found.0 d here.1 parts.0, found_sound f c is_dropped hints ds found.1 found.4 parts.1)
 
 pub good_follows : GoodFollows
 good_follows f c st id lits hints es good all =
     let parts = all_front (FindsSound f) good.0 (published_by c id lits ∷ []) (subst (AllByRecursion (FindsSound f)) good.2 all) in
-    propagation_sound f (distinct lits) good.1.clauses (found_sound f c st.gone hints good.1.clauses good.0 good.1.named parts.0)
+    propagation_sound f (distinct lits) good.1.clauses (found_sound f c st.is_dropped hints good.1.clauses good.0 good.1.named parts.0)
     good.1.shown

@@ -4,7 +4,7 @@ use Rattle.lrup_model.specs.Event.{Event, History, Reply, vacant, fetch, publish
 use Rattle.stream_check.specs.declared.params.Ownership.{Ownership}
 use Rattle.stream_check.specs.declared.params.Ownership.TheVariants as ownerships
 use Rattle.stream_check.specs.StreamParams.{StreamParams, ownership_of}
-use Rattle.stream_check.specs.Lookup.{AsksAt, Asks}
+use Rattle.stream_check.specs.Lookup.{FetchesHintAt, FetchesHint}
 use Rattle.stream_check.specs.Forks.{IsSameCall, NeverFork}
 
 same_call_turned : (d e : Event) → IsSameCall d e → IsSameCall e d
@@ -52,8 +52,8 @@ same_fetches s id most done (suc k) (suc j) x y q r a b last other never =
     (λ is. let full = last is in omega arith) (λ is. let full = other is in omega arith) (never.1 refl) in
     (ap suc rest.0, rest.1)
 
-same_at : (ownership : Ownership) (c : StreamParams) (h : ℕ) (a b q r : History) (x y : Reply) → AsksAt ownership c h a x
-    → AsksAt ownership c h b y
+same_at : (ownership : Ownership) (c : StreamParams) (h : ℕ) (a b q r : History) (x y : Reply) → FetchesHintAt ownership c h a x
+    → FetchesHintAt ownership c h b y
     → NeverFork (a ++ q) (b ++ r) → (a ≡ b) × (x ≡ y)
 same_at ownerships.Formula c h a b q r x y one two never =
     let here = subst (λ e. NeverFork (e ++ q) ((fetch c.stream h y ∷ []) ++ r)) one (subst (λ e. NeverFork (a ++ q) (e ++ r)) two never) in
@@ -72,6 +72,7 @@ same_at ownerships.Foreign c h a b q r x y one two never =
 same_at ownerships.Outside c h a b q r x y one two never = (one.0 ∙ sym two.0, one.1 ∙ sym two.1)
 
 -- the events of one hint, where they never fork
-pub same_asked : (c : StreamParams) (h : ℕ) (a b q r : History) (x y : Reply) → Asks c h a x → Asks c h b y → NeverFork (a ++ q) (b ++ r)
+pub same_asked : (c : StreamParams) (h : ℕ) (a b q r : History) (x y : Reply) → FetchesHint c h a x → FetchesHint c h b y
+    → NeverFork (a ++ q) (b ++ r)
     → (a ≡ b) × (x ≡ y)
 same_asked c h a b q r x y one two never = same_at (ownership_of c h) c h a b q r x y one two never

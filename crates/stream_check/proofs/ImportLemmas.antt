@@ -56,20 +56,20 @@ module _ (c : StreamParams) (st : StreamContext) (id : ℕ) (lits : List ℤ) wh
     bad_literal outside = (refl, inr (shared_others c id shared, inl (outside, refl, refl)))
 
     module _ (within : AllByRecursion (λ l. nat_abs l ≤ c.layout.vars) lits) (es : History) where
-      pub import_unfound : (fault : Fault) → LooksUp c st.gone id es (Err fault) → JudgesImport c st id lits es (Bad 0 fault)
+      pub import_unfound : (fault : Fault) → LooksUp c st.is_dropped id es (Err fault) → JudgesImport c st id lits es (Bad 0 fault)
       import_unfound fault looks = (refl, inr (shared_others c id shared, inr (within, inl looks)))
 
-      pub import_differs : (d : Clause) → LooksUp c st.gone id es (Ok d) → (((l : ℤ) → Has d l ↔ Has lits l) → ⊥)
+      pub import_differs : (d : Clause) → LooksUp c st.is_dropped id es (Ok d) → (((l : ℤ) → Has d l ↔ Has lits l) → ⊥)
           → JudgesImport c st id lits es (Bad 0 (faults.Differs id))
       import_differs d looks other = (refl, inr (shared_others c id shared, inr (within, inr (d, looks, other, refl))))
 
-      pub import_same : (d : Clause) → LooksUp c st.gone id es (Ok d) → ((l : ℤ) → Has d l ↔ Has lits l)
+      pub import_same : (d : Clause) → LooksUp c st.is_dropped id es (Ok d) → ((l : ℤ) → Has d l ↔ Has lits l)
           → JudgesImport c st id lits es Good
       import_same d looks same = record {
         identity = (shared_others c id shared).0;
         other = (shared_others c id shared).1;
         literals = within;
         clause = d;
-        named = one_found c st.gone id d es looks;
+        named = one_found c st.is_dropped id d es looks;
         same = same;
       }

@@ -26,7 +26,7 @@ use Rattle.stream_check.specs.lemmas.EventLemmas.{found_all}
 use Rattle.stream_check.specs.Additions.{published_by, JudgesAddition}
 use Rattle.stream_check.specs.Imports.{JudgesImport}
 use Rattle.stream_check.specs.Reaching.{tally_after}
-use Rattle.stream_check.specs.DroppedValue.{DroppedValue}
+use Rattle.stream_check.specs.DroppedIdsValue.{DroppedIdsValue}
 use Rattle.stream_check.specs.Checker.{IsViewOf}
 use Rattle.stream_check.specs.internal.Checking.{IsFetch, AreDropped, Deletes}
 use Rattle.stream_check.specs.Deletions.{IsRetire}
@@ -168,13 +168,13 @@ takes_addition old new free left id lits hints es is_empty within_cube adds is w
       judged,
       λ read. record {
         tally = same_tally (tally_at new) (tally_after old.params (tally_at old) line) (omega (arith, adds.added))
-            (omega (arith, adds.retired, ap (λ (d : DroppedValue). length d.ids) adds.dropped))
+            (omega (arith, adds.retired, ap (λ (d : DroppedIdsValue). length d.ids) adds.dropped))
             (adds.empty ∙ ap (λ (b : Bool). old.empty || b) (empty_is is_empty lits is))
             (adds.within ∙ ap (λ (b : Bool). old.within || b) (within ∙ or_false (is_within old.params.cube (distinct lits))));
         context = record {
           last = adds.last;
           free = omega (arith, room);
-          gone = λ j. ap (λ (d : DroppedValue). is_among d.ids j) adds.dropped
+          is_dropped = λ j. ap (λ (d : DroppedIdsValue). is_among d.ids j) adds.dropped
               ∙ none_gone (is_among old.dropped.ids j) (is_shared (ownership_of old.params j));
         };
         pending = refl;
@@ -201,13 +201,13 @@ takes_deletion old mid new free left lead ids es count kept counts more room del
       λ read. record {
         tally = same_tally (tally_at new) (tally_after old.params (tally_at old) line)
             (omega (arith, counts.added, kept.added))
-            (omega (arith, counts.retired, ap (λ (d : DroppedValue). length d.ids) counts.dropped, more, deletes.1))
+            (omega (arith, counts.retired, ap (λ (d : DroppedIdsValue). length d.ids) counts.dropped, more, deletes.1))
             (counts.empty ∙ kept.empty ∙ or_false old.empty)
             (counts.within ∙ kept.within ∙ or_false old.within);
         context = record {
           last = counts.last ∙ kept.last;
           free = omega (arith, room);
-          gone = λ j. ap (λ (d : DroppedValue). is_among d.ids j) counts.dropped ∙ deletes.2 j;
+          is_dropped = λ j. ap (λ (d : DroppedIdsValue). is_among d.ids j) counts.dropped ∙ deletes.2 j;
         };
         pending = refl;
         line = counts.line ∙ ap (λ n. min (n + 1) (2 ^ 64 - 1)) kept.line;
@@ -222,13 +222,13 @@ takes_import old new free left id lits es counts room judged =
       λ read. record {
         tally = same_tally (tally_at new) (tally_after old.params (tally_at old) line)
             (omega (arith, counts.added))
-            (omega (arith, counts.retired, ap (λ (d : DroppedValue). length d.ids) counts.dropped))
+            (omega (arith, counts.retired, ap (λ (d : DroppedIdsValue). length d.ids) counts.dropped))
             (counts.empty ∙ or_false old.empty)
             (counts.within ∙ or_false old.within);
         context = record {
           last = counts.last;
           free = omega (arith, room);
-          gone = λ j. ap (λ (d : DroppedValue). is_among d.ids j) counts.dropped
+          is_dropped = λ j. ap (λ (d : DroppedIdsValue). is_among d.ids j) counts.dropped
               ∙ none_gone (is_among old.dropped.ids j) (is_shared (ownership_of old.params j));
         };
         pending = refl;

@@ -108,7 +108,7 @@ next_number : (lines : List StreamLine) (line : StreamLine)
 next_number lines line = omega (arith, length-append lines (line ∷ []))
 
 same_trans : (a b d : StreamContext) → SameContext a b → SameContext b d → SameContext a d
-same_trans a b d x y = record { last = x.last ∙ y.last; free = x.free ∙ y.free; gone = λ id. x.gone id ∙ y.gone id }
+same_trans a b d x y = record { last = x.last ∙ y.last; free = x.free ∙ y.free; is_dropped = λ id. x.is_dropped id ∙ y.is_dropped id }
 
 pub good_line_taken : TextsAreLines → EmptyCut → GoodLineTaken
 good_line_taken texts none c bytes piece blocks block old new line before text judged taken =
@@ -178,13 +178,13 @@ held_more c bytes blocks old deleted ending before =
     ∙ ap (λ n. report_of c before.lines deleted (ending n)) before.line
 
 -- and what was dropped until then
-held_drops : (c : StreamParams) (bytes piece : List ℕ) (blocks : List History) (old : GoingState) (ids : List ℕ) (gone : ℕ → Bool)
+held_drops : (c : StreamParams) (bytes piece : List ℕ) (blocks : List History) (old : GoingState) (ids : List ℕ) (is_dropped : ℕ → Bool)
     (report : Report)
     → (before : ReachesGoing c bytes blocks old) → StopsAtLine report.ending (capped (length before.lines + 1))
     → AreDeletedFirst ids (old.pending ++ piece)
-    → report.deleted ≡ (report_of c before.lines (length ids) endings.Ended).deleted → DropsMore c old.context.gone ids gone
-    → DropsUntilStop c (bytes ++ piece) report gone
-held_drops c bytes piece blocks old ids gone report before number first count drops = record {
+    → report.deleted ≡ (report_of c before.lines (length ids) endings.Ended).deleted → DropsMore c old.context.is_dropped ids is_dropped
+    → DropsUntilStop c (bytes ++ piece) report is_dropped
+held_drops c bytes piece blocks old ids is_dropped report before number first count drops = record {
   lines = before.lines;
   rest = old.pending ++ piece;
   text = text_grows (flat_map line_text before.lines) bytes old.pending piece before.cut.bytes;
@@ -193,14 +193,14 @@ held_drops c bytes piece blocks old ids gone report before number first count dr
   ids = ids;
   are_first = first;
   count = count;
-  drops = λ id. drops id ∙ ap (λ (b : Bool). b || is_shared (ownership_of c id) && is_among ids id) (before.context.gone id);
+  drops = λ id. drops id ∙ ap (λ (b : Bool). b || is_shared (ownership_of c id) && is_among ids id) (before.context.is_dropped id);
 }
 
 whole_text : (line : StreamLine) (bytes : List ℕ) → LineText line bytes → bytes ≡ line_text line ++ []
 whole_text line bytes text = text.1 ∙ sym (append-nil (line_text line))
 
 pub bad_line_taken : BadLineTaken
-bad_line_taken c bytes piece blocks block old line ids later fault gone before text deletes judged drops =
+bad_line_taken c bytes piece blocks block old line ids later fault is_dropped before text deletes judged drops =
     let deleted = length ids in
     let report = report_of_tally (with_deleted old.tally deleted) (endings.Bad old.line fault) in
     let says = held_more c bytes blocks old deleted (λ n. endings.Bad n fault) before in
@@ -210,21 +210,21 @@ bad_line_taken c bytes piece blocks block old line ids later fault gone before t
     (at_bad_line line [] whole text.0 block refl deleted fault
     (by_lines c old before.lines (λ st. JudgesLine c st line block (Bad deleted fault)) before.context judged) says) in (
       (judges stream_ends.Ended, judges stream_ends.Failed),
-      held_drops c bytes piece blocks old ids gone report before before.line (inr (line, text.0, later, [], whole, deletes))
+      held_drops c bytes piece blocks old ids is_dropped report before before.line (inr (line, text.0, later, [], whole, deletes))
           (ap (λ (r : Report). r.deleted) says) drops,
     )
 
 pub memory_wanted : MemoryWanted
-memory_wanted c bytes piece blocks block old lead ids earlier gone before text stops drops =
+memory_wanted c bytes piece blocks block old lead ids earlier is_dropped before text stops drops =
     let report = report_of_tally (with_deleted old.tally (length earlier)) (endings.Memory old.line) in
     let says = held_more c bytes blocks old (length earlier) (λ n. endings.Memory n) before in
     let whole = whole_text (Deletion lead ids) (old.pending ++ piece) text in
     let judges : (end : StreamEnd) → JudgesBlocks c (bytes ++ piece) end (blocks ++ block ∷ []) report =
     λ end. ends_behind c bytes piece blocks (block ∷ []) old end report before
     (at_memory lead ids [] whole text.0 block refl earlier
-    (by_lines c old before.lines (λ st. StopsDeletion c st.gone ids block earlier) before.context stops) says) in (
+    (by_lines c old before.lines (λ st. StopsDeletion c st.is_dropped ids block earlier) before.context stops) says) in (
       (judges stream_ends.Ended, judges stream_ends.Failed),
-      held_drops c bytes piece blocks old earlier gone report before before.line
+      held_drops c bytes piece blocks old earlier is_dropped report before before.line
           (inr (Deletion lead ids, text.0, stops.id ∷ stops.later, [], whole, stops.identities)) (ap (λ (r : Report). r.deleted) says)
           drops,
     )
@@ -241,8 +241,9 @@ bad_text_read c bytes piece blocks old fault before refused =
     (ends_behind c bytes piece blocks [] old end report before
     (at_bad_text fault (refused_alone (old.pending ++ piece) fault refused) refl says)) in (
       (judges stream_ends.Ended, judges stream_ends.Failed),
-      held_drops c bytes piece blocks old [] old.context.gone report before before.line (inl refl) (ap (λ (r : Report). r.deleted) says)
-          (drops_none c old.context.gone),
+      held_drops c bytes piece blocks old [] old.context.is_dropped report before before.line (inl refl)
+          (ap (λ (r : Report). r.deleted) says)
+          (drops_none c old.context.is_dropped),
     )
 
 pub end_judged : EndJudged

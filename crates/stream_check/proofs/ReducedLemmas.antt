@@ -15,7 +15,7 @@ use Rattle.stream_check.specs.declared.params.Ownership.TheVariants as ownership
 use Rattle.stream_check.specs.StreamParams.{StreamParams, ownership_of}
 use Rattle.stream_check.specs.StreamContext.{context_of}
 use Rattle.stream_check.specs.Verdicts.{Good, Bad}
-use Rattle.stream_check.specs.Lookup.{AsksAt, Asks, answer_of, LooksUp}
+use Rattle.stream_check.specs.Lookup.{FetchesHintAt, FetchesHint, answer_of, LooksUp}
 use Rattle.stream_check.specs.Judging.{AreGood, EndsAfter, at_bad_line, at_bad_text, at_memory, at_end}
 use Rattle.stream_check.specs.lemmas.MappingLemmas.{LooksOn, line_maps}
 use Rattle.stream_check.specs.Reducing.{is_vacant, reduced}
@@ -48,8 +48,9 @@ is_no_vacant s id (events.live d) found = refl
 is_no_vacant s id events.retired found = refl
 
 found_at : (ownership : Ownership) (c : StreamParams) (h : ℕ) (asked rest : History) (r : Reply) → (r ≡ events.vacant → ⊥)
-    → AsksAt ownership c h asked r
-    → (reduced (asked ++ rest) ≡ (events.fetch c.stream h r ∷ []) ++ reduced rest) × AsksAt ownership c h (events.fetch c.stream h r ∷ []) r
+    → FetchesHintAt ownership c h asked r
+    → (reduced (asked ++ rest) ≡ (events.fetch c.stream h r ∷ []) ++ reduced rest)
+    × FetchesHintAt ownership c h (events.fetch c.stream h r ∷ []) r
 found_at ownerships.Formula c h asked rest r found asks =
     (ap (λ a. reduced (a ++ rest)) asks ∙ other_stays (events.fetch c.stream h r) rest (is_no_vacant c.stream h r found), refl)
 found_at ownerships.Own c h asked rest r found asks =
@@ -69,7 +70,7 @@ vacants_all s id zero = refl
 vacants_all s id (suc k) = vacants_all s id k
 
 -- a hint that wasn't found
-missing_at : (ownership : Ownership) (c : StreamParams) (h : ℕ) (asked : History) → AsksAt ownership c h asked events.vacant
+missing_at : (ownership : Ownership) (c : StreamParams) (h : ℕ) (asked : History) → FetchesHintAt ownership c h asked events.vacant
     → list_all is_vacant asked ≡ true
 missing_at ownerships.Formula c h asked asks = ap (list_all is_vacant) asks
 missing_at ownerships.Own c h asked asks = ap (list_all is_vacant) asks
@@ -77,10 +78,10 @@ missing_at ownerships.Foreign c h asked asks = ap (list_all is_vacant) asks.3 �
 missing_at ownerships.Outside c h asked asks = ap (list_all is_vacant) asks.0
 
 -- a look-up without its vain fetches
-asks_reduced : (reply : Reply) (c : StreamParams) (gone : ℕ → Bool) (h : ℕ) (asked rest : History) (answer : Result Clause Fault)
-    → gone h ≡ false → Asks c h asked reply → answer ≡ answer_of h reply → (answer ≡ answer_of h events.vacant → rest ≡ [])
-    → LooksOn c reduced gone h asked rest answer
-asks_reduced events.vacant c gone h asked rest answer kept asks is ends =
+asks_reduced : (reply : Reply) (c : StreamParams) (is_dropped : ℕ → Bool) (h : ℕ) (asked rest : History) (answer : Result Clause Fault)
+    → is_dropped h ≡ false → FetchesHint c h asked reply → answer ≡ answer_of h reply → (answer ≡ answer_of h events.vacant → rest ≡ [])
+    → LooksOn c reduced is_dropped h asked rest answer
+asks_reduced events.vacant c is_dropped h asked rest answer kept asks is ends =
     let none = ends is in
     record {
       fewer = asked;
@@ -89,23 +90,24 @@ asks_reduced events.vacant c gone h asked rest answer kept asks is ends =
           ∙ ap (λ r. asked ++ reduced r) (sym none);
       looks = inr (kept, events.vacant, asks, is);
     }
-asks_reduced (events.live d) c gone h asked rest answer kept asks is ends =
+asks_reduced (events.live d) c is_dropped h asked rest answer kept asks is ends =
     let found = found_at (ownership_of c h) c h asked rest (events.live d) (λ vacant. cc) asks in
     record {
       fewer = events.fetch c.stream h (events.live d) ∷ [];
       events = found.0;
       looks = inr (kept, events.live d, found.1, is);
     }
-asks_reduced events.retired c gone h asked rest answer kept asks is ends =
+asks_reduced events.retired c is_dropped h asked rest answer kept asks is ends =
     let found = found_at (ownership_of c h) c h asked rest events.retired (λ vacant. cc) asks in
     record { fewer = events.fetch c.stream h events.retired ∷ []; events = found.0; looks = inr (kept, events.retired, found.1, is) }
 
-looks_reduced : (c : StreamParams) (gone : ℕ → Bool) (h : ℕ) (asked rest : History) (answer : Result Clause Fault)
-    → LooksUp c gone h asked answer → (answer ≡ answer_of h events.vacant → rest ≡ []) → LooksOn c reduced gone h asked rest answer
-looks_reduced c gone h asked rest answer (inl dropped) ends =
+looks_reduced : (c : StreamParams) (is_dropped : ℕ → Bool) (h : ℕ) (asked rest : History) (answer : Result Clause Fault)
+    → LooksUp c is_dropped h asked answer → (answer ≡ answer_of h events.vacant → rest ≡ [])
+    → LooksOn c reduced is_dropped h asked rest answer
+looks_reduced c is_dropped h asked rest answer (inl dropped) ends =
     record { fewer = []; events = ap (λ a. reduced (a ++ rest)) dropped.1; looks = inl (dropped.0, refl, dropped.2) }
-looks_reduced c gone h asked rest answer (inr found) ends =
-    asks_reduced found.1 c gone h asked rest answer found.0 found.2 found.3 ends
+looks_reduced c is_dropped h asked rest answer (inr found) ends =
+    asks_reduced found.1 c is_dropped h asked rest answer found.0 found.2 found.3 ends
 
 pub reduced_line : ReducedLine
 reduced_line c st line es v judged =

@@ -54,7 +54,7 @@ number_once (endings.ReadFailed line) m n a b = absurd a
 number_once (endings.Memory line) m n a b = sym a ∙ b
 
 pub dropped_once : OneFirstLine → DroppedOnce
-dropped_once law c bytes report gone other line stops small few a b id =
+dropped_once law c bytes report is_dropped other line stops small few a b id =
     let deletes : List StreamLine → ℕ = λ lines. sum_by (λ l. length (deleted_by l)) lines in
     let many : length a.lines ≡ length b.lines =
     omega (arith, number_once report.ending _ _ stops a.number, number_once report.ending _ _ stops b.number, small) in
@@ -63,6 +63,6 @@ dropped_once law c bytes report gone other line stops small few a b id =
     let count : length a.ids ≡ length b.ids = omega (arith, total, few, a.count, b.count) in
     let ids : a.ids ≡ b.ids = first_once law a.ids b.ids b.rest count (subst (AreDeletedFirst a.ids) same.1 a.are_first) b.are_first in
     a.drops id
-    ∙ ap (λ (lines : List StreamLine). (context_of c lines).gone id || is_shared (ownership_of c id) && is_among a.ids id) same.0
-    ∙ ap (λ (x : List ℕ). (context_of c b.lines).gone id || is_shared (ownership_of c id) && is_among x id) ids
+    ∙ ap (λ (lines : List StreamLine). (context_of c lines).is_dropped id || is_shared (ownership_of c id) && is_among a.ids id) same.0
+    ∙ ap (λ (x : List ℕ). (context_of c b.lines).is_dropped id || is_shared (ownership_of c id) && is_among x id) ids
     ∙ sym (b.drops id)

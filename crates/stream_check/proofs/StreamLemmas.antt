@@ -102,17 +102,17 @@ ends_agree laws c lines rest end back aft report other (at_memory _ _ _ _ _ _ _ 
 ends_agree laws c lines rest end back aft report other a (at_memory _ _ _ _ _ _ _ earlier _ says, none) never =
     absurd (none (out_of_memory c lines (length earlier) other says))
 ends_agree laws c lines rest end back aft report other (at_bad_line line more text fits block one_block deleted fault bad says, no_memory)
-    (at_bad_line like much words fit events all_one gone wrong fails told, none) never =
+    (at_bad_line like much words fit events all_one is_dropped wrong fails told, none) never =
     let same = same_first laws line like more much fits fit (sym text ∙ words) in
     let here = subst (λ x. NeverFork (joined x) (events ++ [])) one_block (subst (λ x. NeverFork (joined back) (joined x)) all_one never) in
     let judged = subst (λ l. JudgesLine c (context_of c lines) l block (Bad deleted fault)) same.0 bad in
-    let agree = line_agrees c (context_of c lines) like block events [] [] (Bad deleted fault) (Bad gone wrong) judged fails here in
+    let agree = line_agrees c (context_of c lines) like block events [] [] (Bad deleted fault) (Bad is_dropped wrong) judged fails here in
     let verdict = agree.verdict in
-    let same_deleted : deleted ≡ gone = cc in
+    let same_deleted : deleted ≡ is_dropped = cc in
     let same_fault : fault ≡ wrong = cc in (
       one_block ∙ ap (λ x. x ∷ []) agree.events ∙ sym all_one,
       says ∙ ap (λ d. report_of c lines d (endings.Bad (capped (length lines + 1)) fault)) same_deleted
-          ∙ ap (λ f. report_of c lines gone (endings.Bad (capped (length lines + 1)) f)) same_fault ∙ sym told,
+          ∙ ap (λ f. report_of c lines is_dropped (endings.Bad (capped (length lines + 1)) f)) same_fault ∙ sym told,
     )
 ends_agree laws c lines rest end back aft report other (at_bad_line line more text fits block one_block deleted fault bad says, no_memory)
     (at_bad_text wrong words no_block told, none) never =
@@ -121,10 +121,10 @@ ends_agree laws c lines rest end back aft report other (at_bad_line line more te
     (at_end pending no_block told, none) never =
     absurd (pending.whole line more fits text)
 ends_agree laws c lines rest end back aft report other (at_bad_text fault text no_block says, no_memory)
-    (at_bad_line like much words fit events all_one gone wrong fails told, none) never =
+    (at_bad_line like much words fit events all_one is_dropped wrong fails told, none) never =
     absurd (faulty_has_no_line laws rest fault text like much fit words)
 ends_agree laws c lines rest end back aft report other (at_end pending no_block says, no_memory)
-    (at_bad_line like much words fit events all_one gone wrong fails told, none) never =
+    (at_bad_line like much words fit events all_one is_dropped wrong fails told, none) never =
     absurd (pending.whole like much fit words)
 ends_agree laws c lines rest end back aft report other (at_bad_text fault text no_block says, no_memory)
     (at_bad_text wrong words no_more told, none) never = (

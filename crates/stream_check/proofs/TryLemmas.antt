@@ -53,71 +53,75 @@ all_derived f (c ∷ cs) d h k = (h.0, all_derived f cs d h.1 k)
 
 -- The hints so far have these clauses, which are unit, one after the other, and follow; and what those that are left come to says what
 -- all come to.
-pub record HasLed (c : StreamParams) (gone : ℕ → Bool) (f : Cnf) (n : List ℤ) (hints : List ℕ) (m : List ℤ) (left : List ℕ)
+pub record HasLed (c : StreamParams) (is_dropped : ℕ → Bool) (f : Cnf) (n : List ℤ) (hints : List ℕ) (m : List ℤ) (left : List ℕ)
     (es : History) : Type 0 where
   pub clauses : List Clause
   pub derived : AllByRecursion (IsDerived f) clauses
   pub leads : Leads n clauses m
-  pub found : (ds : List Clause) (rest : History) → AreFound c gone left ds rest → AreFound c gone hints (clauses ++ ds) (es ++ rest)
-  pub fails : (rest : History) (fault : Fault) → FailsHints c gone m left rest fault → FailsHints c gone n hints (es ++ rest) fault
+  pub found : (ds : List Clause) (rest : History) → AreFound c is_dropped left ds rest
+      → AreFound c is_dropped hints (clauses ++ ds) (es ++ rest)
+  pub fails : (rest : History) (fault : Fault) → FailsHints c is_dropped m left rest fault
+      → FailsHints c is_dropped n hints (es ++ rest) fault
 
-module _ (c : StreamParams) (gone : ℕ → Bool) (f : Cnf) (n m : List ℤ) (hints : List ℕ) (h : ℕ) (left rest : List ℕ) (es fs : History)
-    (is : left ≡ h ∷ rest) (before : HasLed c gone f n hints m left es) where
+module _ (c : StreamParams) (is_dropped : ℕ → Bool) (f : Cnf) (n m : List ℤ) (hints : List ℕ) (h : ℕ) (left rest : List ℕ) (es fs : History)
+    (is : left ≡ h ∷ rest) (before : HasLed c is_dropped f n hints m left es) where
   -- the next hint fails
-  next_fails : (fault : Fault) → FailsHints c gone m (h ∷ rest) fs fault → FailsHints c gone n hints (es ++ fs) fault
-  next_fails fault fails = before.fails fs fault (subst (λ (hs : List ℕ). FailsHints c gone m hs fs fault) (sym is) fails)
+  next_fails : (fault : Fault) → FailsHints c is_dropped m (h ∷ rest) fs fault → FailsHints c is_dropped n hints (es ++ fs) fault
+  next_fails fault fails = before.fails fs fault (subst (λ (hs : List ℕ). FailsHints c is_dropped m hs fs fault) (sym is) fails)
 
-  pub shows_unfound : (fault : Fault) → LooksUp c gone h fs (Err fault) → Shows c gone f n hints (es ++ fs) (Err fault)
+  pub shows_unfound : (fault : Fault) → LooksUp c is_dropped h fs (Err fault) → Shows c is_dropped f n hints (es ++ fs) (Err fault)
   shows_unfound fault looks =
       next_fails fault (fs, [], sym (append-nil fs), Err fault, looks, (refl, refl))
 
-  module _ (d : Clause) (looks : LooksUp c gone h fs (Ok d)) where
+  module _ (d : Clause) (looks : LooksUp c is_dropped h fs (Ok d)) where
     -- its clause is found
-    next_found : (ds : List Clause) (more : History) → AreFound c gone rest ds more
-        → AreFound c gone hints ((before.clauses ++ d ∷ []) ++ ds) ((es ++ fs) ++ more)
+    next_found : (ds : List Clause) (more : History) → AreFound c is_dropped rest ds more
+        → AreFound c is_dropped hints ((before.clauses ++ d ∷ []) ++ ds) ((es ++ fs) ++ more)
     next_found ds more found =
-        subst (λ (x : History). AreFound c gone hints ((before.clauses ++ d ∷ []) ++ ds) x) (sym (append_assoc es fs more))
-        (subst (λ (x : List Clause). AreFound c gone hints x (es ++ (fs ++ more))) (sym (append_assoc before.clauses (d ∷ []) ds))
-        (before.found (d ∷ ds) (fs ++ more) (subst (λ (hs : List ℕ). AreFound c gone hs (d ∷ ds) (fs ++ more)) (sym is)
+        subst (λ (x : History). AreFound c is_dropped hints ((before.clauses ++ d ∷ []) ++ ds) x) (sym (append_assoc es fs more))
+        (subst (λ (x : List Clause). AreFound c is_dropped hints x (es ++ (fs ++ more))) (sym (append_assoc before.clauses (d ∷ []) ds))
+        (before.found (d ∷ ds) (fs ++ more) (subst (λ (hs : List ℕ). AreFound c is_dropped hs (d ∷ ds) (fs ++ more)) (sym is)
         (fs, more, refl, looks, found))))
 
-    pub goes_on : (l : ℤ) → IsDerived f d → IsUnit m d l → HasLed c gone f n hints (m ++ neg_ℤ l ∷ []) rest (es ++ fs)
+    pub goes_on : (l : ℤ) → IsDerived f d → IsUnit m d l → HasLed c is_dropped f n hints (m ++ neg_ℤ l ∷ []) rest (es ++ fs)
     goes_on l derived unit = record {
       clauses = before.clauses ++ d ∷ [];
       derived = all_derived f before.clauses d before.derived derived;
       leads = leads_on n m before.clauses d l before.leads unit;
       found = next_found;
-      fails = λ more fault fails. subst (λ (x : History). FailsHints c gone n hints x fault) (sym (append_assoc es fs more))
-          (before.fails (fs ++ more) fault (subst (λ (hs : List ℕ). FailsHints c gone m hs (fs ++ more) fault) (sym is)
+      fails = λ more fault fails. subst (λ (x : History). FailsHints c is_dropped n hints x fault) (sym (append_assoc es fs more))
+          (before.fails (fs ++ more) fault (subst (λ (hs : List ℕ). FailsHints c is_dropped m hs (fs ++ more) fault) (sym is)
           (fs, more, refl, Ok d, looks, inl (l, unit, fails))));
     }
 
     -- its clause doesn't help
-    misled : (fault : Fault) → Misleads m d h rest fault → FailsHints c gone n hints (es ++ fs) fault
+    misled : (fault : Fault) → Misleads m d h rest fault → FailsHints c is_dropped n hints (es ++ fs) fault
     misled fault misleads = next_fails fault (fs, [], sym (append-nil fs), Ok d, looks, inr (refl, misleads))
 
-    pub shows_not_unit : ¬ IsConflict m d → ((l : ℤ) → ¬ IsUnit m d l) → Shows c gone f n hints (es ++ fs) (Err (faults.NotUnit h))
+    pub shows_not_unit : ¬ IsConflict m d → ((l : ℤ) → ¬ IsUnit m d l) → Shows c is_dropped f n hints (es ++ fs) (Err (faults.NotUnit h))
     shows_not_unit conflict unit = misled (faults.NotUnit h) (inl (conflict, unit, refl))
 
     pub shows_conflict : ¬ IsTautology n → IsDerived f d → f.vars ≡ c.layout.vars → IsConflict m d
-        → Shows c gone f n hints (es ++ fs) (excess_of rest)
+        → Shows c is_dropped f n hints (es ++ fs) (excess_of rest)
     shows_conflict consistent derived variables conflict =
-        elim rest as (λ (hs : List ℕ). hs ≡ rest → Shows c gone f n hints (es ++ fs) (excess_of hs)) [
+        elim rest as (λ (hs : List ℕ). hs ≡ rest → Shows c is_dropped f n hints (es ++ fs) (excess_of hs)) [
           | [] ↦ λ none. (
             before.clauses ++ d ∷ [],
             all_derived f before.clauses d before.derived derived,
             (accepts_exactly n before.clauses d).1 (consistent, (m, before.leads, conflict)),
             variables,
-            subst (AreFound c gone hints (before.clauses ++ d ∷ [])) (append-nil (es ++ fs))
-                (subst (λ (x : List Clause). AreFound c gone hints x ((es ++ fs) ++ [])) (append-nil (before.clauses ++ d ∷ []))
-                (next_found [] [] (subst (λ (hs : List ℕ). AreFound c gone hs [] []) none refl))),
+            subst (AreFound c is_dropped hints (before.clauses ++ d ∷ [])) (append-nil (es ++ fs))
+                (subst (λ (x : List Clause). AreFound c is_dropped hints x ((es ++ fs) ++ [])) (append-nil (before.clauses ++ d ∷ []))
+                (next_found [] [] (subst (λ (hs : List ℕ). AreFound c is_dropped hs [] []) none refl))),
           )
           | (i ∷ more) ↦ λ some. misled (faults.Excess i) (inr (conflict, i, more, sym some, refl))
         ] refl
 
 -- no hint is left
-pub shows_none : (c : StreamParams) (gone : ℕ → Bool) (f : Cnf) (n : List ℤ) (hints : List ℕ) (m : List ℤ) (left : List ℕ) (es : History)
-    → length left ≡ 0 → HasLed c gone f n hints m left es → Shows c gone f n hints es (Err faults.NoConflict)
-shows_none c gone f n hints m [] es none before =
-    subst (λ (x : History). FailsHints c gone n hints x faults.NoConflict) (append-nil es) (before.fails [] faults.NoConflict (refl, refl))
-shows_none c gone f n hints m (h ∷ left) es none before = absurd (omega (arith, none))
+pub shows_none : (c : StreamParams) (is_dropped : ℕ
+    → Bool) (f : Cnf) (n : List ℤ) (hints : List ℕ) (m : List ℤ) (left : List ℕ) (es : History)
+    → length left ≡ 0 → HasLed c is_dropped f n hints m left es → Shows c is_dropped f n hints es (Err faults.NoConflict)
+shows_none c is_dropped f n hints m [] es none before =
+    subst (λ (x : History). FailsHints c is_dropped n hints x faults.NoConflict) (append-nil es)
+    (before.fails [] faults.NoConflict (refl, refl))
+shows_none c is_dropped f n hints m (h ∷ left) es none before = absurd (omega (arith, none))

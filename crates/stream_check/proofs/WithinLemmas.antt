@@ -33,29 +33,37 @@ all_below (x ∷ xs) n all q e = elim (eqb_tells q x) [
 ]
 
 -- an identity that was taken is one
-taken_is : (c : StreamParams) (n : State) (gone : ℕ → Bool) (earlier : List ℕ) (id : ℕ) → Taken c n gone earlier id → IsIdentity c.layout id
-taken_is c n gone earlier id t = identity_below c.layout id
-    (λ e. subst (λ o. TakenAt (ownership_for c.stream o) n gone earlier id) e t)
+taken_is : (c : StreamParams) (n : State) (is_dropped : ℕ → Bool) (earlier : List ℕ) (id : ℕ) → Taken c n is_dropped earlier id
+    → IsIdentity c.layout id
+taken_is c n is_dropped earlier id t = identity_below c.layout id
+    (λ e. subst (λ o. TakenAt (ownership_for c.stream o) n is_dropped earlier id) e t)
 
-not_zero : (c : StreamParams) (n : State) (gone : ℕ → Bool) (earlier ids : List ℕ) → AllByRecursion (Taken c n gone earlier) ids
+not_zero : (c : StreamParams) (n : State) (is_dropped : ℕ → Bool) (earlier ids : List ℕ) → AllByRecursion (Taken c n is_dropped earlier) ids
     → AllByRecursion (λ y. eqb 0 y ≡ false) ids
-not_zero c n gone earlier [] all = tt
-not_zero c n gone earlier (id ∷ ids) all =
-    let is = taken_is c n gone earlier id all.0 in
-    (elim (eqb_tells 0 id) [ inl same ↦ absurd (omega (arith, same.1, is.0)) | inr other ↦ other.0 ], not_zero c n gone earlier ids all.1)
+not_zero c n is_dropped earlier [] all = tt
+not_zero c n is_dropped earlier (id ∷ ids) all =
+    let is = taken_is c n is_dropped earlier id all.0 in (
+      elim (eqb_tells 0 id) [
+        | inl same ↦ absurd (omega
+            (arith, same.1, is.0))
+        | inr other ↦ other.0
+      ],
+      not_zero c n is_dropped earlier ids all.1,
+    )
 
-taken_below : (c : StreamParams) (n : State) (gone : ℕ → Bool) (earlier ids : List ℕ) → AllByRecursion (Taken c n gone earlier) ids
+taken_below : (c : StreamParams) (n : State) (is_dropped : ℕ → Bool) (earlier ids : List ℕ)
+    → AllByRecursion (Taken c n is_dropped earlier) ids
     → AllByRecursion (λ x. x < last_identity c.layout + 1) ids
-taken_below c n gone earlier [] all = tt
-taken_below c n gone earlier (id ∷ ids) all =
-    let is = taken_is c n gone earlier id all.0 in (omega (arith, is.1), taken_below c n gone earlier ids all.1)
+taken_below c n is_dropped earlier [] all = tt
+taken_below c n is_dropped earlier (id ∷ ids) all =
+    let is = taken_is c n is_dropped earlier id all.0 in (omega (arith, is.1), taken_below c n is_dropped earlier ids all.1)
 
-taken_within : (c : StreamParams) (n : State) (gone : ℕ → Bool) (earlier : List ℕ) (many : ℕ) → AreTaken c n gone earlier many
+taken_within : (c : StreamParams) (n : State) (is_dropped : ℕ → Bool) (earlier : List ℕ) (many : ℕ) → AreTaken c n is_dropped earlier many
     → many ≤ last_identity c.layout
-taken_within c n gone earlier many are =
-    let with_zero : Apart (0 ∷ are.ids) = (not_zero c n gone earlier are.ids are.taken, are.apart) in
+taken_within c n is_dropped earlier many are =
+    let with_zero : Apart (0 ∷ are.ids) = (not_zero c n is_dropped earlier are.ids are.taken, are.apart) in
     let below : AllByRecursion (λ x. x < last_identity c.layout + 1) (0 ∷ are.ids) =
-    (omega arith, taken_below c n gone earlier are.ids are.taken) in
+    (omega arith, taken_below c n is_dropped earlier are.ids are.taken) in
     let few : length (0 ∷ are.ids) ≤ last_identity c.layout + 1 =
     length-le_from_distinct_below (0 ∷ are.ids) (last_identity c.layout + 1) (are_distinct (0 ∷ are.ids) with_zero)
     (all_below (0 ∷ are.ids) (last_identity c.layout + 1) below) in
@@ -66,35 +74,36 @@ taken_within c n gone earlier many are =
 line_deletes : (c : StreamParams) (n : State) (before : List StreamLine) (line : StreamLine) (many deleted : ℕ) (fault : Fault)
     (es rest : History)
     → JudgesLine c (context_of c before) line es (Bad deleted fault) → OwnRun n (es ++ rest)
-    → AreTaken c n (context_of c before).gone [] many → many + deleted ≤ last_identity c.layout
+    → AreTaken c n (context_of c before).is_dropped [] many → many + deleted ≤ last_identity c.layout
 line_deletes c n before (Addition id lits hints) many deleted fault es rest judged answers are =
-    omega (arith, judged.0, taken_within c n (context_of c before).gone [] many are)
+    omega (arith, judged.0, taken_within c n (context_of c before).is_dropped [] many are)
 line_deletes c n before (Import id lits) many deleted fault es rest judged answers are =
-    omega (arith, judged.0, taken_within c n (context_of c before).gone [] many are)
+    omega (arith, judged.0, taken_within c n (context_of c before).is_dropped [] many are)
 line_deletes c n before (Deletion lead ids) many deleted fault es rest judged answers are =
-    let took = identities_took c n (context_of c before).gone [] ids many es rest (Bad deleted fault) judged answers are in
-    omega (arith, took.4, taken_within c took.0 (context_of c before).gone took.1 took.2 took.3)
+    let took = identities_took c n (context_of c before).is_dropped [] ids many es rest (Bad deleted fault) judged answers are in
+    omega (arith, took.4, taken_within c took.0 (context_of c before).is_dropped took.1 took.2 took.3)
 
 ends_delete : (c : StreamParams) (n : State) (lines : List StreamLine) (rest : List ℕ) (end : StreamEnd) (back : List History)
     (report : Report)
-    → OwnRun n (joined back) → AreTaken c n (context_of c lines).gone [] (sum_by (λ l. length (deleted_by l)) lines)
+    → OwnRun n (joined back) → AreTaken c n (context_of c lines).is_dropped [] (sum_by (λ l. length (deleted_by l)) lines)
     → EndsAfter c lines rest end back report → report.deleted ≤ last_identity c.layout
 ends_delete c n lines rest end back report answers are (at_bad_line line more text fits block one_block deleted fault bad says) =
     let here = subst (λ b. OwnRun n (joined b)) one_block answers in
     let few = line_deletes c n lines line (sum_by (λ l. length (deleted_by l)) lines) deleted fault block [] bad here are in
     subst (λ (r : Report). r.deleted ≤ last_identity c.layout) (sym says) (omega (arith, few))
 ends_delete c n lines rest end back report answers are (at_bad_text fault text no_block says) =
-    let few = taken_within c n (context_of c lines).gone [] (sum_by (λ l. length (deleted_by l)) lines) are in
+    let few = taken_within c n (context_of c lines).is_dropped [] (sum_by (λ l. length (deleted_by l)) lines) are in
     subst (λ (r : Report). r.deleted ≤ last_identity c.layout) (sym says) (omega (arith, few))
 ends_delete c n lines rest end back report answers are (at_memory lead ids more text fits block one_block earlier stops says) =
     let here = subst (λ b. OwnRun n (joined b)) one_block answers in
-    let took = identities_took c n (context_of c lines).gone [] earlier
+    let took = identities_took c n (context_of c lines).is_dropped [] earlier
     (sum_by (λ l. length (deleted_by l)) lines) block [] Good stops.before here are in
     let few =
-    taken_within c (run n block) (context_of c lines).gone earlier (sum_by (λ l. length (deleted_by l)) lines + length earlier) took in
+    taken_within c (run n block) (context_of c lines).is_dropped earlier
+    (sum_by (λ l. length (deleted_by l)) lines + length earlier) took in
     subst (λ (r : Report). r.deleted ≤ last_identity c.layout) (sym says) (omega (arith, few))
 ends_delete c n lines rest end back report answers are (at_end pending no_block says) =
-    let few = taken_within c n (context_of c lines).gone [] (sum_by (λ l. length (deleted_by l)) lines) are in
+    let few = taken_within c n (context_of c lines).is_dropped [] (sum_by (λ l. length (deleted_by l)) lines) are in
     subst (λ (r : Report). r.deleted ≤ last_identity c.layout) (sym says) (omega (arith, few))
 
 -- Added
@@ -153,11 +162,11 @@ counts_within f c h bytes end blocks report legal mine j =
     let answers : OwnRun (opening f) (own h c.stream) =
     own_runs f c.layout c.stream (opening f) (opening f) h legal.events (λ id owns. refl) in
     let split = subst (OwnRun (opening f)) (mine ∙ ap joined j.split ∙ joined-append j.front j.back) answers in
-    let none : AreTaken c (opening f) (context_of c []).gone [] 0 = record { ids = []; apart = tt; taken = tt; count = refl } in
+    let none : AreTaken c (opening f) (context_of c []).is_dropped [] 0 = record { ids = []; apart = tt; taken = tt; count = refl } in
     let taken = lines_took c (opening f) [] j.lines j.front 0 (joined j.back) j.good split none in
-    let exact : AreTaken c (run (opening f) (joined j.front)) (context_of c j.lines).gone []
+    let exact : AreTaken c (run (opening f) (joined j.front)) (context_of c j.lines).is_dropped []
     (sum_by (λ l. length (deleted_by l)) j.lines) =
-    subst (AreTaken c (run (opening f) (joined j.front)) (context_of c j.lines).gone []) (omega arith) taken in
+    subst (AreTaken c (run (opening f) (joined j.front)) (context_of c j.lines).is_dropped []) (omega arith) taken in
     let added = lines_added c [] j.lines j.front j.good (record { few = omega arith; below = omega arith }) in (
       omega (arith, added_is c j.lines j.rest end j.back report j.ends, added.few, added.below),
       ends_delete c (run (opening f) (joined j.front)) j.lines j.rest end j.back report

@@ -58,12 +58,12 @@ FailsBy (Err its) falses hint later history fault Next = (history ≡ []) × (fa
 
 -- The hints fail, if these literals are false: the first one whose look-up or clause fails gives the fault, or none is a conflict.
 abbrev pub FailsHints : StreamParams → (ℕ → Bool) → List ℤ → List ℕ → History → Fault → Type 0
-FailsHints params gone falses [] history fault = (history ≡ []) × (fault ≡ faults.NoConflict)
-FailsHints params gone falses (hint ∷ hints) history fault =
+FailsHints params is_dropped falses [] history fault = (history ≡ []) × (fault ≡ faults.NoConflict)
+FailsHints params is_dropped falses (hint ∷ hints) history fault =
     (asked rest : History) × (history ≡ asked ++ rest) × (answer : Result Clause Fault)
-    × LooksUp params gone hint asked answer
+    × LooksUp params is_dropped hint asked answer
     × FailsBy answer falses hint hints rest fault
-    (λ more_falses. FailsHints params gone more_falses hints rest fault)
+    (λ more_falses. FailsHints params is_dropped more_falses hints rest fault)
 
 -- the publish of an addition that is good
 abbrev pub published_by : StreamParams → ℕ → List ℤ → Event
@@ -82,4 +82,4 @@ JudgesAddition params context id lits hints history Good =
 JudgesAddition params context id lits hints history (Bad deleted fault) =
     (deleted ≡ 0)
     × BeforeHints params context id lits history fault
-    (FailsHints params context.gone (distinct lits) hints history fault)
+    (FailsHints params context.is_dropped (distinct lits) hints history fault)

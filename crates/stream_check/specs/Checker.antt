@@ -11,8 +11,8 @@ use Rattle.lrup_text.specs.declared.device.StreamEnd.{StreamEnd}
 use Rattle.stream_check.specs.declared.fault.Fault.TheVariants as faults
 use Rattle.stream_check.specs.declared.report.Ending.{Ending}
 use Rattle.stream_check.specs.declared.report.Ending.TheVariants as endings
-use Rattle.stream_check.specs.declared.progress.CheckTurn.{CheckTurn}
-use Rattle.stream_check.specs.declared.progress.CheckTurn.TheVariants as turns
+use Rattle.stream_check.specs.declared.progress.CheckStatus.{CheckStatus}
+use Rattle.stream_check.specs.declared.progress.CheckStatus.TheVariants as statuses
 use Rattle.stream_check.specs.StreamParams.{StreamParams}
 use Rattle.stream_check.specs.StreamContext.{is_among}
 use Rattle.stream_check.specs.Judging.{ending_at, JudgesBlocks}
@@ -22,7 +22,7 @@ use Rattle.stream_check.specs.CheckerValue.{report_of_tally, CheckerValue}
 abbrev pub going_of : CheckerValue → ℕ → GoingState
 going_of checker free = record {
   tally = checker.tally;
-  context = record { last = checker.last; free = free; gone = is_among checker.dropped };
+  context = record { last = checker.last; free = free; is_dropped = is_among checker.dropped };
   pending = checker.pending;
   line = checker.line;
 }
@@ -37,14 +37,14 @@ abbrev pub checker_state : CheckerValue → ℕ → CheckerState
 checker_state checker free = state_by checker free checker.ending
 
 -- the view is this stream's, and of this layout
-pub record IsViewOf (params : StreamParams) (place : CallerView) : Type 0 where
-  pub layout : place.caller.layout ≡ params.layout
-  pub stream : place.caller.stream ≡ params.stream
+pub record IsViewOf (params : StreamParams) (view : CallerView) : Type 0 where
+  pub layout : view.caller.layout ≡ params.layout
+  pub stream : view.caller.stream ≡ params.stream
 
 -- What a checker needs of a view: it is of the checker's stream, and its own identities above the last one that was added are vacant.
-pub record IsReadyAt (checker : CheckerValue) (place : CallerView) : Type 0 where
-  pub at : IsViewOf checker.params place
-  pub vacant : IsVacantAbove place checker.last
+pub record IsReadyAt (checker : CheckerValue) (view : CallerView) : Type 0 where
+  pub at : IsViewOf checker.params view
+  pub vacant : IsVacantAbove view checker.last
 
 -- Whatever bytes and blocks left the checker as it was, these bytes and blocks more leave it as it is.
 abbrev pub Extends : StreamParams → CheckerState → List ℕ → List History → CheckerState → Type 0
@@ -53,10 +53,10 @@ Extends params old used blocks new = (bytes : List ℕ) (before : List History)
     → ReachesState params (bytes ++ used) (before ++ blocks) new
 
 -- How many blocks of events a call has: one if it ends a good line, none if it ends no line, at most one if it ends the reading.
-abbrev pub AreBlocksOf : CheckTurn → List History → Type 0
-AreBlocksOf turns.Line blocks = length blocks ≡ 1
-AreBlocksOf turns.More blocks = blocks ≡ []
-AreBlocksOf turns.Over blocks = length blocks ≤ 1
+abbrev pub AreBlocksOf : CheckStatus → List History → Type 0
+AreBlocksOf statuses.Line blocks = length blocks ≡ 1
+AreBlocksOf statuses.More blocks = blocks ≡ []
+AreBlocksOf statuses.Over blocks = length blocks ≤ 1
 
 -- The text at which the reading ended: a whole line, or one that begins no line, through the byte that decided it.
 abbrev pub StopsAt : Ending → List ℕ → Type 0
@@ -66,16 +66,16 @@ StopsAt ending text =
     × IsRefused text fault)
 
 -- What the bytes used came to: one line more, the front of a line, or the end of the reading.
-abbrev pub Turns : CheckTurn → CheckerValue → CheckerValue → List ℕ → List ℕ → Type 0
-Turns turns.Line old new piece used =
+abbrev pub FeedsChecker : CheckStatus → CheckerValue → CheckerValue → List ℕ → List ℕ → Type 0
+FeedsChecker statuses.Line old new piece used =
     (new.ending ≡ None) × (new.pending ≡ [])
     × ((bytes : List ℕ) (lines : List StreamLine) → Cut bytes lines old.pending
     → (line : StreamLine) × Cut (bytes ++ used) (lines ++ line ∷ []) [])
-Turns turns.More old new piece used =
+FeedsChecker statuses.More old new piece used =
     (new.ending ≡ None) × (used ≡ piece) × (new.pending ≡ old.pending ++ piece)
     × ((bytes : List ℕ) (lines : List StreamLine) → Cut bytes lines old.pending
     → Cut (bytes ++ used) lines new.pending)
-Turns turns.Over old new piece used =
+FeedsChecker statuses.Over old new piece used =
     (ending : Ending) × (new.ending ≡ Some ending)
     × (old.ending ≡ None → StopsAt ending (old.pending ++ used))
 

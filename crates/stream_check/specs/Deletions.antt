@@ -22,43 +22,43 @@ pub record RetiresThen (params : StreamParams) (earlier : List ℕ) (id : ℕ) (
 
 -- An identity of the formula or of another stream is dropped, without an event, unless it was dropped by the lines before or earlier in this one.
 abbrev pub DropsThen : (ℕ → Bool) → List ℕ → ℕ → History → LineVerdict → (History → Type 0) → Type 0
-DropsThen gone earlier id history verdict Next =
-    (((gone id || is_among earlier id) ≡ true)
+DropsThen is_dropped earlier id history verdict Next =
+    (((is_dropped id || is_among earlier id) ≡ true)
     × Fails (length earlier) (faults.NotLive id) history verdict)
-    ⊎ (((gone id || is_among earlier id) ≡ false) × Next history)
+    ⊎ (((is_dropped id || is_among earlier id) ≡ false) × Next history)
 
 -- an own identity is retired at the map, one of the formula or of another stream is dropped by this stream alone, and what is no
 -- identity is a fault
 abbrev pub DeletesAt : Ownership → StreamParams → (ℕ → Bool) → List ℕ → ℕ → History → LineVerdict
     → (History → Type 0) → Type 0
-DeletesAt ownerships.Formula params gone earlier id history verdict Next =
-    DropsThen gone earlier id history verdict Next
-DeletesAt ownerships.Own params gone earlier id history verdict Next =
+DeletesAt ownerships.Formula params is_dropped earlier id history verdict Next =
+    DropsThen is_dropped earlier id history verdict Next
+DeletesAt ownerships.Own params is_dropped earlier id history verdict Next =
     RetiresThen params earlier id history verdict Next
-DeletesAt ownerships.Foreign params gone earlier id history verdict Next =
-    DropsThen gone earlier id history verdict Next
-DeletesAt ownerships.Outside params gone earlier id history verdict Next =
+DeletesAt ownerships.Foreign params is_dropped earlier id history verdict Next =
+    DropsThen is_dropped earlier id history verdict Next
+DeletesAt ownerships.Outside params is_dropped earlier id history verdict Next =
     Fails (length earlier) (faults.NotLive id) history verdict
 
--- the events and the verdict of the identities of a deletion that are left, if `gone` were dropped by the lines before, and
+-- the events and the verdict of the identities of a deletion that are left, if `is_dropped` were dropped by the lines before, and
 -- `earlier` were taken before them in this line
 abbrev pub JudgesDeletion : StreamParams → (ℕ → Bool) → List ℕ → List ℕ → History
     → LineVerdict → Type 0
-JudgesDeletion params gone earlier [] history verdict = (history ≡ []) × (verdict ≡ Good)
-JudgesDeletion params gone earlier (id ∷ ids) history verdict =
-    DeletesAt (ownership_of params id) params gone earlier id history verdict
-    (λ rest. JudgesDeletion params gone (earlier ++ id ∷ []) ids rest verdict)
+JudgesDeletion params is_dropped earlier [] history verdict = (history ≡ []) × (verdict ≡ Good)
+JudgesDeletion params is_dropped earlier (id ∷ ids) history verdict =
+    DeletesAt (ownership_of params id) params is_dropped earlier id history verdict
+    (λ rest. JudgesDeletion params is_dropped (earlier ++ id ∷ []) ids rest verdict)
 
 -- A deletion stops out of memory at an identity that it would drop, after those before it.
-pub record StopsDeletion (params : StreamParams) (gone : ℕ → Bool) (ids : List ℕ)
+pub record StopsDeletion (params : StreamParams) (is_dropped : ℕ → Bool) (ids : List ℕ)
     (history : History)
     (earlier : List ℕ) : Type 0 where
   pub id : ℕ
   pub later : List ℕ
   pub identities : ids ≡ earlier ++ id ∷ later
-  pub before : JudgesDeletion params gone [] earlier history Good
+  pub before : JudgesDeletion params is_dropped [] earlier history Good
   pub shared : is_shared (ownership_of params id) ≡ true
-  pub new : (gone id || is_among earlier id) ≡ false
+  pub new : (is_dropped id || is_among earlier id) ≡ false
 
 -- the event is a retire
 abbrev pub IsRetire : Event → Type 0

@@ -32,6 +32,6 @@ JudgesImport params context id lits history (Bad deleted fault) =
     faults.Identity history fault
     (Violates (AllByRecursion (λ l. nat_abs l ≤ params.layout.vars) lits)
     faults.Literal history fault
-    (LooksUp params context.gone id history (Err fault)
-    ⊎ ((clause : Clause) × LooksUp params context.gone id history (Ok clause)
+    (LooksUp params context.is_dropped id history (Err fault)
+    ⊎ ((clause : Clause) × LooksUp params context.is_dropped id history (Ok clause)
     × (¬ ((l : ℤ) → Has clause l ↔ Has lits l)) × (fault ≡ faults.Differs id))))

@@ -25,7 +25,7 @@ abbrev pub JudgesLine : StreamParams → StreamContext → StreamLine → Histor
 JudgesLine params context (Addition id lits hints) history verdict =
     JudgesAddition params context id lits hints history verdict
 JudgesLine params context (Deletion lead ids) history verdict =
-    JudgesDeletion params context.gone [] ids history verdict
+    JudgesDeletion params context.is_dropped [] ids history verdict
 JudgesLine params context (Import id lits) history verdict =
     JudgesImport params context id lits history verdict
 
@@ -84,7 +84,7 @@ pub data EndsAfter (params : StreamParams) (lines : List StreamLine) (rest : Lis
       (lead : ℕ) (ids more : List ℕ) (text : rest ≡ line_text (Deletion lead ids) ++ more)
       (fits : IsWithinLimits (Deletion lead ids)) (block : History)
       (one_block : blocks ≡ block ∷ []) (earlier : List ℕ)
-      (stops : StopsDeletion params (context_of params lines).gone ids block earlier)
+      (stops : StopsDeletion params (context_of params lines).is_dropped ids block earlier)
       (says : report
       ≡ report_of params lines (length earlier) (endings.Memory (capped (length lines + 1))))
       → EndsAfter params lines rest end blocks report

@@ -60,14 +60,15 @@ GoodLineTaken = (c : StreamParams) (bytes piece : List ℕ) (blocks : List Histo
 -- a bad line, which deleted these identities before its fault
 abbrev pub BadLineTaken : Type 0
 BadLineTaken = (c : StreamParams) (bytes piece : List ℕ) (blocks : List History) (block : History)
-    (old : GoingState) (line : StreamLine) (ids later : List ℕ) (fault : Fault) (gone : ℕ → Bool)
+    (old : GoingState) (line : StreamLine) (ids later : List ℕ) (fault : Fault) (is_dropped : ℕ
+    → Bool)
     → ReachesState c bytes blocks (Going old) → LineText line (old.pending ++ piece)
     → deleted_by line ≡ ids ++ later
     → JudgesLine c old.context line block (Bad (length ids) fault)
-    → DropsMore c old.context.gone ids gone
+    → DropsMore c old.context.is_dropped ids is_dropped
     → ReachesState c (bytes ++ piece) (blocks ++ block ∷ [])
     (Over (report_of_tally (record old.tally { deleted = capped (old.tally.deleted + length ids) })
-    (endings.Bad old.line fault)) gone)
+    (endings.Bad old.line fault)) is_dropped)
 
 -- a text that begins no line
 abbrev pub BadTextRead : Type 0
@@ -75,19 +76,20 @@ BadTextRead = (c : StreamParams) (bytes piece : List ℕ) (blocks : List History
     (fault : LineFault)
     → ReachesState c bytes blocks (Going old) → IsRefused (old.pending ++ piece) fault
     → ReachesState c (bytes ++ piece) blocks
-    (Over (report_of_tally old.tally (endings.Bad old.line (faults.Text fault))) old.context.gone)
+    (Over (report_of_tally old.tally
+    (endings.Bad old.line (faults.Text fault))) old.context.is_dropped)
 
 -- a deletion that ran out of memory, after these identities
 abbrev pub MemoryWanted : Type 0
 MemoryWanted = (c : StreamParams) (bytes piece : List ℕ) (blocks : List History) (block : History)
-    (old : GoingState) (lead : ℕ) (ids earlier : List ℕ) (gone : ℕ → Bool)
+    (old : GoingState) (lead : ℕ) (ids earlier : List ℕ) (is_dropped : ℕ → Bool)
     → ReachesState c bytes blocks (Going old) → LineText (Deletion lead ids) (old.pending ++ piece)
-    → StopsDeletion c old.context.gone ids block earlier
-    → DropsMore c old.context.gone earlier gone
+    → StopsDeletion c old.context.is_dropped ids block earlier
+    → DropsMore c old.context.is_dropped earlier is_dropped
     → ReachesState c (bytes ++ piece) (blocks ++ block ∷ [])
     (Over (report_of_tally
     (record old.tally { deleted = capped (old.tally.deleted + length earlier) })
-    (endings.Memory old.line)) gone)
+    (endings.Memory old.line)) is_dropped)
 
 -- the end of the stream, or a failed read
 abbrev pub EndJudged : Type 0
@@ -131,10 +133,10 @@ DecidedBeforeFailure =
 -- if its numbers are below 2^64 - 1, a report decides what a stream dropped that a line stopped
 abbrev pub DroppedOnce : Type 0
 DroppedOnce =
-    (c : StreamParams) (bytes : List ℕ) (report : Report) (gone other : ℕ → Bool) (line : ℕ)
+    (c : StreamParams) (bytes : List ℕ) (report : Report) (is_dropped other : ℕ → Bool) (line : ℕ)
     → StopsAtLine report.ending line → line < 2 ^ 64 - 1 → report.deleted < 2 ^ 64 - 1
-    → DropsUntilStop c bytes report gone → DropsUntilStop c bytes report other
-    → (id : ℕ) → gone id ≡ other id
+    → DropsUntilStop c bytes report is_dropped → DropsUntilStop c bytes report other
+    → (id : ℕ) → is_dropped id ≡ other id
 
 -- Where a checker may be fed
 

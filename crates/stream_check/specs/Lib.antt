@@ -1,6 +1,6 @@
 pub mod Faults
 pub mod StreamParams
-pub mod DroppedValue
+pub mod DroppedIdsValue
 pub mod StreamContext
 pub mod Verdicts
 pub mod Lookup

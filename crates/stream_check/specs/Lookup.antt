@@ -15,16 +15,17 @@ FetchesUpTo most s id history reply = (k : ℕ) × (k ≤ most) × (reply ≡ va
     × (history ≡ replicate k (fetch s id vacant) ++ fetch s id reply ∷ [])
 
 -- Own identities and the formula's are fetched once, another stream's until it isn't vacant or the tries are used up, and what is no identity never.
-abbrev pub AsksAt : Ownership → StreamParams → ℕ → History → Reply → Type 0
-AsksAt ownerships.Formula params id history reply = history ≡ fetch params.stream id reply ∷ []
-AsksAt ownerships.Own params id history reply = history ≡ fetch params.stream id reply ∷ []
-AsksAt ownerships.Foreign params id history reply =
+abbrev pub FetchesHintAt : Ownership → StreamParams → ℕ → History → Reply → Type 0
+FetchesHintAt ownerships.Formula params id history reply = history ≡ fetch params.stream id reply ∷
+    []
+FetchesHintAt ownerships.Own params id history reply = history ≡ fetch params.stream id reply ∷ []
+FetchesHintAt ownerships.Foreign params id history reply =
     FetchesUpTo params.tries params.stream id history reply
-AsksAt ownerships.Outside params id history reply = (history ≡ []) × (reply ≡ vacant)
+FetchesHintAt ownerships.Outside params id history reply = (history ≡ []) × (reply ≡ vacant)
 
 -- These are the fetches of a hint, or of an import's identity, and the last reply, which counts as vacant if there is no fetch.
-abbrev pub Asks : StreamParams → ℕ → History → Reply → Type 0
-Asks params id history reply = AsksAt (ownership_of params id) params id history reply
+abbrev pub FetchesHint : StreamParams → ℕ → History → Reply → Type 0
+FetchesHint params id history reply = FetchesHintAt (ownership_of params id) params id history reply
 
 -- what the last reply comes to: the clause of a live identity, or the fault of a missing or a retired one
 abbrev pub answer_of : ℕ → Reply → Result Clause Fault
@@ -34,24 +35,25 @@ answer_of id retired = Err (faults.Retired id)
 
 -- What a look-up comes to: an identity that the stream dropped isn't fetched, and is a fault; of another the last reply decides.
 abbrev pub LooksUp : StreamParams → (ℕ → Bool) → ℕ → History → Result Clause Fault → Type 0
-LooksUp params gone id history answer =
-    ((gone id ≡ true) × (history ≡ []) × (answer ≡ Err (faults.Dropped id)))
-    ⊎ ((gone id ≡ false) × (reply : Reply) × Asks params id history reply
+LooksUp params is_dropped id history answer =
+    ((is_dropped id ≡ true) × (history ≡ []) × (answer ≡ Err (faults.Dropped id)))
+    ⊎ ((is_dropped id ≡ false) × (reply : Reply) × FetchesHint params id history reply
     × (answer ≡ answer_of id reply))
 
 -- the identities are looked up in their order, by these events, and come to these clauses
 abbrev pub AreFound : StreamParams → (ℕ → Bool) → List ℕ → List Clause → History → Type 0
-AreFound params gone [] [] history = history ≡ []
-AreFound params gone [] (clause ∷ clauses) history = ⊥
-AreFound params gone (id ∷ ids) [] history = ⊥
-AreFound params gone (id ∷ ids) (clause ∷ clauses) history =
-    (asked rest : History) × (history ≡ asked ++ rest) × LooksUp params gone id asked (Ok clause)
-    × AreFound params gone ids clauses rest
+AreFound params is_dropped [] [] history = history ≡ []
+AreFound params is_dropped [] (clause ∷ clauses) history = ⊥
+AreFound params is_dropped (id ∷ ids) [] history = ⊥
+AreFound params is_dropped (id ∷ ids) (clause ∷ clauses) history =
+    (asked rest : History) × (history ≡ asked ++ rest)
+    × LooksUp params is_dropped id asked (Ok clause)
+    × AreFound params is_dropped ids clauses rest
 
 -- what a line is checked against after the lines that left this context, if these events look its identities up
 abbrev pub line_context : StreamParams → StreamContext → History → LineContext
 line_context params context history = record {
   last = context.last;
   free = context.free;
-  Names = λ ids clauses. AreFound params context.gone ids clauses history;
+  Names = λ ids clauses. AreFound params context.is_dropped ids clauses history;
 }

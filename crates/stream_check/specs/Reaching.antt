@@ -22,13 +22,13 @@ pub record GoingState : Type 0 where
 -- what a checker that isn't over holds, or the report of one that is over, and which identities it dropped
 pub data CheckerState : Type 0 where
   Going : GoingState → CheckerState
-  Over : (report : Report) (gone : ℕ → Bool) → CheckerState
+  Over : (report : Report) (is_dropped : ℕ → Bool) → CheckerState
 
 -- both contexts have the same last identity, room, and dropped identities
 pub record SameContext (context other : StreamContext) : Type 0 where
   pub last : context.last ≡ other.last
   pub free : context.free ≡ other.free
-  pub gone : (id : ℕ) → context.gone id ≡ other.gone id
+  pub is_dropped : (id : ℕ) → context.is_dropped id ≡ other.is_dropped id
 
 -- All lines are good, with these blocks of events, the rest may still become a line, and the checker holds what they leave: its counts
 -- are those that a report of these lines has, whatever the ending.
@@ -53,8 +53,8 @@ JudgesBothEnds params bytes blocks report =
 -- the end of the stream is, and it dropped what its lines delete until one stopped it.
 abbrev pub ReachesState : StreamParams → List ℕ → List History → CheckerState → Type 0
 ReachesState params bytes blocks (Going now) = ReachesGoing params bytes blocks now
-ReachesState params bytes blocks (Over report gone) =
-    JudgesBothEnds params bytes blocks report × DropsUntilStop params bytes report gone
+ReachesState params bytes blocks (Over report is_dropped) =
+    JudgesBothEnds params bytes blocks report × DropsUntilStop params bytes report is_dropped
 
 -- One good line more
 
@@ -67,7 +67,7 @@ abbrev pub context_after : StreamParams → StreamContext → StreamLine → Str
 context_after params context line = record {
   last = last_after context.last line;
   free = context.free - sum_by (λ addition. length addition.1) (additions_of (line ∷ []));
-  gone = λ id. context.gone id || is_shared (ownership_of params id)
+  is_dropped = λ id. context.is_dropped id || is_shared (ownership_of params id)
       && is_among (deleted_by line) id;
 }
 

@@ -32,7 +32,7 @@ AreDeletedFirst ids bytes =
 -- 2^64 - 1: by its number how many lines are before it, and by its count how many of the identities that the line names come before the
 -- one at which it stopped. If no line begins there, or one that deletes nothing, these are none.
 pub record DropsUntilStop (params : StreamParams) (bytes : List ℕ) (report : Report)
-    (gone : ℕ → Bool) : Type 0 where
+    (is_dropped : ℕ → Bool) : Type 0 where
   pub lines : List StreamLine
   pub rest : List ℕ
   pub text : bytes ≡ flat_map line_text lines ++ rest
@@ -42,4 +42,4 @@ pub record DropsUntilStop (params : StreamParams) (bytes : List ℕ) (report : R
   pub are_first : AreDeletedFirst ids rest
   pub count : report.deleted
       ≡ capped (sum_by (λ line. length (deleted_by line)) lines + length ids)
-  pub drops : DropsMore params (context_of params lines).gone ids gone
+  pub drops : DropsMore params (context_of params lines).is_dropped ids is_dropped

@@ -12,7 +12,7 @@ use Rattle.stream_check.specs.StreamParams.{StreamParams, ownership_of, is_share
 pub record StreamContext : Type 0 where
   pub last : ℕ
   pub free : ℕ
-  pub gone : ℕ → Bool
+  pub is_dropped : ℕ → Bool
 
 -- What a line is checked against: the greatest identity that was added before, or the formula's last one; the room that is left, in
 -- literals; and which clauses the identities name that the line cites.
@@ -44,7 +44,7 @@ abbrev pub context_of : StreamParams → List StreamLine → StreamContext
 context_of params lines = record {
   last = fold max params.layout.clauses (map (λ addition. addition.0) (additions_of lines));
   free = params.layout.room - sum_by (λ addition. length addition.1) (additions_of lines);
-  gone = λ id.
+  is_dropped = λ id.
       is_shared (ownership_of params id) && list_any (λ line. is_among (deleted_by line) id) lines;
 }
 

@@ -6,20 +6,20 @@ ghost use Rattle.stream_check.specs.StreamParams.{max_tries};
 ghost use Rattle.lrup_text.specs.declared.device.StreamEnd.TheVariants as stream_ends;
 ghost use Rattle.stream_check.specs.Judging.{joined};
 ghost use Rattle.stream_check.specs.CheckerValue.{report_of_tally};
-ghost use Rattle.stream_check.specs.Checker.{checker_state, IsReadyAt, Extends, AreBlocksOf, Turns, StaysOver, IsNew, Ends, ReportsEnd};
+ghost use Rattle.stream_check.specs.Checker.{checker_state, IsReadyAt, Extends, AreBlocksOf, FeedsChecker, StaysOver, IsNew, Ends, ReportsEnd};
 
 use crate::addition::LineScratch;
-use crate::dropped::Dropped;
+use crate::dropped_ids::DroppedIds;
 use crate::fault::Fault;
 use crate::gate::Gate;
 use crate::laws::{fresh_left, good_line_taken};
 use crate::line::take_line;
 use crate::params::StreamParams;
-use crate::progress::{CheckTurn, Progress};
+use crate::progress::{CheckStatus, Progress};
 use crate::report::{Ending, Report};
 use crate::stream_state::StreamState;
 use lrup_model::{ClauseMap, Cube, Layout};
-use lrup_text::{End, LineReader, ReaderTurn};
+use lrup_text::{End, LineReader, ReaderStatus};
 use std::alloc::{AllocError, Global};
 use std::marker::Model;
 
@@ -91,11 +91,12 @@ impl Checker {
         ensures left { let old = checker_state self.old (M.caller_view map.old).room in
             let new = checker_state self.new (M.caller_view map.new).room in
             (blocks : List History) × M.moves map.old map.new (joined blocks)
-            × AreBlocksOf result.turn blocks
+            × AreBlocksOf result.status blocks
             × Extends self.old.params old (take result.used piece.now) blocks new }
-        ensures turn { Turns result.turn self.old self.new piece.now (take result.used piece.now) }
+        ensures status { FeedsChecker result.status self.old self.new piece.now
+            (take result.used piece.now) }
         ensures used { result.used ≤ length piece.now }
-        ensures moves_on { result.turn ≡ CheckTurn.Line → 0 < result.used }
+        ensures moves_on { result.status ≡ CheckStatus.Line → 0 < result.used }
         ensures over { StaysOver self.old self.new (take result.used piece.now) }
         ensures ready { IsReadyAt self.new (M.caller_view map.new) }
         ensures params { self.new.params ≡ self.old.params }
@@ -103,33 +104,33 @@ impl Checker {
         if self.ending.is_some() {
             return Progress {
                 used: 0,
-                turn: CheckTurn::Over,
+                status: CheckStatus::Over,
             };
         }
         // A law, which does nothing: one good line more leaves a checker as `take_line` does.
         good_line_taken();
         let fed = self.reader.feed(piece);
         let used = fed.used;
-        match fed.turn {
-            ReaderTurn::NeedMore => Progress {
+        match fed.status {
+            ReaderStatus::NeedMore => Progress {
                 used,
-                turn: CheckTurn::More,
+                status: CheckStatus::More,
             },
-            ReaderTurn::Line(line) => {
+            ReaderStatus::Line(line) => {
                 match take_line(&mut self.state, &mut self.scratch, map, gate, line) {
                     Ok(()) => Progress {
                         used,
-                        turn: CheckTurn::Line,
+                        status: CheckStatus::Line,
                     },
                     Err(stop) => {
                         self.ending = Some(stop.ending(self.state.line()));
-                        self.tell(gate, used)
+                        self.notify_gate(gate, used)
                     }
                 }
             }
-            ReaderTurn::Fault(fault) => {
+            ReaderStatus::Fault(fault) => {
                 self.ending = Some(Ending::Bad(self.state.line(), Fault::Text(fault)));
-                self.tell(gate, used)
+                self.notify_gate(gate, used)
             }
         }
     }
@@ -138,14 +139,14 @@ impl Checker {
     /// happens once in a stream: so the compiler makes the good lines fast.
     #[cold]
     #[inline(never)]
-    fn tell<G: Gate>(&self, gate: &mut G, used: usize) -> Progress
+    fn notify_gate<G: Gate>(&self, gate: &mut G, used: usize) -> Progress
         requires { IsSome self.now.ending }
-        ensures { result ≡ record { used = used; turn = CheckTurn.Over } }
+        ensures { result ≡ record { used = used; status = CheckStatus.Over } }
     {
         gate.when_over(self.stream(), &self.report());
         Progress {
             used,
-            turn: CheckTurn::Over,
+            status: CheckStatus::Over,
         }
     }
 
@@ -198,7 +199,7 @@ impl Checker {
     }
 
     /// The identities of the formula and of other streams that the stream dropped.
-    pub fn into_dropped(self) -> Dropped
+    pub fn into_dropped(self) -> DroppedIds
         ensures { result.ids ≡ self.dropped }
     {
         let Checker { state, .. } = self;

@@ -5,7 +5,7 @@
 mod addition;
 mod checker;
 mod deletion;
-mod dropped;
+mod dropped_ids;
 mod fault;
 mod gate;
 mod hints;
@@ -20,8 +20,8 @@ mod report;
 mod stream_state;
 
 pub use checker::Checker;
-pub use dropped::Dropped;
+pub use dropped_ids::DroppedIds;
 pub use fault::Fault;
 pub use gate::Gate;
-pub use progress::{CheckTurn, Progress};
+pub use progress::{CheckStatus, Progress};
 pub use report::{Ending, Report};

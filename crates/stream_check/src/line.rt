@@ -36,7 +36,7 @@ fn take_addition<M: ClauseMap, G: Gate>(
 {
     scratch.add(state, map, gate, id, lits, hints)?;
     let within = state.params.refutes(scratch.clause());
-    state.take_addition(id, lits.is_empty(), within);
+    state.count_addition(id, lits.is_empty(), within);
     Ok(())
 }
 

@@ -3,7 +3,7 @@ ghost use Rattle.std.specs.Prelude.{◌∷◌, ◌<◌, ◌^◌, IfOk};
 ghost use Rattle.lrup_model.specs.Event.{History, vacant, fetch};
 ghost use Rattle.lrup_model.specs.Layout.{IsIdentity};
 ghost use Rattle.lrup_model.specs.Replies.{reply_of};
-ghost use Rattle.stream_check.specs.Lookup.{Asks, FetchesUpTo, LooksUp};
+ghost use Rattle.stream_check.specs.Lookup.{FetchesHint, FetchesUpTo, LooksUp};
 ghost use Rattle.stream_check.specs.StreamContext.{is_among};
 ghost use Rattle.stream_check.specs.Checker.{IsViewOf};
 ghost use Rattle.stream_check.specs.internal.Checking.{Gives, found_by};
@@ -15,7 +15,7 @@ use crate::stream_state::StreamState;
 use lrup_model::{ClauseMap, Clip, Fetched, Id};
 
 /// Fetches an identity again that was vacant, until it isn't, and at most `most` times. The gate may wait before each fetch.
-// If it or `ask` isn't inlined, each reply goes back through memory, even if there is no second fetch.
+// If it or `fetch_hint` isn't inlined, each reply goes back through memory, even if there is no second fetch.
 #[inline(always)]
 fn fetch_again<M: ClauseMap, G: Gate>(most: u64, map: &mut M, gate: &mut G, id: Id) -> Fetched
     requires identity { IsIdentity (M.caller_view map.old).caller.layout id }
@@ -40,11 +40,16 @@ fn fetch_again<M: ClauseMap, G: Gate>(most: u64, map: &mut M, gate: &mut G, id: 
 /// Fetches a hint: once, or as often as the stream's tries allow while another stream's is vacant. Who owns it is asked only if it was
 /// vacant, so a hint that is found at once costs one fetch and no division.
 #[inline(always)]
-fn ask<M: ClauseMap, G: Gate>(params: &StreamParams, map: &mut M, gate: &mut G, hint: Id) -> Fetched
+fn fetch_hint<M: ClauseMap, G: Gate>(
+    params: &StreamParams,
+    map: &mut M,
+    gate: &mut G,
+    hint: Id,
+) -> Fetched
     requires at { IsViewOf params.now (M.caller_view map.old) }
     requires tries { params.now.tries < 2 ^ 63 }
     ensures asked { (es : History) × M.moves map.old map.new es
-        × Asks params.now hint es (reply_of (M.caller_view map.new) result) }
+        × FetchesHint params.now hint es (reply_of (M.caller_view map.new) result) }
     ensures gives { Gives (M.caller_view map.new) result }
 {
     if !params.covers(hint) {
@@ -75,7 +80,7 @@ pub fn look_up<M: ClauseMap, G: Gate>(
     if state.has_dropped(id) {
         return Err(Fault::Dropped(id));
     }
-    match ask(&state.params, map, gate, id) {
+    match fetch_hint(&state.params, map, gate, id) {
         Fetched::Vacant => Err(Fault::Missing(id)),
         Fetched::Retired => Err(Fault::Retired(id)),
         Fetched::Live(clip) => Ok(clip),

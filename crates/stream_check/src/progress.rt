@@ -6,12 +6,12 @@ pub struct Progress {
     /// How many bytes of the piece were used.
     pub used: usize,
     /// What they came to.
-    pub turn: CheckTurn,
+    pub status: CheckStatus,
 }
 
 /// What the bytes used by a call of `Checker::feed` came to.
 #[derive(Clone, Copy, Debug, PartialEq, Eq)]
-pub enum CheckTurn {
+pub enum CheckStatus {
     /// They end a line, which is good. The rest of the piece is still to be fed.
     Line,
     /// All bytes of the piece were used, and no line has ended since.

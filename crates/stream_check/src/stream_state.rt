@@ -3,7 +3,7 @@ ghost use Rattle.std.specs.Prelude.{◌≡◌, ◌≤◌, ◌<◌, ◌^◌, ◌+
 ghost use Rattle.stream_check.specs.internal.Checking.{DropsShared, counted};
 ghost use Rattle.stream_check.specs.StreamContext.{capped, is_among};
 
-use crate::dropped::Dropped;
+use crate::dropped_ids::DroppedIds;
 use crate::fault::Fault;
 use crate::line_stop::LineStop;
 use crate::params::StreamParams;
@@ -18,7 +18,7 @@ pub struct StreamState {
     pub params: StreamParams,
     /// The last identity that was added, or if none was, the last one of the formula.
     last: Id,
-    dropped: Dropped,
+    dropped: DroppedIds,
     /// How many of the stream's own identities were retired. It stays at 2^64 - 1 once it is there.
     retired: u64,
     /// How many clauses were added.
@@ -48,7 +48,7 @@ impl StreamState {
         StreamState {
             last: u64::from(params.clauses()),
             params,
-            dropped: Dropped::new(alloc),
+            dropped: DroppedIds::new(alloc),
             retired: 0,
             added: 0,
             empty: false,
@@ -79,7 +79,7 @@ impl StreamState {
     }
 
     /// Counts a good addition of this identity. `is_empty`: its clause is empty; `is_within`: the cube makes it false.
-    pub fn take_addition(&mut self, id: Id, is_empty: bool, is_within: bool)
+    pub fn count_addition(&mut self, id: Id, is_empty: bool, is_within: bool)
         requires above { self.old.last < id }
         requires small { id < 2 ^ 63 }
         ensures last { self.new.last ≡ id }
@@ -166,7 +166,7 @@ impl StreamState {
     }
 
     /// The identities of the formula and of other streams that the stream dropped.
-    pub fn into_dropped(self) -> Dropped
+    pub fn into_dropped(self) -> DroppedIds
         ensures { result ≡ self.dropped }
     {
         let StreamState { dropped, .. } = self;

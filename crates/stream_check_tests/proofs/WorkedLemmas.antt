@@ -15,17 +15,17 @@ use Rattle.stream_check.specs.Judging.{JudgesLine}
 use Rattle.stream_check_tests.specs.Worked.{two_streams, first_stream, at_start, first_found, second_found, six_vacant}
 
 -- look-ups that find the first two clauses, and one that finds nothing
-pub first_looked : LooksUp first_stream at_start.gone 1 (first_found ∷ []) (Ok first)
+pub first_looked : LooksUp first_stream at_start.is_dropped 1 (first_found ∷ []) (Ok first)
 first_looked = inr (refl, live first, refl, refl)
 
-pub second_looked : LooksUp first_stream at_start.gone 2 (second_found ∷ []) (Ok second)
+pub second_looked : LooksUp first_stream at_start.is_dropped 2 (second_found ∷ []) (Ok second)
 second_looked = inr (refl, live second, refl, refl)
 
-pub six_looked : LooksUp first_stream at_start.gone 6 (six_vacant ∷ six_vacant ∷ []) (Err (faults.Missing 6))
+pub six_looked : LooksUp first_stream at_start.is_dropped 6 (six_vacant ∷ six_vacant ∷ []) (Err (faults.Missing 6))
 six_looked = inr (refl, vacant, (1, omega arith, (λ last. refl), refl), refl)
 
 -- the unit clause under 5 violates no condition before those of its hints
-pub unit_fails : (hints : List ℕ) (es : History) (fault : Fault) → FailsHints first_stream at_start.gone unit hints es fault
+pub unit_fails : (hints : List ℕ) (es : History) (fault : Fault) → FailsHints first_stream at_start.is_dropped unit hints es fault
     → JudgesLine first_stream at_start (Addition 5 unit hints) es (Bad 0 fault)
 unit_fails hints es fault fails =
     (refl, inr ((refl, omega arith), inr ((omega arith, tt), inr (unit_is_proper, inr (omega arith, fails)))))

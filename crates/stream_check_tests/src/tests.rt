@@ -13,7 +13,7 @@ use std::alloc::Global;
 use std::fmt;
 use std::process::Abort;
 use std::test::Fail;
-use stream_check::{CheckTurn, Checker, Ending, Fault, Gate, Report};
+use stream_check::{CheckStatus, Checker, Ending, Fault, Gate, Report};
 
 mod assumptions;
 mod imports;
@@ -81,9 +81,9 @@ fn feed_whole<M: ClauseMap, G: Gate>(checker: &mut Checker, map: &mut M, gate: &
     let mut rest = piece;
     'rest: loop {
         let progress = checker.feed(map, gate, rest);
-        match progress.turn {
-            CheckTurn::Line => rest = &rest[progress.used..],
-            CheckTurn::More | CheckTurn::Over => return,
+        match progress.status {
+            CheckStatus::Line => rest = &rest[progress.used..],
+            CheckStatus::More | CheckStatus::Over => return,
         }
     }
 }

@@ -6,9 +6,9 @@ use Rattle.lrup_text.specs.declared.device.StreamEnd.{StreamEnd}
 use Rattle.lrup_text.specs.declared.device.StreamEnd.TheVariants as stream_ends
 use Rattle.stream_check.specs.declared.report.Ending.{Ending}
 use Rattle.stream_check.specs.declared.report.Report.{Report}
-use Rattle.stream_check.specs.declared.progress.CheckTurn.{CheckTurn}
-use Rattle.stream_check.specs.declared.progress.CheckTurn.TheVariants as turns
-use Rattle.stream_check.specs.Checker.{state_by, checker_state, Extends, Turns, EndsBy, Ends, ReportsEnd}
+use Rattle.stream_check.specs.declared.progress.CheckStatus.{CheckStatus}
+use Rattle.stream_check.specs.declared.progress.CheckStatus.TheVariants as statuses
+use Rattle.stream_check.specs.Checker.{state_by, checker_state, Extends, FeedsChecker, EndsBy, Ends, ReportsEnd}
 use Rattle.stream_check.specs.CheckerValue.{Tally, report_of_tally, CheckerValue}
 use Rattle.stream_check.specs.Judging.{JudgesBlocks}
 use Rattle.stream_check.specs.Laws.{OverStays}
@@ -33,32 +33,32 @@ over_takes : OverStays
     → Extends c old (used ++ rest) blocks (checker_state v free)
 over_takes stays c old used rest blocks v free ending is reaches bytes before left =
     let report = report_of_tally v.tally ending in
-    let gone : ℕ → Bool = is_among v.dropped in
-    let over : checker_state v free ≡ Over report gone = ap (state_by v free) is in
+    let is_dropped : ℕ → Bool = is_among v.dropped in
+    let over : checker_state v free ≡ Over report is_dropped = ap (state_by v free) is in
     let taken = subst (ReachesState c (bytes ++ used) (before ++ blocks)) over (reaches bytes before left) in
-    let all = subst (λ (t : List ℕ). ReachesState c t (before ++ blocks) (Over report gone)) (append_assoc bytes used rest) (
+    let all = subst (λ (t : List ℕ). ReachesState c t (before ++ blocks) (Over report is_dropped)) (append_assoc bytes used rest) (
       stays c (bytes ++ used) rest (before ++ blocks) report taken.0,
-      drops_longer c (bytes ++ used) rest report gone taken.1,
+      drops_longer c (bytes ++ used) rest report is_dropped taken.1,
     ) in
     subst (ReachesState c (bytes ++ (used ++ rest)) (before ++ blocks)) (sym over) all
 
 -- a call that ends no line has come to the piece's end, or to the checker's
 pub stopped_takes : OverStays
-    → (turn : CheckTurn) (old new : CheckerValue) (piece used rest : List ℕ) (c : StreamParams) (state : CheckerState)
+    → (status : CheckStatus) (old new : CheckerValue) (piece used rest : List ℕ) (c : StreamParams) (state : CheckerState)
     (blocks : List History) (free : ℕ)
-    → (turn ≡ turns.Line → ⊥) → Turns turn old new piece used → piece ≡ used ++ rest
+    → (status ≡ statuses.Line → ⊥) → FeedsChecker status old new piece used → piece ≡ used ++ rest
     → Extends c state used blocks (checker_state new free) → Extends c state piece blocks (checker_state new free)
-stopped_takes stays turns.Line old new piece used rest c state blocks free other turn split reaches = absurd (other refl)
-stopped_takes stays turns.More old new piece used rest c state blocks free other turn split reaches =
-    subst (λ (t : List ℕ). Extends c state t blocks (checker_state new free)) turn.1 reaches
-stopped_takes stays turns.Over old new piece used rest c state blocks free other turn split reaches =
+stopped_takes stays statuses.Line old new piece used rest c state blocks free other status split reaches = absurd (other refl)
+stopped_takes stays statuses.More old new piece used rest c state blocks free other status split reaches =
+    subst (λ (t : List ℕ). Extends c state t blocks (checker_state new free)) status.1 reaches
+stopped_takes stays statuses.Over old new piece used rest c state blocks free other status split reaches =
     subst (λ (t : List ℕ). Extends c state t blocks (checker_state new free)) (sym split)
-    (over_takes stays c state used rest blocks new free turn.0 turn.1 reaches)
+    (over_takes stays c state used rest blocks new free status.0 status.1 reaches)
 
 -- a call that came to the piece's end, or to the checker's, ended no line
-pub no_line : (turn : CheckTurn) → (turn ≡ turns.More) ⊎ (turn ≡ turns.Over) → turn ≡ turns.Line → ⊥
-no_line turn (inl more) line = cc
-no_line turn (inr over) line = cc
+pub no_line : (status : CheckStatus) → (status ≡ statuses.More) ⊎ (status ≡ statuses.Over) → status ≡ statuses.Line → ⊥
+no_line status (inl more) line = cc
+no_line status (inr over) line = cc
 
 ends_by : (ending : Option Ending) (end : StreamEnd) (old new : CheckerValue) → old.ending ≡ ending → EndsBy ending end old new
     → IsSome new.ending

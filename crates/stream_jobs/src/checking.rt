@@ -18,11 +18,11 @@ use runs::RunParams;
 use std::alloc::{AllocError, Global};
 use std::sync::{OnceLock, OnceToken, Wait};
 use stream_check::laws::over_stays;
-use stream_check::{CheckTurn, Checker, Dropped, Gate, Report};
+use stream_check::{CheckStatus, Checker, DroppedIds, Gate, Report};
 use stream_ring::{Received, Receiver};
 
 /// The most items that one pop takes, and the most bytes that the checker is fed at once.
-const POPPED: usize = PIECE;
+const POP_BATCH: usize = PIECE;
 
 /// What a checking thread is given: a stream's checker and its gate, and the receiving end of the ring. Nothing was received yet.
 #[derive(Drop)]
@@ -45,7 +45,7 @@ pub struct Checked {
     /// The stream's report. There is none if the reading thread dropped its end before a mark came.
     pub report: Option<Report>,
     /// The identities that the stream dropped.
-    pub dropped: Dropped,
+    pub dropped: DroppedIds,
     /// The receiving end, from which all was received, through the mark.
     pub consumer: Consumer<u16>,
 }
@@ -73,8 +73,8 @@ impl<G: Gate + Drop> CheckingJob<G> {
             run_params.cube(),
             run_params.tries(),
         )?;
-        let items = vec![in alloc; 0u16; POPPED]?;
-        let bytes = vec![in alloc; 0u8; POPPED]?;
+        let items = vec![in alloc; 0u16; POP_BATCH]?;
+        let bytes = vec![in alloc; 0u8; POP_BATCH]?;
         Ok(CheckingJob {
             checker,
             gate,
@@ -88,7 +88,7 @@ impl<G: Gate + Drop> CheckingJob<G> {
 /// Waits for the start signal, and then checks what is received, through the mark. After a bad line the rest is received, and thrown away.
 /// If the signal says to leave, nothing is received, and the signal's token comes back: it shows that the signal said so. It blocks while
 /// the ring is empty.
-pub fn check_when_told<'a, W: Wait, G: Gate + Drop, M: ClauseMap>(
+pub fn check_on_signal<'a, W: Wait, G: Gate + Drop, M: ClauseMap>(
     wait: &W,
     signal: &'a OnceLock<bool>,
     job: CheckingJob<G>,
@@ -222,7 +222,7 @@ fn check_received<W: Wait, G: Gate, M: ClauseMap>(
                 take_all(checker, gate, map, &bytes[..count]);
                 return Some(end);
             }
-            Received::Gone => return None,
+            Received::Abandoned => return None,
         }
     }
     unreachable!()
@@ -243,9 +243,9 @@ fn take_all<G: Gate, M: ClauseMap>(checker: &mut Checker, gate: &mut G, map: &mu
     let mut rest = piece;
     for _ in 0..piece.len() {
         let progress = checker.feed(map, gate, rest);
-        match progress.turn {
-            CheckTurn::Line => rest = rest.split_at(progress.used).1,
-            CheckTurn::More | CheckTurn::Over => return,
+        match progress.status {
+            CheckStatus::Line => rest = rest.split_at(progress.used).1,
+            CheckStatus::More | CheckStatus::Over => return,
         }
     }
 }

@@ -7,7 +7,7 @@ mod pair;
 mod reading;
 mod start;
 
-pub use checking::{Checked, CheckingJob, check_when_told};
-pub use pair::{jobs, meet};
-pub use reading::{ReadingJob, Sent, read_when_told};
+pub use checking::{Checked, CheckingJob, check_on_signal};
+pub use pair::{jobs, jobs_agree};
+pub use reading::{ReadingJob, Sent, read_on_signal};
 pub use start::wait_for_start;

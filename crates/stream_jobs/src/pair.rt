@@ -18,7 +18,7 @@ use lrup_text::{PIECE, Source};
 use runs::RunParams;
 use std::alloc::{AllocError, Global};
 use stream_check::Gate;
-use stream_ring::{came_through, ring};
+use stream_ring::{ends_agree, ring};
 
 /// How many items a ring has room for, two bytes each: as many as one read gives bytes.
 const CAPACITY: usize = PIECE;
@@ -49,7 +49,7 @@ pub fn jobs<R: Source + Drop, G: Gate + Drop>(
 
 /// Brings together what both threads gave back. It is for the proof alone, and changes nothing: its contract says that what was received is
 /// the beginning of what was sent, and that the bytes that were judged are all that the reader's reads gave.
-pub fn meet<R: Source + Drop>(sent: &mut Sent<R>, checked: &mut Checked)
+pub fn jobs_agree<R: Source + Drop>(sent: &mut Sent<R>, checked: &mut Checked)
     requires { IsPair sent.old.producer checked.old.consumer }
     ensures reader { sent.new.reader ≡ sent.old.reader }
     ensures report { checked.new.report ≡ checked.old.report }
@@ -73,5 +73,5 @@ pub fn meet<R: Source + Drop>(sent: &mut Sent<R>, checked: &mut Checked)
         × JudgesStream v.params stream blocks report
         × DropsBy v room stream.bytes blocks ids report }
 {
-    came_through(&mut sent.producer, &mut checked.consumer);
+    ends_agree(&mut sent.producer, &mut checked.consumer);
 }

@@ -12,7 +12,7 @@ use std::sync::{OnceLock, OnceToken, Wait};
 use stream_ring::Sender;
 
 /// The most items that one push takes.
-const PUSHED: usize = 4_096;
+const PUSH_BATCH: usize = 4_096;
 
 /// What a reading thread is given: a reader that hasn't failed, and the sending end of the ring. Nothing was sent yet.
 #[derive(Drop)]
@@ -46,7 +46,7 @@ impl<R: Source + Drop> ReadingJob<R> {
         ensures sender { IfOk result (λ job. job.sender ≡ sender) }
     {
         let piece = vec![in alloc; 0u8; PIECE]?;
-        let items = vec![in alloc; 0u16; PUSHED]?;
+        let items = vec![in alloc; 0u16; PUSH_BATCH]?;
         Ok(ReadingJob {
             reader,
             sender,
@@ -58,7 +58,7 @@ impl<R: Source + Drop> ReadingJob<R> {
 
 /// Waits for the start signal, and then sends all bytes that the reader gives, and one mark. If the signal says to leave, nothing is read,
 /// and the signal's token comes back: it shows that the signal said so. It blocks while the reader does, or while the ring is full.
-pub fn read_when_told<'a, W: Wait, R: Source + Drop>(
+pub fn read_on_signal<'a, W: Wait, R: Source + Drop>(
     wait: &W,
     signal: &'a OnceLock<bool>,
     job: ReadingJob<R>,

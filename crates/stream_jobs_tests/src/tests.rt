@@ -22,7 +22,7 @@ use std::time::{Clock, Duration};
 use stream_check::laws::ready_new;
 use stream_check::{Ending, Fault, Gate, Report};
 use stream_jobs::{
-    Checked, CheckingJob, ReadingJob, Sent, check_when_told, jobs, meet, read_when_told,
+    Checked, CheckingJob, ReadingJob, Sent, check_on_signal, jobs, jobs_agree, read_on_signal,
     wait_for_start,
 };
 use test_support::Pieces;
@@ -82,7 +82,7 @@ fn check<W: Wait, G: Gate + Drop>(
     let Checking { mut map, job } = checking;
     let _ = signal.set(wait, go);
     let mut desk = map.desk(1);
-    check_when_told(wait, signal, job, &mut desk).ok()
+    check_on_signal(wait, signal, job, &mut desk).ok()
 }
 
 /// Reads and sends all. None where it says to leave.
@@ -93,7 +93,7 @@ fn read<W: Wait, R: Source + Drop>(
 ) -> Option<Sent<R>>
     ensures { IfSome result (λ sent. SameProducer reading.sender.producer sent.producer) }
 {
-    read_when_told(wait, signal, reading).ok()
+    read_on_signal(wait, signal, reading).ok()
 }
 
 /// Both jobs, each in a thread of its own. What is said of the stream, and its reader. None where it says to leave.
@@ -119,7 +119,7 @@ fn run_pair<T: Threads + Wait + Sync, R: Source + Send + Drop, G: Gate + Send + 
         { check(rt, signal, go, checking) },
     );
     let (mut sent, mut checked) = (sent?, checked?);
-    meet(&mut sent, &mut checked);
+    jobs_agree(&mut sent, &mut checked);
     Some((checked.report, sent.reader))
 }
 

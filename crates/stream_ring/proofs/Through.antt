@@ -7,7 +7,7 @@ use Rattle.std.proofs.Math.Seq.{take-suc, take-append_seam}
 use Rattle.std.proofs.lemmas.List.{map-append, length-map, length-take-le, length-append}
 use Rattle.lrup_text.specs.declared.device.StreamEnd.{StreamEnd}
 use Rattle.lrup_text.specs.declared.device.StreamEnd.TheVariants as stream_ends
-use Rattle.stream_ring.specs.Items.{EndsAtMark, EndsBeforeMark, IsSentOf, mark_of, end_told, byte_of}
+use Rattle.stream_ring.specs.Items.{EndsAtMark, EndsBeforeMark, IsSentOf, mark_of, end_of_mark, byte_of}
 
 head_below : (x : ℕ) (xs : List ℕ) → All (λ b. b < 256) (x ∷ xs) → x < 256
 head_below x xs h = h 0 0 (omega arith)
@@ -71,7 +71,7 @@ byte_is_last past items n some fits small taken item e =
 -- the last item popped is a mark
 pub last_is_mark : (past items bytes : List ℕ) (n : ℕ) → 0 < n → n ≤ length items
     → 256 ≤ get_or items (n - 1) 0 → take (n - 1) bytes ≡ map byte_of (take (n - 1) items)
-    → EndsAtMark (map byte_of past ++ take (n - 1) bytes) (end_told (get_or items (n - 1) 0)) (past ++ take n items)
+    → EndsAtMark (map byte_of past ++ take (n - 1) bytes) (end_of_mark (get_or items (n - 1) 0)) (past ++ take n items)
 last_is_mark past items bytes n some fits m same =
     record {
       taken = past ++ take (n - 1) items;
@@ -99,7 +99,7 @@ front_bytes items rest k n i fits =
 -- the last item popped is a mark, and all of them are narrowed
 pub ends_there : (past items new rest : List ℕ) (n count : ℕ) (end : StreamEnd) → 0 < n → n ≤ length items
     → 256 ≤ get_or items (n - 1) 0 → new ≡ map byte_of (take n items)
-    → n - 1 ≡ count → end_told (get_or items (n - 1) 0) ≡ end
+    → n - 1 ≡ count → end_of_mark (get_or items (n - 1) 0) ≡ end
     → (count ≤ length (new ++ rest)) × EndsAtMark (map byte_of past ++ take count (new ++ rest)) end (past ++ take n items)
 ends_there past items new rest n count end some fits m are at f =
     let i : suc (n - 1) ≡ n = omega (arith, some) in
@@ -115,9 +115,9 @@ mark_is : (end : StreamEnd) → 256 ≤ mark_of end
 mark_is stream_ends.Ended = omega arith
 mark_is stream_ends.Failed = omega arith
 
-mark_tells : (end : StreamEnd) → end_told (mark_of end) ≡ end
-mark_tells stream_ends.Ended = refl
-mark_tells stream_ends.Failed = refl
+mark_has_end : (end : StreamEnd) → end_of_mark (mark_of end) ≡ end
+mark_has_end stream_ends.Ended = refl
+mark_has_end stream_ends.Failed = refl
 
 pub came_by : (items received known : List ℕ) → received ++ known ≡ items → (bytes came : List ℕ) (sent end : StreamEnd)
     → IsSentOf bytes sent items → EndsAtMark came end received → (came ≡ bytes) × (end ≡ sent)
@@ -125,4 +125,4 @@ came_by items received known whole bytes came sent end s t =
     let both : t.taken ++ t.mark ∷ known ≡ bytes ++ mark_of sent ∷ [] = sym (append_assoc t.taken (t.mark ∷ []) known)
     ∙ (ap (λ u. u ++ known) (sym t.items_are) ∙ (whole ∙ s.items_are)) in
     let same = same_mark t.taken bytes known t.mark (mark_of sent) s.small t.is_mark (mark_is sent) both in
-    (t.bytes_are ∙ same.0, t.end_is ∙ (ap end_told same.1 ∙ mark_tells sent))
+    (t.bytes_are ∙ same.0, t.end_is ∙ (ap end_of_mark same.1 ∙ mark_has_end sent))

@@ -11,8 +11,8 @@ mark_of stream_ends.Ended = 256
 mark_of stream_ends.Failed = 257
 
 -- the end of a stream for which a mark stands
-abbrev pub end_told : ℕ → StreamEnd
-end_told mark = if nat_eq mark 257 then stream_ends.Failed else stream_ends.Ended
+abbrev pub end_of_mark : ℕ → StreamEnd
+end_of_mark mark = if nat_eq mark 257 then stream_ends.Failed else stream_ends.Ended
 
 -- the byte of an item
 abbrev pub byte_of : ℕ → ℕ
@@ -40,7 +40,7 @@ pub record EndsAtMark (bytes : List ℕ) (end : StreamEnd) (items : List ℕ) : 
   pub mark : ℕ
   pub bytes_are : bytes ≡ map byte_of taken
   pub is_mark : 256 ≤ mark
-  pub end_is : end ≡ end_told mark
+  pub end_is : end ≡ end_of_mark mark
   pub items_are : items ≡ taken ++ mark ∷ []
 
 -- what was received ends at no mark: the last item, if there is one, is a byte's

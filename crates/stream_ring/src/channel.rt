@@ -5,7 +5,7 @@
 ghost use Rattle.std.specs.Prelude.{◌≡◌, ◌<◌, ◌≤◌, ℕ, List, [], ◌++◌, ◌∷◌, false, length, take, map, All, IfOk};
 ghost use Rattle.rtrb.specs.Ring.{sent, received, producer_capacity, consumer_capacity, SameProducer, SameConsumer, IsPair};
 ghost use Rattle.lrup_text.specs.ReadOut.{EndsSo, source_view};
-ghost use Rattle.stream_ring.specs.Items.{EndsAtMark, EndsBeforeMark, IsSentOf, SendsAll, byte_of, end_told};
+ghost use Rattle.stream_ring.specs.Items.{EndsAtMark, EndsBeforeMark, IsSentOf, SendsAll, byte_of, end_of_mark};
 
 use crate::blocks::{narrow, widen};
 use crossbeam_utils::Backoff;
@@ -41,16 +41,16 @@ impl Drop for Bell {
 #[derive(Drop)]
 pub struct Sender {
     pub producer: Producer<u16>,
-    full: Parker,
-    came: Bell,
+    not_full: Parker,
+    not_empty: Bell,
 }
 
 /// The end of the checking thread. The consumer is dropped before the bell, too.
 #[derive(Drop)]
 pub struct Receiver {
     pub consumer: Consumer<u16>,
-    empty: Parker,
-    room: Bell,
+    not_empty: Parker,
+    not_full: Bell,
 }
 
 /// What a call of `receive` gave the checking thread.
@@ -61,7 +61,7 @@ pub enum Received {
     /// This many bytes, and then the mark of this end: nothing more comes.
     Mark(usize, StreamEnd),
     /// The reading thread dropped its end, and all that it pushed was received before, without a mark.
-    Gone,
+    Abandoned,
 }
 
 /// Makes the two ends of a ring of `capacity` items, of two bytes each.
@@ -73,19 +73,19 @@ pub fn ring(alloc: Global, capacity: usize) -> Result<(Sender, Receiver), AllocE
         × (consumer_capacity r.1.consumer ≡ capacity)) }
 {
     let (producer, consumer) = RingBuffer::new(alloc, capacity)?;
-    let full = Parker::new(alloc)?;
-    let empty = Parker::new(alloc)?;
-    let room = Bell(full.unparker().clone()?);
-    let came = Bell(empty.unparker().clone()?);
+    let when_not_full = Parker::new(alloc)?;
+    let when_not_empty = Parker::new(alloc)?;
+    let not_full = Bell(when_not_full.unparker().clone()?);
+    let not_empty = Bell(when_not_empty.unparker().clone()?);
     let sender = Sender {
         producer,
-        full,
-        came,
+        not_full: when_not_full,
+        not_empty,
     };
     let receiver = Receiver {
         consumer,
-        empty,
-        room,
+        not_empty: when_not_empty,
+        not_full,
     };
     Ok((sender, receiver))
 }
@@ -112,10 +112,10 @@ impl Sender {
             }
             let (pushed, left) = self.producer.push_partial_slice(rest);
             if !pushed.is_empty() {
-                self.came.ring();
+                self.not_empty.ring();
                 backoff.reset();
             } else if backoff.is_completed() {
-                self.full.park(wait);
+                self.not_full.park(wait);
             } else {
                 backoff.snooze();
             }
@@ -199,22 +199,22 @@ impl Receiver {
             ≡ received self.old.consumer ++ take result items.new }
     {
         let backoff = Backoff::new();
-        let mut gone = false;
+        let mut abandoned = false;
         for _ in wait.forever() {
             let count = self.consumer.pop_partial_slice(items);
             if count > 0 {
-                self.room.ring();
+                self.not_full.ring();
                 return count;
             }
-            if gone {
+            if abandoned {
                 return 0;
             }
-            gone = self.consumer.is_abandoned();
-            if gone {
+            abandoned = self.consumer.is_abandoned();
+            if abandoned {
                 continue;
             }
             if backoff.is_completed() {
-                self.empty.park(wait);
+                self.not_empty.park(wait);
             } else {
                 backoff.snooze();
             }
@@ -238,12 +238,12 @@ impl Receiver {
             end (received self.new.consumer) }
         ensures no_mark { (count : ℕ) → result ≡ Received.Bytes count →
             EndsBeforeMark (received self.new.consumer) }
-        ensures gone { result ≡ Received.Gone →
+        ensures abandoned { result ≡ Received.Abandoned →
             received self.new.consumer ≡ received self.old.consumer }
     {
         let count = self.pop_some(wait, items);
         if count == 0 {
-            return Received::Gone;
+            return Received::Abandoned;
         }
         let last = items[count - 1];
         narrow(&items[..count], &mut bytes[..count]);
@@ -256,7 +256,7 @@ impl Receiver {
 
 /// Which end of a stream a mark stands for.
 fn end_of(mark: u16) -> StreamEnd
-    ensures { result ≡ end_told mark }
+    ensures { result ≡ end_of_mark mark }
 {
     if mark == FAILURE {
         StreamEnd::Failed
@@ -267,7 +267,7 @@ fn end_of(mark: u16) -> StreamEnd
 
 /// Brings the two ends together, once both threads have given them back. It is for the proof alone, and changes nothing: its contract says
 /// that what was received is the beginning of what was sent, and all of it, if it ends at a mark.
-pub fn came_through(producer: &mut Producer<u16>, consumer: &mut Consumer<u16>)
+pub fn ends_agree(producer: &mut Producer<u16>, consumer: &mut Consumer<u16>)
     requires { IsPair producer.old consumer.old }
     ensures beginning { (left : List ℕ)
         × (sent producer.old ≡ received consumer.old ++ left) }

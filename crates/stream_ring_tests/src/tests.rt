@@ -11,7 +11,7 @@ use std::sync::atomic::{AtomicU64, Ordering};
 use std::test::Fail;
 use std::thread::{self, Threads, join, yield_now};
 use std::time::{Clock, Duration};
-use stream_ring::{Received, Receiver, Sender, came_through, ring};
+use stream_ring::{Received, Receiver, Sender, ends_agree, ring};
 
 /// Stops the test where two values differ: an assertion that is proved once for all tests.
 fn same<T: PartialEq + fmt::Debug + Drop>(rt: &impl Abort, value: T, wanted: T) {
@@ -99,7 +99,7 @@ struct Sizes {
 const PIECE: usize = 65_536;
 
 /// The most items of a push.
-const PUSHED: usize = 4_096;
+const PUSH_BATCH: usize = 4_096;
 
 /// Sends all, and says how the reader ended.
 fn send<W: Wait, R: Source>(
@@ -112,8 +112,8 @@ fn send<W: Wait, R: Source>(
     requires fresh { sent sender.producer ≡ [] }
 {
     let mut piece = [0u8; PIECE];
-    let mut items = [0u16; PUSHED];
-    let pushed = pushed.clamp(1, PUSHED);
+    let mut items = [0u16; PUSH_BATCH];
+    let pushed = pushed.clamp(1, PUSH_BATCH);
     sender.send_all(wait, reader, &mut piece, &mut items[..pushed])
 }
 
@@ -172,7 +172,7 @@ fn hear_all<T: Wait + Clock>(
                 ear.hear(&bytes[..count]);
                 return Some(end);
             }
-            Received::Gone => return None,
+            Received::Abandoned => return None,
         }
     }
     unreachable!()
@@ -488,7 +488,7 @@ fn a_refused_ring_can_be_made_again(rt: HostRuntime) -> Result<(), Fail> {
         Ok(ends) => ends,
         Err(_) => ring(rt.alloc(), 4)?,
     };
-    came_through(&mut sender.producer, &mut receiver.consumer);
+    ends_agree(&mut sender.producer, &mut receiver.consumer);
     same(&rt, sender.producer.slots(), 4);
     let mut consumer = receiver.into_consumer();
     same(&rt, consumer.is_abandoned(), false);

@@ -17,7 +17,7 @@ use Rattle.stream_jobs.specs.Judged.{JudgesAtMark}
 use Rattle.lrup_text.specs.ReadOut.{SourceView}
 use Rattle.stream_threads.specs.Faults.{IsFaultWithin, IsFirstFault}
 use Rattle.stream_threads.specs.internal.Workers.{IsRingBehind, AllEnd, IsEndOf, JudgesAtPass, StartedValue, started_with}
-use Rattle.stream_threads.specs.Jobs.{AllFinish, AreJobs, FoundValue, IsJob, JobsValue, MissesMark}
+use Rattle.stream_threads.specs.Jobs.{AllFinish, AreJobs, StreamResultValue, IsJob, StreamJobsValue, MissesMark}
 use Rattle.stream_threads.specs.declared.jobs.ThreadFault.{ThreadFault}
 use Rattle.stream_threads.specs.declared.jobs.ThreadFault.TheVariants.{Spawn, Ring}
 use Rattle.runs.specs.lemmas.EachLemmas.{zip_count}
@@ -42,23 +42,24 @@ moved_more done before rest all new x taken pushed whole =
     ap (λ xs. xs ++ rest) pushed ∙ append_assoc done (x ∷ []) rest ∙ ap (λ xs. done ++ xs) (sym taken) ∙ whole
 
 -- one more stream has ended
-all_end-snoc : {S : Type 0} (view : SourceView S) (jobs : List (JobsValue S)) (ends : List (Option (FoundValue S))) (one : JobsValue S)
-    (end : Option (FoundValue S))
+all_end-snoc : {S : Type 0} (view : SourceView S) (jobs : List (StreamJobsValue S)) (ends : List (Option (StreamResultValue S)))
+    (one : StreamJobsValue S)
+    (end : Option (StreamResultValue S))
     → AllEnd view jobs ends → IsEndOf view one end → AllEnd view (jobs ++ one ∷ []) (ends ++ end ∷ [])
 all_end-snoc view [] [] one end all here = (here, tt)
 all_end-snoc view [] (e ∷ ends) one end all here = absurd all
 all_end-snoc view (j ∷ jobs) [] one end all here = absurd all
 all_end-snoc view (j ∷ jobs) (e ∷ ends) one end all here = (all.0, all_end-snoc view jobs ends one end all.1 here)
 
-pub all_end-more : {S : Type 0} (view : SourceView S) (jobs : List (JobsValue S)) (old new : List (Option (FoundValue S)))
-    (one : JobsValue S) (end : Option (FoundValue S))
+pub all_end-more : {S : Type 0} (view : SourceView S) (jobs : List (StreamJobsValue S)) (old new : List (Option (StreamResultValue S)))
+    (one : StreamJobsValue S) (end : Option (StreamResultValue S))
     → AllEnd view jobs old → IsEndOf view one end → new ≡ old ++ end ∷ [] → AllEnd view (jobs ++ one ∷ []) new
 all_end-more view jobs old new one end all here pushed =
     subst (AllEnd view (jobs ++ one ∷ [])) (sym pushed) (all_end-snoc view jobs old one end all here)
 
 -- something was found of each
-pub all_finish : {S : Type 0} (view : SourceView S) (jobs : List (JobsValue S)) (ends : List (Option (FoundValue S)))
-    (found : List (FoundValue S)) → AllEnd view jobs ends → ends ≡ map (λ f. Some f) found → AllFinish view jobs found
+pub all_finish : {S : Type 0} (view : SourceView S) (jobs : List (StreamJobsValue S)) (ends : List (Option (StreamResultValue S)))
+    (found : List (StreamResultValue S)) → AllEnd view jobs ends → ends ≡ map (λ f. Some f) found → AllFinish view jobs found
 all_finish {S} view [] [] [] all is = tt
 all_finish {S} view [] [] (f ∷ found) all is = cc
 all_finish {S} view [] (e ∷ ends) found all is = absurd all
@@ -69,25 +70,28 @@ all_finish {S} view (j ∷ jobs) (e ∷ ends) (f ∷ found) all is =
     let more : ends ≡ map (λ f. Some f) found = cc in
     (subst (IsEndOf view j) here all.0, all_finish view jobs ends found all.1 more)
 
-pub finish_if_ok : {A : Type 0} {S : Type 0} (view : SourceView S) (found_in : A → List (FoundValue S)) (jobs : List (JobsValue S))
-    (ends : List (Option (FoundValue S))) (r : Result A (ThreadFault S)) → AllEnd view jobs ends
+pub finish_if_ok : {A : Type 0} {S : Type 0} (view : SourceView S) (found_in : A
+    → List (StreamResultValue S)) (jobs : List (StreamJobsValue S))
+    (ends : List (Option (StreamResultValue S))) (r : Result A (ThreadFault S)) → AllEnd view jobs ends
     → IfOk r (λ a. ends ≡ map (λ f. Some f) (found_in a)) → IfOk r (λ a. AllFinish view jobs (found_in a))
 finish_if_ok view found_in jobs ends (Ok a) all is = all_finish view jobs ends (found_in a) all is
 finish_if_ok view found_in jobs ends (Err fault) all is = tt
 
-ends_count : {S : Type 0} (view : SourceView S) (jobs : List (JobsValue S)) (ends : List (Option (FoundValue S))) → AllEnd view jobs ends
+ends_count : {S : Type 0} (view : SourceView S) (jobs : List (StreamJobsValue S)) (ends : List (Option (StreamResultValue S)))
+    → AllEnd view jobs ends
     → length ends ≡ length jobs
 ends_count view jobs ends all = zip_count (IsEndOf view) jobs ends all
 
 -- what was found of each stream before the first of which nothing was
-abbrev EndsAtRing : {S : Type 0} → List (Option (FoundValue S)) → ThreadFault S → Type 0
+abbrev EndsAtRing : {S : Type 0} → List (Option (StreamResultValue S)) → ThreadFault S → Type 0
 EndsAtRing {S} ends fault =
-    (before : List (FoundValue S)) × (after : List (Option (FoundValue S))) × (ends ≡ map (λ f. Some f) before ++ None ∷ after)
+    (before : List (StreamResultValue S)) × (after : List (Option (StreamResultValue S)))
+    × (ends ≡ map (λ f. Some f) before ++ None ∷ after)
     × IsRingBehind before fault
 
 -- that one is one of the streams
-pub first_within : {A : Type 0} {S : Type 0} (view : SourceView S) (count : ℕ) (jobs : List (JobsValue S))
-    (ends : List (Option (FoundValue S))) (r : Result A (ThreadFault S)) → AllEnd view jobs ends → count ≡ length jobs
+pub first_within : {A : Type 0} {S : Type 0} (view : SourceView S) (count : ℕ) (jobs : List (StreamJobsValue S))
+    (ends : List (Option (StreamResultValue S))) (r : Result A (ThreadFault S)) → AllEnd view jobs ends → count ≡ length jobs
     → IfErr r (EndsAtRing ends) → IfErr r (IsFaultWithin count)
 first_within view count jobs ends (Ok a) all same first = tt
 first_within view count jobs ends (Err (Spawn stream)) all same first = absurd first.3
@@ -99,8 +103,8 @@ first_within view count jobs ends (Err (Ring found)) all same first =
     (omega arith, omega (arith, whole, before, ends_count view jobs ends all, same))
 
 -- something was found of each stream before it
-finish_before : {S : Type 0} (view : SourceView S) (jobs : List (JobsValue S)) (before : List (FoundValue S))
-    (after : List (Option (FoundValue S)))
+finish_before : {S : Type 0} (view : SourceView S) (jobs : List (StreamJobsValue S)) (before : List (StreamResultValue S))
+    (after : List (Option (StreamResultValue S)))
     → AllEnd view jobs (map (λ f. Some f) before ++ None ∷ after) → AllFinish view (take (length before) jobs) before
 finish_before view [] [] after all = absurd all
 finish_before view [] (f ∷ before) after all = absurd all
@@ -108,30 +112,31 @@ finish_before view (j ∷ jobs) [] after all = tt
 finish_before view (j ∷ jobs) (f ∷ before) after all = (all.0, finish_before view jobs before after all.1)
 
 -- and that one's mark was missed
-missed_behind : {S : Type 0} (view : SourceView S) (jobs : List (JobsValue S)) (before : List (FoundValue S))
-    (after : List (Option (FoundValue S))) → AllEnd view jobs (map (λ f. Some f) before ++ None ∷ after)
+missed_behind : {S : Type 0} (view : SourceView S) (jobs : List (StreamJobsValue S)) (before : List (StreamResultValue S))
+    (after : List (Option (StreamResultValue S))) → AllEnd view jobs (map (λ f. Some f) before ++ None ∷ after)
     → IsSomeAnd (slice_get jobs (length before)) (λ j. MissesMark view j.reader)
 missed_behind view [] [] after all = absurd all
 missed_behind view [] (f ∷ before) after all = absurd all
 missed_behind view (j ∷ jobs) [] after all = all.0
 missed_behind view (j ∷ jobs) (f ∷ before) after all = missed_behind view jobs before after all.1
 
-pub first_fault : {A : Type 0} {S : Type 0} (view : SourceView S) (jobs : List (JobsValue S)) (ends : List (Option (FoundValue S)))
+pub first_fault : {A : Type 0} {S : Type 0} (view : SourceView S) (jobs : List (StreamJobsValue S))
+    (ends : List (Option (StreamResultValue S)))
     (r : Result A (ThreadFault S)) → AllEnd view jobs ends
     → IfErr r (EndsAtRing ends) → IfErr r (IsFirstFault view jobs)
 first_fault view jobs ends (Ok a) all first = tt
 first_fault view jobs ends (Err (Spawn stream)) all first = tt
 first_fault {A} {S} view jobs ends (Err (Ring found)) all first =
     let ends : AllEnd view jobs (map (λ f. Some f) first.0 ++ None ∷ first.1) = subst (AllEnd view jobs) first.2 all in
-    subst (λ (fs : List (FoundValue S)). AllFinish view (take (length fs) jobs) fs
+    subst (λ (fs : List (StreamResultValue S)). AllFinish view (take (length fs) jobs) fs
     × IsSomeAnd (slice_get jobs (length fs)) (λ j. MissesMark view j.reader)) (sym first.3)
     (finish_before view jobs first.0 first.1 ends, missed_behind view jobs first.0 first.1 ends)
 
 -- ---- the jobs of all streams
 
-jobs_more : {S : Type 0} (run_params : RunParamsValue) (k : ℕ) (readers : List S) (ps : List PassValue) (js : List (JobsValue S))
+jobs_more : {S : Type 0} (run_params : RunParamsValue) (k : ℕ) (readers : List S) (ps : List PassValue) (js : List (StreamJobsValue S))
     (reader : S)
-    (p : PassValue) (j : JobsValue S)
+    (p : PassValue) (j : StreamJobsValue S)
     → AreJobs run_params k readers ps js → IsJob run_params (k + length js) reader p j
     → AreJobs run_params k (readers ++ reader ∷ []) (ps ++ p ∷ []) (js ++ j ∷ [])
 jobs_more run_params k [] [] [] reader p j all here =
@@ -146,7 +151,7 @@ jobs_more run_params k (e ∷ readers) (q ∷ ps) (i ∷ js) reader p j all here
 
 -- one stream's more, and of what they are
 pub jobs_pushed : {S X : Type 0} (run_params : RunParamsValue) (s : ℕ) (read : X → S) (pass : X → PassValue) (xs : List X) (x : X)
-    (js new : List (JobsValue S)) (j : JobsValue S)
+    (js new : List (StreamJobsValue S)) (j : StreamJobsValue S)
     → new ≡ js ++ j ∷ [] → s ≡ length js + 1 → AreJobs run_params 1 (map read xs) (map pass xs) js → IsJob run_params s (read x) (pass x) j
     → AreJobs run_params 1 (map read (xs ++ x ∷ [])) (map pass (xs ++ x ∷ [])) new
 jobs_pushed {S} {X} run_params s read pass xs x js new j pushed place all here =
@@ -164,7 +169,7 @@ none_to_come s none = nil_from_length s.rest.items (sym s.rest.ok.0 ∙ none)
 
 -- the jobs of all, where none is left
 pub jobs_whole : {S : Type 0} (run_params : RunParamsValue) (rs readers more : List S) (ps passes others : List PassValue)
-    (js : List (JobsValue S))
+    (js : List (StreamJobsValue S))
     → AreJobs run_params 1 rs ps js → rs ++ more ≡ readers → ps ++ others ≡ passes → more ≡ [] → others ≡ []
     → AreJobs run_params 1 readers passes js
 jobs_whole {S} run_params rs readers more ps passes others js all first second none no_more =
@@ -176,30 +181,30 @@ jobs_whole {S} run_params rs readers more ps passes others js all first second n
 -- ---- threads that wait for a signal
 
 -- all of them wait for the one with which they were started
-pub one_signal : {S : Type 0} (signal : ℕ) (jobs : List (JobsValue S)) (all : List (StartedValue S))
+pub one_signal : {S : Type 0} (signal : ℕ) (jobs : List (StreamJobsValue S)) (all : List (StartedValue S))
     → all ≡ map (started_with signal) jobs → AllByRecursion (λ one. one.signal ≡ signal) all
 one_signal {S} signal jobs all is = subst (AllByRecursion (λ (one : StartedValue S). one.signal ≡ signal)) (sym is) (at jobs)
   where
-    at : (js : List (JobsValue S)) → AllByRecursion (λ (one : StartedValue S). one.signal ≡ signal) (map (started_with signal) js)
+    at : (js : List (StreamJobsValue S)) → AllByRecursion (λ (one : StartedValue S). one.signal ≡ signal) (map (started_with signal) js)
     at [] = tt
     at (j ∷ js) = (refl, at js)
 
 -- and their jobs are those with which they were
-pub jobs_started : {S : Type 0} (signal : ℕ) (jobs : List (JobsValue S)) (all : List (StartedValue S))
+pub jobs_started : {S : Type 0} (signal : ℕ) (jobs : List (StreamJobsValue S)) (all : List (StartedValue S))
     → all ≡ map (started_with signal) jobs → map (λ one. one.jobs) all ≡ jobs
 jobs_started {S} signal jobs all is = ap (map (λ (one : StartedValue S). one.jobs)) is ∙ at jobs
   where
-    at : (js : List (JobsValue S)) → map (λ (one : StartedValue S). one.jobs) (map (started_with signal) js) ≡ js
+    at : (js : List (StreamJobsValue S)) → map (λ (one : StartedValue S). one.jobs) (map (started_with signal) js) ≡ js
     at [] = refl
-    at (j ∷ js) = ap (λ (rest : List (JobsValue S)). j ∷ rest) (at js)
+    at (j ∷ js) = ap (λ (rest : List (StreamJobsValue S)). j ∷ rest) (at js)
 
 -- and they are of as many streams
-pub started_count : {S : Type 0} (signal : ℕ) (jobs : List (JobsValue S)) (all : List (StartedValue S))
+pub started_count : {S : Type 0} (signal : ℕ) (jobs : List (StreamJobsValue S)) (all : List (StartedValue S))
     → all ≡ map (started_with signal) jobs → length all ≡ length jobs
 started_count signal jobs all is = ap length is ∙ length-map jobs (started_with signal)
 
 -- of no streams nothing is found
-pub none_to_find : {S : Type 0} (view : SourceView S) (jobs : List (JobsValue S)) (found : List (FoundValue S))
+pub none_to_find : {S : Type 0} (view : SourceView S) (jobs : List (StreamJobsValue S)) (found : List (StreamResultValue S))
     → length jobs ≡ 0 → found ≡ [] → AllFinish view jobs found
 none_to_find view [] found none is = subst (AllFinish view []) (sym is) tt
 none_to_find view (j ∷ jobs) found none is = cc

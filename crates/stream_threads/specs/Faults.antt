@@ -1,12 +1,13 @@
 -- What is promised if some stream has no result (this project's own).
 use Rattle.std.specs.Prelude.{◌≤◌, ◌<◌, ◌+◌, ℕ, List, IsSomeAnd, length, slice_get, take}
 use Rattle.lrup_text.specs.ReadOut.{SourceView}
-use Rattle.stream_threads.specs.Jobs.{AllFinish, JobsValue, MissesMark}
+use Rattle.stream_threads.specs.Jobs.{AllFinish, StreamJobsValue, MissesMark}
 use Rattle.stream_threads.specs.declared.jobs.ThreadFault.{ThreadFault}
 use Rattle.stream_threads.specs.declared.jobs.ThreadFault.TheVariants.{Spawn, Ring}
 
 -- At a ring's fault the streams before that of the fault have these results, and the fault's stream missed its mark.
-abbrev pub IsFirstFault : {S : Type 0} → SourceView S → List (JobsValue S) → ThreadFault S → Type 0
+abbrev pub IsFirstFault : {S : Type 0} → SourceView S → List (StreamJobsValue S) → ThreadFault S
+    → Type 0
 IsFirstFault view all (Spawn stream) = Unit {0}
 IsFirstFault view all (Ring found) = AllFinish view (take (length found.items) all) found.items
     × IsSomeAnd (slice_get all (length found.items)) (λ jobs. MissesMark view jobs.reader)

@@ -7,7 +7,7 @@ use Rattle.clause_store.specs.Passes.{StoreValue, PassValue, store_of}
 use Rattle.stream_check.specs.declared.report.Report.{Report}
 use Rattle.stream_check.specs.Checker.{IsNew, IsReadyAt, checker_state}
 use Rattle.stream_check.specs.CheckerValue.{CheckerValue}
-use Rattle.stream_check.specs.DroppedValue.{DroppedValue}
+use Rattle.stream_check.specs.DroppedIdsValue.{DroppedIdsValue}
 use Rattle.stream_check.specs.Judging.{joined}
 use Rattle.stream_check.specs.Reaching.{ReachesState}
 use Rattle.lrup_text.specs.ReadOut.{SourceView}
@@ -18,40 +18,40 @@ use Rattle.stream_jobs.specs.Judged.{DropsBy}
 use Rattle.stream_ring.specs.Items.{EndsBeforeMark, SendsAll}
 
 -- what a stream's threads start with: its reader, its checker, and its pass
-pub record JobsValue (S : Type 0) : Type 0 where
+pub record StreamJobsValue (S : Type 0) : Type 0 where
   pub reader : S
   pub checker : CheckerValue
   pub pass : PassValue
 
 -- the jobs of a stream, from 1 on, before its first byte: its reader, a checker of that stream, and its pass
 pub record IsJob {S : Type 0} (run_params : RunParamsValue) (s : ℕ) (reader : S) (at : PassValue)
-    (jobs : JobsValue S) : Type 0 where
+    (jobs : StreamJobsValue S) : Type 0 where
   pub reader_is : jobs.reader ≡ reader
   pub checker : IsNew run_params.layout run_params.cube s run_params.tries jobs.checker
   pub pass : jobs.pass ≡ at
 
 -- the jobs of the streams counted on from s
 abbrev pub AreJobs : {S : Type 0} → RunParamsValue → ℕ → List S → List PassValue
-    → List (JobsValue S)
+    → List (StreamJobsValue S)
     → Type 0
 AreJobs run_params s readers passes all = EachOfThree (IsJob run_params) s readers passes all
 
 -- what a stream's threads give back: the report, the reader, the pass, and the identities that the stream dropped
-pub record FoundValue (S : Type 0) : Type 0 where
+pub record StreamResultValue (S : Type 0) : Type 0 where
   pub report : Report
   pub reader : S
   pub pass : PassValue
-  pub dropped : DroppedValue
+  pub dropped : DroppedIdsValue
 
 -- the pass is one of this store, and the checker may take its first byte at it
-pub record CanBegin {S : Type 0} (store : StoreValue) (jobs : JobsValue S) : Type 0 where
+pub record CanBegin {S : Type 0} (store : StoreValue) (jobs : StreamJobsValue S) : Type 0 where
   pub here : store_of jobs.pass ≡ store
   pub ready : IsReadyAt jobs.checker (pass_caller_view jobs.pass.view)
 
 -- The result is right: if the checker had taken no byte before, it has the report of the stream that the reader told and its reads gave,
 -- judged by the calls that the pass made, and the identities that the stream's lines dropped.
-pub record Finishes {S : Type 0} (view : SourceView S) (jobs : JobsValue S)
-    (found : FoundValue S) : Type 0 where
+pub record Finishes {S : Type 0} (view : SourceView S) (jobs : StreamJobsValue S)
+    (found : StreamResultValue S) : Type 0 where
   pub store : store_of found.pass ≡ store_of jobs.pass
   pub blocks : List History
   pub moves : PassMoves jobs.pass.view found.pass.view (joined blocks)
@@ -64,7 +64,8 @@ pub record Finishes {S : Type 0} (view : SourceView S) (jobs : JobsValue S)
       found.report
 
 -- what was found of each stream, in order
-abbrev pub AllFinish : {S : Type 0} → SourceView S → List (JobsValue S) → List (FoundValue S)
+abbrev pub AllFinish : {S : Type 0} → SourceView S → List (StreamJobsValue S)
+    → List (StreamResultValue S)
     → Type 0
 AllFinish view all found = AllZip (Finishes view) all found
 

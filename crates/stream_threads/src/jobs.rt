@@ -36,9 +36,9 @@ pub struct StreamJobs<R: Source + Drop, G: Gate + Drop> {
 
 impl<R: Source + Drop, G: Gate + Drop> Model for StreamJobs<R, G> {
     ghost use Rattle.rtrb.specs.Ring.{IsPair};
-    ghost use Rattle.stream_threads.specs.Jobs.{JobsValue};
+    ghost use Rattle.stream_threads.specs.Jobs.{StreamJobsValue};
 
-    ghost Value = { JobsValue R };
+    ghost Value = { StreamJobsValue R };
 
     ghost view = { λ jobs. record {
       reader = jobs.reading.reader;
@@ -101,16 +101,16 @@ pub fn jobs_of<R: Source + Drop, G: Gate + Drop>(
 }
 
 /// What a checking thread gives back to whoever joins it: its result, or the token that shows that it was told to leave.
-type CheckingEnd<'a> = Result<CheckedPass, OnceToken<'a, bool>>;
+type CheckingResult<'a> = Result<CheckedPass, OnceToken<'a, bool>>;
 
 /// What a reading thread gives back: its result, or the token that shows that it was told to leave.
-type ReadingEnd<'a, R> = Result<Sent<R>, OnceToken<'a, bool>>;
+type ReadingResult<'a, R> = Result<Sent<R>, OnceToken<'a, bool>>;
 
 /// A stream whose checking thread has started, and whose reading thread is still to start.
 #[derive(Drop)]
 pub(crate) struct HalfStarted<'a, R: Source + Drop, G: Gate + Drop> {
     pub(crate) reading: ReadingJob<R>,
-    pub(crate) checking: PromisedHandle<CheckingEnd<'a>, CheckTask<G>>,
+    pub(crate) checking: PromisedHandle<CheckingResult<'a>, CheckTask<G>>,
 }
 
 impl<'a, R: Source + Drop, G: Gate + Drop> Model for HalfStarted<'a, R, G> {
@@ -135,8 +135,8 @@ impl<'a, R: Source + Drop, G: Gate + Drop> Model for HalfStarted<'a, R, G> {
 /// A stream whose two threads have started, and wait for the same signal.
 #[derive(Drop)]
 pub(crate) struct Started<'a, R: Source + Drop, G: Gate + Drop> {
-    pub(crate) reading: PromisedHandle<ReadingEnd<'a, R>, ReadTask<R>>,
-    pub(crate) checking: PromisedHandle<CheckingEnd<'a>, CheckTask<G>>,
+    pub(crate) reading: PromisedHandle<ReadingResult<'a, R>, ReadTask<R>>,
+    pub(crate) checking: PromisedHandle<CheckingResult<'a>, CheckTask<G>>,
 }
 
 impl<'a, R: Source + Drop, G: Gate + Drop> Model for Started<'a, R, G> {

@@ -6,11 +6,11 @@ ghost use Rattle.stream_ring.specs.Items.{EndsBeforeMark, SendsAll};
 ghost use Rattle.runs.specs.Readings.{readers_view};
 ghost use Rattle.stream_threads.specs.Faults.{IsFaultWithin, IsFirstFault};
 ghost use Rattle.stream_threads.specs.internal.Workers.{IsRingBehind, AllEnd, IsEndOf, JudgesAtPass};
-ghost use Rattle.stream_threads.specs.Jobs.{AllFinish, CanBegin, Finishes, FoundValue, JobsValue, MissesMark};
+ghost use Rattle.stream_threads.specs.Jobs.{AllFinish, CanBegin, Finishes, StreamResultValue, StreamJobsValue, MissesMark};
 
 use crate::jobs::{HalfStarted, Started, StreamJobs, ThreadFault};
 use crate::starting::{start_all_checking, start_all_reading};
-use crate::tasks::{CheckedPass, unless_told_to_leave};
+use crate::tasks::{CheckedPass, result_after_start};
 use clause_store::{Pass, Store};
 use lrup_text::Source;
 use std::alloc::{AllocError, Global};
@@ -18,8 +18,8 @@ use std::marker::Model;
 use std::sync::{OnceLock, OnceToken, Wait};
 use std::thread;
 use std::thread::{Scope, Threads};
-use stream_check::{Dropped, Gate, Report};
-use stream_jobs::{Sent, meet};
+use stream_check::{DroppedIds, Gate, Report};
+use stream_jobs::{Sent, jobs_agree};
 
 /// The result of a stream, whose two threads have ended.
 #[derive(Drop)]
@@ -31,13 +31,13 @@ pub struct StreamResult<R: Source + Drop> {
     /// The stream's pass. Contracts know from it which calls the stream made.
     pub pass: Pass,
     /// The identities that the stream dropped.
-    pub dropped: Dropped,
+    pub dropped: DroppedIds,
 }
 
 impl<R: Source + Drop> Model for StreamResult<R> {
-    ghost use Rattle.stream_threads.specs.Jobs.{FoundValue};
+    ghost use Rattle.stream_threads.specs.Jobs.{StreamResultValue};
 
-    ghost Value = { FoundValue R };
+    ghost Value = { StreamResultValue R };
 
     ghost view = { λ found. record {
       report = found.report;
@@ -50,14 +50,14 @@ impl<R: Source + Drop> Model for StreamResult<R> {
 /// The start signal of a run, for which its threads wait before they do anything. It says once to start, or to leave.
 #[derive(Drop)]
 pub struct StartSignal {
-    told: OnceLock<bool>,
+    signalled: OnceLock<bool>,
 }
 
 impl StartSignal {
     /// A signal that has said nothing yet.
     pub fn new() -> StartSignal {
         StartSignal {
-            told: OnceLock::new(),
+            signalled: OnceLock::new(),
         }
     }
 }
@@ -65,7 +65,7 @@ impl StartSignal {
 /// Lists with room for the threads and the results of a number of streams, and the signal for which the threads wait. With them no start
 /// and no join takes memory for a list.
 #[derive(Drop)]
-pub struct Room<'a, R: Source + Drop, G: Gate + Drop> {
+pub struct ThreadLists<'a, R: Source + Drop, G: Gate + Drop> {
     signal: &'a OnceLock<bool>,
     halves: Vec<HalfStarted<'a, R, G>>,
     started: Vec<Started<'a, R, G>>,
@@ -73,31 +73,31 @@ pub struct Room<'a, R: Source + Drop, G: Gate + Drop> {
     found: Vec<StreamResult<R>>,
 }
 
-impl<'a, R: Source + Drop, G: Gate + Drop> Model for Room<'a, R, G> {
+impl<'a, R: Source + Drop, G: Gate + Drop> Model for ThreadLists<'a, R, G> {
     ghost use Rattle.std.specs.Prelude.{◌≡◌, ℕ, [], vec_capacity};
 
     ghost Value = { ℕ };
 
-    ghost view = { λ room. vec_capacity room.halves };
+    ghost view = { λ lists. vec_capacity lists.halves };
 
-    ghost invariant = { λ room. (room.halves.items ≡ []) × (room.started.items ≡ [])
-        × (room.ends.items ≡ []) × (room.found.items ≡ [])
-        × (vec_capacity room.started ≡ vec_capacity room.halves)
-        × (vec_capacity room.ends ≡ vec_capacity room.halves)
-        × (vec_capacity room.found ≡ vec_capacity room.halves) };
+    ghost invariant = { λ lists. (lists.halves.items ≡ []) × (lists.started.items ≡ [])
+        × (lists.ends.items ≡ []) × (lists.found.items ≡ [])
+        × (vec_capacity lists.started ≡ vec_capacity lists.halves)
+        × (vec_capacity lists.ends ≡ vec_capacity lists.halves)
+        × (vec_capacity lists.found ≡ vec_capacity lists.halves) };
 }
 
-impl<'a, R: Source + Drop, G: Gate + Drop> Room<'a, R, G> {
+impl<'a, R: Source + Drop, G: Gate + Drop> ThreadLists<'a, R, G> {
     /// Lists with room for `count` streams, whose threads wait for this signal. No other threads may wait for it.
     pub fn new(
         alloc: Global,
         signal: &'a StartSignal,
         count: usize,
-    ) -> Result<Room<'a, R, G>, AllocError>
-        ensures { IfOk result (λ room. room ≡ count) }
+    ) -> Result<ThreadLists<'a, R, G>, AllocError>
+        ensures { IfOk result (λ lists. lists ≡ count) }
     {
-        Ok(Room {
-            signal: &signal.told,
+        Ok(ThreadLists {
+            signal: &signal.signalled,
             halves: Vec::with_capacity(alloc, count)?,
             started: Vec::with_capacity(alloc, count)?,
             ends: Vec::with_capacity(alloc, count)?,
@@ -107,10 +107,10 @@ impl<'a, R: Source + Drop, G: Gate + Drop> Room<'a, R, G> {
 }
 
 /// Makes the stream's result of what its two threads gave back. There is none exactly if the checking thread received no mark.
-fn meet_ends<R: Source + Drop>(mut sent: Sent<R>, checked: CheckedPass) -> Option<StreamResult<R>>
+fn result_of<R: Source + Drop>(mut sent: Sent<R>, checked: CheckedPass) -> Option<StreamResult<R>>
     requires pair { IsPair sent.producer checked.checked.consumer }
     ensures none { IsNone result ↔ IsNone checked.checked.report }
-    ensures end { (jobs : JobsValue R)
+    ensures end { (jobs : StreamJobsValue R)
         → SendsAll _ (readers_view R.Source) jobs.reader
         sent.reader (Rattle.rtrb.specs.Ring.sent sent.producer)
         → IfSome checked.checked.report (JudgesAtPass jobs.checker jobs.pass checked.pass
@@ -119,7 +119,7 @@ fn meet_ends<R: Source + Drop>(mut sent: Sent<R>, checked: CheckedPass) -> Optio
         → IsEndOf (readers_view R.Source) jobs result }
 {
     let CheckedPass { mut checked, pass } = checked;
-    meet(&mut sent, &mut checked);
+    jobs_agree(&mut sent, &mut checked);
     let report = checked.report?;
     Some(StreamResult {
         report,
@@ -130,29 +130,33 @@ fn meet_ends<R: Source + Drop>(mut sent: Sent<R>, checked: CheckedPass) -> Optio
 }
 
 impl<'a, R: Source + Drop, G: Gate + Drop> Started<'a, R, G> {
-    /// Waits until both threads have ended, and returns the stream's result, or none if no mark came. `told` shows that the threads were
+    /// Waits until both threads have ended, and returns the stream's result, or none if no mark came. `signalled` shows that the threads were
     /// told to start.
-    fn join<T: Threads>(self, threads: &T, told: &OnceToken<'a, bool>) -> Option<StreamResult<R>>
-        requires signal { self.signal ≡ told.now.of }
-        requires told { told.now.value ≡ true }
+    fn join<T: Threads>(
+        self,
+        threads: &T,
+        signalled: &OnceToken<'a, bool>,
+    ) -> Option<StreamResult<R>>
+        requires signal { self.signal ≡ signalled.now.of }
+        requires signalled { signalled.now.value ≡ true }
         ensures { IsEndOf (readers_view R.Source) self.entry.jobs result }
     {
         let Started { reading, checking } = self;
-        let sent = unless_told_to_leave(reading.join(threads), told);
-        let checked = unless_told_to_leave(checking.join(threads), told);
-        meet_ends(sent, checked)
+        let sent = result_after_start(reading.join(threads), signalled);
+        let checked = result_after_start(checking.join(threads), signalled);
+        result_of(sent, checked)
     }
 }
 
 /// Joins the threads of all streams, stream 1 first. They were told to start.
 fn join_all<'a, T: Threads, R: Source + Drop, G: Gate + Drop>(
     threads: &T,
-    told: &OnceToken<'a, bool>,
+    signalled: &OnceToken<'a, bool>,
     all: Vec<Started<'a, R, G>>,
     mut ends: Vec<Option<StreamResult<R>>>,
 ) -> Vec<Option<StreamResult<R>>>
-    requires told { told.now.value ≡ true }
-    requires signal { AllByRecursion (λ started. started.signal ≡ told.now.of) all.items }
+    requires signalled { signalled.now.value ≡ true }
+    requires signal { AllByRecursion (λ started. started.signal ≡ signalled.now.of) all.items }
     requires none { ends.items ≡ [] }
     requires room { vec_len all ≤ vec_capacity ends }
     ensures ends { AllEnd (readers_view R.Source)
@@ -160,7 +164,7 @@ fn join_all<'a, T: Threads, R: Source + Drop, G: Gate + Drop>(
     ensures count { vec_len result ≡ vec_len all.entry }
 {
     for started in all {
-        ends.push_reserved(started.join(threads, told));
+        ends.push_reserved(started.join(threads, signalled));
     }
     ends
 }
@@ -173,8 +177,8 @@ fn all_found<R: Source + Drop>(
     requires none { found.items ≡ [] }
     requires room { vec_len ends ≤ vec_capacity found }
     ensures found { IfOk result (λ all. ends.items ≡ map (λ f. Some f) all.items) }
-    ensures first { IfErr result (λ fault. (before : List (FoundValue R))
-        × (after : List (Option (FoundValue R)))
+    ensures first { IfErr result (λ fault. (before : List (StreamResultValue R))
+        × (after : List (Option (StreamResultValue R)))
         × (ends.items ≡ map (λ f. Some f) before ++ None ∷ after)
         × IsRingBehind before fault) }
 {
@@ -201,23 +205,23 @@ fn start_and_join<
     threads: &'s T,
     store: &'s Store,
     all: Vec<StreamJobs<R, G>>,
-    room: Room<'a, R, G>,
+    lists: ThreadLists<'a, R, G>,
 ) -> Result<Vec<StreamResult<R>>, ThreadFault<R>>
     requires begin { AllByRecursion (CanBegin store.now) all.items }
-    requires room { vec_len all ≤ room }
+    requires room { vec_len all ≤ lists }
     ensures found { IfOk result (λ found.
         AllFinish (readers_view R.Source) all.items found.items) }
     ensures fault { IfErr result (IsFaultWithin (vec_len all)) }
     ensures first { IfErr result
         (IsFirstFault (readers_view R.Source) all.items) }
 {
-    let Room {
+    let ThreadLists {
         signal,
         mut halves,
         mut started,
         ends,
         found,
-    } = room;
+    } = lists;
     if let Err(stream) = start_all_checking(scope, threads, store, signal, all, &mut halves) {
         let _ = signal.set(threads, false);
         return Err(ThreadFault::Spawn(stream));
@@ -227,32 +231,34 @@ fn start_and_join<
         return Err(ThreadFault::Spawn(stream));
     }
     // The signal is the run's own, so nobody set it before, and this fault never comes. No contract of `OnceLock` says so.
-    let Ok(told) = tell_to_start(threads, signal) else {
+    let Ok(signalled) = signal_start(threads, signal) else {
         if started.is_empty() {
             return Ok(found);
         }
         return Err(ThreadFault::Spawn(1));
     };
-    let ends = join_all(threads, &told, started, ends);
+    let ends = join_all(threads, &signalled, started, ends);
     all_found(ends, found)
 }
 
 /// Tells all threads to start, and returns the signal's token, which shows it. If they were told to leave before, its token is the fault.
-fn tell_to_start<'a, W: Wait>(
+fn signal_start<'a, W: Wait>(
     wait: &W,
     signal: &'a OnceLock<bool>,
 ) -> Result<OnceToken<'a, bool>, OnceToken<'a, bool>>
-    ensures start { IfOk result (λ told. (told.of ≡ signal.now.id) × (told.value ≡ true)) }
-    ensures leave { IfErr result (λ told. (told.of ≡ signal.now.id) × (told.value ≡ false)) }
+    ensures start { IfOk result (λ signalled. (signalled.of ≡ signal.now.id)
+        × (signalled.value ≡ true)) }
+    ensures leave { IfErr result (λ signalled. (signalled.of ≡ signal.now.id)
+        × (signalled.value ≡ false)) }
 {
-    let told = match signal.try_insert(wait, true) {
-        Ok(told) => told,
-        Err((told, _)) => told,
+    let signalled = match signal.try_insert(wait, true) {
+        Ok(signalled) => signalled,
+        Err((signalled, _)) => signalled,
     };
-    if *signal.value(&told) {
-        Ok(told)
+    if *signal.value(&signalled) {
+        Ok(signalled)
     } else {
-        Err(told)
+        Err(signalled)
     }
 }
 
@@ -263,10 +269,10 @@ pub fn check_all<T: Threads + Wait + Sync, R: Source + Send + Drop, G: Gate + Se
     threads: &T,
     store: &Store,
     all: Vec<StreamJobs<R, G>>,
-    room: Room<'_, R, G>,
+    lists: ThreadLists<'_, R, G>,
 ) -> Result<Vec<StreamResult<R>>, ThreadFault<R>>
     requires begin { AllByRecursion (CanBegin store.now) all.items }
-    requires room { vec_len all ≤ room }
+    requires room { vec_len all ≤ lists }
     ensures found { IfOk result (λ found.
         AllFinish (readers_view R.Source) all.items found.items) }
     ensures fault { IfErr result (IsFaultWithin (vec_len all)) }
@@ -278,12 +284,12 @@ pub fn check_all<T: Threads + Wait + Sync, R: Source + Send + Drop, G: Gate + Se
         threads,
         move |scope| -> Result<Vec<StreamResult<R>>, ThreadFault<R>>
             requires begin { AllByRecursion (CanBegin store.now) all.items }
-            requires room { vec_len all ≤ room }
+            requires room { vec_len all ≤ lists }
             ensures found { IfOk result (λ found.
                 AllFinish (readers_view R.Source) all.items found.items) }
             ensures fault { IfErr result (IsFaultWithin (vec_len all)) }
             ensures first { IfErr result
                 (IsFirstFault (readers_view R.Source) all.items) }
-        { start_and_join(scope, threads, store, all, room) },
+        { start_and_join(scope, threads, store, all, lists) },
     )
 }

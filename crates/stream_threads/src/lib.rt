@@ -7,4 +7,4 @@ mod starting;
 mod tasks;
 
 pub use jobs::{StreamJobs, ThreadFault, jobs_of};
-pub use joining::{Room, StartSignal, StreamResult, check_all};
+pub use joining::{StartSignal, StreamResult, ThreadLists, check_all};

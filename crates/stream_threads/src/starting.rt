@@ -12,7 +12,7 @@ use std::snapshot::Snapshot;
 use std::sync::{OnceLock, Wait};
 use std::thread::Scope;
 use stream_check::Gate;
-use stream_jobs::read_when_told;
+use stream_jobs::read_on_signal;
 
 /// Starts a checking thread, or returns none if it can't be started. The task is for the proof alone: it says with what the thread starts.
 fn start_checking<'s, 'a: 's, E, W: Wait + Sync, R: Source + Drop, G: Gate + Send + Drop + 's>(
@@ -60,7 +60,7 @@ fn start_reading<'s, 'a: 's, E, W: Wait + Sync, R: Source + Send + Drop + 's, G:
         job: Snapshot::of(&job),
     };
     let reading = scope
-        .spawn_with(task, move || read_when_told(wait, signal, job))
+        .spawn_with(task, move || read_on_signal(wait, signal, job))
         .ok()?;
     Some(Started { reading, checking })
 }

@@ -15,7 +15,7 @@ use std::snapshot::Snapshot;
 use std::sync::{OnceLock, OnceToken, Wait};
 use std::thread::Promise;
 use stream_check::Gate;
-use stream_jobs::{Checked, CheckingJob, ReadingJob, Sent, check_when_told, read_when_told};
+use stream_jobs::{Checked, CheckingJob, ReadingJob, Sent, check_on_signal, read_on_signal};
 
 /// What a checking thread gives back, if it was told to start: what it checked, and its pass.
 #[derive(Drop)]
@@ -56,19 +56,19 @@ impl<'a, G: Gate + Drop> Promise<Result<CheckedPass, OnceToken<'a, bool>>> for C
         (λ token. (token.of ≡ task.signal.value.id) × (token.value ≡ false)) };
 }
 
-/// The result of a thread that was told to start: `told` shows it, so the thread's own token can't say 'leave'.
-pub(crate) fn unless_told_to_leave<'a, T>(
+/// The result of a thread that was told to start: `signalled` shows it, so the thread's own token can't say 'leave'.
+pub(crate) fn result_after_start<'a, T>(
     end: Result<T, OnceToken<'a, bool>>,
-    told: &OnceToken<'a, bool>,
+    signalled: &OnceToken<'a, bool>,
 ) -> T
-    requires told { told.now.value ≡ true }
-    requires leaves { IfErr end (λ token. (token.of ≡ told.now.of) × (token.value ≡ false)) }
+    requires signalled { signalled.now.value ≡ true }
+    requires leaves { IfErr end (λ token. (token.of ≡ signalled.now.of) × (token.value ≡ false)) }
     ensures { end.entry ≡ Ok result }
 {
     match end {
         Ok(found) => found,
         Err(token) => {
-            token.agrees(told);
+            token.agrees(signalled);
             unreachable!()
         }
     }
@@ -93,7 +93,7 @@ pub(crate) fn check<'a, W: Wait, G: Gate + Drop>(
         IfNone e.checked.report (EndsBeforeMark (received e.checked.consumer))) }
 {
     let mut desk = Desk::new(store, pass);
-    let checked = check_when_told(wait, signal, job, &mut desk)?;
+    let checked = check_on_signal(wait, signal, job, &mut desk)?;
     Ok(CheckedPass {
         checked,
         pass: desk.into_pass(),

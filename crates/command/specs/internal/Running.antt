@@ -10,7 +10,7 @@ use Rattle.clause_store.specs.Passes.{AreOf, views}
 use Rattle.lrup_text.specs.ReadOut.{SourceView}
 use Rattle.runs.specs.SequentialConsistency.{HaveOneHistory}
 use Rattle.runs.specs.Streams.{RunParamsValue}
-use Rattle.stream_check.specs.DroppedValue.{DroppedValue}
+use Rattle.stream_check.specs.DroppedIdsValue.{DroppedIdsValue}
 use Rattle.stream_check.specs.declared.report.Report.{Report}
 use Rattle.portfolio.specs.Outcomes.{run_params_of}
 use Rattle.portfolio.specs.declared.outcome.Verdict.{Verdict}
@@ -27,7 +27,7 @@ left_layout (lefts.Shared left) = left.store.layout
 left_layout (lefts.Plain left) = left.map.layout
 
 -- the identities that the streams dropped
-abbrev pub dropped_in : LeftClauses → List DroppedValue
+abbrev pub dropped_in : LeftClauses → List DroppedIdsValue
 dropped_in (lefts.Shared left) = left.dropped.items
 dropped_in (lefts.Plain left) = left.dropped.items
 

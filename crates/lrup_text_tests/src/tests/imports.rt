@@ -4,7 +4,7 @@ use crate::tests::{
     LongRow, Row, SPELLING, TOO_LONG, feed, feed_all_repeated, feed_every_way, feed_texts, same,
     write_in_threes, written,
 };
-use lrup_text::{Line, LineReader, ReaderTurn};
+use lrup_text::{Line, LineReader, ReaderStatus};
 use std::alloc::{AllocError, Global};
 use std::process::Abort;
 use std::test::Fail;
@@ -14,28 +14,28 @@ static IMPORTS: [Row; 6] = [
     (
         b"5 i 2 0\n",
         8,
-        ReaderTurn::Line(Line::Import { id: 5, lits: &[2] }),
+        ReaderStatus::Line(Line::Import { id: 5, lits: &[2] }),
     ),
     (
         b"5 i 2 0\n6 0",
         8,
-        ReaderTurn::Line(Line::Import { id: 5, lits: &[2] }),
+        ReaderStatus::Line(Line::Import { id: 5, lits: &[2] }),
     ),
     (
         b"5 i 0\n",
         6,
-        ReaderTurn::Line(Line::Import { id: 5, lits: &[] }),
+        ReaderStatus::Line(Line::Import { id: 5, lits: &[] }),
     ),
     (
         b"5 i -2 0\n",
         9,
-        ReaderTurn::Line(Line::Import { id: 5, lits: &[-2] }),
+        ReaderStatus::Line(Line::Import { id: 5, lits: &[-2] }),
     ),
     // as written: a literal may repeat, and stand beside its complement
     (
         b"1 i 2 1 2 -2 0\n",
         15,
-        ReaderTurn::Line(Line::Import {
+        ReaderStatus::Line(Line::Import {
             id: 1,
             lits: &[2, 1, 2, -2],
         }),
@@ -43,7 +43,7 @@ static IMPORTS: [Row; 6] = [
     (
         b"999999999999999999 i 10 -999999999999999999 0\n",
         46,
-        ReaderTurn::Line(Line::Import {
+        ReaderStatus::Line(Line::Import {
             id: 999_999_999_999_999_999,
             lits: &[10, -999_999_999_999_999_999],
         }),
@@ -59,7 +59,7 @@ fn imports_are_read(rt: HostRuntime) -> Result<(), AllocError> {
 fn unfinished_imports(rt: HostRuntime) -> Result<(), Fail> {
     let text = b"15 i -23 4 0";
     for end in 0..=text.len() {
-        feed_every_way(&rt, rt.alloc(), &text[..end], end, ReaderTurn::NeedMore)?;
+        feed_every_way(&rt, rt.alloc(), &text[..end], end, ReaderStatus::NeedMore)?;
     }
     Ok(())
 }
@@ -118,7 +118,7 @@ static LONG_IMPORTS: [LongRow; 4] = [
         (b"5 i", b" 1", b" 0\n"),
         65_535,
         131_076,
-        ReaderTurn::Line(Line::Import {
+        ReaderStatus::Line(Line::Import {
             id: 5,
             lits: &[1; 65_535],
         }),
@@ -167,9 +167,9 @@ fn feed_two(
     cut: usize,
 ) {
     let (front, rest) = second.split_at(cut.min(second.len()));
-    feed(rt, reader, first, first.len(), ReaderTurn::Line(one));
-    feed(rt, reader, front, front.len(), ReaderTurn::NeedMore);
-    feed(rt, reader, rest, rest.len(), ReaderTurn::Line(two));
+    feed(rt, reader, first, first.len(), ReaderStatus::Line(one));
+    feed(rt, reader, front, front.len(), ReaderStatus::NeedMore);
+    feed(rt, reader, rest, rest.len(), ReaderStatus::Line(two));
 }
 
 /// Feeds new readers the two lines, with the second in each cutting.
@@ -261,7 +261,7 @@ fn written_imports_are_read_again(rt: HostRuntime) -> Result<(), Fail> {
     for &(id, lits) in &WRITTEN {
         let line = Line::Import { id, lits };
         let (text, _) = written(rt.alloc(), &line)?;
-        feed_every_way(&rt, rt.alloc(), &text, text.len(), ReaderTurn::Line(line))?;
+        feed_every_way(&rt, rt.alloc(), &text, text.len(), ReaderStatus::Line(line))?;
     }
     Ok(())
 }

@@ -9,26 +9,26 @@ use Rattle.runs.specs.Each.{Each}
 use Rattle.runs.specs.Streams.{RunParamsValue}
 use Rattle.stream_check.specs.declared.report.Report.{Report}
 use Rattle.stream_check.specs.Checker.{IsNew}
-use Rattle.stream_check.specs.DroppedValue.{DroppedValue}
-use Rattle.stream_threads.specs.Jobs.{AllFinish, FoundValue, JobsValue}
+use Rattle.stream_check.specs.DroppedIdsValue.{DroppedIdsValue}
+use Rattle.stream_threads.specs.Jobs.{AllFinish, StreamResultValue, StreamJobsValue}
 
 -- the jobs of stream s before its first byte, at the pass that the store has opened
 pub record HasReadyJobs {S : Type 0} (store : StoreValue) (formula : Cnf)
     (run_params : RunParamsValue)
-    (s : ℕ) (first : S) (jobs : JobsValue S) : Type 0 where
+    (s : ℕ) (first : S) (jobs : StreamJobsValue S) : Type 0 where
   pub reader_is : jobs.reader ≡ first
   pub checker : IsNew run_params.layout run_params.cube s run_params.tries jobs.checker
   pub opened : IsOpened store formula s jobs.pass
 
 -- those of the streams counted on from s
 abbrev pub HaveReadyJobs : {S : Type 0} → StoreValue → Cnf → RunParamsValue → ℕ → List S
-    → List (JobsValue S) → Type 0
+    → List (StreamJobsValue S) → Type 0
 HaveReadyJobs store formula run_params s firsts all =
     Each (HasReadyJobs store formula run_params) s firsts all
 
 -- a run before its threads start, by its parameters: the store, and the jobs of all readers
 pub record IsBegun {S : Type 0} (formula : Cnf) (run_params : RunParamsValue) (store : StoreValue)
-    (firsts : List S) (all : List (JobsValue S)) : Type 0 where
+    (firsts : List S) (all : List (StreamJobsValue S)) : Type 0 where
   pub is : IsLayout run_params.layout
   pub fits : Fits run_params.layout formula
   pub count : length firsts ≡ run_params.layout.streams
@@ -36,10 +36,10 @@ pub record IsBegun {S : Type 0} (formula : Cnf) (run_params : RunParamsValue) (s
   pub ready : HaveReadyJobs store formula run_params 1 firsts all
 
 -- what was found of each stream, in order, whose passes have met since
-pub record AreGathered {S : Type 0} (view : SourceView S) (all : List (JobsValue S))
-    (passes : List View) (reports : List Report) (readers : List S) (dropped : List DroppedValue)
+pub record AreGathered {S : Type 0} (view : SourceView S) (all : List (StreamJobsValue S))
+    (passes : List View) (reports : List Report) (readers : List S) (dropped : List DroppedIdsValue)
     : Type 0 where
-  pub found : List (FoundValue S)
+  pub found : List (StreamResultValue S)
   pub finish : AllFinish view all found
   pub synced : AreSynced (views (map (λ one. one.pass) found)) passes
   pub one : ShareHistory passes
@@ -48,7 +48,7 @@ pub record AreGathered {S : Type 0} (view : SourceView S) (all : List (JobsValue
   pub dropped_are : dropped ≡ map (λ one. one.dropped) found
 
 -- something was found of each, and their passes have met
-abbrev pub WereGathered : {S : Type 0} → SourceView S → List (JobsValue S) → Type 0
+abbrev pub WereGathered : {S : Type 0} → SourceView S → List (StreamJobsValue S) → Type 0
 WereGathered {S} view all =
     (passes : List View) × (reports : List Report) × (readers : List S)
-    × (dropped : List DroppedValue) × AreGathered view all passes reports readers dropped
+    × (dropped : List DroppedIdsValue) × AreGathered view all passes reports readers dropped

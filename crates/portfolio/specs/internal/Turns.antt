@@ -11,7 +11,7 @@ use Rattle.stream_check.specs.declared.report.Ending.{Ending}
 use Rattle.stream_check.specs.declared.report.Report.{Report}
 use Rattle.stream_check.specs.CheckerValue.{report_of_tally}
 use Rattle.stream_check.specs.Checker.{IsReadyAt}
-use Rattle.stream_check.specs.DroppedValue.{DroppedValue}
+use Rattle.stream_check.specs.DroppedIdsValue.{DroppedIdsValue}
 use Rattle.runs.specs.Closed.{IsOfStream}
 use Rattle.runs.specs.Each.{Each}
 use Rattle.runs.specs.Streams.{Block, blocks_of, events_in, IsBlockWithin, RunParamsValue, stream_params}
@@ -109,7 +109,7 @@ HaveReports workers reports = AllZip (λ worker report. (ending : Ending)
 -- reports, their readers, and the identities that they dropped.
 pub record SerialEnd {S : Type 0} (view : SourceView S) (opened : Plain)
     (workers : List (WorkerValue S)) (later : Plain) (reports : List Report) (readers : List S)
-    (dropped : List DroppedValue) : Type 0 where
+    (dropped : List DroppedIdsValue) : Type 0 where
   pub ended : List (WorkerValue S)
   pub goes : SerialStep view 0 opened workers 0 later ended
   pub reports_are : HaveReports ended reports

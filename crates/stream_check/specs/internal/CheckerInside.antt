@@ -19,7 +19,7 @@ use Rattle.stream_check.specs.declared.params.Ownership.TheVariants as ownership
 -- what the good lines so far leave, if so much room is left
 abbrev pub context_at : StreamState → ℕ → StreamContext
 context_at state free =
-    record { last = state.last; free = free; gone = is_among state.dropped.ids }
+    record { last = state.last; free = free; is_dropped = is_among state.dropped.ids }
 
 -- how many identities were deleted
 abbrev pub deleted_at : StreamState → ℕ

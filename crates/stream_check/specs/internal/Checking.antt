@@ -54,11 +54,11 @@ found_by view (Err fault) = Err fault
 abbrev pub Shows : StreamParams → (ℕ → Bool) → Cnf → Clause → List ℕ → History
     → Result (Unit {0}) Fault
     → Type 0
-Shows params gone formula clause hints history (Ok _) =
+Shows params is_dropped formula clause hints history (Ok _) =
     (hinted : List Clause) × AllByRecursion (IsDerived formula) hinted × Accepts clause hinted
-    × (formula.vars ≡ params.layout.vars) × AreFound params gone hints hinted history
-Shows params gone formula clause hints history (Err fault) =
-    FailsHints params gone clause hints history fault
+    × (formula.vars ≡ params.layout.vars) × AreFound params is_dropped hints hinted history
+Shows params is_dropped formula clause hints history (Err fault) =
+    FailsHints params is_dropped clause hints history fault
 
 -- no hint may be left after the conflict
 abbrev pub excess_of : List ℕ → Result (Unit {0}) Fault

@@ -27,9 +27,9 @@ hold state pending free = record {
 }
 
 -- with this view the next line can be checked
-pub record IsReady (state : StreamState) (place : CallerView) : Type 0 where
-  pub at : IsViewOf state.params place
-  pub vacant : IsVacantAbove place state.last
+pub record IsReady (state : StreamState) (view : CallerView) : Type 0 where
+  pub at : IsViewOf state.params view
+  pub vacant : IsVacantAbove view state.last
 
 -- these identities more were deleted, and of them the shared ones dropped, and nothing else was counted
 pub record DeletesMore (old new : StreamState) (ids : List ℕ) : Type 0 where

@@ -14,7 +14,7 @@ use Rattle.stream_check.specs.declared.fault.Fault.{Fault}
 use Rattle.stream_check.specs.StreamParams.{StreamParams}
 use Rattle.stream_check.specs.StreamContext.{StreamContext}
 use Rattle.stream_check.specs.Verdicts.{Violates}
-use Rattle.stream_check.specs.Lookup.{Asks, LooksUp, AreFound, line_context}
+use Rattle.stream_check.specs.Lookup.{FetchesHint, LooksUp, AreFound, line_context}
 use Rattle.stream_check.specs.Additions.{BeforeHints, IsValidAddition, Misleads}
 use Rattle.stream_check.specs.internal.Checking.{IsFetch}
 
@@ -59,40 +59,44 @@ valid_passes c st fetches id lits hints es fault A valid (inr (a, inr (b, inr (d
 valid_passes c st fetches id lits hints es fault A valid (inr (a, inr (b, inr (d, inr (e, next))))) = next
 
 -- a look-up that came to a clause fetched it
-pub found_live : (c : StreamParams) (gone : ℕ → Bool) (h : ℕ) (es : History) (d : Clause)
-    → LooksUp c gone h es (Ok d) → (gone h ≡ false) × Asks c h es (events.live d)
-found_live c gone h es d (inl dropped) = absurd (let e = dropped.2 in cc)
-found_live c gone h es d (inr (kept, events.vacant, asks, is)) = absurd (cc)
-found_live c gone h es d (inr (kept, events.live e, asks, is)) =
-    let same : e ≡ d = cc in (kept, subst (λ (x : Clause). Asks c h es (events.live x)) same asks)
-found_live c gone h es d (inr (kept, events.retired, asks, is)) = absurd (cc)
+pub found_live : (c : StreamParams) (is_dropped : ℕ → Bool) (h : ℕ) (es : History) (d : Clause)
+    → LooksUp c is_dropped h es (Ok d) → (is_dropped h ≡ false) × FetchesHint c h es (events.live d)
+found_live c is_dropped h es d (inl dropped) = absurd (let e = dropped.2 in cc)
+found_live c is_dropped h es d (inr (kept, events.vacant, asks, is)) = absurd (cc)
+found_live c is_dropped h es d (inr (kept, events.live e, asks, is)) =
+    let same : e ≡ d = cc in (
+      kept,
+      subst
+          (λ (x : Clause). FetchesHint c h es (events.live x)) same asks,
+    )
+found_live c is_dropped h es d (inr (kept, events.retired, asks, is)) = absurd (cc)
 
 -- one identity is looked up by all events
-pub one_found : (c : StreamParams) (gone : ℕ → Bool) (id : ℕ) (d : Clause) (es : History)
-    → LooksUp c gone id es (Ok d) → AreFound c gone (id ∷ []) (d ∷ []) es
-one_found c gone id d es looks = (es, [], sym (append-nil es), looks, refl)
+pub one_found : (c : StreamParams) (is_dropped : ℕ → Bool) (id : ℕ) (d : Clause) (es : History)
+    → LooksUp c is_dropped id es (Ok d) → AreFound c is_dropped (id ∷ []) (d ∷ []) es
+one_found c is_dropped id d es looks = (es, [], sym (append-nil es), looks, refl)
 
-pub found_one : (c : StreamParams) (gone : ℕ → Bool) (id : ℕ) (d : Clause) (es : History)
-    → AreFound c gone (id ∷ []) (d ∷ []) es → LooksUp c gone id es (Ok d)
-found_one c gone id d es (asked, rest, is, looks, none) =
-    subst (λ (a : History). LooksUp c gone id a (Ok d)) (sym (is ∙ ap (λ (a : History). asked ++ a) none ∙ append-nil asked)) looks
+pub found_one : (c : StreamParams) (is_dropped : ℕ → Bool) (id : ℕ) (d : Clause) (es : History)
+    → AreFound c is_dropped (id ∷ []) (d ∷ []) es → LooksUp c is_dropped id es (Ok d)
+found_one c is_dropped id d es (asked, rest, is, looks, none) =
+    subst (λ (a : History). LooksUp c is_dropped id a (Ok d)) (sym (is ∙ ap (λ (a : History). asked ++ a) none ∙ append-nil asked)) looks
 
-pub no_hints_left : (c : StreamParams) (gone : ℕ → Bool) (hints : List ℕ) (es : History)
-    → AreFound c gone hints [] es → hints ≡ []
-no_hints_left c gone [] es found = refl
-no_hints_left c gone (h ∷ hints) es found = absurd found
+pub no_hints_left : (c : StreamParams) (is_dropped : ℕ → Bool) (hints : List ℕ) (es : History)
+    → AreFound c is_dropped hints [] es → hints ≡ []
+no_hints_left c is_dropped [] es found = refl
+no_hints_left c is_dropped (h ∷ hints) es found = absurd found
 
 -- a clause that is needed is of help
 pub no_help : (n : List ℤ) (d : Clause) (ds : List Clause) (c : StreamParams)
-    (gone : ℕ → Bool) (h : ℕ)
+    (is_dropped : ℕ → Bool) (h : ℕ)
     (hints : List ℕ) (es : History) (fault : Fault)
-    → Refutes n (d ∷ ds) → AreFound c gone hints ds es → Misleads n d h hints fault → ⊥
-no_help n d [] c gone h hints es fault refutes found (inl neither) = neither.0 refutes
-no_help n d [] c gone h hints es fault refutes found (inr excess) =
-    let none = sym (no_hints_left c gone hints es found) ∙ excess.3 in cc
-no_help n d (e ∷ ds) c gone h hints es fault refutes found (inl neither) =
+    → Refutes n (d ∷ ds) → AreFound c is_dropped hints ds es → Misleads n d h hints fault → ⊥
+no_help n d [] c is_dropped h hints es fault refutes found (inl neither) = neither.0 refutes
+no_help n d [] c is_dropped h hints es fault refutes found (inr excess) =
+    let none = sym (no_hints_left c is_dropped hints es found) ∙ excess.3 in cc
+no_help n d (e ∷ ds) c is_dropped h hints es fault refutes found (inl neither) =
     neither.1 refutes.0 refutes.1
-no_help n d (e ∷ ds) c gone h hints es fault refutes found (inr excess) =
+no_help n d (e ∷ ds) c is_dropped h hints es fault refutes found (inr excess) =
     refutes.1.not_false (excess.0 refutes.0 refutes.1.here)
 
 -- behind a clause that is unit the others refute

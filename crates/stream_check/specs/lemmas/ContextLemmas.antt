@@ -77,7 +77,7 @@ pub context_of-snoc : (c : StreamParams) (lines : List StreamLine) (line : Strea
 context_of-snoc c lines line es j = record {
   last = sym (same_last c lines line es j);
   free = omega (arith, sizes-snoc lines line);
-  gone = λ id.
+  is_dropped = λ id.
       let test : StreamLine → Bool = λ l. is_among (deleted_by l) id in
       sym (ap (λ b. is_shared (ownership_of c id) && b) (list_any-append test lines (line ∷ []))
       ∙ and_or (is_shared (ownership_of c id)) (list_any test lines) (test line));
@@ -121,5 +121,6 @@ counts_of-snoc c lines line = same_tally (tally_after c (counts_of c lines) line
 pub same_context : (a b : StreamContext) → SameContext a b → a ≡ b
 same_context a b s =
     let made : ℕ → ℕ → (ℕ → Bool)
-    → StreamContext = λ l f g. record { last = l; free = f; gone = g } in
-    ap (λ l. made l a.free a.gone) s.last ∙ ap (λ f. made b.last f a.gone) s.free ∙ ap (λ g. made b.last b.free g) (fun_ext s.gone)
+    → StreamContext = λ l f g. record { last = l; free = f; is_dropped = g } in
+    ap (λ l. made l a.free a.is_dropped) s.last ∙ ap (λ f. made b.last f a.is_dropped) s.free
+    ∙ ap (λ g. made b.last b.free g) (fun_ext s.is_dropped)

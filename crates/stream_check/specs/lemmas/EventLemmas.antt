@@ -13,7 +13,7 @@ use Rattle.stream_check.specs.declared.params.Ownership.TheVariants as ownership
 use Rattle.stream_check.specs.StreamParams.{StreamParams, ownership_of}
 use Rattle.stream_check.specs.StreamContext.{StreamContext}
 use Rattle.stream_check.specs.Verdicts.{LineVerdict, Good, Bad, Violates}
-use Rattle.stream_check.specs.Lookup.{AsksAt, Asks, answer_of, LooksUp, AreFound}
+use Rattle.stream_check.specs.Lookup.{FetchesHintAt, FetchesHint, answer_of, LooksUp, AreFound}
 use Rattle.stream_check.specs.Additions.{FailsBy, FailsHints, published_by, JudgesAddition}
 use Rattle.stream_check.specs.Deletions.{DeletesAt, JudgesDeletion}
 use Rattle.stream_check.specs.Imports.{JudgesImport}
@@ -29,34 +29,36 @@ module _ (c : StreamParams) (P : History → Type 0) (none : P []) where
 
   -- of the events of an addition or an import, those of a look-up before those behind them
   module _ (IsHint : ℕ → Type 0)
-      (looked : (h : ℕ) (asked rest : History) (r : Reply) → IsHint h → Asks c h asked r
+      (looked : (h : ℕ) (asked rest : History) (r : Reply) → IsHint h → FetchesHint c h asked r
       → (r ≡ events.vacant → rest ≡ []) → P rest → P (asked ++ rest)) where
-    looks_hold : (gone : ℕ → Bool) (h : ℕ) (asked rest : History) (answer : Result Clause Fault)
-        → IsHint h → LooksUp c gone h asked answer
+    looks_hold : (is_dropped : ℕ → Bool) (h : ℕ) (asked rest : History)
+        (answer : Result Clause Fault)
+        → IsHint h → LooksUp c is_dropped h asked answer
         → (answer ≡ answer_of h events.vacant → rest ≡ []) → P rest → P (asked ++ rest)
-    looks_hold gone h asked rest answer is (inl dropped) ends holds =
+    looks_hold is_dropped h asked rest answer is (inl dropped) ends holds =
         subst (λ (a : History). P (a ++ rest)) (sym dropped.1) holds
-    looks_hold gone h asked rest answer is (inr found) ends holds =
+    looks_hold is_dropped h asked rest answer is (inr found) ends holds =
         looked h asked rest found.1 is found.2
         (λ vacant. ends (found.3 ∙ ap (answer_of h) vacant)) holds
 
     -- the same where there are no more events
-    looks_last : (gone : ℕ → Bool) (h : ℕ) (asked : History) (answer : Result Clause Fault)
-        → IsHint h → LooksUp c gone h asked answer → P asked
-    looks_last gone h asked answer is looks =
+    looks_last : (is_dropped : ℕ → Bool) (h : ℕ) (asked : History) (answer : Result Clause Fault)
+        → IsHint h → LooksUp c is_dropped h asked answer → P asked
+    looks_last is_dropped h asked answer is looks =
         subst P (append-nil asked)
-        (looks_hold gone h asked [] answer is looks (λ vacant. refl) none)
+        (looks_hold is_dropped h asked [] answer is looks (λ vacant. refl) none)
 
-    pub found_hold : (gone : ℕ → Bool) (hints : List ℕ) (ds : List Clause) (es rest : History)
-        → AllByRecursion IsHint hints → AreFound c gone hints ds es → P rest → P (es ++ rest)
-    found_hold gone [] [] es rest all found holds =
+    pub found_hold : (is_dropped : ℕ → Bool) (hints : List ℕ) (ds : List Clause) (es rest : History)
+        → AllByRecursion IsHint hints → AreFound c is_dropped hints ds es → P rest → P (es ++ rest)
+    found_hold is_dropped [] [] es rest all found holds =
         subst (λ (a : History). P (a ++ rest)) (sym found) holds
-    found_hold gone [] (d ∷ ds) es rest all found holds = absurd found
-    found_hold gone (h ∷ hints) [] es rest all found holds = absurd found
-    found_hold gone (h ∷ hints) (d ∷ ds) es rest all found holds =
+    found_hold is_dropped [] (d ∷ ds) es rest all found holds = absurd found
+    found_hold is_dropped (h ∷ hints) [] es rest all found holds = absurd found
+    found_hold is_dropped (h ∷ hints) (d ∷ ds) es rest all found holds =
         subst P (sym (ap (λ (a : History). a ++ rest) found.2 ∙ append_assoc found.0 found.1 rest))
-        (looks_hold gone h found.0 (found.1 ++ rest) (Ok d) all.0 found.3 (λ vacant. absurd (cc))
-        (found_hold gone hints ds found.1 rest all.1 found.4 holds))
+        (looks_hold is_dropped h found.0 (found.1 ++ rest) (Ok d) all.0 found.3
+        (λ vacant. absurd (cc))
+        (found_hold is_dropped hints ds found.1 rest all.1 found.4 holds))
 
     by_holds : (answer : Result Clause Fault) (n : List ℤ) (h : ℕ) (later : List ℕ) (es : History)
         (fault : Fault) (A : List ℤ → Type 0) → ((m : List ℤ) → A m → P es)
@@ -69,15 +71,16 @@ module _ (c : StreamParams) (P : History → Type 0) (none : P []) where
     by_holds (Err its) n h later es fault A next fails =
         ((λ vacant. fails.0), none_holds es fails.0)
 
-    pub fails_hold : (gone : ℕ → Bool) (n : List ℤ) (hints : List ℕ) (es : History) (fault : Fault)
-        → AllByRecursion IsHint hints → FailsHints c gone n hints es fault → P es
-    fails_hold gone n [] es fault all fails = none_holds es fails.0
-    fails_hold gone n (h ∷ hints) es fault all fails =
+    pub fails_hold : (is_dropped : ℕ
+        → Bool) (n : List ℤ) (hints : List ℕ) (es : History) (fault : Fault)
+        → AllByRecursion IsHint hints → FailsHints c is_dropped n hints es fault → P es
+    fails_hold is_dropped n [] es fault all fails = none_holds es fails.0
+    fails_hold is_dropped n (h ∷ hints) es fault all fails =
         let rest = by_holds fails.3 n h hints fails.1 fault
-        (λ m. FailsHints c gone m hints fails.1 fault)
-        (λ m k. fails_hold gone m hints fails.1 fault all.1 k) fails.5 in
+        (λ m. FailsHints c is_dropped m hints fails.1 fault)
+        (λ m k. fails_hold is_dropped m hints fails.1 fault all.1 k) fails.5 in
         subst P (sym fails.2)
-        (looks_hold gone h fails.0 fails.1 fails.3 all.0 fails.4 rest.0 rest.1)
+        (looks_hold is_dropped h fails.0 fails.1 fails.3 all.0 fails.4 rest.0 rest.1)
 
     pub addition_holds : (st : StreamContext) (id : ℕ) (lits : List ℤ) (hints : List ℕ)
         (es : History)
@@ -86,21 +89,21 @@ module _ (c : StreamParams) (P : History → Type 0) (none : P []) where
         → JudgesAddition c st id lits hints es v → P es
     addition_holds st id lits hints es Good publishes all (fetches, good, is) =
         subst P (sym is)
-        (found_hold st.gone hints good.clauses fetches _ all good.named (publishes refl))
+        (found_hold st.is_dropped hints good.clauses fetches _ all good.named (publishes refl))
     addition_holds st id lits hints es (Bad deleted fault) publishes all bad =
         violates_holds _ _ es fault _ (λ a. violates_holds _ _ es fault _
         (λ a. violates_holds _ _ es fault _ (λ a. violates_holds _ _ es fault _
-        (λ a. fails_hold st.gone _ hints es fault all a) a) a) a) bad.1
+        (λ a. fails_hold st.is_dropped _ hints es fault all a) a) a) a) bad.1
 
     pub import_holds : (st : StreamContext) (id : ℕ) (lits : List ℤ) (es : History)
         (v : LineVerdict)
         → IsHint id → JudgesImport c st id lits es v → P es
     import_holds st id lits es Good is good =
-        subst P (append-nil es) (found_hold st.gone (id ∷ []) (good.clause ∷ []) es [] (is, tt) good.named none)
+        subst P (append-nil es) (found_hold st.is_dropped (id ∷ []) (good.clause ∷ []) es [] (is, tt) good.named none)
     import_holds st id lits es (Bad deleted fault) is bad =
         violates_holds _ _ es fault _ (λ a. violates_holds _ _ es fault _ (λ a. elim a [
-          | inl unfound ↦ looks_last st.gone id es (Err fault) is unfound
-          | inr differs ↦ looks_last st.gone id es (Ok differs.0) is differs.1
+          | inl unfound ↦ looks_last st.is_dropped id es (Err fault) is unfound
+          | inr differs ↦ looks_last st.is_dropped id es (Ok differs.0) is differs.1
         ]) a) bad.1
 
   -- of the events of a deletion
@@ -109,29 +112,33 @@ module _ (c : StreamParams) (P : History → Type 0) (none : P []) where
       → P (events.retire c.stream id retiring.Done ∷ rest))
       (refused : (id : ℕ) → IsDeleted id
       → P (events.retire c.stream id retiring.NotLive ∷ [])) where
-    at_holds : (ownership : Ownership) (gone : ℕ → Bool) (earlier : List ℕ) (id : ℕ) (es : History)
+    at_holds : (ownership : Ownership) (is_dropped : ℕ
+        → Bool) (earlier : List ℕ) (id : ℕ) (es : History)
         (v : LineVerdict) (A : History → Type 0)
         → IsDeleted id → ((rest : History) → A rest → P rest)
-        → DeletesAt ownership c gone earlier id es v A → P es
-    at_holds ownerships.Formula gone earlier id es v A is next (inl bad) = none_holds es bad.1.0
-    at_holds ownerships.Formula gone earlier id es v A is next (inr good) = next es good.1
-    at_holds ownerships.Foreign gone earlier id es v A is next (inl bad) = none_holds es bad.1.0
-    at_holds ownerships.Foreign gone earlier id es v A is next (inr good) = next es good.1
-    at_holds ownerships.Outside gone earlier id es v A is next at = none_holds es at.0
-    at_holds ownerships.Own gone earlier id es v A is next at = elim at.decided [
+        → DeletesAt ownership c is_dropped earlier id es v A → P es
+    at_holds ownerships.Formula is_dropped earlier id es v A is next
+        (inl bad) = none_holds es bad.1.0
+    at_holds ownerships.Formula is_dropped earlier id es v A is next (inr good) = next es good.1
+    at_holds ownerships.Foreign is_dropped earlier id es v A is next
+        (inl bad) = none_holds es bad.1.0
+    at_holds ownerships.Foreign is_dropped earlier id es v A is next (inr good) = next es good.1
+    at_holds ownerships.Outside is_dropped earlier id es v A is next at = none_holds es at.0
+    at_holds ownerships.Own is_dropped earlier id es v A is next at = elim at.decided [
       | inl good ↦ subst P (sym good.0) (done id at.rest is (next at.rest good.1))
       | inr bad ↦
           let one = ap (λ r. events.retire c.stream id retiring.NotLive ∷ r) bad.1.0 in
           subst P (sym (bad.0 ∙ one)) (refused id is)
     ]
 
-    pub identities_hold : (gone : ℕ → Bool) (earlier ids : List ℕ) (es : History) (v : LineVerdict)
-        → AllByRecursion IsDeleted ids → JudgesDeletion c gone earlier ids es v → P es
-    identities_hold gone earlier [] es v all judged = none_holds es judged.0
-    identities_hold gone earlier (id ∷ ids) es v all judged =
-        at_holds (ownership_of c id) gone earlier id es v
-        (λ rest. JudgesDeletion c gone (earlier ++ id ∷ []) ids rest v) all.0
-        (λ rest k. identities_hold gone (earlier ++ id ∷ []) ids rest v all.1 k) judged
+    pub identities_hold : (is_dropped : ℕ
+        → Bool) (earlier ids : List ℕ) (es : History) (v : LineVerdict)
+        → AllByRecursion IsDeleted ids → JudgesDeletion c is_dropped earlier ids es v → P es
+    identities_hold is_dropped earlier [] es v all judged = none_holds es judged.0
+    identities_hold is_dropped earlier (id ∷ ids) es v all judged =
+        at_holds (ownership_of c id) is_dropped earlier id es v
+        (λ rest. JudgesDeletion c is_dropped (earlier ++ id ∷ []) ids rest v) all.0
+        (λ rest k. identities_hold is_dropped (earlier ++ id ∷ []) ids rest v all.1 k) judged
 
 -- Any hint
 
@@ -152,7 +159,7 @@ vacants_are P s id (suc k) r each = (each events.vacant, vacants_are P s id k r 
 
 asked_at : (ownership : Ownership) (P : Event → Type 0) (c : StreamParams) (h : ℕ)
     (es : History) (r : Reply)
-    → ((x : Reply) → P (events.fetch c.stream h x)) → AsksAt ownership c h es r
+    → ((x : Reply) → P (events.fetch c.stream h x)) → FetchesHintAt ownership c h es r
     → AllByRecursion P es
 asked_at ownerships.Formula P c h es r each asks = subst (AllByRecursion P) (sym asks) (each r, tt)
 asked_at ownerships.Own P c h es r each asks = subst (AllByRecursion P) (sym asks) (each r, tt)
@@ -160,11 +167,12 @@ asked_at ownerships.Foreign P c h es r each asks = subst (AllByRecursion P) (sym
 asked_at ownerships.Outside P c h es r each asks = subst (AllByRecursion P) (sym asks.0) tt
 
 pub asked_are : (P : Event → Type 0) (c : StreamParams) (h : ℕ) (es : History) (r : Reply)
-    → ((x : Reply) → P (events.fetch c.stream h x)) → Asks c h es r → AllByRecursion P es
+    → ((x : Reply) → P (events.fetch c.stream h x)) → FetchesHint c h es r → AllByRecursion P es
 asked_are P c h es r each asks = asked_at (ownership_of c h) P c h es r each asks
 
 pub asked_more : (P : Event → Type 0) (c : StreamParams) (h : ℕ) (asked rest : History) (r : Reply)
-    → ((x : Reply) → P (events.fetch c.stream h x)) → Asks c h asked r → AllByRecursion P rest
+    → ((x : Reply) → P (events.fetch c.stream h x)) → FetchesHint c h asked r
+    → AllByRecursion P rest
     → AllByRecursion P (asked ++ rest)
 asked_more P c h asked rest r each asks all = All-append P asked rest (asked_are P c h asked r each asks) all
 
@@ -172,22 +180,25 @@ asked_more P c h asked rest r each asks all = All-append P asked rest (asked_are
 
 module _ (c : StreamParams) (P : Event → Type 0)
     (fetches : (id : ℕ) (r : Reply) → P (events.fetch c.stream id r)) where
-  fetches_more : (h : ℕ) (asked rest : History) (r : Reply) → IsAny h → Asks c h asked r
+  fetches_more : (h : ℕ) (asked rest : History) (r : Reply) → IsAny h → FetchesHint c h asked r
       → (r ≡ events.vacant → rest ≡ []) → AllByRecursion P rest → AllByRecursion P (asked ++ rest)
   fetches_more h asked rest r any asks ends all =
       asked_more P c h asked rest r (fetches h) asks all
 
-  pub found_all : (gone : ℕ → Bool) (hints : List ℕ) (ds : List Clause) (es : History)
-      → AreFound c gone hints ds es → AllByRecursion P es
-  found_all gone hints ds es found =
+  pub found_all : (is_dropped : ℕ → Bool) (hints : List ℕ) (ds : List Clause) (es : History)
+      → AreFound c is_dropped hints ds es → AllByRecursion P es
+  found_all is_dropped hints ds es found =
       subst (AllByRecursion P) (append-nil es)
-      (found_hold c (AllByRecursion P) tt IsAny fetches_more gone hints ds es [] (all_any hints)
+      (found_hold c (AllByRecursion P) tt IsAny fetches_more is_dropped hints ds es []
+      (all_any hints)
       found tt)
 
-  pub fails_all : (gone : ℕ → Bool) (n : List ℤ) (hints : List ℕ) (es : History) (fault : Fault)
-      → FailsHints c gone n hints es fault → AllByRecursion P es
-  fails_all gone n hints es fault fails =
-      fails_hold c (AllByRecursion P) tt IsAny fetches_more gone n hints es fault (all_any hints)
+  pub fails_all : (is_dropped : ℕ → Bool) (n : List ℤ) (hints : List ℕ) (es : History)
+      (fault : Fault)
+      → FailsHints c is_dropped n hints es fault → AllByRecursion P es
+  fails_all is_dropped n hints es fault fails =
+      fails_hold c (AllByRecursion P) tt IsAny fetches_more is_dropped n hints es fault
+      (all_any hints)
       fails
 
   pub addition_all : (id : ℕ) (lits : List ℤ) (v : LineVerdict)

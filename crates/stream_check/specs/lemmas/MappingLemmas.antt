@@ -27,40 +27,41 @@ abbrev pub under : StreamParams → CubeValue → StreamParams
 under c cube = record c { cube = cube }
 
 -- the events of a look-up, and those behind them, become others that come to the same
-pub record LooksOn (c : StreamParams) (f : History → History) (gone : ℕ → Bool) (h : ℕ)
+pub record LooksOn (c : StreamParams) (f : History → History) (is_dropped : ℕ → Bool) (h : ℕ)
     (asked rest : History) (answer : Result Clause Fault) : Type 0 where
   pub fewer : History
   pub events : f (asked ++ rest) ≡ fewer ++ f rest
-  pub looks : LooksUp c gone h fewer answer
+  pub looks : LooksUp c is_dropped h fewer answer
 
 module _ (c : StreamParams) (cube : CubeValue) (f : History → History) (none : f [] ≡ [])
     (published : (id : ℕ) (lits : List ℤ)
     → f (published_by c id lits ∷ []) ≡ published_by c id lits ∷ [])
     (retired : (id : ℕ) (r : Retired) (rest : History)
     → f (events.retire c.stream id r ∷ rest) ≡ events.retire c.stream id r ∷ f rest)
-    (looked : (gone : ℕ → Bool) (h : ℕ) (asked rest : History) (answer : Result Clause Fault)
-    → LooksUp c gone h asked answer → (answer ≡ answer_of h events.vacant → rest ≡ [])
-    → LooksOn (under c cube) f gone h asked rest answer) where
+    (looked : (is_dropped : ℕ → Bool) (h : ℕ) (asked rest : History) (answer : Result Clause Fault)
+    → LooksUp c is_dropped h asked answer → (answer ≡ answer_of h events.vacant → rest ≡ [])
+    → LooksOn (under c cube) f is_dropped h asked rest answer) where
   nothing : (es : History) → es ≡ [] → f es ≡ []
   nothing es e = ap f e ∙ none
 
-  looks_last : (gone : ℕ → Bool) (h : ℕ) (es : History) (answer : Result Clause Fault)
-      → LooksUp c gone h es answer → LooksUp (under c cube) gone h (f es) answer
-  looks_last gone h es answer looks =
-      let r = looked gone h es [] answer looks (λ vacant. refl) in
+  looks_last : (is_dropped : ℕ → Bool) (h : ℕ) (es : History) (answer : Result Clause Fault)
+      → LooksUp c is_dropped h es answer → LooksUp (under c cube) is_dropped h (f es) answer
+  looks_last is_dropped h es answer looks =
+      let r = looked is_dropped h es [] answer looks (λ vacant. refl) in
       let is = ap f (sym (append-nil es)) ∙ r.events ∙ ap (λ a. r.fewer ++ a) none in
-      subst (λ (x : History). LooksUp (under c cube) gone h x answer)
+      subst (λ (x : History). LooksUp (under c cube) is_dropped h x answer)
       (sym (is ∙ append-nil r.fewer)) r.looks
 
-  found_maps : (gone : ℕ → Bool) (hints : List ℕ) (ds : List Clause) (es rest : History)
-      → AreFound c gone hints ds es → (fewer : History) × (f (es ++ rest) ≡ fewer ++ f rest)
-      × AreFound (under c cube) gone hints ds fewer
-  found_maps gone [] [] es rest found = ([], ap (λ a. f (a ++ rest)) found, refl)
-  found_maps gone [] (d ∷ ds) es rest found = absurd found
-  found_maps gone (h ∷ hints) [] es rest found = absurd found
-  found_maps gone (h ∷ hints) (d ∷ ds) es rest found =
-      let later = found_maps gone hints ds found.1 rest found.4 in
-      let r = looked gone h found.0 (found.1 ++ rest) (Ok d) found.3 (λ vacant. absurd (cc)) in
+  found_maps : (is_dropped : ℕ → Bool) (hints : List ℕ) (ds : List Clause) (es rest : History)
+      → AreFound c is_dropped hints ds es → (fewer : History) × (f (es ++ rest) ≡ fewer ++ f rest)
+      × AreFound (under c cube) is_dropped hints ds fewer
+  found_maps is_dropped [] [] es rest found = ([], ap (λ a. f (a ++ rest)) found, refl)
+  found_maps is_dropped [] (d ∷ ds) es rest found = absurd found
+  found_maps is_dropped (h ∷ hints) [] es rest found = absurd found
+  found_maps is_dropped (h ∷ hints) (d ∷ ds) es rest found =
+      let later = found_maps is_dropped hints ds found.1 rest found.4 in
+      let r = looked is_dropped h found.0 (found.1 ++ rest) (Ok d) found.3
+      (λ vacant. absurd (cc)) in
       let is = ap (λ a. f (a ++ rest)) found.2 ∙ ap f (append_assoc found.0 found.1 rest)
       ∙ r.events ∙ ap (λ a. r.fewer ++ a) later.1 in (
         r.fewer ++ later.0,
@@ -79,15 +80,16 @@ module _ (c : StreamParams) (cube : CubeValue) (f : History → History) (none :
   by_maps (Err its) n h hints es fault A B next fails =
       ((λ vacant. fails.0), (nothing es fails.0, fails.1))
 
-  hints_map : (gone : ℕ → Bool) (n : List ℤ) (hints : List ℕ) (es : History) (fault : Fault)
-      → FailsHints c gone n hints es fault → FailsHints (under c cube) gone n hints (f es) fault
-  hints_map gone n [] es fault fails = (nothing es fails.0, fails.1)
-  hints_map gone n (h ∷ hints) es fault fails =
+  hints_map : (is_dropped : ℕ → Bool) (n : List ℤ) (hints : List ℕ) (es : History) (fault : Fault)
+      → FailsHints c is_dropped n hints es fault
+      → FailsHints (under c cube) is_dropped n hints (f es) fault
+  hints_map is_dropped n [] es fault fails = (nothing es fails.0, fails.1)
+  hints_map is_dropped n (h ∷ hints) es fault fails =
       let by = by_maps fails.3 n h hints fails.1 fault
-      (λ m. FailsHints c gone m hints fails.1 fault)
-      (λ m. FailsHints (under c cube) gone m hints (f fails.1) fault)
-      (λ m k. hints_map gone m hints fails.1 fault k) fails.5 in
-      let r = looked gone h fails.0 fails.1 fails.3 fails.4 by.0 in
+      (λ m. FailsHints c is_dropped m hints fails.1 fault)
+      (λ m. FailsHints (under c cube) is_dropped m hints (f fails.1) fault)
+      (λ m k. hints_map is_dropped m hints fails.1 fault k) fails.5 in
+      let r = looked is_dropped h fails.0 fails.1 fails.3 fails.4 by.0 in
       (r.fewer, f fails.1, ap f fails.2 ∙ r.events, fails.3, r.looks, by.1)
 
   addition_maps : (st : StreamContext) (id : ℕ) (lits : List ℤ) (hints : List ℕ) (es : History)
@@ -95,7 +97,7 @@ module _ (c : StreamParams) (cube : CubeValue) (f : History → History) (none :
       → JudgesAddition (under c cube) st id lits hints (f es) v
   addition_maps st id lits hints es Good (fetches, good, is) =
       let last = published_by c id lits ∷ [] in
-      let found = found_maps st.gone hints good.clauses fetches last good.named in (
+      let found = found_maps st.is_dropped hints good.clauses fetches last good.named in (
         found.0,
         record {
           owns = good.owns;
@@ -111,7 +113,7 @@ module _ (c : StreamParams) (cube : CubeValue) (f : History → History) (none :
   addition_maps st id lits hints es (Bad deleted fault) bad = (
     bad.0,
     before_maps c st id lits es (f es) fault _ _ (nothing es)
-        (λ a. hints_map st.gone (distinct lits) hints es fault a) bad.1,
+        (λ a. hints_map st.is_dropped (distinct lits) hints es fault a) bad.1,
   )
 
   import_maps : (st : StreamContext) (id : ℕ) (lits : List ℤ) (es : History) (v : LineVerdict)
@@ -121,27 +123,27 @@ module _ (c : StreamParams) (cube : CubeValue) (f : History → History) (none :
     other = good.other;
     literals = good.literals;
     clause = good.clause;
-    named = one_found (under c cube) st.gone id good.clause (f es)
-        (looks_last st.gone id es (Ok good.clause) (found_one c st.gone id good.clause es good.named));
+    named = one_found (under c cube) st.is_dropped id good.clause (f es)
+        (looks_last st.is_dropped id es (Ok good.clause) (found_one c st.is_dropped id good.clause es good.named));
     same = good.same;
   }
   import_maps st id lits es (Bad deleted fault) bad = (
     bad.0,
     violates_maps _ _ es (f es) fault _ _ (nothing es)
         (λ a. violates_maps _ _ es (f es) fault _ _ (nothing es) (λ a. elim a [
-          | inl unfound ↦ inl (looks_last st.gone id es (Err fault) unfound)
+          | inl unfound ↦ inl (looks_last st.is_dropped id es (Err fault) unfound)
           | inr differs ↦
-              let looks = looks_last st.gone id es (Ok differs.0) differs.1 in
+              let looks = looks_last st.is_dropped id es (Ok differs.0) differs.1 in
               inr (differs.0, looks, differs.2, differs.3)
         ]) a) bad.1,
   )
 
-  drops_map : (gone : ℕ → Bool) (earlier : List ℕ) (id : ℕ) (es : History) (v : LineVerdict)
-      (A B : History → Type 0) → (A es → B (f es)) → DropsThen gone earlier id es v A
-      → DropsThen gone earlier id (f es) v B
-  drops_map gone earlier id es v A B next (inl bad) =
+  drops_map : (is_dropped : ℕ → Bool) (earlier : List ℕ) (id : ℕ) (es : History) (v : LineVerdict)
+      (A B : History → Type 0) → (A es → B (f es)) → DropsThen is_dropped earlier id es v A
+      → DropsThen is_dropped earlier id (f es) v B
+  drops_map is_dropped earlier id es v A B next (inl bad) =
       inl (bad.0, (nothing es bad.1.0, bad.1.1))
-  drops_map gone earlier id es v A B next (inr good) = inr (good.0, next good.1)
+  drops_map is_dropped earlier id es v A B next (inr good) = inr (good.0, next good.1)
 
   retires_map : (earlier : List ℕ) (id : ℕ) (es : History) (v : LineVerdict)
       (A B : History → Type 0) → ((rest : History) → A rest → B (f rest))
@@ -156,29 +158,32 @@ module _ (c : StreamParams) (cube : CubeValue) (f : History → History) (none :
         record { rest = f a.rest; decided = inr (is, (nothing a.rest bad.1.0, bad.1.1)) }
   ]
 
-  at_maps : (ownership : Ownership) (gone : ℕ → Bool) (earlier : List ℕ) (id : ℕ) (es : History)
+  at_maps : (ownership : Ownership) (is_dropped : ℕ
+      → Bool) (earlier : List ℕ) (id : ℕ) (es : History)
       (v : LineVerdict) (A B : History → Type 0) → ((rest : History) → A rest → B (f rest))
-      → DeletesAt ownership c gone earlier id es v A
-      → DeletesAt ownership (under c cube) gone earlier id (f es) v B
-  at_maps ownerships.Formula gone earlier id es v A B next at =
-      drops_map gone earlier id es v A B (next es) at
-  at_maps ownerships.Own gone earlier id es v A B next at = retires_map earlier id es v A B next at
-  at_maps ownerships.Foreign gone earlier id es v A B next at =
-      drops_map gone earlier id es v A B (next es) at
-  at_maps ownerships.Outside gone earlier id es v A B next at = (nothing es at.0, at.1)
+      → DeletesAt ownership c is_dropped earlier id es v A
+      → DeletesAt ownership (under c cube) is_dropped earlier id (f es) v B
+  at_maps ownerships.Formula is_dropped earlier id es v A B next at =
+      drops_map is_dropped earlier id es v A B (next es) at
+  at_maps ownerships.Own is_dropped earlier id es v A B next at = retires_map earlier id es v A B
+      next at
+  at_maps ownerships.Foreign is_dropped earlier id es v A B next at =
+      drops_map is_dropped earlier id es v A B (next es) at
+  at_maps ownerships.Outside is_dropped earlier id es v A B next at = (nothing es at.0, at.1)
 
-  pub identities_map : (gone : ℕ → Bool) (earlier ids : List ℕ) (es : History) (v : LineVerdict)
-      → JudgesDeletion c gone earlier ids es v
-      → JudgesDeletion (under c cube) gone earlier ids (f es) v
-  identities_map gone earlier [] es v judged = (nothing es judged.0, judged.1)
-  identities_map gone earlier (id ∷ ids) es v judged =
-      at_maps (ownership_of c id) gone earlier id es v
-      (λ rest. JudgesDeletion c gone (earlier ++ id ∷ []) ids rest v)
-      (λ rest. JudgesDeletion (under c cube) gone (earlier ++ id ∷ []) ids rest v)
-      (λ rest k. identities_map gone (earlier ++ id ∷ []) ids rest v k) judged
+  pub identities_map : (is_dropped : ℕ
+      → Bool) (earlier ids : List ℕ) (es : History) (v : LineVerdict)
+      → JudgesDeletion c is_dropped earlier ids es v
+      → JudgesDeletion (under c cube) is_dropped earlier ids (f es) v
+  identities_map is_dropped earlier [] es v judged = (nothing es judged.0, judged.1)
+  identities_map is_dropped earlier (id ∷ ids) es v judged =
+      at_maps (ownership_of c id) is_dropped earlier id es v
+      (λ rest. JudgesDeletion c is_dropped (earlier ++ id ∷ []) ids rest v)
+      (λ rest. JudgesDeletion (under c cube) is_dropped (earlier ++ id ∷ []) ids rest v)
+      (λ rest k. identities_map is_dropped (earlier ++ id ∷ []) ids rest v k) judged
 
   pub line_maps : (st : StreamContext) (line : StreamLine) (es : History) (v : LineVerdict)
       → JudgesLine c st line es v → JudgesLine (under c cube) st line (f es) v
   line_maps st (Addition id lits hints) es v judged = addition_maps st id lits hints es v judged
-  line_maps st (Deletion lead ids) es v judged = identities_map st.gone [] ids es v judged
+  line_maps st (Deletion lead ids) es v judged = identities_map st.is_dropped [] ids es v judged
   line_maps st (Import id lits) es v judged = import_maps st id lits es v judged

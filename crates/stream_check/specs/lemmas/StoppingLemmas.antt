@@ -12,8 +12,8 @@ or_none false true = refl
 or_none false false = refl
 
 -- no identities drop nothing
-pub drops_none : (c : StreamParams) (gone : ℕ → Bool) → DropsMore c gone [] gone
-drops_none c gone id = sym (or_none (gone id) (is_shared (ownership_of c id)))
+pub drops_none : (c : StreamParams) (is_dropped : ℕ → Bool) → DropsMore c is_dropped [] is_dropped
+drops_none c is_dropped id = sym (or_none (is_dropped id) (is_shared (ownership_of c id)))
 
 first_longer : (ids bytes more : List ℕ) → AreDeletedFirst ids bytes
     → AreDeletedFirst ids (bytes ++ more)
@@ -22,9 +22,10 @@ first_longer ids bytes more (inr (line, fits, later, rest, text, deletes)) =
     inr (line, fits, later, rest ++ more, ap (λ (b : List ℕ). b ++ more) text ∙ append_assoc (line_text line) rest more, deletes)
 
 -- whatever follows
-pub drops_longer : (c : StreamParams) (bytes more : List ℕ) (report : Report) (gone : ℕ → Bool)
-    → DropsUntilStop c bytes report gone → DropsUntilStop c (bytes ++ more) report gone
-drops_longer c bytes more report gone d = record {
+pub drops_longer : (c : StreamParams) (bytes more : List ℕ) (report : Report) (is_dropped : ℕ
+    → Bool)
+    → DropsUntilStop c bytes report is_dropped → DropsUntilStop c (bytes ++ more) report is_dropped
+drops_longer c bytes more report is_dropped d = record {
   lines = d.lines;
   rest = d.rest ++ more;
   text = ap (λ (b : List ℕ). b ++ more) d.text ∙ append_assoc (flat_map line_text d.lines) d.rest more;

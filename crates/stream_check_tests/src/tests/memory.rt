@@ -11,7 +11,7 @@ use lrup_model::{ClauseMap, PlainMap};
 use std::alloc::Global;
 use std::process::Abort;
 use std::test::Fail;
-use stream_check::{CheckTurn, Checker, Ending, Report};
+use stream_check::{CheckStatus, Checker, Ending, Report};
 
 /// The first line is an addition, with three literals, and takes no memory. Each other deletes one identity more that is
 /// kept, and the second an own one before it: where line `L` is the one that wants memory, `L - 1` identities were deleted
@@ -47,13 +47,13 @@ fn feed_line<R: Abort, M: ClauseMap>(rt: &R, checker: &mut Checker, map: &mut M,
 {
     let progress = checker.feed(map, &mut told_of(0, 0, 0), line.as_bytes());
     let is_over = checker.is_over();
-    let turn = if is_over {
-        CheckTurn::Over
+    let status = if is_over {
+        CheckStatus::Over
     } else {
-        CheckTurn::Line
+        CheckStatus::Line
     };
-    let found = (line, progress.used, progress.turn);
-    same(rt, found, (line, line.len(), turn));
+    let found = (line, progress.used, progress.status);
+    same(rt, found, (line, line.len(), status));
     is_over
 }
 
@@ -78,17 +78,17 @@ fn stays_over<R: Abort, M: ClauseMap>(rt: &R, checker: &mut Checker, map: &mut M
 {
     let said = checker.report();
     let more = fed_more(checker, map);
-    same(rt, (more, checker.report()), ((0, CheckTurn::Over), said));
+    same(rt, (more, checker.report()), ((0, CheckStatus::Over), said));
 }
 
-/// How much of a further line is used, and whose turn it is then.
-fn fed_more<M: ClauseMap>(checker: &mut Checker, map: &mut M) -> (usize, CheckTurn)
+/// How much of a further line is used, and what its status is then.
+fn fed_more<M: ClauseMap>(checker: &mut Checker, map: &mut M) -> (usize, CheckStatus)
     requires ready { IsReadyAt checker.old (M.caller_view map.old) }
     requires over { IsSome checker.old.ending }
     ensures { IsSome checker.new.ending }
 {
     let more = checker.feed(map, &mut told_of(0, 0, 0), b"7 2 0 1 2 0\n");
-    (more.used, more.turn)
+    (more.used, more.status)
 }
 
 /// What a checker says of a stream of these lines.

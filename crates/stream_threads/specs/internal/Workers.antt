@@ -2,7 +2,7 @@
 use Rattle.std.specs.Prelude.{◌≡◌, ℕ, List, Option, Some, None}
 use Rattle.std.specs.List.{AllZip}
 use Rattle.lrup_text.specs.ReadOut.{SourceView}
-use Rattle.stream_threads.specs.Jobs.{FoundValue, JobsValue, MissesMark, Finishes}
+use Rattle.stream_threads.specs.Jobs.{StreamResultValue, StreamJobsValue, MissesMark, Finishes}
 use Rattle.stream_threads.specs.declared.jobs.ThreadFault.{ThreadFault}
 use Rattle.stream_threads.specs.declared.jobs.ThreadFault.TheVariants.{Spawn, Ring}
 use Rattle.lrup_model.specs.Event.{History}
@@ -14,17 +14,17 @@ use Rattle.stream_check.specs.Judging.{joined}
 use Rattle.stream_jobs.specs.Judged.{JudgesAtMark}
 
 -- the fault is that of a ring, behind the streams of which this was found
-abbrev pub IsRingBehind : {S : Type 0} → List (FoundValue S) → ThreadFault S → Type 0
+abbrev pub IsRingBehind : {S : Type 0} → List (StreamResultValue S) → ThreadFault S → Type 0
 IsRingBehind found (Spawn stream) = ⊥
 IsRingBehind found (Ring before) = before.items ≡ found
 
 -- what they were started with: the jobs, and the signal for which they wait
 pub record StartedValue (S : Type 0) : Type 0 where
-  pub jobs : JobsValue S
+  pub jobs : StreamJobsValue S
   pub signal : ℕ
 
 -- threads that were started with these
-abbrev pub started_with : {S : Type 0} → ℕ → JobsValue S → StartedValue S
+abbrev pub started_with : {S : Type 0} → ℕ → StreamJobsValue S → StartedValue S
 started_with signal jobs = record { jobs = jobs; signal = signal }
 
 -- The report judges the bytes received up to a mark by the calls that the pass made since, and these identities are dropped by
@@ -37,11 +37,13 @@ pub record JudgesAtPass (checker : CheckerValue) (old new : PassValue) (items : 
   pub judged : JudgesAtMark checker (pass_caller_view old.view).room items blocks ids report
 
 -- what came of a stream: what was found of it, or that its mark was missed
-abbrev pub IsEndOf : {S : Type 0} → SourceView S → JobsValue S → Option (FoundValue S) → Type 0
+abbrev pub IsEndOf : {S : Type 0} → SourceView S → StreamJobsValue S → Option (StreamResultValue S)
+    → Type 0
 IsEndOf view jobs (Some found) = Finishes view jobs found
 IsEndOf view jobs None = MissesMark view jobs.reader
 
 -- what came of each stream, in order
-abbrev pub AllEnd : {S : Type 0} → SourceView S → List (JobsValue S) → List (Option (FoundValue S))
+abbrev pub AllEnd : {S : Type 0} → SourceView S → List (StreamJobsValue S)
+    → List (Option (StreamResultValue S))
     → Type 0
 AllEnd view all ends = AllZip (IsEndOf view) all ends

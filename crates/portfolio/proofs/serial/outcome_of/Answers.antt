@@ -1,7 +1,7 @@
 use Rattle.std.proofs.Common.{◌≡◌, ◌∷◌, ◌∙◌, List, map, ap, subst, arith}
 use Rattle.std.specs.Vec.Iter.{into_iter_items}
 use Rattle.lrup_model.specs.lemmas.ListLemmas.{whole_end}
-use Rattle.stream_check.specs.DroppedValue.{DroppedValue}
+use Rattle.stream_check.specs.DroppedIdsValue.{DroppedIdsValue}
 use Rattle.stream_check.specs.declared.report.Report.{Report}
 use Rattle.runs.specs.Readings.{readers_view}
 use Rattle.portfolio.specs.Outcomes.{verdict_of}
@@ -19,7 +19,7 @@ loop-worker-preserved g c =
     let steps = c.in-Some.ensures.steps in
     let over : AreOver (w ∷ into_iter_items c.next.new.self) = subst AreOver steps.0 now.invariant.over in
     let reader = c.push_reserved-in-loop-worker.ensures in
-    let gone = c.push_reserved-in-loop-worker-2.ensures in
+    let pushed = c.push_reserved-in-loop-worker-2.ensures in
     record {
       whole =
           whole_more now.yielded (into_iter_items now.worker-iterator) (into_iter_items c.next.new.self) _ w steps.0 now.invariant.whole;
@@ -29,15 +29,15 @@ loop-worker-preserved g c =
       readers = pushed_more (λ (v : WorkerValue g.row.R.Denot). v.reader) now.readers.items c.push_reserved-in-loop-worker.new.self.items
           now.yielded parts.result.1 w
           reader.items now.invariant.readers parts.ensures.reader;
-      dropped = pushed_both (λ (d : DroppedValue). d.ids)
+      dropped = pushed_both (λ (d : DroppedIdsValue). d.ids)
           (λ (v : WorkerValue g.row.R.Denot). v.checker.dropped) now.dropped.items c.push_reserved-in-loop-worker-2.new.self.items
-          now.yielded parts.result.2 w gone.items now.invariant.dropped parts.ensures.dropped;
+          now.yielded parts.result.2 w pushed.items now.invariant.dropped parts.ensures.dropped;
       report_count = omega (arith, c.push_reserved.ensures.len, steps.1, now.invariant.report_count);
       reader_count = omega (arith, reader.len, steps.1, now.invariant.reader_count);
-      dropped_count = omega (arith, gone.len, steps.1, now.invariant.dropped_count);
+      dropped_count = omega (arith, pushed.len, steps.1, now.invariant.dropped_count);
       report_room = omega (arith, c.push_reserved.ensures.capacity, now.invariant.report_room);
       reader_room = omega (arith, reader.capacity, now.invariant.reader_room);
-      dropped_room = omega (arith, gone.capacity, now.invariant.dropped_room);
+      dropped_room = omega (arith, pushed.capacity, now.invariant.dropped_room);
     }
 
 pub returns-clause-reports : goal.returns-clause-reports

@@ -16,25 +16,25 @@ pub outcome_of-requires-clause-reports : goal.outcome_of-requires-clause-reports
 outcome_of-requires-clause-reports g c =
     let count = finish_count (readers_view g.R.Source) c.args.jobs.items
     c.in-Ok.found.items c.in-Ok.ensures.found in
-    omega (arith, count, c.in-Ok.found.ok.0, c.args.jobs.ok.0, c.len.ensures, c.in_ok-room.ensures.reports.1)
+    omega (arith, count, c.in-Ok.found.ok.0, c.args.jobs.ok.0, c.len.ensures, c.in_ok-thread_lists.ensures.reports.1)
 
 pub outcome_of-requires-clause-passes : goal.outcome_of-requires-clause-passes
 outcome_of-requires-clause-passes g c =
     let count = finish_count (readers_view g.R.Source) c.args.jobs.items
     c.in-Ok.found.items c.in-Ok.ensures.found in
-    omega (arith, count, c.in-Ok.found.ok.0, c.args.jobs.ok.0, c.len.ensures, c.in_ok-room.ensures.synced.1)
+    omega (arith, count, c.in-Ok.found.ok.0, c.args.jobs.ok.0, c.len.ensures, c.in_ok-thread_lists.ensures.synced.1)
 
 pub outcome_of-requires-clause-readers : goal.outcome_of-requires-clause-readers
 outcome_of-requires-clause-readers g c =
     let count = finish_count (readers_view g.R.Source) c.args.jobs.items
     c.in-Ok.found.items c.in-Ok.ensures.found in
-    omega (arith, count, c.in-Ok.found.ok.0, c.args.jobs.ok.0, c.len.ensures, c.in_ok-room.ensures.readers.1)
+    omega (arith, count, c.in-Ok.found.ok.0, c.args.jobs.ok.0, c.len.ensures, c.in_ok-thread_lists.ensures.readers.1)
 
 pub outcome_of-requires-clause-dropped : goal.outcome_of-requires-clause-dropped
 outcome_of-requires-clause-dropped g c =
     let count = finish_count (readers_view g.R.Source) c.args.jobs.items
     c.in-Ok.found.items c.in-Ok.ensures.found in
-    omega (arith, count, c.in-Ok.found.ok.0, c.args.jobs.ok.0, c.len.ensures, c.in_ok-room.ensures.dropped.1)
+    omega (arith, count, c.in-Ok.found.ok.0, c.args.jobs.ok.0, c.len.ensures, c.in_ok-thread_lists.ensures.dropped.1)
 
 pub returns-in-Ok-clause-found : goal.returns-in-Ok-clause-found
 returns-in-Ok-clause-found g c =
@@ -70,22 +70,22 @@ outcome_of-before-requires-clause-store g c =
 pub outcome_of-before-requires-clause-reports : goal.outcome_of-before-requires-clause-reports
 outcome_of-before-requires-clause-reports g c =
     let within = subst (IsFaultWithin c.args.jobs.len) c.in-Err-Ring.field-0-is c.in-Err-Ring.ensures.fault in
-    omega (arith, within.1, c.in-Err-Ring.found.ok.0, c.len.ensures, c.in_ok-room.ensures.reports.1)
+    omega (arith, within.1, c.in-Err-Ring.found.ok.0, c.len.ensures, c.in_ok-thread_lists.ensures.reports.1)
 
 pub outcome_of-before-requires-clause-passes : goal.outcome_of-before-requires-clause-passes
 outcome_of-before-requires-clause-passes g c =
     let within = subst (IsFaultWithin c.args.jobs.len) c.in-Err-Ring.field-0-is c.in-Err-Ring.ensures.fault in
-    omega (arith, within.1, c.in-Err-Ring.found.ok.0, c.len.ensures, c.in_ok-room.ensures.synced.1)
+    omega (arith, within.1, c.in-Err-Ring.found.ok.0, c.len.ensures, c.in_ok-thread_lists.ensures.synced.1)
 
 pub outcome_of-before-requires-clause-readers : goal.outcome_of-before-requires-clause-readers
 outcome_of-before-requires-clause-readers g c =
     let within = subst (IsFaultWithin c.args.jobs.len) c.in-Err-Ring.field-0-is c.in-Err-Ring.ensures.fault in
-    omega (arith, within.1, c.in-Err-Ring.found.ok.0, c.len.ensures, c.in_ok-room.ensures.readers.1)
+    omega (arith, within.1, c.in-Err-Ring.found.ok.0, c.len.ensures, c.in_ok-thread_lists.ensures.readers.1)
 
 pub outcome_of-before-requires-clause-dropped : goal.outcome_of-before-requires-clause-dropped
 outcome_of-before-requires-clause-dropped g c =
     let within = subst (IsFaultWithin c.args.jobs.len) c.in-Err-Ring.field-0-is c.in-Err-Ring.ensures.fault in
-    omega (arith, within.1, c.in-Err-Ring.found.ok.0, c.len.ensures, c.in_ok-room.ensures.dropped.1)
+    omega (arith, within.1, c.in-Err-Ring.found.ok.0, c.len.ensures, c.in_ok-thread_lists.ensures.dropped.1)
 
 pub returns-in-Err-Ring-clause-ring : goal.returns-in-Err-Ring-clause-ring
 returns-in-Err-Ring-clause-ring g c = λ stream e.

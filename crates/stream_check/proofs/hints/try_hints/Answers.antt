@@ -31,7 +31,7 @@ hints-preserved g c =
     let s = c.args.state.now.params in
     let p = g.M.ClauseMap.caller_view c.args.map.now in
     let q = g.M.ClauseMap.caller_view c.look_up.new.map in
-    let gone : ℕ → Bool = is_among c.args.state.now.dropped.ids in
+    let is_dropped : ℕ → Bool = is_among c.args.state.now.dropped.ids in
     let led = c.hints.invariant.led in
     let looked = c.in_ok-clip.ensures.looked in
     let gives = c.in_ok-clip.ensures.gives in
@@ -51,9 +51,9 @@ hints-preserved g c =
       led = (
         led.0 ++ looked.0,
         subst (g.M.ClauseMap.moves c.args.map.now c.hint.new.map) (append-nil (led.0 ++ looked.0)) tried,
-        subst (λ (n : List ℤ). HasLed s gone p.caller.formula c.args.marks.now.falses c.args.hints.now n c.in-Some.rest.now
+        subst (λ (n : List ℤ). HasLed s is_dropped p.caller.formula c.args.marks.now.falses c.args.hints.now n c.in-Some.rest.now
             (led.0 ++ looked.0)) (sym falses)
-            (goes_on s gone p.caller.formula c.args.marks.now.falses c.hints.marks.falses c.args.hints.now c.in-Some.hint.now
+            (goes_on s is_dropped p.caller.formula c.args.marks.now.falses c.hints.marks.falses c.args.hints.now c.in-Some.hint.now
             c.hints.left.now c.in-Some.rest.now led.0 looked.0 c.in-Some.ensures.cases.0 led.2
             (clip_clause q c.in_ok-clip.clip) looked.2 step.0 derived step.1),
       );
@@ -64,7 +64,7 @@ returns-in-Conflict-clause-shown g c =
     let s = c.args.state.now.params in
     let p = g.M.ClauseMap.caller_view c.args.map.now in
     let q = g.M.ClauseMap.caller_view c.look_up.new.map in
-    let gone : ℕ → Bool = is_among c.args.state.now.dropped.ids in
+    let is_dropped : ℕ → Bool = is_among c.args.state.now.dropped.ids in
     let led = c.hints.invariant.led in
     let looked = c.in_ok-clip.ensures.looked in
     let gives = c.in_ok-clip.ensures.gives in
@@ -74,12 +74,14 @@ returns-in-Conflict-clause-shown g c =
     let caller_step = g.met.M.ClauseMap.moves_are_step c.args.map.now c.look_up.new.map (led.0 ++ looked.0) moved in
     let derived = derived_before p q (led.0 ++ looked.0) c.in_ok-clip.clip caller_step gives.0 gives.1 in
     let variables = variables_before s p q (led.0 ++ looked.0) c.requires.at caller_step gives.2 in
-    let shown = shows_conflict s gone p.caller.formula c.args.marks.now.falses c.hints.marks.falses c.args.hints.now c.in-Some.hint.now
+    let shown = shows_conflict s is_dropped p.caller.formula c.args.marks.now.falses c.hints.marks.falses c.args.hints.now
+    c.in-Some.hint.now
     c.hints.left.now c.in-Some.rest.now led.0 looked.0 c.in-Some.ensures.cases.0 led.2 (clip_clause q c.in_ok-clip.clip) looked.2
     c.requires.consistent derived variables c.in-Conflict.ensures.step.0 in (
       led.0 ++ looked.0,
       subst (g.M.ClauseMap.moves c.args.map.now c.hint.new.map) (append-nil (led.0 ++ looked.0)) tried,
-      subst (λ (r : Result (Unit {0}) Fault). Shows s gone p.caller.formula c.args.marks.now.falses c.args.hints.now (led.0 ++ looked.0) r)
+      subst (λ (r : Result (Unit {0}) Fault). Shows s is_dropped p.caller.formula c.args.marks.now.falses c.args.hints.now
+          (led.0 ++ looked.0) r)
           (sym c.excess.ensures) shown,
     )
 
@@ -88,7 +90,7 @@ returns-in-NotUnit-clause-shown g c =
     let s = c.args.state.now.params in
     let p = g.M.ClauseMap.caller_view c.args.map.now in
     let q = g.M.ClauseMap.caller_view c.look_up.new.map in
-    let gone : ℕ → Bool = is_among c.args.state.now.dropped.ids in
+    let is_dropped : ℕ → Bool = is_among c.args.state.now.dropped.ids in
     let led = c.hints.invariant.led in
     let looked = c.in_ok-clip.ensures.looked in
     let step = c.in-NotUnit.ensures.step in
@@ -97,7 +99,7 @@ returns-in-NotUnit-clause-shown g c =
     g.met.M.ClauseMap.moves_append c.args.map.now c.look_up.new.map c.hint.new.map (led.0 ++ looked.0) [] moved c.hint.ensures.event in (
       led.0 ++ looked.0,
       subst (g.M.ClauseMap.moves c.args.map.now c.hint.new.map) (append-nil (led.0 ++ looked.0)) tried,
-      shows_not_unit s gone p.caller.formula c.args.marks.now.falses c.hints.marks.falses c.args.hints.now c.in-Some.hint.now
+      shows_not_unit s is_dropped p.caller.formula c.args.marks.now.falses c.hints.marks.falses c.args.hints.now c.in-Some.hint.now
           c.hints.left.now c.in-Some.rest.now led.0 looked.0 c.in-Some.ensures.cases.0 led.2
           (clip_clause q c.in_ok-clip.clip) looked.2 step.0 step.1,
     )
@@ -106,13 +108,13 @@ pub returns-in_err-clip-clause-shown : goal.returns-in_err-clip-clause-shown
 returns-in_err-clip-clause-shown g c =
     let s = c.args.state.now.params in
     let f = (g.M.ClauseMap.caller_view c.args.map.now).caller.formula in
-    let gone : ℕ → Bool = is_among c.args.state.now.dropped.ids in
+    let is_dropped : ℕ → Bool = is_among c.args.state.now.dropped.ids in
     let led = c.hints.invariant.led in
     let looked = c.in_err-clip.ensures.looked in
     let given = err_from_is_err_and c.from_residual.result c.from_residual.ensures.1 in (
       led.0 ++ looked.0,
       g.met.M.ClauseMap.moves_append c.args.map.now c.hints.map c.look_up.new.map led.0 looked.0 led.1 looked.1,
-      rw (given.1, given.2) (shows_unfound s gone f c.args.marks.now.falses c.hints.marks.falses c.args.hints.now c.in-Some.hint.now
+      rw (given.1, given.2) (shows_unfound s is_dropped f c.args.marks.now.falses c.hints.marks.falses c.args.hints.now c.in-Some.hint.now
           c.hints.left.now c.in-Some.rest.now led.0 looked.0 c.in-Some.ensures.cases.0 led.2 c.in_err-clip.field-0.0 looked.2),
     )
 
@@ -120,10 +122,10 @@ pub returns-clause-shown : goal.returns-clause-shown
 returns-clause-shown g c =
     let s = c.args.state.now.params in
     let f = (g.M.ClauseMap.caller_view c.args.map.now).caller.formula in
-    let gone : ℕ → Bool = is_among c.args.state.now.dropped.ids in
+    let is_dropped : ℕ → Bool = is_among c.args.state.now.dropped.ids in
     let led = c.hints.invariant.led in (
       led.0,
       led.1,
-      shows_none s gone f c.args.marks.now.falses c.args.hints.now c.hints.marks.falses c.hints.left.now led.0
+      shows_none s is_dropped f c.args.marks.now.falses c.args.hints.now c.hints.marks.falses c.hints.left.now led.0
           c.in_default.ensures.cases led.2,
     )

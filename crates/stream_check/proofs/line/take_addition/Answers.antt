@@ -34,11 +34,11 @@ returns-in_err-add-clause-ready g c =
 pub returns-clause-taken : goal.returns-clause-taken
 returns-clause-taken g c =
     let old = c.args.state.now in
-    let new = c.take_addition.new.self in
+    let new = c.count_addition.new.self in
     let p = g.M.ClauseMap.caller_view c.args.map.now in
     let q = g.M.ClauseMap.caller_view c.add.new.map in
     let judged = c.in_ok-add.ensures.judged in
-    let added = c.take_addition.ensures in
+    let added = c.count_addition.ensures in
     let adds : Adds old new c.args.id c.is_empty.result c.refutes-within.result = record {
       last = added.last;
       added = added.added;
@@ -64,6 +64,6 @@ returns-clause-ready g c =
     let p = g.M.ClauseMap.caller_view c.args.map.now in
     let q = g.M.ClauseMap.caller_view c.add.new.map in
     let judged = c.in_ok-add.ensures.judged in
-    let added = c.take_addition.ensures in
-    ready_publish old c.take_addition.new.self p q p.room judged.0 c.args.id c.args.lits.now c.args.hints.now
+    let added = c.count_addition.ensures in
+    ready_publish old c.count_addition.new.self p q p.room judged.0 c.args.id c.args.lits.now c.args.hints.now
     (g.met.M.ClauseMap.moves_are_step c.args.map.now c.add.new.map judged.0 judged.1) judged.2 added.params added.last c.requires.ready

@@ -83,5 +83,6 @@ returns-in-Mark-clause-took g c =
           c.loop.invariant.params refl old.2 fed.2,
     )
 
-pub returns-in-Gone-clause-no_mark : goal.returns-in-Gone-clause-no_mark
-returns-in-Gone-clause-no_mark g c = subst EndsBeforeMark (sym (c.receive.ensures.gone c.in-Gone.is)) c.loop.invariant.no_mark
+pub returns-in-Abandoned-clause-no_mark : goal.returns-in-Abandoned-clause-no_mark
+returns-in-Abandoned-clause-no_mark g c = subst EndsBeforeMark
+    (sym (c.receive.ensures.abandoned c.in-Abandoned.is)) c.loop.invariant.no_mark

@@ -9,7 +9,7 @@ abbrev pub invariant-loop-started : goal.invariant-loop-started
 invariant-loop-started g l = record {
   next : (goal.iterator-loop-started g).can_next l.started-iterator × (goal.iterator-loop-started g).is_finite l.started-iterator;
   whole : l.yielded ++ into_iter_items l.started-iterator ≡ l.fn.all.items;
-  signal : AllByRecursion (λ one. one.signal ≡ l.told.of) (into_iter_items l.started-iterator);
+  signal : AllByRecursion (λ one. one.signal ≡ l.signalled.of) (into_iter_items l.started-iterator);
   ends : AllEnd (readers_view g.R.Source) (map (λ one. one.jobs) l.yielded) l.ends.items;
   count : vec_len l.ends + into_iter_len l.started-iterator ≡ vec_len l.fn.all;
   room : vec_capacity l.ends ≡ vec_capacity l.initial.ends;

@@ -5,7 +5,7 @@ use Rattle.idwords.specs.Seats.{ThreadState, SeatValue}
 use Rattle.idwords.specs.internal.Rule.{HoldsRowInvariant}
 use Rattle.idwords.specs.internal.Seating.{first_thread}
 use Rattle.idwords.specs.internal.Steps.{Joined, SyncThreads}
-use Rattle.idwords.proofs.MeetLemmas.{splits_hand, splits_thread, joins, meets, joined, parted}
+use Rattle.idwords.proofs.MeetLemmas.{splits_all, splits_thread, joins, meets, joined, parted}
 use Rattle.idwords.proofs.SeatLemmas.{words_of, seated_on}
 use Rattle.idwords.proofs.row.Row.meet.Goals as goal
 
@@ -21,7 +21,7 @@ split_seat-token-requires c =
         words_of token.table_id shared.table_id token.me c.second.inside.top c.second.inside.drafted c.second.inside.room
             c.second.invariant table,
       ),
-      splits_hand shared.key.formula.value shared.key.layout token.id token.me.0,
+      splits_all shared.key.formula.value shared.key.layout token.id token.me.0,
     )
 
 pub join_seat-requires : goal.join_seat-requires

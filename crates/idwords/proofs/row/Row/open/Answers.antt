@@ -17,8 +17,8 @@ of_words-requires c =
           (sym (c.as_slice.ensures.value ∙ c.in_ok-words.ensures.words)) kept.1),
     )
 
-pub deal-requires-clause-words : goal.deal-requires-clause-words
-deal-requires-clause-words c =
+pub seats_of-requires-clause-words : goal.seats_of-requires-clause-words
+seats_of-requires-clause-words c =
     c.in_ok-table.ensures.0 ∙ ap length (c.as_slice.ensures.value ∙ c.in_ok-words.ensures.words)
     ∙ length-opening_words c.args.formula.now c.args.layout.now c.requires
 

@@ -15,22 +15,22 @@ returns c =
     elim c.match-taken.branch [
       | in-More w ↦
           let taken = subst (λ s. StepsThrough before piece used s next) w.in-More.is c.read-taken.ensures in
-          let fed = fed_at piece used (fed_more before next piece used taken) old w.turn-is (ap (λ p. p.0) w.self-is ∙ after) in (
+          let fed = fed_at piece used (fed_more before next piece used taken) old w.status-is (ap (λ p. p.0) w.self-is ∙ after) in (
             (refl, (λ _. tt), fed.reaches),
-            record { gives = fed.gives; reaches = tt; bound = fed_bound c.args.self.now piece used c.match-taken.turn fed.gives },
+            record { gives = fed.gives; reaches = tt; bound = fed_bound c.args.self.now piece used c.match-taken.status fed.gives },
           )
       | in-Done w ↦
           let taken = subst (λ s. StepsThrough before piece used s next) w.in-Done.is c.read-taken.ensures in
-          let fed = fed_at piece used (fed_line before next piece used w.line.result w.line.ensures taken) old w.turn-is
+          let fed = fed_at piece used (fed_line before next piece used w.line.result w.line.ensures taken) old w.status-is
           (ap (λ p. p.0) w.self-is ∙ after) in (
             (refl, (λ _. tt), fed.reaches),
-            record { gives = fed.gives; reaches = tt; bound = fed_bound c.args.self.now piece used c.match-taken.turn fed.gives },
+            record { gives = fed.gives; reaches = tt; bound = fed_bound c.args.self.now piece used c.match-taken.status fed.gives },
           )
       | in-Refused w ↦
           let taken = subst (λ s. StepsThrough before piece used s next) w.in-Refused.is c.read-taken.ensures in
           let fed =
-          fed_at piece used (fed_fault before next piece used w.in-Refused.fault taken) old w.turn-is (ap (λ p. p.0) w.self-is) in (
+          fed_at piece used (fed_fault before next piece used w.in-Refused.fault taken) old w.status-is (ap (λ p. p.0) w.self-is) in (
             (refl, (λ _. tt), fed.reaches),
-            record { gives = fed.gives; reaches = tt; bound = fed_bound c.args.self.now piece used c.match-taken.turn fed.gives },
+            record { gives = fed.gives; reaches = tt; bound = fed_bound c.args.self.now piece used c.match-taken.status fed.gives },
           )
     ]

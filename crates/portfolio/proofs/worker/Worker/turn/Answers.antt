@@ -2,8 +2,8 @@ use Rattle.std.proofs.Common.{◌≡◌, ◌≢◌, ◌∙◌, List, [], false, 
 use Rattle.std.specs.Prelude.{IsSome}
 use Rattle.lrup_model.specs.Event.{History}
 use Rattle.stream_check.specs.Judging.{joined}
-use Rattle.stream_check.specs.declared.progress.CheckTurn.{CheckTurn}
-use Rattle.stream_check.specs.declared.progress.CheckTurn.TheVariants as turns
+use Rattle.stream_check.specs.declared.progress.CheckStatus.{CheckStatus}
+use Rattle.stream_check.specs.declared.progress.CheckStatus.TheVariants as statuses
 use Rattle.stream_check.specs.Checker.{AreBlocksOf}
 use Rattle.runs.specs.Readings.{readers_view}
 use Rattle.portfolio.specs.internal.Working.{AreBlocksOfTurn, WorkerValue, WorkerStep}
@@ -30,7 +30,7 @@ returns-then-ne-clause-holds g c =
     let old = c.loop.invariant.holds in
     let fed = c.feed.ensures.holds in
     let room = (g.M.ClauseMap.caller_view mid).room in
-    let differs : c.feed.result ≢ turns.More = search rules in (
+    let differs : c.feed.result ≢ statuses.More = search rules in (
       fed.0,
       g.met.M.ClauseMap.moves_append start mid end [] (joined fed.0) old.0 fed.1,
       turn_blocks c.feed.result c.feed.new.self.checker.ending fed.0 differs c.feed.ensures.over fed.2,
@@ -65,8 +65,8 @@ loop-preserved g c =
     let fed = c.feed.ensures.holds in
     let view = readers_view g.R.Source in
     let room = (g.M.ClauseMap.caller_view mid).room in
-    let more : c.feed.result ≡ turns.More = search rules in
-    let none : fed.0 ≡ [] = subst (λ (turn : CheckTurn). AreBlocksOf turn fed.0) more fed.2 in
+    let more : c.feed.result ≡ statuses.More = search rules in
+    let none : fed.0 ≡ [] = subst (λ (status : CheckStatus). AreBlocksOf status fed.0) more fed.2 in
     record {
       going = search rules;
       ready = c.feed.ensures.ready;

@@ -35,8 +35,9 @@ returns-in_err-try_hints-clause-judged g c =
     let admits = c.in_ok-admit.ensures.admitted in
     let shown = c.in_err-try_hints.ensures.shown in
     let fault = c.in_err-try_hints.field-0.0 in
-    let fails : FailsHints s st.gone (distinct c.args.lits.now) c.args.hints.now shown.0 fault =
-    subst (λ n. FailsHints s st.gone n c.args.hints.now shown.0 fault) (ap (λ (m : Propagation). m.falses) admits.marks_are) shown.2 in
+    let fails : FailsHints s st.is_dropped (distinct c.args.lits.now) c.args.hints.now shown.0 fault =
+    subst (λ n. FailsHints s st.is_dropped n c.args.hints.now shown.0 fault)
+    (ap (λ (m : Propagation). m.falses) admits.marks_are) shown.2 in
     let given = err_from_is_err_and c.from_residual-in_err-try_hints.result c.from_residual-in_err-try_hints.ensures.1 in
     rw (given.1, given.2) (
       shown.0,
@@ -76,9 +77,9 @@ publish-requires-clause-clause g c =
     let is = clause_is s st c.args.id c.args.lits.now c.admit.new.self.marks c.try_hints.new.marks c.clause.result.now admits
     c.try_hints.ensures.kept c.clause.ensures in
     let good =
-    shown_is s st st.gone p.caller.formula c.args.id c.args.lits.now c.args.hints.now c.admit.new.self.marks shown.0 admits shown.2 in
+    shown_is s st st.is_dropped p.caller.formula c.args.id c.args.lits.now c.args.hints.now c.admit.new.self.marks shown.0 admits shown.2 in
     subst (IsPublishable q.caller.formula) (sym is)
-    (publishable s p q st st.gone shown.0 c.args.id c.args.lits.now c.args.hints.now c.admit.new.self.marks step admits
+    (publishable s p q st st.is_dropped shown.0 c.args.id c.args.lits.now c.args.hints.now c.admit.new.self.marks step admits
     c.requires.count good)
 
 pub publish-requires-clause-room : goal.publish-requires-clause-room
@@ -92,7 +93,7 @@ publish-requires-clause-room g c =
     let step = g.met.M.ClauseMap.moves_are_step c.args.map.now c.try_hints.new.map shown.0 shown.1 in
     let is = clause_is s st c.args.id c.args.lits.now c.admit.new.self.marks c.try_hints.new.marks c.clause.result.now admits
     c.try_hints.ensures.kept c.clause.ensures in
-    let quiet = found_all s IsFetch (λ h r. tt) st.gone c.args.hints.now shown.2.0 shown.0 shown.2.4 in
+    let quiet = found_all s IsFetch (λ h r. tt) st.is_dropped c.args.hints.now shown.2.0 shown.0 shown.2.4 in
     omega (arith, ap length is, room_stays p q shown.0 step quiet, admits.fits)
 
 pub unreachable-requires : goal.unreachable-requires
@@ -120,7 +121,7 @@ returns-clause-judged g c =
     let is = clause_is s st c.args.id c.args.lits.now c.admit.new.self.marks c.try_hints.new.marks c.clause.result.now admits
     c.try_hints.ensures.kept c.clause.ensures in
     let good =
-    shown_is s st st.gone p.caller.formula c.args.id c.args.lits.now c.args.hints.now c.admit.new.self.marks shown.0 admits shown.2 in
+    shown_is s st st.is_dropped p.caller.formula c.args.id c.args.lits.now c.args.hints.now c.admit.new.self.marks shown.0 admits shown.2 in
     let e : Event = published_by s c.args.id c.args.lits.now in
     let last : g.M.ClauseMap.moves c.try_hints.new.map c.publish.new.self (e ∷ []) =
     subst (g.M.ClauseMap.moves c.try_hints.new.map c.publish.new.self)

@@ -3,8 +3,8 @@ use Rattle.std.proofs.lemmas.List.{take_all}
 use Rattle.lrup_text.specs.Feeding.{ReaderState, Feeds, ReaderReaches}
 use Rattle.lrup_text.specs.Faults.{IsRefused}
 use Rattle.lrup_text.specs.Lines.{IsPending, Cut, LineText, line_of}
-use Rattle.lrup_text.specs.declared.reader.ReaderTurn.{ReaderTurn}
-use Rattle.lrup_text.specs.declared.reader.ReaderTurn.TheVariants as turns
+use Rattle.lrup_text.specs.declared.reader.ReaderStatus.{ReaderStatus}
+use Rattle.lrup_text.specs.declared.reader.ReaderStatus.TheVariants as statuses
 use Rattle.stream_check.specs.declared.fault.Fault.TheVariants as faults
 use Rattle.stream_check.specs.declared.report.Ending.{Ending}
 use Rattle.stream_check.specs.declared.report.Ending.TheVariants as endings
@@ -27,8 +27,8 @@ returns-then-is_some-clause-left g c = (
   reaches_still c.args.self.now.params (checker_state c.args.self.now (g.M.ClauseMap.caller_view c.args.map.now).room),
 )
 
-pub returns-then-is_some-clause-turn : goal.returns-then-is_some-clause-turn
-returns-then-is_some-clause-turn g c =
+pub returns-then-is_some-clause-status : goal.returns-then-is_some-clause-status
+returns-then-is_some-clause-status g c =
     let over = some_of c.self.inside.ending (sym c.is_some.ensures ∙ c.if-is_some.true) in
     let now : c.args.self.now.ending ≡ Some over.0 = sym (ap (λ (v : CheckerValue). v.ending) c.self.view_is) ∙ over.1 in
     (over.0, now, λ none. absurd (let e : None ≡ Some over.0 = sym none ∙ now in cc))
@@ -44,10 +44,11 @@ returns-in-NeedMore-clause-left g c =
     let used = c.feed-fed.result.used in
     let none = none_of c.self.inside.ending (sym c.is_some.ensures ∙ c.if-is_some.false) in
     let reads : r ≡ Ok read = c.self.invariant.reads none in
-    let gives : Feeds (Ok read) piece used turns.NeedMore = subst (λ (s : ReaderState). Feeds s piece used turns.NeedMore) reads
-    (subst (λ (t : ReaderTurn). Feeds r piece used t) c.in-NeedMore.is c.feed-fed.ensures.gives) in
-    let reaches : ReaderReaches (Ok read) piece turns.NeedMore new = subst (λ (s : ReaderState). ReaderReaches s piece turns.NeedMore new)
-    reads (subst (λ (t : ReaderTurn). ReaderReaches r piece t new) c.in-NeedMore.is c.feed-fed.follows.holds-at-none) in
+    let gives : Feeds (Ok read) piece used statuses.NeedMore = subst (λ (s : ReaderState). Feeds s piece used statuses.NeedMore) reads
+    (subst (λ (t : ReaderStatus). Feeds r piece used t) c.in-NeedMore.is c.feed-fed.ensures.gives) in
+    let reaches : ReaderReaches (Ok read) piece statuses.NeedMore new = subst
+    (λ (s : ReaderState). ReaderReaches s piece statuses.NeedMore new)
+    reads (subst (λ (t : ReaderStatus). ReaderReaches r piece t new) c.in-NeedMore.is c.feed-fed.follows.holds-at-none) in
     let left = feeds_more h read new piece used p.room c.self.inside.ending none reaches.0 gives reaches.1 in (
       [],
       g.met.M.ClauseMap.moves_none c.args.map.now,
@@ -56,8 +57,8 @@ returns-in-NeedMore-clause-left g c =
           (checker_state (value_of h (read_of new) c.self.inside.ending) p.room)) c.self.view_is left,
     )
 
-pub returns-in-NeedMore-clause-turn : goal.returns-in-NeedMore-clause-turn
-returns-in-NeedMore-clause-turn g c =
+pub returns-in-NeedMore-clause-status : goal.returns-in-NeedMore-clause-status
+returns-in-NeedMore-clause-status g c =
     let r = c.self.inside.reader in
     let new = c.feed-fed.follows.lender-at-none in
     let read = read_of r in
@@ -65,10 +66,11 @@ returns-in-NeedMore-clause-turn g c =
     let used = c.feed-fed.result.used in
     let none = none_of c.self.inside.ending (sym c.is_some.ensures ∙ c.if-is_some.false) in
     let reads : r ≡ Ok read = c.self.invariant.reads none in
-    let gives : Feeds (Ok read) piece used turns.NeedMore = subst (λ (s : ReaderState). Feeds s piece used turns.NeedMore) reads
-    (subst (λ (t : ReaderTurn). Feeds r piece used t) c.in-NeedMore.is c.feed-fed.ensures.gives) in
-    let reaches : ReaderReaches (Ok read) piece turns.NeedMore new = subst (λ (s : ReaderState). ReaderReaches s piece turns.NeedMore new)
-    reads (subst (λ (t : ReaderTurn). ReaderReaches r piece t new) c.in-NeedMore.is c.feed-fed.follows.holds-at-none) in
+    let gives : Feeds (Ok read) piece used statuses.NeedMore = subst (λ (s : ReaderState). Feeds s piece used statuses.NeedMore) reads
+    (subst (λ (t : ReaderStatus). Feeds r piece used t) c.in-NeedMore.is c.feed-fed.ensures.gives) in
+    let reaches : ReaderReaches (Ok read) piece statuses.NeedMore new = subst
+    (λ (s : ReaderState). ReaderReaches s piece statuses.NeedMore new)
+    reads (subst (λ (t : ReaderStatus). ReaderReaches r piece t new) c.in-NeedMore.is c.feed-fed.follows.holds-at-none) in
     let all : take used piece ≡ piece = take_all used piece (omega (arith, gives)) in
     let here : read ≡ c.args.self.now.pending = ap (λ (v : CheckerValue). v.pending) c.self.view_is in
     let after : read_of new ≡ c.args.self.now.pending ++ piece = ap read_of reaches.0 ∙ ap (λ (b : List ℕ). b ++ piece) here in
@@ -93,10 +95,10 @@ returns-in-Ok-clause-left g c =
     let used = c.feed-fed.result.used in
     let line = c.in-Line.line in
     let none = none_of c.self.inside.ending (sym c.is_some.ensures ∙ c.if-is_some.false) in
-    let gives : Feeds (Ok read) piece used (turns.Line line) = subst (λ (s : ReaderState). Feeds s piece used (turns.Line line))
-    (c.self.invariant.reads none) (subst (λ (t : ReaderTurn). Feeds r piece used t) c.in-Line.is c.feed-fed.ensures.gives) in
-    let reaches : ReaderReaches r piece (turns.Line line) new =
-    subst (λ (t : ReaderTurn). ReaderReaches r piece t new) c.in-Line.is c.feed-fed.follows.holds-at-none in
+    let gives : Feeds (Ok read) piece used (statuses.Line line) = subst (λ (s : ReaderState). Feeds s piece used (statuses.Line line))
+    (c.self.invariant.reads none) (subst (λ (t : ReaderStatus). Feeds r piece used t) c.in-Line.is c.feed-fed.ensures.gives) in
+    let reaches : ReaderReaches r piece (statuses.Line line) new =
+    subst (λ (t : ReaderStatus). ReaderReaches r piece t new) c.in-Line.is c.feed-fed.follows.holds-at-none in
     let taken = c.in-Ok.ensures.taken in
     let left = feeds_line h n read new (take used piece) (taken.0 ∷ []) p.room q.room c.self.inside.ending none reaches.0
     (reaches_good c.good_line_taken.ensures h n p.room q.room read (take used piece) (line_of line) taken.0 gives.2 taken.2) in (
@@ -107,18 +109,19 @@ returns-in-Ok-clause-left g c =
           (checker_state (value_of n (read_of new) c.self.inside.ending) q.room)) c.self.view_is left,
     )
 
-pub returns-in-Ok-clause-turn : goal.returns-in-Ok-clause-turn
-returns-in-Ok-clause-turn g c =
+pub returns-in-Ok-clause-status : goal.returns-in-Ok-clause-status
+returns-in-Ok-clause-status g c =
     let r = c.self.inside.reader in
     let new = c.feed-fed.follows.lender-at-none in
     let piece = c.args.piece.now in
     let used = c.feed-fed.result.used in
     let line = c.in-Line.line in
     let none = none_of c.self.inside.ending (sym c.is_some.ensures ∙ c.if-is_some.false) in
-    let gives : Feeds (Ok (read_of r)) piece used (turns.Line line) = subst (λ (s : ReaderState). Feeds s piece used (turns.Line line))
-    (c.self.invariant.reads none) (subst (λ (t : ReaderTurn). Feeds r piece used t) c.in-Line.is c.feed-fed.ensures.gives) in
-    let reaches : ReaderReaches r piece (turns.Line line) new =
-    subst (λ (t : ReaderTurn). ReaderReaches r piece t new) c.in-Line.is c.feed-fed.follows.holds-at-none in
+    let gives : Feeds (Ok (read_of r)) piece used (statuses.Line line) = subst
+    (λ (s : ReaderState). Feeds s piece used (statuses.Line line))
+    (c.self.invariant.reads none) (subst (λ (t : ReaderStatus). Feeds r piece used t) c.in-Line.is c.feed-fed.ensures.gives) in
+    let reaches : ReaderReaches r piece (statuses.Line line) new =
+    subst (λ (t : ReaderStatus). ReaderReaches r piece t new) c.in-Line.is c.feed-fed.follows.holds-at-none in
     let text : LineText (line_of line) (c.args.self.now.pending ++ take used piece) =
     subst (λ (b : List ℕ). LineText (line_of line) (b ++ take used piece))
     (ap (λ (v : CheckerValue). v.pending) c.self.view_is) gives.2 in (
@@ -139,8 +142,8 @@ returns-in-Err-clause-left g c =
     let used = c.feed-fed.result.used in
     let line = c.in-Line.line in
     let none = none_of c.self.inside.ending (sym c.is_some.ensures ∙ c.if-is_some.false) in
-    let gives : Feeds (Ok read) piece used (turns.Line line) = subst (λ (s : ReaderState). Feeds s piece used (turns.Line line))
-    (c.self.invariant.reads none) (subst (λ (t : ReaderTurn). Feeds r piece used t) c.in-Line.is c.feed-fed.ensures.gives) in
+    let gives : Feeds (Ok read) piece used (statuses.Line line) = subst (λ (s : ReaderState). Feeds s piece used (statuses.Line line))
+    (c.self.invariant.reads none) (subst (λ (t : ReaderStatus). Feeds r piece used t) c.in-Line.is c.feed-fed.ensures.gives) in
     let taken = c.in-Err.ensures.taken in
     let stopped : Extends h.params (Going (hold h read p.room)) (take used piece) (taken.0 ∷ [])
     (Over (report_of_tally (tally_at n) c.ending.result) (is_among n.dropped.ids)) =
@@ -150,7 +153,7 @@ returns-in-Err-clause-left g c =
     (reaches_stopped h n p.room q.room read (take used piece) (line_of line) taken.0 c.in-Err.stop gives.2 taken.2) in
     let left = feeds_over h read (take used piece) (taken.0 ∷ []) p.room c.self.inside.ending
     (report_of_tally (tally_at n) c.ending.result) (is_among n.dropped.ids) none stopped in
-    rw c.tell.ensures (
+    rw c.notify_gate.ensures (
       taken.0 ∷ [],
       subst (g.M.ClauseMap.moves c.args.map.now c.take_line.new.map) (sym (append-nil taken.0)) taken.1,
       omega arith,
@@ -158,18 +161,19 @@ returns-in-Err-clause-left g c =
           (Over (report_of_tally (tally_at n) c.ending.result) (is_among n.dropped.ids))) c.self.view_is left,
     )
 
-pub returns-in-Err-clause-turn : goal.returns-in-Err-clause-turn
-returns-in-Err-clause-turn g c =
+pub returns-in-Err-clause-status : goal.returns-in-Err-clause-status
+returns-in-Err-clause-status g c =
     let r = c.self.inside.reader in
     let piece = c.args.piece.now in
     let used = c.feed-fed.result.used in
     let line = c.in-Line.line in
     let none = none_of c.self.inside.ending (sym c.is_some.ensures ∙ c.if-is_some.false) in
-    let gives : Feeds (Ok (read_of r)) piece used (turns.Line line) = subst (λ (s : ReaderState). Feeds s piece used (turns.Line line))
-    (c.self.invariant.reads none) (subst (λ (t : ReaderTurn). Feeds r piece used t) c.in-Line.is c.feed-fed.ensures.gives) in
+    let gives : Feeds (Ok (read_of r)) piece used (statuses.Line line) = subst
+    (λ (s : ReaderState). Feeds s piece used (statuses.Line line))
+    (c.self.invariant.reads none) (subst (λ (t : ReaderStatus). Feeds r piece used t) c.in-Line.is c.feed-fed.ensures.gives) in
     let text : LineText (line_of line) (c.args.self.now.pending ++ take used piece) =
     subst (λ (b : List ℕ). LineText (line_of line) (b ++ take used piece)) (ap (λ (v : CheckerValue). v.pending) c.self.view_is) gives.2 in
-    rw c.tell.ensures (c.ending.result, refl, λ going. inl (line_of line, text))
+    rw c.notify_gate.ensures (c.ending.result, refl, λ going. inl (line_of line, text))
 
 pub returns-in-Fault-clause-left : goal.returns-in-Fault-clause-left
 returns-in-Fault-clause-left g c =
@@ -182,13 +186,13 @@ returns-in-Fault-clause-left g c =
     let fault = c.in-Fault.fault in
     let report = report_of_tally (tally_at h) (endings.Bad c.line-in-Fault.result (faults.Text fault)) in
     let none = none_of c.self.inside.ending (sym c.is_some.ensures ∙ c.if-is_some.false) in
-    let gives : Feeds (Ok read) piece used (turns.Fault fault) = subst (λ (s : ReaderState). Feeds s piece used (turns.Fault fault))
-    (c.self.invariant.reads none) (subst (λ (t : ReaderTurn). Feeds r piece used t) c.in-Fault.is c.feed-fed.ensures.gives) in
+    let gives : Feeds (Ok read) piece used (statuses.Fault fault) = subst (λ (s : ReaderState). Feeds s piece used (statuses.Fault fault))
+    (c.self.invariant.reads none) (subst (λ (t : ReaderStatus). Feeds r piece used t) c.in-Fault.is c.feed-fed.ensures.gives) in
     let left = feeds_over h read (take used piece) [] p.room c.self.inside.ending report (is_among h.dropped.ids) none
     (subst (λ (n : ℕ). Extends h.params (Going (hold h read p.room)) (take used piece) []
     (Over (report_of_tally (tally_at h) (endings.Bad n (faults.Text fault))) (is_among h.dropped.ids))) (sym c.line-in-Fault.ensures)
     (reaches_refused h p.room read (take used piece) fault gives.2)) in
-    rw c.tell-in-Fault.ensures (
+    rw c.notify_gate-in-Fault.ensures (
       [],
       g.met.M.ClauseMap.moves_none c.args.map.now,
       omega arith,
@@ -196,17 +200,18 @@ returns-in-Fault-clause-left g c =
           (Over report (is_among h.dropped.ids))) c.self.view_is left,
     )
 
-pub returns-in-Fault-clause-turn : goal.returns-in-Fault-clause-turn
-returns-in-Fault-clause-turn g c =
+pub returns-in-Fault-clause-status : goal.returns-in-Fault-clause-status
+returns-in-Fault-clause-status g c =
     let h = c.self.inside.state in
     let r = c.self.inside.reader in
     let piece = c.args.piece.now in
     let used = c.feed-fed.result.used in
     let fault = c.in-Fault.fault in
     let none = none_of c.self.inside.ending (sym c.is_some.ensures ∙ c.if-is_some.false) in
-    let gives : Feeds (Ok (read_of r)) piece used (turns.Fault fault) = subst (λ (s : ReaderState). Feeds s piece used (turns.Fault fault))
-    (c.self.invariant.reads none) (subst (λ (t : ReaderTurn). Feeds r piece used t) c.in-Fault.is c.feed-fed.ensures.gives) in
+    let gives : Feeds (Ok (read_of r)) piece used (statuses.Fault fault) = subst
+    (λ (s : ReaderState). Feeds s piece used (statuses.Fault fault))
+    (c.self.invariant.reads none) (subst (λ (t : ReaderStatus). Feeds r piece used t) c.in-Fault.is c.feed-fed.ensures.gives) in
     let text : IsRefused (c.args.self.now.pending ++ take used piece) fault =
     subst (λ (b : List ℕ). IsRefused (b ++ take used piece) fault) (ap (λ (v : CheckerValue). v.pending) c.self.view_is) gives.2 in
-    rw c.tell-in-Fault.ensures
+    rw c.notify_gate-in-Fault.ensures
     (endings.Bad c.line-in-Fault.result (faults.Text fault), refl, λ going. inr (c.line-in-Fault.result, fault, refl, text))

@@ -1,6 +1,6 @@
 use Rattle.std.proofs.Common.{rules, ◌≡◌, ◌<◌, ◌≤◌, ◌-◌, length, nat_eq, slice_index_or, drop}
 use Rattle.rtrb.specs.Ring.{received}
-use Rattle.stream_ring.specs.Items.{end_told}
+use Rattle.stream_ring.specs.Items.{end_of_mark}
 use Rattle.stream_ring.proofs.Through.{byte_is_last, ends_there}
 use Rattle.stream_ring.proofs.channel.Receiver.receive.Goals as goal
 
@@ -12,7 +12,7 @@ returns-clause-mark g c = λ count end e.
     let some : 0 < n = search rules in
     let fits : n ≤ length t = search rules in
     let at : n - 1 ≡ count = cc in
-    let is : end_told (slice_index_or t (n - 1) 0) ≡ end = cc in
+    let is : end_of_mark (slice_index_or t (n - 1) 0) ≡ end = cc in
     rw c.pop_some-count.ensures.received
     (ends_there past t c.narrow.new.bytes (drop n c.args.bytes.now) n count end some fits (search rules) c.narrow.ensures at is)
 

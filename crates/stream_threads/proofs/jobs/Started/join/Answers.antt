@@ -1,7 +1,7 @@
 use Rattle.std.proofs.Common.{subst}
 use Rattle.runs.specs.Readings.{readers_view}
 use Rattle.stream_threads.specs.internal.Workers.{IsEndOf, StartedValue}
-use Rattle.stream_threads.specs.Jobs.{JobsValue}
+use Rattle.stream_threads.specs.Jobs.{StreamJobsValue}
 use Rattle.stream_threads.proofs.ThreadLemmas.{if_stayed}
 use Rattle.stream_threads.proofs.jobs.Started.join.Goals as goal
 
@@ -11,9 +11,9 @@ returns g c =
     let view = readers_view g.R.Source in
     let reading = c.self.inside.reading.promise in
     let checking = c.self.inside.checking.promise in
-    let jobs : JobsValue g.row.R.Denot =
+    let jobs : StreamJobsValue g.row.R.Denot =
     record { reader = reading.job.value.reader; checker = checking.job.value.checker; pass = checking.pass.value } in
-    let sent = if_stayed _ _ _ c.join.ensures c.unless_told_to_leave-sent.result c.unless_told_to_leave-sent.ensures in
-    let checked = if_stayed _ _ _ c.join-2.ensures c.unless_told_to_leave-checked.result c.unless_told_to_leave-checked.ensures in
-    subst (λ (one : StartedValue g.row.R.Denot). IsEndOf view one.jobs c.meet_ends.result) c.self.view_is
-    (c.meet_ends.ensures.end jobs sent.1 checked.1 checked.2)
+    let sent = if_stayed _ _ _ c.join.ensures c.result_after_start-sent.result c.result_after_start-sent.ensures in
+    let checked = if_stayed _ _ _ c.join-2.ensures c.result_after_start-checked.result c.result_after_start-checked.ensures in
+    subst (λ (one : StartedValue g.row.R.Denot). IsEndOf view one.jobs c.result_of.result) c.self.view_is
+    (c.result_of.ensures.end jobs sent.1 checked.1 checked.2)

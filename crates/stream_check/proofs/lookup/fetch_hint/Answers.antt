@@ -6,7 +6,7 @@ use Rattle.lrup_model.specs.CallerView.{Caller}
 use Rattle.lrup_model.specs.Replies.{reply_of}
 use Rattle.stream_check.specs.Lookup.{FetchesUpTo}
 use Rattle.stream_check.proofs.AskLemmas.{asks_again, asks_once, asks_nothing, not_vacant, gives_of}
-use Rattle.stream_check.proofs.lookup.ask.Goals as goal
+use Rattle.stream_check.proofs.lookup.fetch_hint.Goals as goal
 
 pub returns-in-Vacant-clause-asked : goal.returns-in-Vacant-clause-asked
 returns-in-Vacant-clause-asked g c =

@@ -4,7 +4,7 @@ use Rattle.lrup_text.specs.declared.device.StreamEnd.{StreamEnd}
 use Rattle.stream_check.specs.Judging.{JudgesBlocks}
 use Rattle.runs.specs.lemmas.StreamLemmas.{judged_out}
 use Rattle.stream_jobs.specs.Judged.{DropsBy}
-use Rattle.stream_jobs.proofs.pair.meet.Goals as goal
+use Rattle.stream_jobs.proofs.pair.jobs_agree.Goals as goal
 
 -- what was sent is what the reader told, and its reads gave
 pub returns-clause-read : goal.returns-clause-read
@@ -23,7 +23,7 @@ returns-clause-read g c first sent = (
 
 pub returns-clause-judged : goal.returns-clause-judged
 returns-clause-judged g c first v room blocks ids report sent marked fresh =
-    let same = c.came_through.ensures.same sent.bytes marked.bytes sent.end marked.end sent.sent marked.marked in (
+    let same = c.ends_agree.ensures.same sent.bytes marked.bytes sent.end marked.end sent.sent marked.marked in (
       record { bytes = sent.bytes; unneeded = []; end = Some sent.end },
       refl,
       (

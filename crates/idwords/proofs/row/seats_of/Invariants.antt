@@ -3,7 +3,7 @@ use Rattle.std.specs.Vec.{vec_capacity}
 use Rattle.idwords.specs.Spelling.{first_place}
 use Rattle.idwords.specs.internal.Rule.{opening_threads}
 use Rattle.idwords.specs.Seats.{opening_seat}
-use Rattle.idwords.proofs.row.deal.Given as goal
+use Rattle.idwords.proofs.row.seats_of.Given as goal
 
 abbrev pub invariant-loop-s : goal.invariant-loop-s
 invariant-loop-s l = record {

@@ -1,23 +1,23 @@
 use Rattle.std.proofs.Common.{List, ℕ, ◌∙◌, sym, ap, subst}
 use Rattle.lrup_model.specs.Pass.{pass_caller_view}
 use Rattle.runs.specs.Readings.{IsStreamOf, readers_view}
-use Rattle.stream_check.specs.DroppedValue.{DroppedValue}
+use Rattle.stream_check.specs.DroppedIdsValue.{DroppedIdsValue}
 use Rattle.stream_jobs.specs.Judged.{DropsBy}
 use Rattle.stream_threads.specs.internal.Workers.{IsEndOf}
 use Rattle.stream_threads.specs.Jobs.{MissesMark}
-use Rattle.stream_threads.proofs.joining.meet_ends.Goals as goal
+use Rattle.stream_threads.proofs.joining.result_of.Goals as goal
 
 pub returns-clause-end : goal.returns-clause-end
 returns-clause-end g c jobs sent judged no_mark =
-    let e = rw (sym c.meet.ensures.report ∙ c.in_ok-report.was) at judged in
+    let e = rw (sym c.jobs_agree.ensures.report ∙ c.in_ok-report.was) at judged in
     record {
       store = e.store;
       blocks = e.blocks;
       moves = e.moves;
       judged = λ fresh.
-          let met = c.meet.ensures.judged jobs.reader jobs.checker _ e.blocks _ _ sent e.judged fresh in
-          let same = sym c.meet.ensures.reader in
-          let dropped = ap (λ (d : DroppedValue). d.ids) (sym c.meet.ensures.dropped) in (
+          let met = c.jobs_agree.ensures.judged jobs.reader jobs.checker _ e.blocks _ _ sent e.judged fresh in
+          let same = sym c.jobs_agree.ensures.reader in
+          let dropped = ap (λ (d : DroppedIdsValue). d.ids) (sym c.jobs_agree.ensures.dropped) in (
             met.0,
             met.1,
             subst (λ r. IsStreamOf (readers_view g.R.Source) jobs.reader r met.0) same met.2,
@@ -32,8 +32,8 @@ returns-clause-end g c jobs sent judged no_mark =
 pub returns-in_err-report-clause-end : goal.returns-in_err-report-clause-end
 returns-in_err-report-clause-end g c jobs sent judged no_mark =
     let view = readers_view g.R.Source in
-    let read = c.meet.ensures.read jobs.reader sent in
-    let begun = c.meet.ensures.beginning in
+    let read = c.jobs_agree.ensures.read jobs.reader sent in
+    let begun = c.jobs_agree.ensures.beginning in
     let missed : MissesMark view jobs.reader = record {
       last = _;
       stream = read.0;
@@ -44,6 +44,6 @@ returns-in_err-report-clause-end g c jobs sent judged no_mark =
       came = _;
       left = begun.0;
       items_are = begun.1;
-      no_mark = rw (sym c.meet.ensures.report ∙ c.in_err-report.was) at no_mark;
+      no_mark = rw (sym c.jobs_agree.ensures.report ∙ c.in_err-report.was) at no_mark;
     } in
     subst (IsEndOf view jobs) (sym c.from_residual.ensures) missed

@@ -3,15 +3,15 @@ use Rattle.atomic_table.specs.Seated.{TableId}
 use Rattle.atomic_table.specs.Table.{Me}
 use Rattle.idwords.specs.Seats.{ThreadState, opening_thread, SeatValue, seat_value, opening_seat}
 use Rattle.idwords.specs.internal.Seating.{first_thread, first_only, others}
-use Rattle.idwords.proofs.MeetLemmas.{splits_deal}
+use Rattle.idwords.proofs.MeetLemmas.{splits_first}
 use Rattle.idwords.proofs.OpeningLemmas.{threads_next, first_next, dealt, get_old, get_new}
-use Rattle.idwords.proofs.row.deal.Goals as goal
+use Rattle.idwords.proofs.row.seats_of.Goals as goal
 
 pub split_seat-thread-requires : goal.split_seat-thread-requires
 split_seat-thread-requires c =
     let shared = c.args.table.now.shared in
     let token = c.loop-s.token in
-    (c.loop-s.invariant.table, omega (arith, c.requires.words), splits_deal shared.key.formula.value shared.key.layout token.id token.me.0)
+    (c.loop-s.invariant.table, omega (arith, c.requires.words), splits_first shared.key.formula.value shared.key.layout token.id token.me.0)
 
 pub invariant_of-push_reserved : goal.invariant_of-push_reserved
 invariant_of-push_reserved c =

@@ -2,6 +2,6 @@
 use Rattle.std.specs.Prelude.{ℕ, List}
 
 -- which identities they are, and for how many more there is room before memory is taken
-pub record DroppedValue : Type 0 where
+pub record DroppedIdsValue : Type 0 where
   pub ids : List ℕ
   pub spare : ℕ

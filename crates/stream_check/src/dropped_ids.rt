@@ -10,24 +10,24 @@ use std::marker::Model;
 /// The set of identities of the formula and of other streams that a stream deleted. For the others they stay; this stream may not use them
 /// as hints any more. It takes no memory before the first.
 #[derive(Drop)]
-pub struct Dropped {
+pub struct DroppedIds {
     ids: HashSet<Id>,
 }
 
-impl Model for Dropped {
+impl Model for DroppedIds {
     ghost use Rattle.std.specs.HashSet.{spare};
-    ghost use Rattle.stream_check.specs.DroppedValue.{DroppedValue};
+    ghost use Rattle.stream_check.specs.DroppedIdsValue.{DroppedIdsValue};
 
-    ghost Value = { DroppedValue };
+    ghost Value = { DroppedIdsValue };
 
     ghost view = { λ d. record { ids = d.ids.keys; spare = spare d.ids } };
 }
 
-impl Dropped {
-    pub(crate) fn new(alloc: Global) -> Dropped
+impl DroppedIds {
+    pub(crate) fn new(alloc: Global) -> DroppedIds
         ensures { result.ids ≡ [] }
     {
-        Dropped {
+        DroppedIds {
             ids: HashSet::new(alloc),
         }
     }
