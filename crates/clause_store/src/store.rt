@@ -84,7 +84,7 @@ impl Store {
     }
 
     /// Looks an identity up, 1 to the last: one load of its word, which has the state, the length and the place of the clause. The answer
-    /// is what the store had there at that moment.
+    /// is what the store had there at that moment. It changes nothing; the pass is `&mut` since contracts note in it what was seen.
     #[inline]
     #[tactic(auto, using(crate::proofs::LiteralsRead::start_read))]
     pub fn fetch(&self, pass: &mut Pass, id: Id) -> Fetched
@@ -97,6 +97,7 @@ impl Store {
     {
         let word = self.row.look(&mut pass.seat, id);
         match state_in(word) {
+            // No cast loses a bit: a row has at most 2^28 words, and a length less than 2^20 literals.
             LIVE => Fetched::Live(Clip::new(id, len(word) as u32, start(word) as u32)),
             RETIRED => Fetched::Retired,
             _ => Fetched::Vacant,

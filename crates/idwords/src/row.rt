@@ -62,8 +62,8 @@ fn seats_of(
 }
 
 /// The row of words, which all streams share: word 0, which is always 0, a word for each identity, and a word for each literal of
-/// the formula and of the streams' room. A clause takes half of its words only, since a word holds two literals. Contracts know the
-/// row by its name alone.
+/// the formula and of the streams' room. A word holds two literals, so a clause of n literals takes (n + 1) / 2 words: with a word for
+/// each literal there is enough room also for unit clauses alone. Contracts know the row by its name alone.
 #[derive(Drop)]
 pub struct Row {
     table: WordTable,
@@ -200,6 +200,7 @@ impl Row {
         if state(found) != LIVE {
             return Retired::NotLive;
         }
+        // One more makes the state retired, and keeps the length and the place.
         shared.compare_exchange::<Retire>(&mut seat.token, id as usize, found, found + 1);
         Retired::Done
     }

@@ -37,9 +37,9 @@ use stream_threads::{
 /// one store of clauses. The outcome has a report for each stream, and the verdict of these: whether a stream added the empty clause, or
 /// one that the cube, of assumed literals, makes false. There is one gate for each reader.
 ///
-/// All memory is taken before the first thread starts, except for the identities that streams drop. No reader is read before all threads
-/// have started. `run` returns when all threads have ended, so it blocks while a reader does. The faults, and when they come, are those of
-/// `RunFault`; after a fault there are no reports.
+/// All lists and buffers are made before the first thread starts. After that, threads take memory of their own, or a start fails; and
+/// streams keep the identities that they drop. No reader is read before all threads have started. `run` returns when all threads have
+/// ended, so it blocks while a reader does. The faults, and when they come, are those of `RunFault`; after a fault there are no reports.
 pub fn run<T: Threads + Wait + Sync, R: Source + Send + Drop, G: Gate + Send + Drop>(
     threads: &T,
     alloc: Global,

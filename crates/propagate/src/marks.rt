@@ -192,6 +192,7 @@ fn clause_status<M: ClauseMap>(falses: &Trail, map: &mut M, clip: &Clip) -> Clau
             continue;
         }
         match status_with_pair(falses, first, second) {
+            // It isn't met, since one of the two isn't false.
             ClauseStatus::Nothing => {}
             ClauseStatus::One(lit) => return status_after(falses, map, clip, i + 1, lit),
             ClauseStatus::More => return ClauseStatus::More,

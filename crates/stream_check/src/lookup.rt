@@ -14,7 +14,8 @@ use crate::params::StreamParams;
 use crate::stream_state::StreamState;
 use lrup_model::{ClauseMap, Clip, Fetched, Id};
 
-/// Fetches an identity again that was vacant, until it isn't, and at most `most` times. The gate may wait before each fetch.
+/// Fetches an identity again that was vacant, until it isn't, and at most `most` times. Nobody wakes a stream that waits for a clause of
+/// another one: it polls, and the gate may sleep before each fetch.
 // If it or `fetch_hint` isn't inlined, each reply goes back through memory, even if there is no second fetch.
 #[inline(always)]
 fn fetch_again<M: ClauseMap, G: Gate>(most: u64, map: &mut M, gate: &mut G, id: Id) -> Fetched
@@ -28,6 +29,7 @@ fn fetch_again<M: ClauseMap, G: Gate>(most: u64, map: &mut M, gate: &mut G, id: 
 {
     let stream = map.stream();
     for before in 0..most {
+        // Fetches are counted from 1, and the first one was made before.
         gate.before_fetch(stream, id, before + 2);
         match map.fetch(id) {
             Fetched::Vacant => {}

@@ -11,7 +11,8 @@ use crate::report::{Ending, Report};
 use lrup_model::Id;
 use std::alloc::Global;
 
-/// What a checker knows of the good lines so far, and the parameters by which they are checked.
+/// What a checker knows of the good lines so far, and of the identities that a bad deletion deleted before its fault; and the parameters
+/// by which lines are checked.
 #[derive(Drop)]
 pub struct StreamState {
     /// The stream, its layout and its cube, which never change.

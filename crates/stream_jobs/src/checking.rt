@@ -42,7 +42,7 @@ pub struct CheckingJob<G: Gate + Drop> {
 /// What a checking thread gives back: the stream's report, or none if no mark came; what the stream dropped; and the end of the ring.
 #[derive(Drop)]
 pub struct Checked {
-    /// The stream's report. There is none if the reading thread dropped its end before a mark came.
+    /// The stream's report. There is none if the ring was found abandoned before a mark came.
     pub report: Option<Report>,
     /// The identities that the stream dropped.
     pub dropped: DroppedIds,

@@ -1,4 +1,4 @@
-//! The two ends of a ring, and what each thread does at its own.
+//! The two halves, or ends, of a ring of items, and what each thread does at its own.
 //!
 //! An end that can't go on spins for a while, and then parks until the other end unparks it. `rtrb` and the parkers order memory: an item
 //! that is popped is the one that was pushed. A park that was unparked before returns at once, so no wake-up is lost.
@@ -21,7 +21,7 @@ const END: u16 = 256;
 /// The mark of a stream whose read failed: the item behind its last byte.
 const FAILURE: u16 = 257;
 
-/// Wakes the thread of the other end: when it is rung, and once more when it is dropped.
+/// Wakes the thread at the other half: when the bell is rung, and once more when it is dropped. It has no part in the ring of items.
 struct Bell(Unparker);
 
 impl Bell {
@@ -37,7 +37,7 @@ impl Drop for Bell {
     }
 }
 
-/// The end of the reading thread. Fields are dropped in order, so the thread that the dropped bell wakes finds the producer gone.
+/// The reading thread's half of the ring. Fields are dropped in order, so the thread that the dropped bell wakes finds the producer gone.
 #[derive(Drop)]
 pub struct Sender {
     pub producer: Producer<u16>,
@@ -45,7 +45,7 @@ pub struct Sender {
     not_empty: Bell,
 }
 
-/// The end of the checking thread. The consumer is dropped before the bell, too.
+/// The checking thread's half of the ring. The consumer is dropped before the bell, too.
 #[derive(Drop)]
 pub struct Receiver {
     pub consumer: Consumer<u16>,
@@ -99,7 +99,8 @@ impl Sender {
         producer
     }
 
-    /// Pushes all items, and blocks while the ring is full.
+    /// Pushes all items, and blocks while the ring is full. It doesn't look whether the consumer is gone: the checking thread receives
+    /// through the mark, also after a bad line, and keeps its half until both threads are joined.
     fn push_all<W: Wait>(&mut self, wait: &W, items: &[u16])
         ensures ring { SameProducer self.old.producer self.new.producer }
         ensures sent { sent self.new.producer ≡ sent self.old.producer ++ items.now }
@@ -245,6 +246,7 @@ impl Receiver {
         if count == 0 {
             return Received::Abandoned;
         }
+        // A mark is the last item that is pushed, so it can only be the last of those that are popped.
         let last = items[count - 1];
         narrow(&items[..count], &mut bytes[..count]);
         if last < END {

@@ -22,7 +22,8 @@ use stream_jobs::{CheckingJob, ReadingJob, Sent, jobs};
 pub enum ThreadFault<R: Source + Drop> {
     /// A thread of this stream, from 1 on, couldn't be started. No reader was read.
     Spawn(u64),
-    /// All threads have ended, but a checking thread received no mark. These are the results of the streams before the first such stream.
+    /// All threads have ended, but a checking thread found its ring abandoned before a mark. These are the results of the streams before
+    /// the first such stream.
     Ring(Vec<StreamResult<R>>),
 }
 

@@ -222,6 +222,7 @@ fn start_and_join<
         ends,
         found,
     } = lists;
+    // If a start fails, the threads that have started are told to leave, and the scope joins them before `check_all` returns.
     if let Err(stream) = start_all_checking(scope, threads, store, signal, all, &mut halves) {
         let _ = signal.set(threads, false);
         return Err(ThreadFault::Spawn(stream));
@@ -230,7 +231,8 @@ fn start_and_join<
         let _ = signal.set(threads, false);
         return Err(ThreadFault::Spawn(stream));
     }
-    // The signal is the run's own, so nobody set it before, and this fault never comes. No contract of `OnceLock` says so.
+    // The signal is the run's own, so nobody set it before, and this fault never comes. No contract of `OnceLock` says so. `Spawn` has to
+    // name a stream that there is, so without streams the answer is the empty list.
     let Ok(signalled) = signal_start(threads, signal) else {
         if started.is_empty() {
             return Ok(found);

@@ -1,4 +1,5 @@
-//! The start of the threads: first all that check, then all that read.
+//! The start of the threads: first all that check, then all that read. No thread does anything before all have started, so the order
+//! decides only which stream a failed start names.
 ghost use Rattle.std.specs.Prelude.{◌≡◌, ◌-◌, ◌<◌, ◌≤◌, [], IfErr, IfSome, OnOk, map, take, vec_capacity, vec_len};
 ghost use Rattle.std.specs.List.{AllByRecursion};
 ghost use Rattle.stream_threads.specs.Jobs.{CanBegin};
