@@ -117,10 +117,10 @@ CHECKPOINT_ROWS: Rows = [
     ("The run's formula was read at FORMULA.", """[[SavesFrom: Read first given.formula.now bytes next × IsFormulaText bytes
      formula]], by what the words say ([[IsCommandLineOf]], [[IsSaidBy: formula : first_of (codes "FORMULA") rows ≡ Some
      given.formula.now]]). Then assumptions were read and streams opened ([[AreOpened]])."""),
-    ("If each run of a chain reads what the one before saved, and the last one ends with status 0, no assignment satisfies "
-     "the first formula.",
-     """[[AreCheckpoints]] holds of such files, by `command.saved` of each run (`saved_rounds`, with rounds), and [[IsUnsatisfiableText]] of the last
-     one, by `command.sound`. So [[law files_refute]]; or, of runs without rounds, [[law outcomes_refute]]."""),
+    ("If each run of a chain writes its report, the next reads what it saved, and the last has status 0, no assignment "
+     "satisfies the first formula.",
+     """[[AreCheckpoints]] holds of such files, by `command.saved` or [`saved_rounds`](THEOREMS.md#5-rounds-and-chains), and
+     [[IsUnsatisfiableText]] of the last, by `command.sound`. So [[law files_refute]]; without rounds, [[law outcomes_refute]]."""),
     ("If it ends with status 8, no assignment satisfies the first formula and makes the last run's assumed literals true.",
      """[[law files_refute_under]], [[law outcomes_refute_under]]."""),
 ]
@@ -342,9 +342,9 @@ RIGHT_TOP = """The theorems above speak of the reports that came. These laws say
 RIGHT_ROWS: Rows = [
     ("A line is valid by the formula and the lines before it.", """[[IsValidLine]] holds with the [[Database]] that these
      lines leave. An addition has an own identity above the last one, literals over the variables, and room. Its hints name
-     clauses that are there ([[database_context]]), and these show its clause ([[IsValidAddition]], [[Accepts]]). An import has
-     the literals of a clause that is there and isn't the stream's own ([[IsValidImport: other : ¬ Owns layout stream id]]). By
-     the same relations streams are judged. A deletion names clauses that are there, each once ([[IsValidDeletion: there :
+     clauses that are there ([[database_context]]), and these show its clause ([[IsValidAddition]], [[Accepts]]). An import
+     has just the literals of a clause that isn't the stream's own ([[IsValidImport: other : ¬ Owns layout stream id]]). By the
+     same relations streams are judged. A deletion names clauses that are there, each once ([[IsValidDeletion: there :
      AllByRecursion (λ id. IsSome (base.clauses id)) ids]])."""),
     ("Whether that is LRAT without RAT, a reader has to judge.", """[EMITTING](EMITTING.md#what-differs-from-lrat) has the
      differences."""),
@@ -413,8 +413,8 @@ ROUNDS_ROWS: Rows = [
      next]]; [[SavesRound: saved : WasSavedBy its round.opened (formula_path plan.folder (number + 1)) bytes round.after]]."""),
     ("If the report was written, what each round but the last saved follows from the first formula. With status 3 or 8, so does "
      "what the last one saved.",
-     """[[fn command.saved_rounds: (folder : Text) → AskForRounds (texts words.now) folder]], [[ReportsEntailed: saved : SaveEntailed]],
-     [[ReportsEntailed: last_saved : (status ≡ 3) ⊎ (status ≡ 8)]]. What a round saved is a text of a formula over the same variables, and
+     """[[fn command.saved_rounds: (result ≡ 0) ⊎ ((result ≡ 3) ⊎ ((result ≡ 8) ⊎ (result ≡ 9)))]], [[ReportsEntailed: saved :
+     SaveEntailed]], [[ReportsEntailed: last_saved : (status ≡ 3) ⊎ (status ≡ 8)]]. What a round saved is a text of a formula over the same variables, and
      all its clauses follow from that of FORMULA ([[SavesEntailed]])."""),
     ("The streams of each round are checked as those of a single run.", """[[Round: checked : AreChecked its.reading]]: with a history, or
      with `--serial` an order of lines, of its own. Tries, assumed literals and `--serial` stay ([[Plan]])."""),

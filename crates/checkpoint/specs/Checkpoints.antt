@@ -67,7 +67,7 @@ last_file bytes (next ∷ more) = last_file next more
 abbrev pub IsUnsatisfiableText : List ℕ → Type 0
 IsUnsatisfiableText bytes = (formula : Cnf) × IsFormulaText bytes formula × IsUnsatisfiable formula
 
--- the same, if each literal of the cube is true
+-- the file is a text of a formula that no assignment satisfies that makes each literal of the cube true
 abbrev pub IsUnsatisfiableTextUnder : CubeValue → List ℕ → Type 0
 IsUnsatisfiableTextUnder cube bytes =
     (formula : Cnf) × IsFormulaText bytes formula × IsUnsatisfiableUnder formula cube

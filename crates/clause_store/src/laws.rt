@@ -6,7 +6,7 @@ pub fn sync_twice()
     ensures { SyncTwice }
 {}
 
-/// A pass that meets others one after the other makes no call, nor do they, and all of them are fair then.
+/// A pass that meets others one after the other makes no call, nor do they. They are fair then, and the pass is if it was before.
 pub fn meeting_keeps()
     ensures { MeetingKeeps }
 {}

@@ -17,7 +17,7 @@ use std::alloc::{AllocError, Global};
 use std::marker::Model;
 
 /// The clauses of a formula, which stay live, and those that the streams publish and retire. All threads share a store without a lock,
-/// and only `open` takes memory. No call waits or tries again.
+/// and only `open` takes memory. By its code no call waits or tries again.
 #[derive(Drop)]
 pub struct Store {
     row: Row,

@@ -303,7 +303,8 @@ pub record ReportsRounds (files : FilesView) (given : CommandLine) (folder : Tex
   pub said : SaysOfRound (length (last ∷ before)) out.failed last.unsaved err
   pub status_is : status ≡ report_status out.failed last.unsaved last.verdict
 
--- The round with this number saved the next one's formula: a text of a formula each clause of which follows from this one.
+-- The round with this number saved, for the next one, a text of a formula over the same variables, each clause of which follows from this
+-- formula.
 abbrev pub SavesEntailed : {its : Deeds} {plan : Plan} → Cnf → ℕ → Round its plan → Type 0
 SavesEntailed {its} {plan} formula number round =
     (bytes : List ℕ)
@@ -316,8 +317,8 @@ SaveEntailed formula [] = Unit {0}
 SaveEntailed formula (round ∷ before) =
     SavesEntailed formula (length (round ∷ before)) round × SaveEntailed formula before
 
--- The words have a command line, and the program ends with the report of rounds. Each round but the last saved the next one's formula: a text
--- of a formula each clause of which follows from that of FORMULA. With status 3 or 8 the last one did so, too.
+-- The words have a command line, and the program ends with the report of rounds. Each round but the last saved, for the next one, a text of
+-- a formula over the same variables, each clause of which follows from that of FORMULA. With status 3 or 8 so did the last one.
 pub record ReportsEntailed (files : FilesView) (words : List Text) (folder : Text)
     (after : files.its.State) (out err : SinkChange) (status : ℕ) : Type 0 where
   pub given : CommandLine

@@ -75,14 +75,14 @@ pub fn command<T: Threads + Wait + Sync, C: Clock + Sync, F: Machine, O: Sink, E
         let output = change (O.written out.old) (O.written out.new) (O.has_failed out.new) in
         let errors = change (E.written err.old) (E.written err.new) (E.has_failed err.new) in
         ProgramEnds view (texts words.now) files.new output errors result }
-    // With status 3 or 8, where the words ask for a checkpoint, what was saved there is a text of a formula each clause of which
+    // With status 3 or 8, if the words ask for a checkpoint, what was saved there is a text of a formula each clause of which
     // follows from that of FORMULA.
     ensures saved { let read = WasRead F.opens F.Input.Source.reads (F.tells files.old) in
         let save = WasSaved F.creates F.Output.Sink.written F.keeps in
         (path : Text) → AskToSave (texts words.now) path → (result ≡ 3) ⊎ (result ≡ 8)
         → NameCheckpoint F.opens read save files.old (texts words.now) path files.new }
-    // With a report, where the words ask for rounds, each round but the last saved the next one's formula, and with status 3 or 8 the
-    // last one did so, too: a text of a formula each clause of which follows from that of FORMULA.
+    // If a report was written (status 0, 3, 8 or 9), and the words ask for rounds, each round but the last saved, for the next one, a text
+    // of a formula over the same variables, each clause of which follows from that of FORMULA. With status 3 or 8 so did the last one.
     ensures saved_rounds { let view = files_view F.Files F.Machine.own F.Input.Source F.Output.Sink
         files.old in
         let output = change (O.written out.old) (O.written out.new) (O.has_failed out.new) in

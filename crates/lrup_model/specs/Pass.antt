@@ -61,7 +61,7 @@ pass_caller_view view = record {
   spelt = stored_in view.spelt;
 }
 
--- The pass made these calls, and saw whatever others did. After a call it is fair; after none it is fair if it was before.
+-- The pass made these calls, and may have seen calls of others. After a call it is fair; after none it is fair if it was before.
 pub record PassMoves (old new : View) (history : History) : Type 0 where
   pub caller : new.caller ≡ old.caller
   pub callers : AllByRecursion (λ event. stream_of event ≡ old.caller.stream) history

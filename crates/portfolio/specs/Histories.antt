@@ -43,7 +43,7 @@ pub record IsRunOf {S : Type 0} (Checked : Way) (view : SourceView S) (formula :
   pub read : AreRead S view.reads firsts lasts run.streams
   pub have_dropped : HaveDropped run_params 1 run.streams reports (map (λ d. d.ids) dropped)
 
--- It is of a run that was checked in this way, of which this holds.
+-- These readers, reports and dropped identities are of a run that was checked in this way, and of which this holds.
 abbrev pub IsOfRun : {S : Type 0} → Way → (view : SourceView S) (formula : Cnf)
     (run_params : RunParamsValue) (firsts lasts : List S) (reports : List Report)
     → List DroppedIdsValue
