@@ -12,7 +12,7 @@ use Rattle.lrup_text.specs.Faults.{IsRefused, HasTextFault}
 use Rattle.lrup_text.specs.internal.ByteNames.{line_feed, minus, zero_digit, letter_d, letter_i}
 use Rattle.lrup_text.specs.Writing.{space}
 use Rattle.lrup_text.specs.Grammar.{IsDigit, IsLine, standard}
-use Rattle.lrup_text.specs.Laws.{BeginningCut, CutGoesOn, EveryCut, PendingOrFaulty}
+use Rattle.lrup_text.specs.Laws.{BeginningCut, EveryCut}
 use Rattle.lrup_text.specs.Lines.{StreamLine, IsWithinLimits, line_text, HasNoLine, Cut, IsPending}
 use Rattle.lrup_text.specs.internal.Rests.{Spot, AtStart, InLead, AfterImport, BeforeLiteral, AfterMinus, InLiteral, BeforeList}
 use Rattle.lrup_text.specs.internal.Rests.{BeforeItem, InItem, AtEnd, MayComplete, Tracks, Moves, Blocks, Allows}
@@ -192,14 +192,6 @@ front_from read spot tracks bounded (b ∷ bytes) = elim (byte_at spot b bounded
 front_of : (bytes : List ℕ) → Front bytes
 front_of bytes = front_from [] AtStart at_start tt bytes
 
--- bytes that hold no whole line in front
-pub pending_or_faulty : PendingOrFaulty
-pending_or_faulty rest none = elim (front_of rest) [
-  | whole_line line more fits is ↦ absurd (none line more fits is)
-  | part pending ↦ inl pending
-  | faulty fault h ↦ inr (fault, h)
-]
-
 -- no line's text is empty
 text_some : (line : StreamLine) → IsWithinLimits line → 0 < length (line_text line)
 text_some line fits = elim (cases_eq (length (line_text line)) 0) [
@@ -239,7 +231,9 @@ every_cut stream = cut_up_to (length stream) stream (omega arith)
 
 -- Bytes and what follows them.
 
-pub cut_goes_on : CutGoesOn
+pub cut_goes_on : (bytes more : List ℕ) (lines others : List StreamLine) (rest left : List ℕ)
+    → Cut bytes lines rest → Cut (rest ++ more) others left
+    → Cut (bytes ++ more) (lines ++ others) left
 cut_goes_on bytes more lines others rest left a b = record {
   bytes = ap (λ l. l ++ more) a.bytes ∙ append_assoc (flat_map line_text lines) rest more ∙ ap (λ l. flat_map line_text lines ++ l) b.bytes
       ∙ sym (append_assoc (flat_map line_text lines) (flat_map line_text others) left)

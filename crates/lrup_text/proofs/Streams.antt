@@ -19,7 +19,7 @@ use Rattle.lrup_text.specs.Lines.{words_of, line_text, HasNoLine, Cut, line_of}
 use Rattle.lrup_text.specs.Faults.{IsLineFaultOf, IsRefused}
 use Rattle.lrup_text.specs.Feeding.{ReaderState, Feeds, ReaderReaches}
 use Rattle.lrup_text.specs.Cutting.{used_bytes, line_given, lines_given, IsCut}
-use Rattle.lrup_text.specs.Laws.{OneText, OneLine, NoTextBegins, TextsAreLines, OneCut, OneFault, EmptyCut, CallCuts, CallsCut}
+use Rattle.lrup_text.specs.Laws.{OneText, OneLine, NoTextBegins, TextsAreLines, OneCut, OneFault, EmptyCut, CallsCut}
 use Rattle.lrup_text.specs.Laws.{RefusedStays, OneFirstLine}
 use Rattle.lrup_text.proofs.Numerals.{decimal_byte, decimal_one, power_more, power_below}
 use Rattle.lrup_text.proofs.Rests.{same_head, same_tail}
@@ -319,9 +319,6 @@ cut_call stream lines (Ok read) new piece used NeedMore cut gives reaches =
 cut_call stream lines (Ok read) new piece used (Fault fault) cut gives reaches =
     subst (λ x. IsCut (stream ++ take used piece) (lines ++ []) x) (sym reaches)
     (read ++ take used piece, cut_longer stream lines read (take used piece) cut (refused_no_line _ fault gives.2), gives.2)
-
-pub call_cuts : CallCuts
-call_cuts = cut_call
 
 pub empty_cut : EmptyCut
 empty_cut = record { bytes = refl; each = tt; last = empty_pending.whole }

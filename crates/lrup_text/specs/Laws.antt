@@ -1,12 +1,11 @@
 -- The laws of the lines' texts, which the functions of `laws.rt` prove.
-use Rattle.std.specs.Prelude.{◌≡◌, ℕ, List, [], ◌++◌, take, Ok, ◌↔◌, ◌⊎◌}
+use Rattle.std.specs.Prelude.{◌≡◌, ℕ, List, [], ◌++◌, Ok, ◌↔◌}
 use Rattle.lrup_text.specs.declared.LineFault.{LineFault}
 use Rattle.lrup_text.specs.Faults.{IsRefused, HasTextFault}
 use Rattle.lrup_text.specs.Grammar.{IsLine, standard, Begins}
 use Rattle.lrup_text.specs.Lines.{StreamLine, IsWithinLimits, line_text, LineText, HasNoLine, IsPending, Cut}
-use Rattle.lrup_text.specs.declared.reader.ReaderStatus.{ReaderStatus}
-use Rattle.lrup_text.specs.Feeding.{ReaderState, Feeds, ReaderReaches}
-use Rattle.lrup_text.specs.Cutting.{Call, AreCalls, used_bytes, line_given, lines_given, IsCut}
+use Rattle.lrup_text.specs.Feeding.{ReaderState}
+use Rattle.lrup_text.specs.Cutting.{Call, AreCalls, used_bytes, lines_given, IsCut}
 
 -- a line has one text
 abbrev pub OneText : Type 0
@@ -49,17 +48,6 @@ BeginningCut = (bytes more : List ℕ) (lines all : List StreamLine) (rest left 
     → Cut bytes lines rest → Cut (bytes ++ more) all left
     → (others : List StreamLine) × (all ≡ lines ++ others) × Cut (rest ++ more) others left
 
--- a cut goes on with that of its rest and what follows
-abbrev pub CutGoesOn : Type 0
-CutGoesOn = (bytes more : List ℕ) (lines others : List StreamLine) (rest left : List ℕ)
-    → Cut bytes lines rest → Cut (rest ++ more) others left
-    → Cut (bytes ++ more) (lines ++ others) left
-
--- a rest in which no line is whole may become one, or has a fault
-abbrev pub PendingOrFaulty : Type 0
-PendingOrFaulty = (rest : List ℕ) → HasNoLine rest → IsPending rest
-    ⊎ ((fault : LineFault) × HasTextFault rest fault)
-
 -- a text that begins no line holds none, whatever follows it
 abbrev pub RefusedStays : Type 0
 RefusedStays = (bytes more : List ℕ) (fault : LineFault) → IsRefused bytes fault
@@ -78,28 +66,8 @@ EmptyPending = IsPending []
 abbrev pub EmptyCut : Type 0
 EmptyCut = IsCut [] [] (Ok [])
 
--- a call goes on with the cut, by the line that it gave, if any
-abbrev pub CallCuts : Type 0
-CallCuts = (stream : List ℕ) (lines : List StreamLine) (old new : ReaderState) (piece : List ℕ)
-    (used : ℕ) (status : ReaderStatus)
-    → IsCut stream lines old → Feeds old piece used status → ReaderReaches old piece status new
-    → IsCut (stream ++ take used piece) (lines ++ line_given status) new
-
 -- However a stream comes in pieces, the lines given are those that the bytes used are cut into.
 abbrev pub CallsCut : Type 0
 CallsCut = (stream : List ℕ) (lines : List StreamLine) (old new : ReaderState) (calls : List Call)
     → IsCut stream lines old → AreCalls old calls new
     → IsCut (stream ++ used_bytes calls) (lines ++ lines_given calls) new
-
--- The laws that a proof about a whole stream rests on, as one premise.
-pub record CutLaws : Type 0 where
-  pub one_first_line : OneFirstLine
-  pub one_cut : OneCut
-  pub every_cut : EveryCut
-  pub empty_pending : EmptyPending
-  pub empty_cut : EmptyCut
-  pub call_cuts : CallCuts
-  pub calls_cut : CallsCut
-  pub refused_stays : RefusedStays
-  pub pending_or_faulty : PendingOrFaulty
-  pub one_fault : OneFault

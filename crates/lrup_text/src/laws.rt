@@ -7,16 +7,12 @@ ghost use Rattle.lrup_text.specs.Laws.{
   OneCut,
   OneFault,
   EmptyCut,
-  CallCuts,
   CallsCut,
   EveryCut,
   BeginningCut,
-  CutGoesOn,
-  PendingOrFaulty,
   RefusedStays,
   OneFirstLine,
   EmptyPending,
-  CutLaws,
 };
 ghost use Rattle.lrup_text.specs.Cubes.{TextHasNoFault, CubeTextIsRead};
 
@@ -60,16 +56,6 @@ pub fn a_beginning_is_cut_alike()
     ensures { BeginningCut }
 {}
 
-/// A cut goes on with the cut of its rest and of what follows.
-pub fn a_cut_goes_on()
-    ensures { CutGoesOn }
-{}
-
-/// Bytes that hold no whole line in front may become one, or have a fault.
-pub fn a_rest_is_pending_or_faulty()
-    ensures { PendingOrFaulty }
-{}
-
 /// A text that begins no line holds none, whatever follows it.
 pub fn a_refused_text_holds_no_line()
     ensures { RefusedStays }
@@ -90,11 +76,6 @@ pub fn no_bytes_have_no_lines()
     ensures { EmptyCut }
 {}
 
-/// A call of a reader goes on with the cut of the stream, by the line that it gave, if any.
-pub fn a_call_cuts_on()
-    ensures { CallCuts }
-{}
-
 /// The lines that a reader gives are those that the stream is cut into, however it comes in pieces.
 pub fn calls_cut_the_stream()
     ensures { CallsCut }
@@ -108,9 +89,4 @@ pub fn a_cube_has_no_text_fault()
 /// The text of a cube is read as its literals, and printed from them.
 pub fn a_cube_text_is_read()
     ensures { CubeTextIsRead }
-{}
-
-/// The laws that a proof about a whole stream rests on, at one call.
-pub fn streams_are_cut()
-    ensures { CutLaws }
 {}

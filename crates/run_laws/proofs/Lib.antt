@@ -1,6 +1,5 @@
 mod Places
 mod GroupLemmas
-mod RestrictingLemmas
 mod AloneLemmas
 mod EarlyLemmas
 mod EmptiedLemmas

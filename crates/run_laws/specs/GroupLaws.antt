@@ -11,7 +11,7 @@ use Rattle.lrup_text.specs.declared.device.StreamEnd.TheVariants as stream_ends
 use Rattle.stream_check.specs.Laws.{IsOfMemory, IsOfFailure}
 use Rattle.stream_check.specs.declared.report.Ending.TheVariants as endings
 use Rattle.stream_check.specs.StreamParams.{StreamParams}
-use Rattle.runs.specs.Streams.{Stream, InputObservation, RunParamsValue, MatchesInput, JudgesStream, IsOrdered}
+use Rattle.runs.specs.Streams.{Stream, InputObservation, RunParamsValue, MatchesInput, JudgesStream}
 use Rattle.runs.specs.SequentialConsistency.{AreJudgedIn}
 use Rattle.runs.specs.Closed.{IsOfStream, CiteWithin, IsClosed}
 use Rattle.run_laws.specs.Groups.{one, AreClosedReaders, NoneOutOfMemory, IsGroup, AreIsolated, empty_stream, empty_report, with_others, IsRun, IsReadingOf}
@@ -40,25 +40,6 @@ ClosedIsGroup = (f : Cnf) (run_params : RunParamsValue) (set : ℕ → Bool) (h 
     → IsLegal f run_params.layout h → AreJudgedIn run_params set h 1 streams reports
     → IsClosed run_params.layout set streams → NoneOutOfMemory set reports
     → IsGroup f run_params set streams reports
-
--- so is a closed set of streams whose lines have an order, with others or not
-abbrev pub OrderedIsGroup : Type 0
-OrderedIsGroup =
-    (f : Cnf) (run_params : RunParamsValue) (all set : ℕ → Bool) (streams : List Stream)
-    (reports : List Report)
-    → Fits run_params.layout f → length streams ≡ run_params.layout.streams
-    → ((s : ℕ) → IsTrue (set s) → IsTrue (all s)) → IsOrdered f run_params all streams reports
-    → IsClosed run_params.layout set streams → NoneOutOfMemory set reports
-    → IsGroup f run_params set streams reports
-
--- and the lines of the set have an order by themselves
-abbrev pub OrderedRestricts : Type 0
-OrderedRestricts =
-    (f : Cnf) (run_params : RunParamsValue) (all set : ℕ → Bool) (streams : List Stream)
-    (reports : List Report)
-    → Fits run_params.layout f → length streams ≡ run_params.layout.streams
-    → ((s : ℕ) → IsTrue (set s) → IsTrue (all s)) → IsOrdered f run_params all streams reports
-    → IsClosed run_params.layout set streams → IsOrdered f run_params set streams reports
 
 -- A group is judged as in a run in which all other streams are empty.
 abbrev pub OthersEmpty : Type 0

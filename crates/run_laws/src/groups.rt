@@ -1,5 +1,5 @@
 //! Laws of groups. Each function does nothing: its contract is the law, which holds of every formula, layout, set and run.
-ghost use Rattle.run_laws.specs.GroupLaws.{BeginningsWithin, ReadersClosed, ClosedIsGroup, OrderedIsGroup, OrderedRestricts, OthersEmpty, AloneHasOneReport, RunIsolated, EarlyIsDecided, MatchIsReading, FailedIsReading, SameReadingAgrees, SameBytesAgree};
+ghost use Rattle.run_laws.specs.GroupLaws.{BeginningsWithin, ReadersClosed, ClosedIsGroup, OthersEmpty, AloneHasOneReport, RunIsolated, EarlyIsDecided, MatchIsReading, FailedIsReading, SameReadingAgrees, SameBytesAgree};
 
 use lrup_text::laws::{a_beginning_is_cut_alike, every_stream_is_cut};
 use stream_check::laws::{
@@ -24,20 +24,6 @@ pub fn readers_closed()
 /// A closed set of streams that one legal history judges is a group.
 pub fn closed_is_group()
     ensures { ClosedIsGroup }
-{
-    cited_fetched();
-}
-
-/// A closed set of streams whose lines have an order is a group.
-pub fn ordered_is_group()
-    ensures { OrderedIsGroup }
-{
-    closed_is_group();
-}
-
-/// The lines of a closed set of streams have an order by themselves if those of all have one.
-pub fn ordered_restricts()
-    ensures { OrderedRestricts }
 {
     cited_fetched();
 }

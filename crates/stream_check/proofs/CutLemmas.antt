@@ -10,7 +10,7 @@ use Rattle.stream_check.specs.StreamParams.{StreamParams}
 use Rattle.stream_check.specs.StreamContext.{context_of}
 use Rattle.stream_check.specs.Verdicts.{Good, Bad}
 use Rattle.stream_check.specs.Judging.{AreGood, joined, EndsAfter, at_bad_line, at_bad_text, at_memory, at_end}
-use Rattle.stream_check.specs.Laws.{cited_by, FetchesOnly, JudgedLinesCut, CitedFetched}
+use Rattle.stream_check.specs.Laws.{cited_by, FetchesOnly, CitedFetched}
 use Rattle.stream_check.specs.lemmas.ReportLemmas.{split_first, joined-append}
 use Rattle.stream_check.proofs.EventLemmas.{line_fetches}
 use Rattle.stream_check.proofs.StreamLemmas.{TextLaws, same_first}
@@ -37,10 +37,6 @@ line_begins laws line [] more left rest fit fits none e is = absurd (none line m
 line_begins laws line (o ∷ all) more left rest fit fits none e is =
     let same = same_first laws line o more (flat_map line_text all ++ rest) fit fits.0 (sym e ∙ is ∙ split_first o all rest) in
     (all, ap (λ x. x ∷ all) (sym same.0))
-
-pub judged_lines_cut : TextLaws → JudgedLinesCut
-judged_lines_cut laws c bytes end blocks report all rest j cut =
-    let begins = lines_begin laws j.lines all j.rest rest j.fits cut.each cut.last (sym j.text ∙ cut.bytes) in (begins.0, begins.1)
 
 CitedPass : (ℕ → Bool) → StreamLine → Type 0
 CitedPass p line = AllByRecursion (λ h. IsTrue (p h)) (cited_by line)

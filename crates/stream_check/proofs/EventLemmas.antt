@@ -17,7 +17,7 @@ use Rattle.stream_check.specs.Lookup.{FetchesHintAt, FetchesHint}
 use Rattle.stream_check.specs.lemmas.EventLemmas.{addition_holds, import_holds, identities_hold, IsAny, all_any, asked_are, asked_more}
 use Rattle.stream_check.specs.Judging.{JudgesLine}
 use Rattle.stream_check.specs.Reducing.{IsEarly, AreEarly, StartsWithFetchOf, TriesAgain}
-use Rattle.stream_check.specs.Laws.{LineCalls, EarlyEvents, VacantTriesAgain, cited_by, FetchesOnly}
+use Rattle.stream_check.specs.Laws.{EarlyEvents, VacantTriesAgain, cited_by, FetchesOnly}
 
 -- Something that holds of the events of a line, from the last one on
 
@@ -39,19 +39,6 @@ module _ (c : StreamParams) (IsHint : ℕ → Type 0) (P : History → Type 0) (
       identities_hold c P holds.none IsAny (λ id rest any. holds.retired id rest) (λ id any. holds.refused id) st.is_dropped [] ids es v
       (all_any ids) judged
   line_holds st (Import id lits) es v all judged = import_holds c P holds.none IsHint holds.asked st id lits es v all.0 judged
-
--- Calls of the stream
-
-pub line_calls : LineCalls
-line_calls c st line es v judged =
-    let IsOurs : Event → Type 0 = λ e. stream_of e ≡ c.stream in
-    line_holds c IsAny (AllByRecursion IsOurs) (record {
-      none = tt;
-      published = λ id d r. (refl, tt);
-      asked = λ h asked rest r any asks ends all. asked_more IsOurs c h asked rest r (λ x. refl) asks all;
-      retired = λ id rest all. (refl, all);
-      refused = λ id. (refl, tt);
-    }) st line es v (all_any (cited_by line)) judged
 
 -- Before the last event
 

@@ -10,21 +10,22 @@ use Rattle.lrup_text.specs.Faults.{IsRefused, HasTextFault}
 use Rattle.lrup_text.specs.Laws.{TextsAreLines, EmptyCut}
 use Rattle.lrup_text.specs.declared.device.StreamEnd.{StreamEnd}
 use Rattle.lrup_text.specs.declared.device.StreamEnd.TheVariants as stream_ends
+use Rattle.stream_check.specs.declared.fault.Fault.{Fault}
 use Rattle.stream_check.specs.declared.fault.Fault.TheVariants as faults
 use Rattle.stream_check.specs.declared.report.Ending.{Ending}
 use Rattle.stream_check.specs.declared.report.Ending.TheVariants as endings
 use Rattle.stream_check.specs.declared.report.Report.{Report}
 use Rattle.stream_check.specs.StreamParams.{StreamParams, ownership_of, is_shared}
-use Rattle.stream_check.specs.StreamContext.{StreamContext, context_of, is_among, capped}
+use Rattle.stream_check.specs.StreamContext.{StreamContext, context_of, is_among, capped, deleted_by}
 use Rattle.stream_check.specs.Stopping.{StopsAtLine, DropsMore, AreDeletedFirst, DropsUntilStop}
 use Rattle.stream_check.specs.Verdicts.{Good, Bad}
 use Rattle.stream_check.specs.Deletions.{StopsDeletion}
 use Rattle.stream_check.specs.Judging.{JudgesLine, AreGood, report_of, EndsAfter, at_bad_line, at_bad_text, at_memory, at_end, ending_at}
 use Rattle.stream_check.specs.Judging.{JudgesBlocks}
 use Rattle.stream_check.specs.CheckerValue.{Tally, report_of_tally}
-use Rattle.stream_check.specs.Reaching.{GoingState, SameContext, ReachesGoing, context_after, tally_after}
-use Rattle.stream_check.specs.Laws.{FreshLeft, PendingGrows, GoodLineTaken, BadLineTaken, BadTextRead, MemoryWanted, EndJudged, OverStays}
-use Rattle.stream_check.specs.Laws.{IsDecided, EitherEnd, DecidedBeforeFailure}
+use Rattle.stream_check.specs.Reaching.{GoingState, SameContext, ReachesGoing, context_after, tally_after, ReachesState, Going, Over}
+use Rattle.stream_check.specs.Laws.{FreshLeft, GoodLineTaken, EndJudged, OverStays}
+use Rattle.stream_check.specs.Laws.{DecidedBeforeFailure}
 use Rattle.stream_check.specs.lemmas.ContextLemmas.{context_of-snoc, counts_of, tally_is, tally_says, counts_of-snoc, same_context}
 use Rattle.stream_check.specs.lemmas.StoppingLemmas.{drops_none}
 
@@ -82,7 +83,10 @@ fresh_left texts none c now fresh =
       line = fresh.line;
     }
 
-pub pending_grows : PendingGrows
+-- more bytes of a line
+pub pending_grows : (c : StreamParams) (bytes piece : List ℕ) (blocks : List History) (old : GoingState)
+    → ReachesState c bytes blocks (Going old) → IsPending (old.pending ++ piece)
+    → ReachesState c (bytes ++ piece) blocks (Going (record old { pending = old.pending ++ piece }))
 pending_grows c bytes piece blocks old before pending = record {
   lines = before.lines;
   cut = record {
@@ -199,7 +203,17 @@ held_drops c bytes piece blocks old ids is_dropped report before number first co
 whole_text : (line : StreamLine) (bytes : List ℕ) → LineText line bytes → bytes ≡ line_text line ++ []
 whole_text line bytes text = text.1 ∙ sym (append-nil (line_text line))
 
-pub bad_line_taken : BadLineTaken
+-- a bad line, which deleted these identities before its fault
+pub bad_line_taken : (c : StreamParams) (bytes piece : List ℕ) (blocks : List History) (block : History)
+    (old : GoingState) (line : StreamLine) (ids later : List ℕ) (fault : Fault) (is_dropped : ℕ
+    → Bool)
+    → ReachesState c bytes blocks (Going old) → LineText line (old.pending ++ piece)
+    → deleted_by line ≡ ids ++ later
+    → JudgesLine c old.context line block (Bad (length ids) fault)
+    → DropsMore c old.context.is_dropped ids is_dropped
+    → ReachesState c (bytes ++ piece) (blocks ++ block ∷ [])
+    (Over (report_of_tally (record old.tally { deleted = capped (old.tally.deleted + length ids) })
+    (endings.Bad old.line fault)) is_dropped)
 bad_line_taken c bytes piece blocks block old line ids later fault is_dropped before text deletes judged drops =
     let deleted = length ids in
     let report = report_of_tally (with_deleted old.tally deleted) (endings.Bad old.line fault) in
@@ -214,7 +228,16 @@ bad_line_taken c bytes piece blocks block old line ids later fault is_dropped be
           (ap (λ (r : Report). r.deleted) says) drops,
     )
 
-pub memory_wanted : MemoryWanted
+-- a deletion that ran out of memory, after these identities
+pub memory_wanted : (c : StreamParams) (bytes piece : List ℕ) (blocks : List History) (block : History)
+    (old : GoingState) (lead : ℕ) (ids earlier : List ℕ) (is_dropped : ℕ → Bool)
+    → ReachesState c bytes blocks (Going old) → LineText (Deletion lead ids) (old.pending ++ piece)
+    → StopsDeletion c old.context.is_dropped ids block earlier
+    → DropsMore c old.context.is_dropped earlier is_dropped
+    → ReachesState c (bytes ++ piece) (blocks ++ block ∷ [])
+    (Over (report_of_tally
+    (record old.tally { deleted = capped (old.tally.deleted + length earlier) })
+    (endings.Memory old.line)) is_dropped)
 memory_wanted c bytes piece blocks block old lead ids earlier is_dropped before text stops drops =
     let report = report_of_tally (with_deleted old.tally (length earlier)) (endings.Memory old.line) in
     let says = held_more c bytes blocks old (length earlier) (λ n. endings.Memory n) before in
@@ -232,7 +255,13 @@ memory_wanted c bytes piece blocks block old lead ids earlier is_dropped before 
 refused_alone : (bytes : List ℕ) (fault : LineFault) → IsRefused bytes fault → HasTextFault bytes fault
 refused_alone bytes fault refused = (bytes, [], sym (append-nil bytes), refused)
 
-pub bad_text_read : BadTextRead
+-- a text that begins no line
+pub bad_text_read : (c : StreamParams) (bytes piece : List ℕ) (blocks : List History) (old : GoingState)
+    (fault : LineFault)
+    → ReachesState c bytes blocks (Going old) → IsRefused (old.pending ++ piece) fault
+    → ReachesState c (bytes ++ piece) blocks
+    (Over (report_of_tally old.tally
+    (endings.Bad old.line (faults.Text fault))) old.context.is_dropped)
 bad_text_read c bytes piece blocks old fault before refused =
     let report = report_of_tally old.tally (endings.Bad old.line (faults.Text fault)) in
     let says = held_report c bytes blocks old (λ n. endings.Bad n (faults.Text fault)) before in
@@ -294,16 +323,6 @@ before_end c bytes more end other blocks report j last =
           (ap (λ r. r ++ more) text ∙ append_assoc (line_text (Deletion lead ids)) after more) fits block one_block earlier stops says)
       | at_end pending no_block says ↦ last says
     ]
-
--- an ending by the end isn't decided before it
-not_decided : (end : StreamEnd) (rest : List ℕ) (number : ℕ) → IsDecided (ending_at end rest number) → ⊥
-not_decided stream_ends.Ended [] number decided = decided
-not_decided stream_ends.Ended (byte ∷ rest) number decided = decided refl
-not_decided stream_ends.Failed rest number decided = decided
-
-pub either_end : EitherEnd
-either_end c bytes more end other blocks report decided j = before_end c bytes more end other blocks report j
-    (λ says. absurd (not_decided end j.rest (capped (length j.lines + 1)) (subst IsDecided (ap (λ (r : Report). r.ending) says) decided)))
 
 pub decided_before_failure : DecidedBeforeFailure
 decided_before_failure c bytes more end blocks report untold j = before_end c bytes more stream_ends.Failed end blocks report j

@@ -1,14 +1,19 @@
 -- Where a checker may be fed: at a map that was just opened, and still after other streams' calls.
-use Rattle.std.proofs.Common.{ℕ, sym, ap, ap₂, subst, ◌∙◌}
+use Rattle.std.proofs.Common.{◌≢◌, ◌≡◌, ℕ, sym, ap, ap₂, subst, ◌∙◌}
+use Rattle.std.specs.List.{AllByRecursion}
 use Rattle.lrup_model.specs.Formula.{Cnf}
 use Rattle.lrup_model.specs.Layout.{LayoutValue, Owns}
-use Rattle.lrup_model.specs.State.{State}
-use Rattle.lrup_model.specs.CallerView.{Caller}
+use Rattle.lrup_model.specs.State.{State, run}
+use Rattle.lrup_model.specs.CallerView.{Caller, CallerView}
 use Rattle.lrup_model.specs.Plain.{plain_caller_view}
 use Rattle.lrup_model.specs.lemmas.HistoryLemmas.{opening-owned, vacant_above_stays}
 use Rattle.lrup_model.specs.lemmas.CallerLemmas.{calls_differ}
+use Rattle.lrup_model.specs.History.{LegalFrom}
+use Rattle.lrup_model.specs.Event.{History, stream_of, own}
+use Rattle.stream_check.specs.Checker.{IsReadyAt}
+use Rattle.stream_check.specs.CheckerValue.{CheckerValue}
 use Rattle.stream_check.specs.StreamParams.{StreamParams}
-use Rattle.stream_check.specs.Laws.{ReadyNew, ReadyStays, ReadyBeside}
+use Rattle.stream_check.specs.Laws.{ReadyNew, ReadyBeside}
 
 pub ready_new : ReadyNew
 ready_new f layout cube stream tries v p new fits caller own = record {
@@ -20,7 +25,13 @@ ready_new f layout cube stream tries v p new fits caller own = record {
       let here = subst (λ (c : Caller). Owns c.layout c.stream id) caller owns in own id here ∙ opening-owned f layout stream id fits here;
 }
 
-pub ready_stays : ReadyStays
+-- after legal events of other streams, if the stream's own identities have what these leave
+pub ready_stays : (v : CheckerValue) (p q : CallerView) (es : History)
+    → IsReadyAt v p → q.caller ≡ p.caller
+    → LegalFrom p.caller.formula p.caller.layout p.own es
+    → AllByRecursion (λ e. stream_of e ≢ p.caller.stream) es
+    → ((id : ℕ) → Owns p.caller.layout p.caller.stream id → q.own id ≡ run p.own es id)
+    → IsReadyAt v q
 ready_stays v p q es ready same legal others own =
     let before : (id : ℕ) → Owns q.caller.layout q.caller.stream id → Owns p.caller.layout p.caller.stream id =
     λ id owns. subst (λ (c : Caller). Owns c.layout c.stream id) same owns in

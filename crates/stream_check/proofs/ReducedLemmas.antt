@@ -13,13 +13,13 @@ use Rattle.stream_check.specs.declared.report.Report.{Report}
 use Rattle.stream_check.specs.declared.params.Ownership.{Ownership}
 use Rattle.stream_check.specs.declared.params.Ownership.TheVariants as ownerships
 use Rattle.stream_check.specs.StreamParams.{StreamParams, ownership_of}
-use Rattle.stream_check.specs.StreamContext.{context_of}
-use Rattle.stream_check.specs.Verdicts.{Good, Bad}
+use Rattle.stream_check.specs.StreamContext.{context_of, StreamContext}
+use Rattle.stream_check.specs.Verdicts.{Good, Bad, LineVerdict}
 use Rattle.stream_check.specs.Lookup.{FetchesHintAt, FetchesHint, answer_of, LooksUp}
-use Rattle.stream_check.specs.Judging.{AreGood, EndsAfter, at_bad_line, at_bad_text, at_memory, at_end}
+use Rattle.stream_check.specs.Judging.{AreGood, EndsAfter, at_bad_line, at_bad_text, at_memory, at_end, JudgesLine}
 use Rattle.stream_check.specs.lemmas.MappingLemmas.{LooksOn, line_maps}
 use Rattle.stream_check.specs.Reducing.{is_vacant, reduced}
-use Rattle.stream_check.specs.Laws.{ReducedLine, ReducedStream}
+use Rattle.stream_check.specs.Laws.{ReducedStream}
 use Rattle.stream_check.specs.lemmas.ReducingLemmas.{reduced_kept, reduced_left_out, all_vacant_stay}
 
 -- Reducing
@@ -109,7 +109,9 @@ looks_reduced c is_dropped h asked rest answer (inl dropped) ends =
 looks_reduced c is_dropped h asked rest answer (inr found) ends =
     asks_reduced found.1 c is_dropped h asked rest answer found.0 found.2 found.3 ends
 
-pub reduced_line : ReducedLine
+-- a line without the vacant fetches of the hints that it found is judged alike
+pub reduced_line : (c : StreamParams) (st : StreamContext) (line : StreamLine) (es : History) (v : LineVerdict)
+    → JudgesLine c st line es v → JudgesLine c st line (reduced es) v
 reduced_line c st line es v judged =
     line_maps c c.cube reduced refl (λ id lits. refl) (λ id r rest. refl) (looks_reduced c) st line es v judged
 

@@ -1,39 +1,32 @@
 -- Laws of judging, each the contract of a function in `src/laws.rt`, and the words that they need.
-use Rattle.std.specs.Prelude.{◌≡◌, ◌≢◌, ◌↔◌, ◌≤◌, ◌<◌, ◌^◌, ◌+◌, ◌-◌, ◌++◌, ℕ, ℤ, Bool, IsTrue, List, [], ◌∷◌, map, length}
+use Rattle.std.specs.Prelude.{◌≡◌, ◌≢◌, ◌↔◌, ◌≤◌, ◌<◌, ◌^◌, ◌-◌, ◌++◌, ℕ, ℤ, Bool, IsTrue, List, [], ◌∷◌, map}
 use Rattle.std.specs.List.{AllByRecursion, Any}
 use Rattle.lrup_model.specs.Cube.{CubeValue, Within}
 use Rattle.lrup_model.specs.Formula.{Cnf}
 use Rattle.lrup_model.specs.Entailment.{Follows}
 use Rattle.lrup_model.specs.Layout.{LayoutValue, Fits, Owns, last_identity}
-use Rattle.lrup_model.specs.State.{State, opening, run}
+use Rattle.lrup_model.specs.State.{State, opening}
 use Rattle.lrup_model.specs.History.{LegalFrom, IsLegal}
 use Rattle.lrup_model.specs.Event as events
 use Rattle.lrup_model.specs.Event.{Event, History, stream_of, own}
 use Rattle.lrup_model.specs.CallerView.{CallerView}
 use Rattle.lrup_model.specs.Plain.{Plain, plain_caller_view, PlainMoves}
-use Rattle.lrup_text.specs.declared.LineFault.{LineFault}
-use Rattle.lrup_text.specs.declared.LineFault.TheVariants as texts
-use Rattle.lrup_text.specs.Lines.{StreamLine, Addition, Deletion, Import, Cut, LineText, IsPending}
-use Rattle.lrup_text.specs.Faults.{IsRefused}
+use Rattle.lrup_text.specs.Lines.{StreamLine, Addition, Deletion, Import, Cut, LineText}
 use Rattle.lrup_text.specs.declared.device.StreamEnd.{StreamEnd}
 use Rattle.lrup_text.specs.declared.device.StreamEnd.TheVariants as stream_ends
-use Rattle.stream_check.specs.declared.fault.Fault.{Fault}
-use Rattle.stream_check.specs.declared.fault.Fault.TheVariants as faults
-use Rattle.stream_check.specs.declared.report.Ending.{Ending}
 use Rattle.stream_check.specs.declared.report.Ending.TheVariants as endings
 use Rattle.stream_check.specs.declared.report.Report.{Report}
 use Rattle.stream_check.specs.StreamParams.{StreamParams}
-use Rattle.stream_check.specs.Deletions.{StopsDeletion}
 use Rattle.stream_check.specs.Judging.{JudgesLine, joined, ending_at, JudgesBlocks, Judges}
 use Rattle.stream_check.specs.Forks.{NeverFork}
 use Rattle.lrup_model.specs.Distinct.{distinct}
-use Rattle.stream_check.specs.StreamContext.{StreamContext, additions_of, deleted_by, capped}
-use Rattle.stream_check.specs.Stopping.{StopsAtLine, DropsMore, DropsUntilStop}
+use Rattle.stream_check.specs.StreamContext.{StreamContext, additions_of}
+use Rattle.stream_check.specs.Stopping.{StopsAtLine, DropsUntilStop}
 use Rattle.stream_check.specs.Additions.{JudgesAddition}
 use Rattle.stream_check.specs.Reducing.{reduced, AreEarly, TriesAgain}
 use Rattle.stream_check.specs.Finding.{FindsSound}
-use Rattle.stream_check.specs.Verdicts.{LineVerdict, Good, Bad}
-use Rattle.stream_check.specs.Reaching.{GoingState, Going, Over, JudgesBothEnds, ReachesState, IsFresh, TakesLine}
+use Rattle.stream_check.specs.Verdicts.{LineVerdict, Good}
+use Rattle.stream_check.specs.Reaching.{GoingState, Going, JudgesBothEnds, ReachesState, IsFresh, TakesLine}
 use Rattle.stream_check.specs.CheckerValue.{report_of_tally, CheckerValue}
 use Rattle.stream_check.specs.Checker.{IsNew, IsReadyAt}
 
@@ -43,12 +36,6 @@ use Rattle.stream_check.specs.Checker.{IsNew, IsReadyAt}
 abbrev pub FreshLeft : Type 0
 FreshLeft = (c : StreamParams) (now : GoingState) → IsFresh c now → ReachesState c [] [] (Going now)
 
--- more bytes of a line
-abbrev pub PendingGrows : Type 0
-PendingGrows = (c : StreamParams) (bytes piece : List ℕ) (blocks : List History) (old : GoingState)
-    → ReachesState c bytes blocks (Going old) → IsPending (old.pending ++ piece)
-    → ReachesState c (bytes ++ piece) blocks (Going (record old { pending = old.pending ++ piece }))
-
 -- one good line more
 abbrev pub GoodLineTaken : Type 0
 GoodLineTaken = (c : StreamParams) (bytes piece : List ℕ) (blocks : List History) (block : History)
@@ -56,40 +43,6 @@ GoodLineTaken = (c : StreamParams) (bytes piece : List ℕ) (blocks : List Histo
     → ReachesState c bytes blocks (Going old) → LineText line (old.pending ++ piece)
     → JudgesLine c old.context line block Good → TakesLine c old line new
     → ReachesState c (bytes ++ piece) (blocks ++ block ∷ []) (Going new)
-
--- a bad line, which deleted these identities before its fault
-abbrev pub BadLineTaken : Type 0
-BadLineTaken = (c : StreamParams) (bytes piece : List ℕ) (blocks : List History) (block : History)
-    (old : GoingState) (line : StreamLine) (ids later : List ℕ) (fault : Fault) (is_dropped : ℕ
-    → Bool)
-    → ReachesState c bytes blocks (Going old) → LineText line (old.pending ++ piece)
-    → deleted_by line ≡ ids ++ later
-    → JudgesLine c old.context line block (Bad (length ids) fault)
-    → DropsMore c old.context.is_dropped ids is_dropped
-    → ReachesState c (bytes ++ piece) (blocks ++ block ∷ [])
-    (Over (report_of_tally (record old.tally { deleted = capped (old.tally.deleted + length ids) })
-    (endings.Bad old.line fault)) is_dropped)
-
--- a text that begins no line
-abbrev pub BadTextRead : Type 0
-BadTextRead = (c : StreamParams) (bytes piece : List ℕ) (blocks : List History) (old : GoingState)
-    (fault : LineFault)
-    → ReachesState c bytes blocks (Going old) → IsRefused (old.pending ++ piece) fault
-    → ReachesState c (bytes ++ piece) blocks
-    (Over (report_of_tally old.tally
-    (endings.Bad old.line (faults.Text fault))) old.context.is_dropped)
-
--- a deletion that ran out of memory, after these identities
-abbrev pub MemoryWanted : Type 0
-MemoryWanted = (c : StreamParams) (bytes piece : List ℕ) (blocks : List History) (block : History)
-    (old : GoingState) (lead : ℕ) (ids earlier : List ℕ) (is_dropped : ℕ → Bool)
-    → ReachesState c bytes blocks (Going old) → LineText (Deletion lead ids) (old.pending ++ piece)
-    → StopsDeletion c old.context.is_dropped ids block earlier
-    → DropsMore c old.context.is_dropped earlier is_dropped
-    → ReachesState c (bytes ++ piece) (blocks ++ block ∷ [])
-    (Over (report_of_tally
-    (record old.tally { deleted = capped (old.tally.deleted + length earlier) })
-    (endings.Memory old.line)) is_dropped)
 
 -- the end of the stream, or a failed read
 abbrev pub EndJudged : Type 0
@@ -103,20 +56,6 @@ EndJudged = (c : StreamParams) (bytes : List ℕ) (blocks : List History) (old :
 abbrev pub OverStays : Type 0
 OverStays = (c : StreamParams) (bytes more : List ℕ) (blocks : List History) (report : Report)
     → JudgesBothEnds c bytes blocks report → JudgesBothEnds c (bytes ++ more) blocks report
-
--- the ending doesn't depend on how the stream ended, nor on what followed: a bad line or text, or memory that ran out
-abbrev pub IsDecided : Ending → Type 0
-IsDecided endings.Ended = ⊥
-IsDecided (endings.Bad line fault) = ¬ (fault ≡ faults.Text texts.Truncated)
-IsDecided (endings.ReadFailed line) = ⊥
-IsDecided (endings.Memory line) = Unit {0}
-
--- a report with such an ending is right for either end, and whatever follows
-abbrev pub EitherEnd : Type 0
-EitherEnd = (c : StreamParams) (bytes more : List ℕ) (end other : StreamEnd) (blocks : List History)
-    (report : Report)
-    → IsDecided report.ending → JudgesBlocks c bytes end blocks report
-    → JudgesBlocks c (bytes ++ more) other blocks report
 
 -- the report tells of a failed read
 abbrev pub IsOfFailure : Report → Type 0
@@ -148,15 +87,6 @@ ReadyNew = (f : Cnf) (layout : LayoutValue) (cube : CubeValue) (stream tries : �
     → p.caller ≡ record { formula = f; layout = layout; stream = stream }
     → ((id : ℕ) → Owns layout stream id → p.own id ≡ opening f id)
     → IsReadyAt v p
-
--- after legal events of other streams, if the stream's own identities have what these leave
-abbrev pub ReadyStays : Type 0
-ReadyStays = (v : CheckerValue) (p q : CallerView) (es : History)
-    → IsReadyAt v p → q.caller ≡ p.caller
-    → LegalFrom p.caller.formula p.caller.layout p.own es
-    → AllByRecursion (λ e. stream_of e ≢ p.caller.stream) es
-    → ((id : ℕ) → Owns p.caller.layout p.caller.stream id → q.own id ≡ run p.own es id)
-    → IsReadyAt v q
 
 -- a checker that may be fed at the map of one thread may be fed there after the calls of another stream
 abbrev pub ReadyBeside : Type 0
@@ -234,12 +164,6 @@ GoodFollows =
 
 -- The events of a line
 
--- all events of a line are calls of its stream
-abbrev pub LineCalls : Type 0
-LineCalls = (c : StreamParams) (st : StreamContext) (line : StreamLine) (es : History)
-    (v : LineVerdict)
-    → JudgesLine c st line es v → AllByRecursion (λ e. stream_of e ≡ c.stream) es
-
 -- before a line's last event there are only fetches, and retires with Done
 abbrev pub EarlyEvents : Type 0
 EarlyEvents = (c : StreamParams) (st : StreamContext) (line : StreamLine) (es : History)
@@ -249,12 +173,6 @@ EarlyEvents = (c : StreamParams) (st : StreamContext) (line : StreamLine) (es : 
 abbrev pub VacantTriesAgain : Type 0
 VacantTriesAgain = (c : StreamParams) (st : StreamContext) (line : StreamLine) (es : History)
     (v : LineVerdict) → JudgesLine c st line es v → TriesAgain es
-
--- a line without the vacant fetches of the hints that it found is judged alike
-abbrev pub ReducedLine : Type 0
-ReducedLine =
-    (c : StreamParams) (st : StreamContext) (line : StreamLine) (es : History) (v : LineVerdict)
-    → JudgesLine c st line es v → JudgesLine c st line (reduced es) v
 
 -- a stream without the vacant fetches of the hints that its lines found is judged alike
 abbrev pub ReducedStream : Type 0
@@ -275,13 +193,6 @@ abbrev pub FetchesOnly : (ℕ → Bool) → Event → Type 0
 FetchesOnly p (events.fetch s id r) = IsTrue (p id)
 FetchesOnly p (events.publish s id c r) = Unit {0}
 FetchesOnly p (events.retire s id r) = Unit {0}
-
--- the lines that a stream is judged by are the first of those that its bytes are cut into
-abbrev pub JudgedLinesCut : Type 0
-JudgedLinesCut = (c : StreamParams) (bytes : List ℕ) (end : StreamEnd) (blocks : List History)
-    (report : Report) (all : List StreamLine) (rest : List ℕ)
-    → (j : JudgesBlocks c bytes end blocks report) → Cut bytes all rest → (more : List StreamLine)
-    × (all ≡ j.lines ++ more)
 
 -- a stream fetches no identity that its lines don't cite: if all that they cite pass a test, so does what it fetches
 abbrev pub CitedFetched : Type 0

@@ -1,6 +1,6 @@
 //! Laws of judging. Each function does nothing: its contract is the law, which holds of every stream, layout and history. If a body calls
 //! one, the proof of that body uses the law.
-ghost use Rattle.stream_check.specs.Laws.{FreshLeft, PendingGrows, GoodLineTaken, BadLineTaken, BadTextRead, MemoryWanted, EndJudged, OverStays, EitherEnd, DecidedBeforeFailure, DroppedOnce, ReadyNew, ReadyStays, ReadyBeside, OneReport, RepliesDecide, BlocksGoAlike, LegalNeverFork, AloneDecides, GoodFollows, LineCalls, EarlyEvents, VacantTriesAgain, ReducedLine, ReducedStream, JudgedLinesCut, CitedFetched, WithinReported, EmptyCubeReported, CountsWithin};
+ghost use Rattle.stream_check.specs.Laws.{FreshLeft, GoodLineTaken, EndJudged, OverStays, DecidedBeforeFailure, DroppedOnce, ReadyNew, ReadyBeside, OneReport, RepliesDecide, BlocksGoAlike, LegalNeverFork, AloneDecides, GoodFollows, EarlyEvents, VacantTriesAgain, ReducedStream, CitedFetched, WithinReported, EmptyCubeReported, CountsWithin};
 
 use lrup_text::laws::{
     a_text_has_one_fault, a_text_spells_one_line, bytes_begin_with_one_line,
@@ -15,11 +15,6 @@ pub fn fresh_left()
     no_bytes_have_no_lines();
 }
 
-/// More bytes of a line are pending.
-pub fn pending_grows()
-    ensures { PendingGrows }
-{}
-
 /// One good line more is taken, with its block of events.
 pub fn good_line_taken()
     ensures { GoodLineTaken }
@@ -27,21 +22,6 @@ pub fn good_line_taken()
     texts_are_lines();
     no_bytes_have_no_lines();
 }
-
-/// A bad line leaves a checker over, with its fault.
-pub fn bad_line_taken()
-    ensures { BadLineTaken }
-{}
-
-/// A text that begins no line leaves a checker over, with its fault.
-pub fn bad_text_read()
-    ensures { BadTextRead }
-{}
-
-/// A deletion that ran out of memory leaves a checker over.
-pub fn memory_wanted()
-    ensures { MemoryWanted }
-{}
 
 /// The end of a stream, or a failed read, is judged by what the checker holds.
 pub fn end_judged()
@@ -51,11 +31,6 @@ pub fn end_judged()
 /// A report that is right for both ends stays so, whatever follows.
 pub fn over_stays()
     ensures { OverStays }
-{}
-
-/// A bad line or text, or memory that ran out, is judged alike for either end and whatever follows.
-pub fn either_end()
-    ensures { EitherEnd }
 {}
 
 /// If the read failed and the report doesn't say so, it is right for either end and whatever follows.
@@ -73,11 +48,6 @@ pub fn dropped_once()
 /// A new checker may be fed at the opening of a run.
 pub fn ready_new()
     ensures { ReadyNew }
-{}
-
-/// A checker that may be fed may be fed after legal events of other streams.
-pub fn ready_stays()
-    ensures { ReadyStays }
 {}
 
 /// At the map of one thread a checker that may be fed may be fed after another stream's calls.
@@ -135,11 +105,6 @@ pub fn good_follows()
     ensures { GoodFollows }
 {}
 
-/// All events of a line are calls of its stream.
-pub fn line_calls()
-    ensures { LineCalls }
-{}
-
 /// Before a line's last event there are only fetches, and retires with Done.
 pub fn early_events()
     ensures { EarlyEvents }
@@ -150,25 +115,10 @@ pub fn vacant_tries_again()
     ensures { VacantTriesAgain }
 {}
 
-/// A line without the vacant fetches of the hints that it found is judged alike.
-pub fn reduced_line()
-    ensures { ReducedLine }
-{}
-
 /// A stream without the vacant fetches of the hints that its lines found is judged alike.
 pub fn reduced_stream()
     ensures { ReducedStream }
 {}
-
-/// The lines that a stream is judged by are the first of those that its bytes are cut into.
-pub fn judged_lines_cut()
-    ensures { JudgedLinesCut }
-{
-    a_text_spells_one_line();
-    no_text_begins_another();
-    texts_are_lines();
-    a_text_has_one_fault();
-}
 
 /// A stream fetches no identity that its lines don't cite.
 pub fn cited_fetched()
