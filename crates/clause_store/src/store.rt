@@ -144,8 +144,8 @@ impl Store {
     }
 
     /// Publishes a clause that follows from the formula, of at most 65,535 literals and within the room left, under an identity of the
-    /// pass's own. The literals are stored first, two by each store, in the order given. Then one exchange makes the clause live. If
-    /// something was published under the identity before, the answer is `Taken`, and nothing changes.
+    /// pass's own. The literals are written first, two by each atomic store, in the order given. Then one compare-exchange makes the
+    /// clause live. If something was published under the identity before, the answer is `Taken`, and nothing changes.
     pub fn publish(&self, pass: &mut Pass, id: Id, clause: &[Lit]) -> Published
         requires store { store_of pass.old ≡ self.now }
         requires owns { Owns pass.old.view.caller.layout pass.old.view.caller.stream id }
@@ -168,8 +168,8 @@ impl Store {
         self.row.claim(&mut pass.seat, id)
     }
 
-    /// Retires the clause under an identity of the pass's own: one load, and one exchange if the clause is live. If it isn't, the answer is
-    /// `NotLive`, and nothing changes.
+    /// Retires the clause under an identity of the pass's own: one load, and one compare-exchange if the clause is live. If it isn't, the
+    /// answer is `NotLive`, and nothing changes.
     pub fn retire(&self, pass: &mut Pass, id: Id) -> Retired
         requires store { store_of pass.old ≡ self.now }
         requires owns { Owns pass.old.view.caller.layout pass.old.view.caller.stream id }

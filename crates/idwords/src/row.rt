@@ -2,7 +2,7 @@
 //!
 //! Every step is `SeqCst`, the one ordering that `atomic_table` has: all threads see all steps in one order, and the row's rule
 //! (`rule.rt`) holds between any two steps of it. So a thread that loads a live word also finds the literals that were stored before
-//! the exchange that made it live, and no fence is needed.
+//! the compare-exchange that made it live, and no fence is needed.
 ghost use Rattle.std.specs.Prelude.{◌≡◌, ◌↔◌, ◌+◌, ◌-◌, ◌%◌, ◌≤◌, ◌<◌, ◌++◌, ℕ, [], Some, IfOk, length, slice_get, vec_len};
 ghost use Rattle.lrup_model.specs.Event as events;
 ghost use Rattle.lrup_model.specs.History.{IsPublishable};
@@ -47,11 +47,13 @@ fn seats_of(
         ≡ Some (opening_seat table.now.shared.table_id formula layout.now (k + 1))) }
 {
     let mut seats = Vec::with_capacity(alloc, layout.streams() as usize)?;
+    // The streams' rooms are the last words of the row, stream 1 first. A room of n literals has n words.
     let mut top = layout.row_words() - layout.all_room();
     for _s in 0..layout.streams() {
-        let thread = table.shared.split_seat::<SplitFirst>(&mut token);
+        // A new token, which `atomic_table` calls a seat, with the next stream's thread state.
+        let own = table.shared.split_seat::<SplitFirst>(&mut token);
         seats.push_reserved(Seat {
-            token: thread,
+            token: own,
             top,
             drafted: 0,
             room: layout.room(),
@@ -63,7 +65,8 @@ fn seats_of(
 
 /// The row of words, which all streams share: word 0, which is always 0, a word for each identity, and a word for each literal of
 /// the formula and of the streams' room. A word holds two literals, so a clause of n literals takes (n + 1) / 2 words: with a word for
-/// each literal there is enough room also for unit clauses alone. Contracts know the row by its name alone.
+/// each literal there is enough room also for unit clauses alone. Words that are left over stay 0; the row's length follows from the
+/// layout, which doesn't know how long clauses are. Contracts know the row by its name alone.
 #[derive(Drop)]
 pub struct Row {
     table: WordTable,
@@ -125,7 +128,7 @@ impl Row {
     }
 
     /// Loads the word at a place of the row, which is no event. If a clause lies there that the seat's stream has fetched, the word has
-    /// the codes of two of its literals. It never changes, not even when the clause is retired.
+    /// the codes of one or two of its literals. It never changes, not even when the clause is retired.
     #[inline]
     pub fn word(&self, seat: &mut Seat, place: u64) -> u64
         requires row { seat.old.table ≡ self.now }
@@ -154,8 +157,8 @@ impl Row {
         seat.drafted += if second.is_some() { 2 } else { 1 };
     }
 
-    /// Publishes the draft under an identity of the stream's own: one exchange of its word, from vacant to live. The draft is empty
-    /// then, whatever the reply.
+    /// Publishes the draft under an identity of the stream's own: one compare-exchange of its word, from vacant to live. The draft is
+    /// empty then, whatever the reply.
     pub fn claim(&self, seat: &mut Seat, id: u64) -> Published
         requires row { seat.old.table ≡ self.now }
         requires owns { Owns seat.old.view.caller.layout seat.old.view.caller.stream id }
@@ -182,7 +185,7 @@ impl Row {
         }
     }
 
-    /// Retires the clause under an identity of the stream's own: one load, and one exchange if the clause is live. The exchange always
+    /// Retires the clause under an identity of the stream's own: one load, and one compare-exchange if the clause is live. That always
     /// finds the word that was loaded, since no other stream changes it.
     pub fn withdraw(&self, seat: &mut Seat, id: u64) -> Retired
         requires row { seat.old.table ≡ self.now }

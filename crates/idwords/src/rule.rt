@@ -6,7 +6,8 @@ use std::alloc::Global;
 use std::marker::{Model, PhantomData};
 use std::snapshot::Snapshot;
 
-/// What a token knows: the thread states of the streams that it stands for. Contracts alone speak of it; a program makes no value.
+/// What a token knows: the thread state of each stream that it stands for, which is what the stream's checking thread knows of the row:
+/// what it has seen, where its free room begins, and its draft. Contracts alone speak of it; a program makes no value.
 pub struct Knowledge {
     none: PhantomData<u8>,
 }
@@ -27,7 +28,8 @@ pub struct Plan {
     pub layout: Layout,
 }
 
-/// The rule: the words spell one legal history, which begins with what each stream has seen and has its calls in their order.
+/// The rule: there is a legal history that leads to just these words; legal means that each reply is right after the calls before it. What
+/// a stream has seen is a beginning of it, for each stream, and it has each stream's calls in the order in which the stream made them.
 pub struct RowInvariant;
 
 impl TableRule<u8, Knowledge, Plan> for RowInvariant {
@@ -41,7 +43,7 @@ impl TableRule<u8, Knowledge, Plan> for RowInvariant {
 /// The table of words. Of what `atomic_table` offers it has no slots, which would hold values of other types.
 pub type WordTable = Table<u8, Knowledge, Plan, RowInvariant, Global>;
 
-/// The right to take steps at the table, which `atomic_table` calls a seat.
+/// The right to take steps at the table, which `atomic_table` calls a seat. A `Seat` of this crate has such a token, and numbers.
 pub type StepToken = atomic_table::Seat<u8, Knowledge>;
 
 /// The load of a fetch.
@@ -71,7 +73,7 @@ impl Play<u8, Knowledge> for Write {
     ghost then = { Stores };
 }
 
-/// The exchange of a publish, from vacant to live.
+/// The compare-exchange of a publish, from vacant to live.
 pub struct Claim;
 
 impl Play<u8, Knowledge> for Claim {
@@ -89,7 +91,7 @@ impl Play<u8, Knowledge> for Find {
     ghost then = { Changes Finds };
 }
 
-/// The exchange of a retire, from live to retired.
+/// The compare-exchange of a retire, from live to retired.
 pub struct Retire;
 
 impl Play<u8, Knowledge> for Retire {

@@ -6,8 +6,8 @@ use crate::rule::StepToken;
 use std::marker::Model;
 
 /// A stream's right to take steps at the row, and to write into its own room there. It can't be copied, so each stream's steps have one
-/// caller. `top` is the place behind the stream's last clause, `drafted` counts the literals stored from there on, and `room` those that
-/// still fit, in literals.
+/// caller. `top` is the index of the word behind the stream's last clause, `drafted` counts the literals that were stored from there on
+/// and aren't published yet, and `room` is how many literals the stream may still publish. Only a publish that succeeds lowers it.
 #[derive(Drop)]
 pub struct Seat {
     pub(crate) token: StepToken,

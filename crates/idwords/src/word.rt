@@ -1,7 +1,6 @@
-//! Words of the row. An identity's word is its state, 0 for vacant, 1 for live and 2 for retired, with four times the
-//! count of its literals and 4,194,304 times the place of the first. A word of literals has the codes of two, a code
-//! being twice the variable, and one more for a negative literal: that of the first in its lower half, and that of the
-//! second, if there is one, in its upper.
+//! Words of the row. The word of identity `id` is word `id` of the row: bits 0 and 1 are its state, bits 2 to 21 the count of its
+//! literals, bits 22 to 63 its place, the index in the row of the word with its first two literals. A word of literals has one's code in
+//! bits 0 to 31, and in bits 32 to 63 the next one's, or 0. A code is twice the variable, and one more if the literal is negative.
 ghost use Rattle.std.specs.Prelude.{◌≡◌, ◌^◌, ◌<◌, IfSome};
 ghost use Rattle.lrup_model.specs.Literal.{max_variable, code_of, IsCode};
 ghost use Rattle.idwords.specs.internal.RowWords.{identity_word, literal_word};
@@ -34,7 +33,7 @@ pub fn len(word: u64) -> u64
     (word >> 2) & 0xf_ffff
 }
 
-/// The place of the first literal of an identity's clause.
+/// The place of an identity's clause: the index in the row of its first word of literals.
 #[inline]
 pub fn start(word: u64) -> u64
     ensures { result ≡ start_of word }

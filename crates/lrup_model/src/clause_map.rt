@@ -11,7 +11,7 @@ use crate::Id;
 use crate::lit::Lit;
 use std::marker::Model;
 
-/// A handle of a clause at one clause map: its identity, the count of its literals and the place of the first at the map.
+/// A handle of a clause at one clause map: its identity, the count of its literals, and its place, which is for the map alone.
 #[derive(Clone, Copy, Debug, PartialEq, Eq)]
 pub struct Clip {
     id: Id,
@@ -66,7 +66,7 @@ impl Clip {
         self.len == 0
     }
 
-    /// The place of the first literal at the map: of the row a word, of a plain map a literal.
+    /// Where the literals begin: in the row the index of a word, which has two of them; in a plain map the index of a literal.
     pub fn start(&self) -> u32
         ensures { result ≡ self.now.start }
     {

@@ -55,7 +55,9 @@ pub struct Layout {
     clauses: u32,
     literals: u32,
     streams: u32,
+    /// How many identities each stream has, so how many lines of it can be additions.
     lines: u32,
+    /// How many literals each stream's clauses may have in all.
     room: u32,
 }
 

@@ -47,6 +47,7 @@ pub fn read_line(line: &[u8], literals: &mut [i64], identities: &mut [u64]) -> O
         return None;
     }
     let body = end + 1;
+    // Of the bytes that may stand here only the letters of a deletion and of an import are above `9`.
     if line[body] > NINE {
         return read_marked(line, lead, end, literals, identities);
     }
@@ -139,7 +140,8 @@ fn read_list(line: &[u8], start: usize, out: &mut [u64]) -> Option<usize>
     }
 }
 
-/// Reads a number. The byte after it may be any.
+/// Reads a number of at most 18 digits, and returns it and the index behind it. Any byte may stand there. There is one, since the text
+/// ends with a space or LF. A number with more digits wraps, and its count of digits refuses it then.
 #[inline(always)]
 fn read_number(text: &[u8], start: usize) -> Option<(u64, usize)>
     requires ends { EndsWord text.now }

@@ -73,13 +73,13 @@ pub struct PartialLine {
     pub number: u64,
     /// The line's first number.
     pub lead: u64,
-    /// The literals read.
+    /// How many literals were read, at most 65,535.
     pub literal_count: usize,
-    /// The hints read, or the identities of a deletion.
+    /// How many hints were read, or identities of a deletion, at most 65,536.
     pub identity_count: usize,
-    /// The literals stand in front.
+    /// Room for all literals that a line can have. Those read stand in front.
     pub literals: Vec<i64>,
-    /// The hints or identities stand in front.
+    /// Room for all hints or identities that a line can have. Those read stand in front.
     pub identities: Vec<u64>,
 }
 
@@ -104,7 +104,7 @@ impl PartialLine {
             imports: false,
             deletes: false,
             negative: false,
-            // Between lines there is some number here, too, so that it always has the form of one.
+            // The invariant wants a number of 1 to 18 digits at all times, also before a line's first one.
             digits: 1,
             number: 1,
             lead: 1,
@@ -243,6 +243,7 @@ impl PartialLine {
         }
     }
 
+    /// Reads literals up to the last space: the kernel's text has to end with a byte that is no digit.
     fn read_literals_ahead(&mut self, piece: &[u8]) -> usize
         requires reads { IsPartialLine self.old }
         requires state { self.old.state ≡ ParserState.Body }
@@ -257,6 +258,7 @@ impl PartialLine {
         used
     }
 
+    /// Reads hints or identities up to the last space.
     fn read_items_ahead(&mut self, piece: &[u8]) -> usize
         requires reads { IsPartialLine self.old }
         requires state { self.old.state ≡ ParserState.Item }
@@ -342,6 +344,7 @@ impl PartialLine {
             b'0'..=b'9' => ByteStep::Refused(LineFault::TooLong),
             b' ' => {
                 self.lead = self.number;
+                // `deletes` may still be that of the line before: only a `0` or `d` sets it, and nobody looks at it before.
                 self.imports = false;
                 self.literal_count = 0;
                 self.identity_count = 0;

@@ -176,7 +176,8 @@ impl Marks {
     }
 }
 
-/// Reads the clause, pair by pair, until it turns out to be neither unit nor a conflict.
+/// Reads the clause, pair by pair, until it turns out to be neither unit nor a conflict. While all literals are false it reads one mark for
+/// each. Behind the first that isn't false, whose complement's mark it reads, too, a second one that isn't false decides (`status_after`).
 fn clause_status<M: ClauseMap>(falses: &Trail, map: &mut M, clip: &Clip) -> ClauseStatus
     requires known { IsKnown (M.caller_view map.old) clip.now }
     requires follow { AllFollow (M.caller_view map.old) }
@@ -201,7 +202,7 @@ fn clause_status<M: ClauseMap>(falses: &Trail, map: &mut M, clip: &Clip) -> Clau
     ClauseStatus::Nothing
 }
 
-/// Reads on behind the first `pairs` pairs, of which all literals but `lit` are false.
+/// Reads on behind the first `pairs` pairs, of which all literals but `lit` are false, and `lit` is neither false nor true.
 fn status_after<M: ClauseMap>(
     falses: &Trail,
     map: &mut M,

@@ -39,7 +39,9 @@ impl Trail {
         let vars_in_places = vars as usize;
         Ok(Trail {
             vars,
+            // A code is at most 2 * vars + 1.
             marks: vec![in alloc; false; 2 * vars_in_places + 2]?,
+            // One place more than it can take: so `add` needs no proof that a variable is left.
             literals: Vec::with_capacity(alloc, vars_in_places + 1)?,
         })
     }
@@ -92,7 +94,8 @@ impl Trail {
         self.literals.clear();
     }
 
-    /// Whether the clip's clause has just the literals of the list. The trail is empty, before and afterwards: only marks are borrowed.
+    /// Whether the clip's clause has just the literals of the list. The trail is empty before and afterwards: the call sets marks, and takes
+    /// them all away again.
     pub fn same<M: ClauseMap>(&mut self, map: &mut M, clip: &Clip, literals: &[Lit]) -> bool
         requires empty { self.old.literals ≡ [] }
         requires known { IsKnown (M.caller_view map.old) clip.now }

@@ -114,7 +114,8 @@ impl LineScratch {
                 gate.after_publish(map.stream(), id);
                 Ok(())
             }
-            // By the contract: the identity is the stream's own, and above all that the stream has published.
+            // It can't come: `admit` found the identity to be the stream's own and above all that it has published, and no other stream
+            // publishes under it.
             Published::Taken => unreachable!(),
         }
     }

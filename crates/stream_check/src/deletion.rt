@@ -45,8 +45,7 @@ fn delete_one<M: ClauseMap>(state: &mut StreamState, map: &mut M, id: Id) -> Res
 {
     match state.params.ownership(id) {
         Ownership::Own => retire_own(state, map, id),
-        Ownership::Formula => state.drop_shared(id),
-        Ownership::Foreign => state.drop_shared(id),
+        Ownership::Formula | Ownership::Foreign => state.drop_shared(id),
         Ownership::Outside => Err(LineStop::Bad(Fault::NotLive(id))),
     }
 }

@@ -21,7 +21,7 @@ pub enum Fault {
     Tautology,
     /// The stream has no room left for the clause.
     NoRoom,
-    /// The stream deleted this hint, or identity of an import, which isn't its own, in an earlier line.
+    /// An earlier line of the stream dropped this identity, of a hint or of an import: a deletion of an identity that isn't its own.
     Dropped(Id),
     /// Nothing was published under this hint or identity of an import, or the hint is no identity.
     Missing(Id),
@@ -33,7 +33,7 @@ pub enum Fault {
     Excess(Id),
     /// The hints ended without a conflict.
     NoConflict,
-    /// An own identity to delete isn't live, or the stream dropped a shared one before, or it is no identity.
+    /// An identity to delete: an own one that isn't live, another one that the stream dropped before, or no identity at all.
     NotLive(Id),
     /// The literals of an import aren't those of the clause of its identity.
     Differs(Id),

@@ -39,8 +39,8 @@ fn fetch_again<M: ClauseMap, G: Gate>(most: u64, map: &mut M, gate: &mut G, id: 
     Fetched::Vacant
 }
 
-/// Fetches a hint: once, or as often as the stream's tries allow while another stream's is vacant. Who owns it is asked only if it was
-/// vacant, so a hint that is found at once costs one fetch and no division.
+/// Fetches a hint once, and up to `tries` times more while the hint is vacant and another stream's. Its owner is looked up only after a
+/// vacant answer, so a hint that is found at once costs one fetch and no division.
 #[inline(always)]
 fn fetch_hint<M: ClauseMap, G: Gate>(
     params: &StreamParams,

@@ -16,7 +16,7 @@ pub struct StreamParams {
     cube: Cube,
     stream: u64,
     tries: u64,
-    // The layout's last identity. Each hint is compared with it, and working it out takes a multiplication.
+    // The layout's last identity. Each hint is compared with it, and `Layout::last_identity` multiplies.
     last: u64,
 }
 
@@ -107,7 +107,7 @@ impl StreamParams {
         0 < id && id <= self.last
     }
 
-    /// Whether the identity is the formula's or another stream's.
+    /// Whether the identity is shared, which means here: the formula's or another stream's.
     pub fn shares(&self, id: Id) -> bool
         ensures { result ≡ is_shared (ownership_of self.now id) }
     {

@@ -14,7 +14,7 @@ pub struct Progress {
 pub enum CheckStatus {
     /// They end a line, which is good. The rest of the piece is still to be fed.
     Line,
-    /// All bytes of the piece were used, and no line has ended since.
+    /// All bytes of the piece were used, and none of them ended a line.
     More,
     /// The checker is over, with or before these bytes. It takes no more.
     Over,

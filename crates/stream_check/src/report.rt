@@ -23,7 +23,7 @@ pub struct Report {
     pub deleted: u64,
     /// Whether a good addition added the empty clause.
     pub empty: bool,
-    /// Whether the cube makes the clause of a good addition false: it has the complement of each of its literals.
+    /// Whether the cube makes the clause of a good addition false: the cube has the complement of each of the clause's literals.
     pub within: bool,
     /// How the stream ended.
     pub ending: Ending,

@@ -11,15 +11,15 @@ use std::alloc::{AllocError, Global};
 use std::sync::{OnceLock, OnceToken, Wait};
 use stream_ring::Sender;
 
-/// The most items that one push takes.
+/// The most bytes that are made items before these are pushed: so the checking thread begins before a whole piece is pushed.
 const PUSH_BATCH: usize = 4_096;
 
-/// What a reading thread is given: a reader that hasn't failed, and the sending end of the ring. Nothing was sent yet.
+/// What a reading thread is given: a reader that hasn't failed, and the sending half of the ring. Nothing was sent yet.
 #[derive(Drop)]
 pub struct ReadingJob<R: Source + Drop> {
     /// The stream's reader.
     pub reader: R,
-    /// The end of the ring into which the reader's bytes go.
+    /// The half of the ring into which the reader's bytes go.
     pub sender: Sender,
     piece: Vec<u8>,
     items: Vec<u16>,
@@ -28,12 +28,12 @@ pub struct ReadingJob<R: Source + Drop> {
     ghost nothing: { sent sender.producer ≡ [] },
 }
 
-/// What a reading thread gives back: the reader, and the end of the ring.
+/// What a reading thread gives back: the reader, and its half of the ring.
 #[derive(Drop)]
 pub struct Sent<R: Source + Drop> {
     /// The reader, at its end or after a read that failed.
     pub reader: R,
-    /// The sending end, into which all bytes of the reader were sent, and one mark.
+    /// The sending half, into which all bytes of the reader were sent, and one mark.
     pub producer: Producer<u16>,
 }
 
@@ -78,6 +78,7 @@ pub fn read_on_signal<'a, W: Wait, R: Source + Drop>(
         mut piece,
         mut items,
     } = job;
+    // How the reader ended isn't needed here: the mark tells it.
     sender.send_all(
         wait,
         &mut reader,

@@ -7,7 +7,8 @@ use std::sync::{OnceLock, OnceToken, Wait};
 pub fn wait_for_start<'a, W: Wait>(wait: &W, signal: &'a OnceLock<bool>) -> OnceToken<'a, bool>
     ensures { result.of ≡ signal.now.id }
 {
-    // `forever` is an iterator without an end. A loop that may block goes over it, so the `unreachable!` behind the loop is never met.
+    // Once `wait` returns, the lock has its value, and `witness` gives a token of it. No contract of `wait` says so: hence the loop, which
+    // goes round once. `forever` has no end, so the `unreachable!` behind the loop is never met.
     for _ in wait.forever() {
         signal.wait(wait);
         if let Some(token) = signal.witness() {

@@ -13,7 +13,7 @@ pub fn widen(bytes: &[u8], items: &mut [u16])
     }
 }
 
-/// Turns items to bytes. Of a mark this gives some byte, too, at which nobody looks.
+/// Turns items to bytes. Of a mark this gives its low byte, which no caller reads.
 pub fn narrow(items: &[u16], bytes: &mut [u8])
     requires { length bytes.old ≡ length items.now }
     ensures { bytes.new ≡ map byte_of items.now }

@@ -1,7 +1,11 @@
-//! The two halves, or ends, of a ring of items, and what each thread does at its own.
+//! The two halves of a ring of items, and what each thread does at its own half.
 //!
-//! An end that can't go on spins for a while, and then parks until the other end unparks it. `rtrb` and the parkers order memory: an item
-//! that is popped is the one that was pushed. A park that was unparked before returns at once, so no wake-up is lost.
+//! A thread that can't go on spins for a while, and then parks. Each thread first pushes or pops, and then wakes the other one; each first
+//! looks at the ring, and then parks. If the wake-up comes between the look and the park, the park returns at once, so no wake-up is lost.
+//! All steps of the kit's `rtrb` are `SeqCst`: a thread that was woken, or that finds the producer gone, then finds all that was pushed.
+//!
+//! A loop over `wait.forever()` is one without an end: the prover asks of any other loop why it ends. The `unreachable!` behind it is
+//! never met.
 ghost use Rattle.std.specs.Prelude.{◌≡◌, ◌<◌, ◌≤◌, ℕ, List, [], ◌++◌, ◌∷◌, false, length, take, map, All, IfOk};
 ghost use Rattle.rtrb.specs.Ring.{sent, received, producer_capacity, consumer_capacity, SameProducer, SameConsumer, IsPair};
 ghost use Rattle.lrup_text.specs.ReadOut.{EndsSo, source_view};
@@ -21,36 +25,39 @@ const END: u16 = 256;
 /// The mark of a stream whose read failed: the item behind its last byte.
 const FAILURE: u16 = 257;
 
-/// Wakes the thread at the other half: when the bell is rung, and once more when it is dropped. It has no part in the ring of items.
-struct Bell(Unparker);
+/// Wakes the thread at the other half: at each call, and once more when it is dropped, so that the other thread doesn't sleep for ever.
+struct Waker(Unparker);
 
-impl Bell {
-    fn ring(&self) {
+impl Waker {
+    fn wake(&self) {
         self.0.unpark();
     }
 }
 
-impl Drop for Bell {
+impl Drop for Waker {
     fn drop(self) {
-        let Bell(unparker) = self;
+        let Waker(unparker) = self;
         unparker.unpark();
     }
 }
 
-/// The reading thread's half of the ring. Fields are dropped in order, so the thread that the dropped bell wakes finds the producer gone.
+/// The reading thread's half of the ring. If it is dropped whole, its fields are dropped in order: the receiver that the dropped waker
+/// wakes then finds the producer gone.
 #[derive(Drop)]
 pub struct Sender {
     pub producer: Producer<u16>,
-    not_full: Parker,
-    not_empty: Bell,
+    /// The reading thread parks here while the ring is full; the receiver's `wake_sender` unparks it.
+    when_not_full: Parker,
+    wake_receiver: Waker,
 }
 
-/// The checking thread's half of the ring. The consumer is dropped before the bell, too.
+/// The checking thread's half of the ring. The order of its drops doesn't matter: the sender never looks whether the consumer is gone.
 #[derive(Drop)]
 pub struct Receiver {
     pub consumer: Consumer<u16>,
-    not_empty: Parker,
-    not_full: Bell,
+    /// The checking thread parks here while the ring is empty; the sender's `wake_receiver` unparks it.
+    when_not_empty: Parker,
+    wake_sender: Waker,
 }
 
 /// What a call of `receive` gave the checking thread.
@@ -58,13 +65,13 @@ pub struct Receiver {
 pub enum Received {
     /// This many bytes, and more may come.
     Bytes(usize),
-    /// This many bytes, and then the mark of this end: nothing more comes.
+    /// This many bytes, and then the mark that says how the stream ended: nothing more comes.
     Mark(usize, StreamEnd),
-    /// The reading thread dropped its end, and all that it pushed was received before, without a mark.
+    /// The reading thread dropped its half. All that it pushed was received before, and no mark was among it.
     Abandoned,
 }
 
-/// Makes the two ends of a ring of `capacity` items, of two bytes each.
+/// Makes the two halves of a ring that has room for `capacity` items of two bytes each.
 pub fn ring(alloc: Global, capacity: usize) -> Result<(Sender, Receiver), AllocError>
     ensures pair { IfOk result (λ r. IsPair r.0.producer r.1.consumer) }
     ensures sent { IfOk result (λ r. sent r.0.producer ≡ []) }
@@ -75,23 +82,23 @@ pub fn ring(alloc: Global, capacity: usize) -> Result<(Sender, Receiver), AllocE
     let (producer, consumer) = RingBuffer::new(alloc, capacity)?;
     let when_not_full = Parker::new(alloc)?;
     let when_not_empty = Parker::new(alloc)?;
-    let not_full = Bell(when_not_full.unparker().clone()?);
-    let not_empty = Bell(when_not_empty.unparker().clone()?);
+    let wake_sender = Waker(when_not_full.unparker().clone()?);
+    let wake_receiver = Waker(when_not_empty.unparker().clone()?);
     let sender = Sender {
         producer,
-        not_full: when_not_full,
-        not_empty,
+        when_not_full,
+        wake_receiver,
     };
     let receiver = Receiver {
         consumer,
-        not_empty: when_not_empty,
-        not_full,
+        when_not_empty,
+        wake_sender,
     };
     Ok((sender, receiver))
 }
 
 impl Sender {
-    /// Gives the producer, and wakes the other end once more.
+    /// Gives the producer. The waker is dropped here, which wakes the receiver once more.
     pub fn into_producer(self) -> Producer<u16>
         ensures { result ≡ self.producer }
     {
@@ -100,7 +107,7 @@ impl Sender {
     }
 
     /// Pushes all items, and blocks while the ring is full. It doesn't look whether the consumer is gone: the checking thread receives
-    /// through the mark, also after a bad line, and keeps its half until both threads are joined.
+    /// through the mark, also after a bad line, and its `Consumer` is kept until both threads are joined.
     fn push_all<W: Wait>(&mut self, wait: &W, items: &[u16])
         ensures ring { SameProducer self.old.producer self.new.producer }
         ensures sent { sent self.new.producer ≡ sent self.old.producer ++ items.now }
@@ -113,10 +120,10 @@ impl Sender {
             }
             let (pushed, left) = self.producer.push_partial_slice(rest);
             if !pushed.is_empty() {
-                self.not_empty.ring();
+                self.wake_receiver.wake();
                 backoff.reset();
             } else if backoff.is_completed() {
-                self.not_full.park(wait);
+                self.when_not_full.park(wait);
             } else {
                 backoff.snooze();
             }
@@ -182,7 +189,7 @@ impl Sender {
 }
 
 impl Receiver {
-    /// Gives the consumer, and wakes the other end once more.
+    /// Gives the consumer. The waker is dropped here, which wakes the sender once more.
     pub fn into_consumer(self) -> Consumer<u16>
         ensures { result ≡ self.consumer }
     {
@@ -190,8 +197,8 @@ impl Receiver {
         consumer
     }
 
-    /// Pops at least one item, and blocks while there is none. It returns 0 if the other end was dropped and nothing is left. The other
-    /// end may push and go between a pop and the look at it, so there is one more pop then.
+    /// Pops at least one item, and blocks while there is none. If a pop finds nothing, and then the producer is found dropped, it pops once
+    /// more, since items may have been pushed in between. It returns 0 if that pop finds nothing either.
     fn pop_some<W: Wait>(&mut self, wait: &W, items: &mut [u16]) -> usize
         requires { 0 < length items.old }
         ensures ring { SameConsumer self.old.consumer self.new.consumer }
@@ -204,7 +211,7 @@ impl Receiver {
         for _ in wait.forever() {
             let count = self.consumer.pop_partial_slice(items);
             if count > 0 {
-                self.not_full.ring();
+                self.wake_sender.wake();
                 return count;
             }
             if abandoned {
@@ -215,7 +222,7 @@ impl Receiver {
                 continue;
             }
             if backoff.is_completed() {
-                self.not_empty.park(wait);
+                self.when_not_empty.park(wait);
             } else {
                 backoff.snooze();
             }
@@ -256,7 +263,7 @@ impl Receiver {
     }
 }
 
-/// Which end of a stream a mark stands for.
+/// How the stream ended, by its mark.
 fn end_of(mark: u16) -> StreamEnd
     ensures { result ≡ end_of_mark mark }
 {
@@ -267,8 +274,8 @@ fn end_of(mark: u16) -> StreamEnd
     }
 }
 
-/// Brings the two ends together, once both threads have given them back. It is for the proof alone, and changes nothing: its contract says
-/// that what was received is the beginning of what was sent, and all of it, if it ends at a mark.
+/// Brings the two halves together, once both threads have given them back. It is for the proof alone, and changes nothing: its contract
+/// says that what was received is the beginning of what was sent, and all of it, if it ends at a mark.
 pub fn ends_agree(producer: &mut Producer<u16>, consumer: &mut Consumer<u16>)
     requires { IsPair producer.old consumer.old }
     ensures beginning { (left : List ℕ)

@@ -7,8 +7,8 @@ use Rattle.idwords.proofs.MeetLemmas.{splits_first}
 use Rattle.idwords.proofs.OpeningLemmas.{threads_next, first_next, dealt, get_old, get_new}
 use Rattle.idwords.proofs.row.seats_of.Goals as goal
 
-pub split_seat-thread-requires : goal.split_seat-thread-requires
-split_seat-thread-requires c =
+pub split_seat-own-requires : goal.split_seat-own-requires
+split_seat-own-requires c =
     let shared = c.args.table.now.shared in
     let token = c.loop-s.token in
     (c.loop-s.invariant.table, omega (arith, c.requires.words), splits_first shared.key.formula.value shared.key.layout token.id token.me.0)
@@ -20,10 +20,10 @@ invariant_of-push_reserved c =
     let i : ℕ = c.loop-s._s in
     let within : i < p.streams = omega arith in
     let threads = ap (λ (m : Me ℕ (List ThreadState)). m.0) c.loop-s.invariant.threads ∙ threads_next f p (i + 1) p.streams i within in
-    let result = c.split_seat-thread.result in
+    let result = c.split_seat-own.result in
     dealt {S = ℕ} f p (i + 1) result.table_id result.me c.loop-s.top c.room.result c.requires.plan (omega arith, omega arith)
-    (ap (λ (t : TableId). t.words) (c.split_seat-thread.ensures.3 ∙ c.loop-s.invariant.table) ∙ c.requires.words)
-    (c.split_seat-thread.ensures.4 ∙ ap (λ (vs : List ThreadState). (first_only vs, [])) threads) c.loop-s.invariant.top c.room.ensures.room
+    (ap (λ (t : TableId). t.words) (c.split_seat-own.ensures.3 ∙ c.loop-s.invariant.table) ∙ c.requires.words)
+    (c.split_seat-own.ensures.4 ∙ ap (λ (vs : List ThreadState). (first_only vs, [])) threads) c.loop-s.invariant.top c.room.ensures.room
 
 pub loop-s-preserved : goal.loop-s-preserved
 loop-s-preserved c =
@@ -33,17 +33,17 @@ loop-s-preserved c =
     let within : i < p.streams = omega arith in
     let threads = ap (λ (m : Me ℕ (List ThreadState)). m.0) c.loop-s.invariant.threads ∙ threads_next f p (i + 1) p.streams i within in
     let none = ap (λ (m : Me ℕ (List ThreadState)). m.1) c.loop-s.invariant.threads in
-    let result = c.split_seat-thread.result in
+    let result = c.split_seat-own.result in
     let dealt_thread : first_thread result.me.0 ≡ opening_thread f p (i + 1) =
     ap (λ (m : Me ℕ (List ThreadState)). first_thread m.0)
-    (c.split_seat-thread.ensures.4 ∙ ap (λ (vs : List ThreadState). (first_only vs, [])) threads) in
+    (c.split_seat-own.ensures.4 ∙ ap (λ (vs : List ThreadState). (first_only vs, [])) threads) in
     let seat : seat_value result.table_id (first_thread result.me.0) ≡ opening_seat c.args.table.now.shared.table_id f p (i + 1) =
-    ap₂ seat_value (c.split_seat-thread.ensures.3 ∙ c.loop-s.invariant.table) dealt_thread in
+    ap₂ seat_value (c.split_seat-own.ensures.3 ∙ c.loop-s.invariant.table) dealt_thread in
     let len : length c.loop-s.seats.items ≡ i = sym c.loop-s.seats.ok.0 ∙ c.loop-s.invariant.count in
     let grown = c.push_reserved.ensures.items in
     record {
-      table = c.split_seat-thread.ensures.0 ∙ c.loop-s.invariant.table;
-      threads = c.split_seat-thread.ensures.2 ∙ ap₂ (λ (vs : List ThreadState) (slots : List (ℕ × ℕ)). (others vs, slots)) threads none;
+      table = c.split_seat-own.ensures.0 ∙ c.loop-s.invariant.table;
+      threads = c.split_seat-own.ensures.2 ∙ ap₂ (λ (vs : List ThreadState) (slots : List (ℕ × ℕ)). (others vs, slots)) threads none;
       top = omega (arith, c.loop-s.invariant.top, c.room-top.ensures.room, first_next p i);
       count = omega (arith, c.push_reserved.ensures.len, c.loop-s.invariant.count);
       room = omega (arith, c.push_reserved.ensures.capacity, c.loop-s.invariant.room);
