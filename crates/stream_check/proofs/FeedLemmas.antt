@@ -5,8 +5,6 @@ use Rattle.std.proofs.Common.{subst, ◌∙◌, append_assoc, arith}
 use Rattle.std.specs.Prelude.{◌&&◌, is_some, map}
 use Rattle.std.specs.List.{flat_map}
 use Rattle.std.proofs.lemmas.List.{take_all}
-use Rattle.lrup_model.specs.Cube.{CubeValue}
-use Rattle.lrup_model.specs.Layout.{LayoutValue}
 use Rattle.lrup_model.specs.Event.{History}
 use Rattle.lrup_model.specs.CallerView.{CallerView}
 use Rattle.lrup_text.specs.Writing.{space}
@@ -25,13 +23,13 @@ use Rattle.stream_check.specs.declared.fault.Fault.TheVariants as faults
 use Rattle.stream_check.specs.declared.report.Ending.TheVariants as endings
 use Rattle.stream_check.specs.declared.report.Ending.{Ending}
 use Rattle.stream_check.specs.declared.report.Report.{Report}
-use Rattle.stream_check.specs.declared.stream_state.StreamState.{StreamState}
+use Rattle.stream_check.specs.DroppedIdsValue.{DroppedIdsValue}
 use Rattle.stream_check.specs.StreamParams.{StreamParams, ownership_of, is_shared}
 use Rattle.stream_check.specs.StreamContext.{is_among}
 use Rattle.stream_check.specs.Judging.{ending_at, JudgesBlocks}
 use Rattle.stream_check.specs.Reaching.{Going, Over, JudgesBothEnds, ReachesState, IsFresh}
 use Rattle.stream_check.specs.CheckerValue.{Tally, report_of_tally, CheckerValue}
-use Rattle.stream_check.specs.internal.CheckerInside.{read_of, value_of, tally_at, IsSound}
+use Rattle.stream_check.specs.internal.CheckerInside.{StreamStateValue, fresh_state, read_of, value_of, IsSound}
 use Rattle.stream_check.specs.Checker.{checker_state, state_by, going_of, IsReadyAt, Extends, IsNew, EndsBy, Ends, ReportsEnd}
 use Rattle.stream_check.specs.internal.Taking.{IsReady, hold}
 use Rattle.stream_check.proofs.ReachingLemmas.{end_judged, line_grows, all_snoc}
@@ -51,7 +49,7 @@ pub not_over : {A : Type 0} (old : Option Ending) (ending : Ending) → old ≡ 
 not_over old ending none some = absurd (let e : None ≡ Some ending = sym none ∙ some in cc)
 
 -- a line is taken
-pub feeds_line : (h n : StreamState) (read : List ℕ) (r : ReaderState) (used : List ℕ) (blocks : List History) (free left : ℕ)
+pub feeds_line : (h n : StreamStateValue) (read : List ℕ) (r : ReaderState) (used : List ℕ) (blocks : List History) (free left : ℕ)
     (ending : Option Ending) → ending ≡ None → r ≡ Ok []
     → Extends h.params (Going (hold h read free)) used blocks (Going (hold n [] left))
     → Extends h.params (checker_state (value_of h read ending) free) used blocks (checker_state (value_of n (read_of r) ending) left)
@@ -62,7 +60,7 @@ feeds_line h n read r used blocks free left ending none reads reaches =
     (sym (ap read_of reads)) reaches)
 
 -- the front of a line is taken
-pub feeds_more : (h : StreamState) (read : List ℕ) (r : ReaderState) (piece : List ℕ) (used free : ℕ) (ending : Option Ending)
+pub feeds_more : (h : StreamStateValue) (read : List ℕ) (r : ReaderState) (piece : List ℕ) (used free : ℕ) (ending : Option Ending)
     → ending ≡ None → r ≡ Ok (read ++ piece) → used ≡ length piece → IsPending (read ++ piece)
     → Extends h.params (checker_state (value_of h read ending) free) (take used piece) []
     (checker_state (value_of h (read_of r) ending) free)
@@ -105,7 +103,7 @@ line_cut bytes pending used lines line text cut = record {
 
 -- What a checker asks of its parts, call after call
 
-pub ready_inside : (h : StreamState) (read : List ℕ) (ending : Option Ending) (v : CheckerValue) (p : CallerView)
+pub ready_inside : (h : StreamStateValue) (read : List ℕ) (ending : Option Ending) (v : CheckerValue) (p : CallerView)
     → value_of h read ending ≡ v
     → IsReadyAt v p → IsReady h p
 ready_inside h read ending v p is ready =
@@ -124,7 +122,7 @@ pub reads_on : (r : ReaderState) (read : List ℕ) → r ≡ Ok read → r ≡ O
 reads_on r read e = e ∙ ap (λ (b : List ℕ). Ok b) (sym (ap read_of e))
 
 -- the reading ends
-pub feeds_over : (h : StreamState) (read used : List ℕ) (blocks : List History) (free : ℕ) (ending : Option Ending) (report : Report)
+pub feeds_over : (h : StreamStateValue) (read used : List ℕ) (blocks : List History) (free : ℕ) (ending : Option Ending) (report : Report)
     (is_dropped : ℕ → Bool) → ending ≡ None
     → Extends h.params (Going (hold h read free)) used blocks (Over report is_dropped)
     → Extends h.params (checker_state (value_of h read ending) free) used blocks (Over report is_dropped)
@@ -191,22 +189,17 @@ none_gone : (s : Bool) → false ≡ (s && false)
 none_gone true = refl
 none_gone false = refl
 
-pub new_left : FreshLeft → (layout : LayoutValue) (cube : CubeValue) (stream tries : ℕ) (h : StreamState) (r : ReaderState)
-    → h.params ≡ record { layout = layout; cube = cube; stream = stream; tries = tries } → h.last ≡ layout.clauses → h.dropped.ids ≡ []
-    → h.retired ≡ 0 → h.added ≡ 0
-    → h.empty ≡ false → h.within ≡ false → h.line ≡ 1 → r ≡ Ok [] → IsNew layout cube stream tries (value_of h (read_of r) None)
-new_left law layout cube stream tries h r params last dropped retired added empty within line reads =
-    let c : StreamParams = h.params in
-    let same : c.layout ≡ layout = ap (λ (s : StreamParams). s.layout) params in
-    let fresh : IsFresh c (hold h (read_of r) layout.room) = record {
-      tally = same_tally (tally_at h) (record { added = 0; deleted = 0; empty = false; within = false }) added
-          (omega (arith, retired, ap (λ (ids : List ℕ). length ids) dropped)) empty within;
+pub new_left : FreshLeft → (c : StreamParams) (dropped : DroppedIdsValue) (r : ReaderState) → dropped.ids ≡ [] → r ≡ Ok []
+    → IsNew c.layout c.cube c.stream c.tries (value_of (fresh_state c dropped) (read_of r) None)
+new_left law c dropped r none reads =
+    let fresh : IsFresh c (hold (fresh_state c dropped) (read_of r) c.layout.room) = record {
+      tally = same_tally _ _ refl (omega (arith, ap (λ (ids : List ℕ). length ids) none)) refl refl;
       context = record {
-        last = last ∙ sym (ap (λ (l : LayoutValue). l.clauses) same);
-        free = omega (arith, ap (λ (l : LayoutValue). l.room) same);
-        is_dropped = λ id. ap (λ (ids : List ℕ). is_among ids id) dropped ∙ none_gone (is_shared (ownership_of c id));
+        last = refl;
+        free = omega arith;
+        is_dropped = λ id. ap (λ (ids : List ℕ). is_among ids id) none ∙ none_gone (is_shared (ownership_of c id));
       };
       pending = ap read_of reads;
-      line = line;
+      line = refl;
     } in
-    record { params = params; last = last; retired = retired; ending = refl; left = law c (hold h (read_of r) layout.room) fresh }
+    record { params = refl; last = refl; retired = refl; ending = refl; left = law c _ fresh }

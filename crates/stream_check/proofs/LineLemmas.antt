@@ -1,7 +1,7 @@
 -- What one line leaves of what is held, and of the view.
 use Rattle.std.proofs.Common.{◌≡◌, ◌<◌, ◌+◌, ◌-◌, ℕ, ℤ, Bool, true, false, List, [], ◌∷◌, ◌++◌, length, Ok, Err, refl, sym, ap, subst, ◌∙◌}
 use Rattle.std.proofs.Common.{inl, inr, arith}
-use Rattle.std.specs.Prelude.{◌||◌, ◌&&◌, ◌==◌, min, ◌^◌}
+use Rattle.std.specs.Prelude.{◌||◌, ◌&&◌, ◌==◌}
 use Rattle.std.specs.List.{AllByRecursion}
 use Rattle.std.proofs.lemmas.Bool.{cases_eq}
 use Rattle.std.proofs.Math.Dec.{eqb-suc-zero}
@@ -13,10 +13,9 @@ use Rattle.lrup_model.specs.CallerView.{Caller, CallerView, CallerStep, IsVacant
 use Rattle.lrup_model.specs.lemmas.RunningLemmas.{run-append, spent-append}
 use Rattle.lrup_model.specs.lemmas.HistoryLemmas.{put, put-same, put-other, spent_one}
 use Rattle.lrup_model.specs.declared.clause_map.Retired.TheVariants as retiring
-use Rattle.lrup_text.specs.Lines.{StreamLine, Addition, Deletion, Import}
+use Rattle.lrup_text.specs.Lines.{Addition, Deletion, Import}
 use Rattle.lrup_model.specs.Distinct.{distinct}
 use Rattle.stream_check.specs.declared.fault.Fault.{Fault}
-use Rattle.stream_check.specs.declared.stream_state.StreamState.{StreamState}
 use Rattle.stream_check.specs.declared.line_stop.LineStop.{LineStop}
 use Rattle.stream_check.specs.declared.line_stop.LineStop.TheVariants as stops
 use Rattle.stream_check.specs.StreamParams.{StreamParams, ownership_of, is_shared}
@@ -26,11 +25,10 @@ use Rattle.stream_check.specs.lemmas.EventLemmas.{found_all}
 use Rattle.stream_check.specs.Additions.{published_by, JudgesAddition}
 use Rattle.stream_check.specs.Imports.{JudgesImport}
 use Rattle.stream_check.specs.Reaching.{tally_after}
-use Rattle.stream_check.specs.DroppedIdsValue.{DroppedIdsValue}
 use Rattle.stream_check.specs.Checker.{IsViewOf}
-use Rattle.stream_check.specs.internal.Checking.{IsFetch, AreDropped, Deletes}
+use Rattle.stream_check.specs.internal.Checking.{IsFetch, Deletes}
 use Rattle.stream_check.specs.Deletions.{IsRetire}
-use Rattle.stream_check.specs.internal.CheckerInside.{context_at, tally_at, deleted_at, KeepsLines}
+use Rattle.stream_check.specs.internal.CheckerInside.{StreamStateValue, context_at, tally_at, deleted_at, KeepsLines}
 use Rattle.stream_check.specs.internal.Taking.{IsReady, DeletesMore, TakesBy}
 use Rattle.stream_check.proofs.AddLemmas.{spent-skips, spent-fetches, still_at}
 use Rattle.stream_check.specs.lemmas.AdditionLemmas.{run-fetches}
@@ -49,7 +47,7 @@ vacant_on : (p q : CallerView) (es : History) (last : ℕ) → CallerStep p q es
 vacant_on p q es last step stays vacant j theirs above =
     let mine = own_before p q es j step theirs in step.own j mine ∙ stays j (vacant j mine above)
 
-pub ready_fetches : (h : StreamState) (p q : CallerView) (es : History) → CallerStep p q es → AllByRecursion IsFetch es → IsReady h p
+pub ready_fetches : (h : StreamStateValue) (p q : CallerView) (es : History) → CallerStep p q es → AllByRecursion IsFetch es → IsReady h p
     → IsReady h q
 ready_fetches h p q es step quiet ready = record {
   at = still_at h.params p q es ready.at step;
@@ -83,11 +81,11 @@ pub room_retires : (p q : CallerView) (es : History) → CallerStep p q es → A
 room_retires p q es step quiet = omega (arith, step.room, spent-retires p.caller.stream es quiet)
 
 -- after the retires of a deletion
-pub ready_retires : (old new : StreamState) (p q : CallerView) (es : History) → CallerStep p q es → AllByRecursion IsRetire es
-    → new.params ≡ old.params → new.last ≡ old.last → IsReady old p → IsReady new q
-ready_retires old new p q es step quiet params last ready = record {
-  at = subst (λ (c : StreamParams). IsViewOf c q) (sym params) (still_at old.params p q es ready.at step);
-  vacant = subst (IsVacantAbove q) (sym last)
+pub ready_retires : (old new : StreamStateValue) (p q : CallerView) (es : History) → CallerStep p q es → AllByRecursion IsRetire es
+    → KeepsLines old new → IsReady old p → IsReady new q
+ready_retires old new p q es step quiet kept ready = record {
+  at = subst (λ (v : StreamStateValue). IsViewOf v.params q) (sym kept) (still_at old.params p q es ready.at step);
+  vacant = subst (λ (v : StreamStateValue). IsVacantAbove q v.last) (sym kept)
       (vacant_on p q es old.last step (λ j none. run-retires-absent p.own es j quiet none) ready.vacant);
 }
 
@@ -98,7 +96,7 @@ published_run : (m : State) (fetches : History) (c : StreamParams) (id : ℕ) (l
 published_run m fetches c id lits quiet = run-append m fetches (published_by c id lits ∷ [])
     ∙ ap (λ (n : State). put n id (live (distinct lits))) (run-fetches m fetches quiet)
 
-pub ready_publish : (old new : StreamState) (p q : CallerView) (free : ℕ) (es : History) (id : ℕ) (lits : List ℤ) (hints : List ℕ)
+pub ready_publish : (old new : StreamStateValue) (p q : CallerView) (free : ℕ) (es : History) (id : ℕ) (lits : List ℤ) (hints : List ℕ)
     → CallerStep p q es → JudgesAddition old.params (context_at old free) id lits hints es Good → new.params ≡ old.params → new.last ≡ id
     → IsReady old p → IsReady new q
 ready_publish old new p q free es id lits hints step (fetches, good, made) params last ready =
@@ -116,7 +114,7 @@ ready_publish old new p q free es id lits hints step (fetches, good, made) param
           ∙ ready.vacant j (own_before p q es j step theirs) (omega (arith, over, good.above));
     }
 
-pub room_publish : (old : StreamState) (p q : CallerView) (free : ℕ) (es : History) (id : ℕ) (lits : List ℤ) (hints : List ℕ)
+pub room_publish : (old : StreamStateValue) (p q : CallerView) (free : ℕ) (es : History) (id : ℕ) (lits : List ℤ) (hints : List ℕ)
     → IsViewOf old.params p → CallerStep p q es → JudgesAddition old.params (context_at old free) id lits hints es Good
     → q.room ≡ p.room - length (distinct lits)
 room_publish old p q free es id lits hints at step (fetches, good, made) =
@@ -148,140 +146,93 @@ empty_is : (b : Bool) (lits : List ℤ) → b ≡ (length lits == 0) → b ≡ (
 empty_is b [] is = is
 empty_is b (l ∷ lits) is = is ∙ eqb-suc-zero (length lits) ∙ sym (ap (λ x. x || false) (eqb-suc-zero _))
 
--- what a good addition changes
-pub record Adds (old new : StreamState) (id : ℕ) (is_empty within_cube : Bool) : Type 0 where
-  pub last : new.last ≡ id
-  pub added : new.added ≡ old.added + 1
-  pub empty : new.empty ≡ (old.empty || is_empty)
-  pub within : new.within ≡ (old.within || within_cube)
-  pub line : new.line ≡ min (old.line + 1) (2 ^ 64 - 1)
-  pub dropped : new.dropped ≡ old.dropped
-  pub retired : new.retired ≡ old.retired
-
-pub takes_addition : (old new : StreamState) (free left : ℕ) (id : ℕ) (lits : List ℤ) (hints : List ℕ) (es : History)
-    (is_empty within_cube : Bool) → Adds old new id is_empty within_cube
+-- with one addition more
+pub takes_addition : (old : StreamStateValue) (free left : ℕ) (id : ℕ) (lits : List ℤ) (hints : List ℕ) (es : History)
+    (is_empty within_cube : Bool)
     → is_empty ≡ (length lits == 0) → within_cube ≡ is_within old.params.cube (distinct lits) → left ≡ free - length (distinct lits)
     → JudgesAddition old.params (context_at old free) id lits hints es Good
-    → TakesBy old free new left (Addition id lits hints) es (Ok tt)
-takes_addition old new free left id lits hints es is_empty within_cube adds is within room judged =
-    let line : StreamLine = Addition id lits hints in (
-      judged,
-      λ read. record {
-        tally = same_tally (tally_at new) (tally_after old.params (tally_at old) line) (omega (arith, adds.added))
-            (omega (arith, adds.retired, ap (λ (d : DroppedIdsValue). length d.ids) adds.dropped))
-            (adds.empty ∙ ap (λ (b : Bool). old.empty || b) (empty_is is_empty lits is))
-            (adds.within ∙ ap (λ (b : Bool). old.within || b) (within ∙ or_false (is_within old.params.cube (distinct lits))));
-        context = record {
-          last = adds.last;
-          free = omega (arith, room);
-          is_dropped = λ j. ap (λ (d : DroppedIdsValue). is_among d.ids j) adds.dropped
-              ∙ none_gone (is_among old.dropped.ids j) (is_shared (ownership_of old.params j));
-        };
-        pending = refl;
-        line = adds.line;
-      },
-    )
+    → TakesBy old free
+    (record old {
+      last = id;
+      added = old.added + 1;
+      empty = old.empty || is_empty;
+      within = old.within || within_cube;
+      line = capped (old.line + 1);
+    }) left (Addition id lits hints) es (Ok tt)
+takes_addition old free left id lits hints es is_empty within_cube is within room judged = (
+  judged,
+  λ read. record {
+    tally = same_tally _ (tally_after old.params (tally_at old) (Addition id lits hints)) refl (omega arith)
+        (ap (λ (b : Bool). old.empty || b) (empty_is is_empty lits is))
+        (ap (λ (b : Bool). old.within || b) (within ∙ or_false (is_within old.params.cube (distinct lits))));
+    context = record {
+      last = refl;
+      free = omega (arith, room);
+      is_dropped = λ j. none_gone (is_among old.dropped.ids j) (is_shared (ownership_of old.params j));
+    };
+    pending = refl;
+    line = refl;
+  },
+)
 
--- what a good line changes that adds nothing
-pub record Counts (mid new : StreamState) : Type 0 where
-  pub line : new.line ≡ min (mid.line + 1) (2 ^ 64 - 1)
-  pub last : new.last ≡ mid.last
-  pub added : new.added ≡ mid.added
-  pub empty : new.empty ≡ mid.empty
-  pub within : new.within ≡ mid.within
-  pub dropped : new.dropped ≡ mid.dropped
-  pub retired : new.retired ≡ mid.retired
+-- with one line more that adds nothing
+pub takes_deletion : (old mid : StreamStateValue) (free left : ℕ) (lead : ℕ) (ids : List ℕ) (es : History) (count : ℕ) → KeepsLines old mid
+    → deleted_at mid ≡ capped (deleted_at old + count) → left ≡ free
+    → Deletes old.params old.dropped.ids mid.dropped.ids ids es count (Ok tt)
+    → TakesBy old free (record mid { line = capped (mid.line + 1) }) left (Deletion lead ids) es (Ok tt)
+takes_deletion old mid free left lead ids es count kept more room deletes = (
+  deletes.0,
+  λ read. record {
+    tally = same_tally _ (tally_after old.params (tally_at old) (Deletion lead ids))
+        (omega (arith, ap (λ (v : StreamStateValue). v.added) kept))
+        (omega (arith, more, deletes.1))
+        (ap (λ (v : StreamStateValue). v.empty) kept ∙ or_false old.empty)
+        (ap (λ (v : StreamStateValue). v.within) kept ∙ or_false old.within);
+    context = record { last = ap (λ (v : StreamStateValue). v.last) kept; free = omega (arith, room); is_dropped = deletes.2 };
+    pending = refl;
+    line = ap (λ (v : StreamStateValue). capped (v.line + 1)) kept;
+  },
+)
 
-pub takes_deletion : (old mid new : StreamState) (free left : ℕ) (lead : ℕ) (ids : List ℕ) (es : History) (count : ℕ) → KeepsLines old mid
-    → Counts mid new → deleted_at mid ≡ capped (deleted_at old + count) → left ≡ free
-    → Deletes old.params old.dropped.ids mid.dropped.ids ids es count (Ok tt) → TakesBy old free new left (Deletion lead ids) es (Ok tt)
-takes_deletion old mid new free left lead ids es count kept counts more room deletes =
-    let line : StreamLine = Deletion lead ids in (
-      deletes.0,
-      λ read. record {
-        tally = same_tally (tally_at new) (tally_after old.params (tally_at old) line)
-            (omega (arith, counts.added, kept.added))
-            (omega (arith, counts.retired, ap (λ (d : DroppedIdsValue). length d.ids) counts.dropped, more, deletes.1))
-            (counts.empty ∙ kept.empty ∙ or_false old.empty)
-            (counts.within ∙ kept.within ∙ or_false old.within);
-        context = record {
-          last = counts.last ∙ kept.last;
-          free = omega (arith, room);
-          is_dropped = λ j. ap (λ (d : DroppedIdsValue). is_among d.ids j) counts.dropped ∙ deletes.2 j;
-        };
-        pending = refl;
-        line = counts.line ∙ ap (λ n. min (n + 1) (2 ^ 64 - 1)) kept.line;
-      },
-    )
-
-pub takes_import : (old new : StreamState) (free left : ℕ) (id : ℕ) (lits : List ℤ) (es : History) → Counts old new → left ≡ free
-    → JudgesImport old.params (context_at old free) id lits es Good → TakesBy old free new left (Import id lits) es (Ok tt)
-takes_import old new free left id lits es counts room judged =
-    let line : StreamLine = Import id lits in (
-      judged,
-      λ read. record {
-        tally = same_tally (tally_at new) (tally_after old.params (tally_at old) line)
-            (omega (arith, counts.added))
-            (omega (arith, counts.retired, ap (λ (d : DroppedIdsValue). length d.ids) counts.dropped))
-            (counts.empty ∙ or_false old.empty)
-            (counts.within ∙ or_false old.within);
-        context = record {
-          last = counts.last;
-          free = omega (arith, room);
-          is_dropped = λ j. ap (λ (d : DroppedIdsValue). is_among d.ids j) counts.dropped
-              ∙ none_gone (is_among old.dropped.ids j) (is_shared (ownership_of old.params j));
-        };
-        pending = refl;
-        line = counts.line;
-      },
-    )
-
--- the same view, for what is held with one line more
-pub still_ready : (mid new : StreamState) (q : CallerView) → new.params ≡ mid.params → new.last ≡ mid.last → IsReady mid q → IsReady new q
-still_ready mid new q params last ready = record {
-  at = subst (λ (c : StreamParams). IsViewOf c q) (sym params) ready.at;
-  vacant = subst (IsVacantAbove q) (sym last) ready.vacant;
-}
+pub takes_import : (old : StreamStateValue) (free left : ℕ) (id : ℕ) (lits : List ℤ) (es : History) → left ≡ free
+    → JudgesImport old.params (context_at old free) id lits es Good
+    → TakesBy old free (record old { line = capped (old.line + 1) }) left (Import id lits) es (Ok tt)
+takes_import old free left id lits es room judged = (
+  judged,
+  λ read. record {
+    tally = same_tally _ (tally_after old.params (tally_at old) (Import id lits)) (omega arith) (omega arith) (or_false old.empty)
+        (or_false old.within);
+    context = record {
+      last = refl;
+      free = omega (arith, room);
+      is_dropped = λ j. none_gone (is_among old.dropped.ids j) (is_shared (ownership_of old.params j));
+    };
+    pending = refl;
+    line = refl;
+  },
+)
 
 -- What is held after a line that stopped
 
-pub deletes_more : (old mid : StreamState) (ids : List ℕ) → KeepsLines old mid → deleted_at mid ≡ capped (deleted_at old + length ids)
-    → AreDropped old.params old.dropped.ids ids mid.dropped.ids → DeletesMore old mid ids
-deletes_more old mid ids kept more dropped = record {
-  added = kept.added;
-  deleted = more;
-  dropped = dropped;
-  empty = kept.empty;
-  within = kept.within;
-  line = kept.line;
-}
-
-pub stops_deletion : (old mid : StreamState) (free left : ℕ) (lead : ℕ) (ids : List ℕ) (es : History) (count : ℕ) (stop : LineStop)
+pub stops_deletion : (old mid : StreamStateValue) (free left : ℕ) (lead : ℕ) (ids : List ℕ) (es : History) (count : ℕ) (stop : LineStop)
     → KeepsLines old mid → deleted_at mid ≡ capped (deleted_at old + count)
     → Deletes old.params old.dropped.ids mid.dropped.ids ids es count (Err stop)
     → TakesBy old free mid left (Deletion lead ids) es (Err stop)
 stops_deletion old mid free left lead ids es count (stops.Bad fault) kept more deletes =
-    (deletes.0, deletes.1, deletes.3, deletes.4, deletes_more old mid deletes.0 kept (omega (arith, more, deletes.2)) deletes.5)
+    (deletes.0, deletes.1, deletes.3, deletes.4, record { kept = kept; deleted = omega (arith, more, deletes.2); dropped = deletes.5 })
 stops_deletion old mid free left lead ids es count stops.Memory kept more deletes =
-    (lead, ids, deletes.0, refl, deletes.2, deletes_more old mid deletes.0 kept (omega (arith, more, deletes.1)) deletes.3)
+    (lead, ids, deletes.0, refl, deletes.2, record { kept = kept; deleted = omega (arith, more, deletes.1); dropped = deletes.3 })
 
-deletes_none : (old : StreamState) → DeletesMore old old []
-deletes_none old = record {
-  added = refl;
-  deleted = omega arith;
-  dropped = drops_none old.params (is_among old.dropped.ids);
-  empty = refl;
-  within = refl;
-  line = refl;
-}
+deletes_none : (old : StreamStateValue) → DeletesMore old old []
+deletes_none old = record { kept = refl; deleted = omega arith; dropped = drops_none old.params (is_among old.dropped.ids) }
 
-pub stops_addition : (old : StreamState) (free left : ℕ) (id : ℕ) (lits : List ℤ) (hints : List ℕ) (es : History) (fault : Fault)
+pub stops_addition : (old : StreamStateValue) (free left : ℕ) (id : ℕ) (lits : List ℤ) (hints : List ℕ) (es : History) (fault : Fault)
     → JudgesAddition old.params (context_at old free) id lits hints es (Bad 0 fault)
     → TakesBy old free old left (Addition id lits hints) es (Err (stops.Bad fault))
 stops_addition old free left id lits hints es fault judged =
     ([], [], refl, judged, deletes_none old)
 
-pub stops_import : (old : StreamState) (free left : ℕ) (id : ℕ) (lits : List ℤ) (es : History) (fault : Fault)
+pub stops_import : (old : StreamStateValue) (free left : ℕ) (id : ℕ) (lits : List ℤ) (es : History) (fault : Fault)
     → JudgesImport old.params (context_at old free) id lits es (Bad 0 fault)
     → TakesBy old free old left (Import id lits) es (Err (stops.Bad fault))
 stops_import old free left id lits es fault judged =

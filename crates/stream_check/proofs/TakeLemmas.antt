@@ -1,5 +1,5 @@
 -- A line that is taken, on whatever bytes and events came before it.
-use Rattle.std.proofs.Common.{◌≡◌, ◌+◌, ℕ, Bool, List, [], ◌∷◌, ◌++◌, length, Ok, Err, sym, ap, subst, ◌∙◌, append-nil}
+use Rattle.std.proofs.Common.{◌≡◌, ◌+◌, ℕ, List, [], ◌∷◌, ◌++◌, length, Ok, Err, sym, ap, subst, ◌∙◌, append-nil}
 use Rattle.lrup_model.specs.Event.{History}
 use Rattle.lrup_text.specs.Lines.{StreamLine, LineText, IsPending}
 use Rattle.lrup_text.specs.declared.LineFault.{LineFault}
@@ -8,39 +8,34 @@ use Rattle.stream_check.specs.declared.fault.Fault.TheVariants as faults
 use Rattle.stream_check.specs.declared.report.Ending.{Ending}
 use Rattle.stream_check.specs.declared.report.Ending.TheVariants as endings
 use Rattle.stream_check.specs.declared.report.Report.{Report}
-use Rattle.stream_check.specs.declared.stream_state.StreamState.{StreamState}
 use Rattle.stream_check.specs.declared.line_stop.LineStop.{LineStop}
 use Rattle.stream_check.specs.declared.line_stop.LineStop.TheVariants as stops
 use Rattle.stream_check.specs.StreamContext.{capped, is_among}
 use Rattle.stream_check.specs.CheckerValue.{report_of_tally}
 use Rattle.stream_check.specs.Reaching.{Going, Over, ReachesState}
-use Rattle.stream_check.specs.internal.CheckerInside.{tally_at}
+use Rattle.stream_check.specs.internal.CheckerInside.{StreamStateValue, tally_at, deleted_at}
 use Rattle.stream_check.specs.Checker.{Extends}
 use Rattle.stream_check.specs.internal.Taking.{hold, DeletesMore, TakesBy, ending_of}
 use Rattle.stream_check.specs.Laws.{GoodLineTaken}
 use Rattle.stream_check.proofs.ReachingLemmas.{pending_grows, bad_line_taken, bad_text_read, memory_wanted}
 
 -- the report after a line that stopped: what it deleted is counted already
-report_is : (old new : StreamState) (ids : List ℕ) (ending : ℕ → Ending) → DeletesMore old new ids
+report_is : (old new : StreamStateValue) (ids : List ℕ) (ending : ℕ → Ending) → DeletesMore old new ids
     → report_of_tally (record (tally_at old) { deleted = capped ((tally_at old).deleted + length ids) }) (ending old.line)
     ≡ report_of_tally (tally_at new) (ending new.line)
 report_is old new ids ending more =
-    let made : ℕ → ℕ → Bool → Bool → Ending → Report = λ a d e w x. record { added = a; deleted = d; empty = e; within = w; ending = x } in
-    ap (λ a. made a (capped ((tally_at old).deleted + length ids)) old.empty old.within (ending old.line)) (sym more.added)
-    ∙ ap (λ d. made new.added d old.empty old.within (ending old.line)) (sym more.deleted)
-    ∙ ap (λ e. made new.added (tally_at new).deleted e old.within (ending old.line)) (sym more.empty)
-    ∙ ap (λ w. made new.added (tally_at new).deleted new.empty w (ending old.line)) (sym more.within)
-    ∙ ap (λ n. made new.added (tally_at new).deleted new.empty new.within (ending n)) (sym more.line)
+    let of : ℕ → StreamStateValue → Report = λ d v. report_of_tally (record (tally_at v) { deleted = d }) (ending v.line) in
+    ap (λ d. of d old) (sym more.deleted) ∙ ap (of (deleted_at new)) (sym more.kept)
 
 -- a good line
-pub reaches_good : GoodLineTaken → (old new : StreamState) (free left : ℕ) (read used : List ℕ) (line : StreamLine) (es : History)
+pub reaches_good : GoodLineTaken → (old new : StreamStateValue) (free left : ℕ) (read used : List ℕ) (line : StreamLine) (es : History)
     → LineText line (read ++ used) → TakesBy old free new left line es (Ok tt)
     → Extends old.params (Going (hold old read free)) used (es ∷ []) (Going (hold new [] left))
 reaches_good law old new free left read used line es text takes bytes before reaches =
     law old.params bytes used before es (hold old read free) (hold new [] left) line reaches text takes.0 (takes.1 read)
 
 -- a line that stopped
-pub reaches_stopped : (old new : StreamState) (free left : ℕ) (read used : List ℕ) (line : StreamLine) (es : History) (stop : LineStop)
+pub reaches_stopped : (old new : StreamStateValue) (free left : ℕ) (read used : List ℕ) (line : StreamLine) (es : History) (stop : LineStop)
     → LineText line (read ++ used) → TakesBy old free new left line es (Err stop)
     → Extends old.params (Going (hold old read free)) used (es ∷ [])
     (Over (report_of_tally (tally_at new) (ending_of new.line stop)) (is_among new.dropped.ids))
@@ -56,14 +51,14 @@ reaches_stopped old new free left read used line es stops.Memory text takes byte
     (subst (λ (l : StreamLine). LineText l (read ++ used)) takes.3 text) takes.4 takes.5.dropped)
 
 -- the front of a line
-pub reaches_front : (old : StreamState) (free : ℕ) (read piece : List ℕ) → IsPending (read ++ piece)
+pub reaches_front : (old : StreamStateValue) (free : ℕ) (read piece : List ℕ) → IsPending (read ++ piece)
     → Extends old.params (Going (hold old read free)) piece [] (Going (hold old (read ++ piece) free))
 reaches_front old free read piece pending bytes before reaches =
     subst (λ (blocks : List History). ReachesState old.params (bytes ++ piece) blocks (Going (hold old (read ++ piece) free)))
     (sym (append-nil before)) (pending_grows old.params bytes piece before (hold old read free) reaches pending)
 
 -- a text that begins no line
-pub reaches_refused : (old : StreamState) (free : ℕ) (read used : List ℕ) (fault : LineFault) → IsRefused (read ++ used) fault
+pub reaches_refused : (old : StreamStateValue) (free : ℕ) (read used : List ℕ) (fault : LineFault) → IsRefused (read ++ used) fault
     → Extends old.params (Going (hold old read free)) used []
     (Over (report_of_tally (tally_at old) (endings.Bad old.line (faults.Text fault))) (is_among old.dropped.ids))
 reaches_refused old free read used fault refused bytes before reaches =

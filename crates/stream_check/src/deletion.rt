@@ -22,8 +22,7 @@ fn retire_own<M: ClauseMap>(state: &mut StreamState, map: &mut M, id: Id) -> Res
     ensures deletes { (es : History) × M.moves map.old map.new es × AllByRecursion IsRetire es
         × DeletesOwn state.old.params id state.old.dropped.ids state.new.dropped.ids es result }
     ensures count { deleted_at state.new ≡ capped (deleted_at state.old + counted result) }
-    ensures dropped { state.new.dropped ≡ state.old.dropped }
-    ensures kept { KeepsLines state.old state.new }
+    ensures kept { state.new ≡ record state.old { retired = state.new.retired } }
 {
     match map.retire(id) {
         Retired::Done => {

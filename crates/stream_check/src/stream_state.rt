@@ -1,6 +1,7 @@
 //! What a checker knows of the good lines so far.
-ghost use Rattle.std.specs.Prelude.{◌≡◌, ◌≤◌, ◌<◌, ◌^◌, ◌+◌, ◌-◌, ◌||◌, min, [], false, length, IsErrOf};
+ghost use Rattle.std.specs.Prelude.{◌≡◌, ◌<◌, ◌^◌, ◌+◌, ◌||◌, [], length, IsErrOf};
 ghost use Rattle.stream_check.specs.internal.Checking.{DropsShared, counted};
+ghost use Rattle.stream_check.specs.internal.CheckerInside.{fresh_state};
 ghost use Rattle.stream_check.specs.StreamContext.{capped, is_among};
 
 use crate::dropped_ids::DroppedIds;
@@ -10,6 +11,7 @@ use crate::params::StreamParams;
 use crate::report::{Ending, Report};
 use lrup_model::Id;
 use std::alloc::Global;
+use std::marker::Model;
 
 /// What a checker knows of the good lines so far, and of the identities that a bad deletion deleted before its fault; and the parameters
 /// by which lines are checked.
@@ -30,21 +32,33 @@ pub struct StreamState {
     within: bool,
     /// The number of the next line, from 1 on. It stays at 2^64 - 1 once it is there.
     line: u64,
-    ghost few_added: { added ≤ last },
-    ghost small: { last < 2 ^ 63 },
+}
+
+impl Model for StreamState {
+    ghost use Rattle.std.specs.Prelude.{◌≤◌, ◌<◌, ◌^◌};
+    ghost use Rattle.stream_check.specs.internal.CheckerInside.{StreamStateValue};
+
+    ghost Value = { StreamStateValue };
+
+    ghost view = { λ s. record {
+      params = s.params;
+      last = s.last;
+      dropped = s.dropped;
+      retired = s.retired;
+      added = s.added;
+      empty = s.empty;
+      within = s.within;
+      line = s.line;
+    } };
+
+    ghost invariant = { λ s. (s.added ≤ s.last) × (s.last < 2 ^ 63) };
 }
 
 impl StreamState {
     /// The state before the first line.
     pub fn new(alloc: Global, params: StreamParams) -> StreamState
-        ensures params { result.params ≡ params }
-        ensures last { result.last ≡ params.layout.clauses }
+        ensures fresh { result ≡ fresh_state params result.dropped }
         ensures dropped { result.dropped.ids ≡ [] }
-        ensures retired { result.retired ≡ 0 }
-        ensures added { result.added ≡ 0 }
-        ensures empty { result.empty ≡ false }
-        ensures within { result.within ≡ false }
-        ensures line { result.line ≡ 1 }
     {
         StreamState {
             last: u64::from(params.clauses()),
@@ -83,14 +97,13 @@ impl StreamState {
     pub fn count_addition(&mut self, id: Id, is_empty: bool, is_within: bool)
         requires above { self.old.last < id }
         requires small { id < 2 ^ 63 }
-        ensures last { self.new.last ≡ id }
-        ensures added { self.new.added ≡ self.old.added + 1 }
-        ensures empty { self.new.empty ≡ (self.old.empty || is_empty) }
-        ensures within { self.new.within ≡ (self.old.within || is_within) }
-        ensures line { self.new.line ≡ min (self.old.line + 1) (2 ^ 64 - 1) }
-        ensures params { self.new.params ≡ self.old.params }
-        ensures dropped { self.new.dropped ≡ self.old.dropped }
-        ensures retired { self.new.retired ≡ self.old.retired }
+        ensures { self.new ≡ record self.old {
+          last = id;
+          added = self.old.added + 1;
+          empty = self.old.empty || is_empty;
+          within = self.old.within || is_within;
+          line = capped (self.old.line + 1);
+        } }
     {
         self.added += 1;
         self.last = id;
@@ -101,28 +114,14 @@ impl StreamState {
 
     /// Counts a good line that adds nothing: a deletion, or an import.
     pub fn count_line(&mut self)
-        ensures line { self.new.line ≡ min (self.old.line + 1) (2 ^ 64 - 1) }
-        ensures last { self.new.last ≡ self.old.last }
-        ensures added { self.new.added ≡ self.old.added }
-        ensures empty { self.new.empty ≡ self.old.empty }
-        ensures within { self.new.within ≡ self.old.within }
-        ensures params { self.new.params ≡ self.old.params }
-        ensures dropped { self.new.dropped ≡ self.old.dropped }
-        ensures retired { self.new.retired ≡ self.old.retired }
+        ensures { self.new ≡ record self.old { line = capped (self.old.line + 1) } }
     {
         self.line = self.line.saturating_add(1);
     }
 
     /// Counts an own identity that was retired. The count stays at 2^64 - 1.
     pub fn count_retired(&mut self)
-        ensures retired { self.new.retired ≡ capped (self.old.retired + 1) }
-        ensures dropped { self.new.dropped ≡ self.old.dropped }
-        ensures params { self.new.params ≡ self.old.params }
-        ensures last { self.new.last ≡ self.old.last }
-        ensures added { self.new.added ≡ self.old.added }
-        ensures empty { self.new.empty ≡ self.old.empty }
-        ensures within { self.new.within ≡ self.old.within }
-        ensures line { self.new.line ≡ self.old.line }
+        ensures { self.new ≡ record self.old { retired = capped (self.old.retired + 1) } }
     {
         self.retired = self.retired.saturating_add(1);
     }
@@ -133,13 +132,7 @@ impl StreamState {
         ensures drops { DropsShared id self.old.dropped.ids self.new.dropped.ids result }
         ensures count { length self.new.dropped.ids ≡ length self.old.dropped.ids + counted result }
         ensures spare { IsErrOf result LineStop.Memory → self.old.dropped.spare ≡ 0 }
-        ensures retired { self.new.retired ≡ self.old.retired }
-        ensures params { self.new.params ≡ self.old.params }
-        ensures last { self.new.last ≡ self.old.last }
-        ensures added { self.new.added ≡ self.old.added }
-        ensures empty { self.new.empty ≡ self.old.empty }
-        ensures within { self.new.within ≡ self.old.within }
-        ensures line { self.new.line ≡ self.old.line }
+        ensures kept { self.new ≡ record self.old { dropped = self.new.dropped } }
     {
         if self.dropped.has(id) {
             return Err(LineStop::Bad(Fault::NotLive(id)));

@@ -1,5 +1,5 @@
 -- How a checker's value comes from its fields, and what these keep (this project's own).
-use Rattle.std.specs.Prelude.{◌≡◌, ◌≤◌, ◌<◌, ◌^◌, ◌+◌, ℕ, ℤ, nat_abs, true, List, [], length, Option, None, Result, Ok, Err}
+use Rattle.std.specs.Prelude.{◌≡◌, ◌≤◌, ◌<◌, ◌^◌, ◌+◌, ℕ, ℤ, nat_abs, Bool, true, false, List, [], length, Option, None, Result, Ok, Err}
 use Rattle.std.specs.List.{AllByRecursion}
 use Rattle.lrup_model.specs.Clause.{IsClause, IsTautology}
 use Rattle.lrup_model.specs.Layout.{Owns}
@@ -8,7 +8,7 @@ use Rattle.lrup_text.specs.Feeding.{ReaderState}
 use Rattle.propagate.specs.Marks.{Propagation}
 use Rattle.stream_check.specs.declared.fault.Fault.{Fault}
 use Rattle.stream_check.specs.declared.report.Ending.{Ending}
-use Rattle.stream_check.specs.declared.stream_state.StreamState.{StreamState}
+use Rattle.stream_check.specs.DroppedIdsValue.{DroppedIdsValue}
 use Rattle.stream_check.specs.StreamParams.{StreamParams}
 use Rattle.stream_check.specs.StreamContext.{capped, StreamContext, is_among}
 use Rattle.stream_check.specs.Additions.{BeforeHints}
@@ -16,16 +16,41 @@ use Rattle.stream_check.specs.CheckerValue.{Tally, CheckerValue}
 use Rattle.stream_check.specs.declared.params.Ownership.{Ownership}
 use Rattle.stream_check.specs.declared.params.Ownership.TheVariants as ownerships
 
+-- whose lines they are; the last identity added, or the formula's last one; the dropped ones, and how many were retired; how many
+-- clauses were added, whether one is empty, and whether one is within the cube; and the next line's number
+pub record StreamStateValue : Type 0 where
+  pub params : StreamParams
+  pub last : ℕ
+  pub dropped : DroppedIdsValue
+  pub retired : ℕ
+  pub added : ℕ
+  pub empty : Bool
+  pub within : Bool
+  pub line : ℕ
+
+-- the state before the first line, if these identities count as dropped
+abbrev pub fresh_state : StreamParams → DroppedIdsValue → StreamStateValue
+fresh_state params dropped = record {
+  params = params;
+  last = params.layout.clauses;
+  dropped = dropped;
+  retired = 0;
+  added = 0;
+  empty = false;
+  within = false;
+  line = 1;
+}
+
 -- what the good lines so far leave, if so much room is left
-abbrev pub context_at : StreamState → ℕ → StreamContext
+abbrev pub context_at : StreamStateValue → ℕ → StreamContext
 context_at state free =
     record { last = state.last; free = free; is_dropped = is_among state.dropped.ids }
 
 -- how many identities were deleted
-abbrev pub deleted_at : StreamState → ℕ
+abbrev pub deleted_at : StreamStateValue → ℕ
 deleted_at state = capped (state.retired + length state.dropped.ids)
 
-abbrev pub tally_at : StreamState → Tally
+abbrev pub tally_at : StreamStateValue → Tally
 tally_at state = record {
   added = state.added;
   deleted = deleted_at state;
@@ -34,13 +59,8 @@ tally_at state = record {
 }
 
 -- what only a good line changes
-pub record KeepsLines (old new : StreamState) : Type 0 where
-  pub params : new.params ≡ old.params
-  pub last : new.last ≡ old.last
-  pub added : new.added ≡ old.added
-  pub empty : new.empty ≡ old.empty
-  pub within : new.within ≡ old.within
-  pub line : new.line ≡ old.line
+abbrev pub KeepsLines : StreamStateValue → StreamStateValue → Type 0
+KeepsLines old new = new ≡ record old { dropped = new.dropped; retired = new.retired }
 
 -- The conditions before those of the hints hold, and the addition's clause is taken up.
 pub record Admits (params : StreamParams) (context : StreamContext) (id : ℕ) (lits : List ℤ)
@@ -73,7 +93,7 @@ read_of (Ok read) = read
 read_of (Err fault) = []
 
 -- a checker of these parts
-abbrev pub value_of : StreamState → List ℕ → Option Ending → CheckerValue
+abbrev pub value_of : StreamStateValue → List ℕ → Option Ending → CheckerValue
 value_of state pending ending = record {
   params = state.params;
   tally = tally_at state;

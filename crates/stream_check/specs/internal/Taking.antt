@@ -1,11 +1,10 @@
 -- What a checker's line leaves of it (this project's own).
-use Rattle.std.specs.Prelude.{◌≡◌, ◌+◌, ◌++◌, ℕ, List, [], length, Result, Ok, Err}
+use Rattle.std.specs.Prelude.{◌≡◌, ◌+◌, ◌++◌, ℕ, List, [], length, None, Result, Ok, Err}
 use Rattle.lrup_model.specs.Event.{History}
 use Rattle.lrup_model.specs.CallerView.{CallerView, IsVacantAbove}
 use Rattle.lrup_text.specs.Lines.{StreamLine, Deletion}
 use Rattle.stream_check.specs.declared.report.Ending.{Ending}
 use Rattle.stream_check.specs.declared.report.Ending.TheVariants as endings
-use Rattle.stream_check.specs.declared.stream_state.StreamState.{StreamState}
 use Rattle.stream_check.specs.declared.line_stop.LineStop.{LineStop}
 use Rattle.stream_check.specs.declared.line_stop.LineStop.TheVariants as stops
 use Rattle.stream_check.specs.StreamContext.{capped, is_among, deleted_by}
@@ -13,35 +12,27 @@ use Rattle.stream_check.specs.Verdicts.{Good, Bad}
 use Rattle.stream_check.specs.Deletions.{StopsDeletion}
 use Rattle.stream_check.specs.Judging.{JudgesLine}
 use Rattle.stream_check.specs.Reaching.{GoingState, TakesLine}
-use Rattle.stream_check.specs.Checker.{IsViewOf}
+use Rattle.stream_check.specs.Checker.{IsViewOf, going_of}
 use Rattle.stream_check.specs.internal.Checking.{AreDropped}
-use Rattle.stream_check.specs.internal.CheckerInside.{context_at, tally_at, deleted_at}
+use Rattle.stream_check.specs.internal.CheckerInside.{StreamStateValue, context_at, deleted_at, KeepsLines, value_of}
 
 -- what is held, with this text read of the next line, if so much room is left
-abbrev pub hold : StreamState → List ℕ → ℕ → GoingState
-hold state pending free = record {
-  tally = tally_at state;
-  context = context_at state free;
-  pending = pending;
-  line = state.line;
-}
+abbrev pub hold : StreamStateValue → List ℕ → ℕ → GoingState
+hold state pending free = going_of (value_of state pending None) free
 
 -- with this view the next line can be checked
-pub record IsReady (state : StreamState) (view : CallerView) : Type 0 where
+pub record IsReady (state : StreamStateValue) (view : CallerView) : Type 0 where
   pub at : IsViewOf state.params view
   pub vacant : IsVacantAbove view state.last
 
 -- these identities more were deleted, and of them the shared ones dropped, and nothing else was counted
-pub record DeletesMore (old new : StreamState) (ids : List ℕ) : Type 0 where
-  pub added : new.added ≡ old.added
+pub record DeletesMore (old new : StreamStateValue) (ids : List ℕ) : Type 0 where
+  pub kept : KeepsLines old new
   pub deleted : deleted_at new ≡ capped (deleted_at old + length ids)
   pub dropped : AreDropped old.params old.dropped.ids ids new.dropped.ids
-  pub empty : new.empty ≡ old.empty
-  pub within : new.within ≡ old.within
-  pub line : new.line ≡ old.line
 
 -- what the events of one line came to
-abbrev pub TakesBy : StreamState → ℕ → StreamState → ℕ → StreamLine → History
+abbrev pub TakesBy : StreamStateValue → ℕ → StreamStateValue → ℕ → StreamLine → History
     → Result (Unit {0}) LineStop → Type 0
 TakesBy old free new left line history (Ok _) =
     JudgesLine old.params (context_at old free) line history Good

@@ -1,12 +1,12 @@
-use Rattle.std.proofs.Common.{◌≡◌, ◌∙◌, ◌+◌, ℕ, List, [], ◌∷◌, ◌++◌, length, take, drop, get_or, Ok, Err, sym, subst, arith, length-take}
+use Rattle.std.proofs.Common.{◌≡◌, ◌∙◌, ◌+◌, ℕ, List, [], ◌∷◌, ◌++◌, length, take, drop, get_or, Ok, Err, sym, ap, subst}
+use Rattle.std.proofs.Common.{arith, length-take}
 use Rattle.std.proofs.lemmas.List.{take_more, take_all}
 use Rattle.std.proofs.lemmas.Result.{err_from_is_err_and}
 use Rattle.lrup_model.specs.lemmas.ListLemmas.{All-append}
 use Rattle.stream_check.specs.StreamParams.{StreamParams}
-use Rattle.stream_check.specs.declared.stream_state.StreamState.{StreamState}
 use Rattle.stream_check.specs.Deletions.{IsRetire}
 use Rattle.stream_check.specs.internal.Checking.{DeletesOne, AreDropped}
-use Rattle.stream_check.specs.internal.CheckerInside.{KeepsLines}
+use Rattle.stream_check.specs.internal.CheckerInside.{StreamStateValue, KeepsLines}
 use Rattle.stream_check.proofs.DeleteLemmas.{GoesOn, goes_on, among_ids, stopped_deletion, good_deletion, dropped_more}
 use Rattle.stream_check.proofs.deletion.delete.Goals as goal
 
@@ -22,7 +22,7 @@ returns-in_err-delete_one-clause-deleted g c =
     let one = c.in_err-delete_one.ensures.deletes in
     let deletes : DeletesOne s id c.loop-id.state.dropped.ids c.delete_one.new.state.dropped.ids one.0 (Err stop) =
     subst (λ (x : StreamParams). DeletesOne x id c.loop-id.state.dropped.ids c.delete_one.new.state.dropped.ids one.0 (Err stop))
-    c.loop-id.invariant.kept.params one.3 in
+    (ap (λ (v : StreamStateValue). v.params) c.loop-id.invariant.kept) one.3 in
     let count : length (take i ids) ≡ i = omega (arith, length-take i ids, c.loop-id-test.true) in
     let given = err_from_is_err_and c.from_residual.result c.from_residual.ensures.1 in
     rw (given.1, given.2) (
@@ -37,15 +37,8 @@ returns-in_err-delete_one-clause-deleted g c =
       ),
     )
 
-keeps_on : (a b c : StreamState) → KeepsLines a b → KeepsLines b c → KeepsLines a c
-keeps_on a b c h k = record {
-  params = k.params ∙ h.params;
-  last = k.last ∙ h.last;
-  added = k.added ∙ h.added;
-  empty = k.empty ∙ h.empty;
-  within = k.within ∙ h.within;
-  line = k.line ∙ h.line;
-}
+keeps_on : (a b c : StreamStateValue) → KeepsLines a b → KeepsLines b c → KeepsLines a c
+keeps_on a b c h k = k ∙ ap (λ (v : StreamStateValue). record v { dropped = c.dropped; retired = c.retired }) h
 
 pub loop-id-preserved : goal.loop-id-preserved
 loop-id-preserved g c =
@@ -58,7 +51,7 @@ loop-id-preserved g c =
     let one = c.in_ok-delete_one.ensures.deletes in
     let deletes : DeletesOne s id c.loop-id.state.dropped.ids c.delete_one.new.state.dropped.ids one.0 (Ok tt) =
     subst (λ (x : StreamParams). DeletesOne x id c.loop-id.state.dropped.ids c.delete_one.new.state.dropped.ids one.0 (Ok tt))
-    c.loop-id.invariant.kept.params one.3 in
+    (ap (λ (v : StreamStateValue). v.params) c.loop-id.invariant.kept) one.3 in
     let more : take (i + 1) ids ≡ take i ids ++ id ∷ [] = take_more ids i 0 c.loop-id-test.true in
     record {
       kept = keeps_on old c.loop-id.state c.delete_one.new.state c.loop-id.invariant.kept c.delete_one.ensures.kept;

@@ -1,7 +1,7 @@
-use Rattle.std.proofs.Common.{[], ◌∷◌, length, refl, ap, arith}
+use Rattle.std.proofs.Common.{[], ◌∷◌, refl, ap, arith}
 use Rattle.lrup_model.specs.Event.{History, retire}
 use Rattle.lrup_model.specs.declared.clause_map.Retired.TheVariants as retiring
-use Rattle.stream_check.specs.DroppedIdsValue.{DroppedIdsValue}
+use Rattle.stream_check.specs.internal.CheckerInside.{StreamStateValue, deleted_at}
 use Rattle.stream_check.proofs.deletion.retire_own.Goals as goal
 
 pub returns-in-Done-clause-deletes : goal.returns-in-Done-clause-deletes
@@ -12,13 +12,13 @@ returns-in-Done-clause-deletes g c =
       (tt, tt),
       (
         ap (λ s. retire s c.args.id retiring.Done ∷ []) c.requires.at.stream,
-        ap (λ (d : DroppedIdsValue). d.ids) c.count_retired.ensures.dropped,
+        ap (λ (v : StreamStateValue). v.dropped.ids) c.count_retired.ensures,
       ),
     )
 
 pub returns-in-Done-clause-count : goal.returns-in-Done-clause-count
 returns-in-Done-clause-count g c =
-    omega (arith, c.count_retired.ensures.retired, ap (λ (d : DroppedIdsValue). length d.ids) c.count_retired.ensures.dropped)
+    omega (arith, ap deleted_at c.count_retired.ensures)
 
 pub returns-in-NotLive-clause-deletes : goal.returns-in-NotLive-clause-deletes
 returns-in-NotLive-clause-deletes g c =

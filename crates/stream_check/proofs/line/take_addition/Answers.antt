@@ -1,12 +1,12 @@
-use Rattle.std.proofs.Common.{◌≡◌, ◌∙◌, ap}
+use Rattle.std.proofs.Common.{◌≡◌, ◌∙◌, refl, ap}
 use Rattle.std.proofs.lemmas.Result.{err_from_is_err_and}
 use Rattle.lrup_model.specs.Distinct.{distinct}
 use Rattle.stream_check.specs.StreamContext.{is_within}
 use Rattle.stream_check.specs.Verdicts.{Bad}
 use Rattle.stream_check.specs.internal.Checking.{IsFetch}
-use Rattle.stream_check.specs.internal.CheckerInside.{context_at}
+use Rattle.stream_check.specs.internal.CheckerInside.{StreamStateValue, context_at}
 use Rattle.stream_check.specs.lemmas.EventLemmas.{addition_all}
-use Rattle.stream_check.proofs.LineLemmas.{Adds, ready_fetches, ready_publish, room_publish, takes_addition, stops_addition}
+use Rattle.stream_check.proofs.LineLemmas.{ready_fetches, ready_publish, room_publish, takes_addition, stops_addition}
 use Rattle.stream_check.proofs.line.take_addition.Goals as goal
 
 pub returns-in_err-add-clause-taken : goal.returns-in_err-add-clause-taken
@@ -34,28 +34,19 @@ returns-in_err-add-clause-ready g c =
 pub returns-clause-taken : goal.returns-clause-taken
 returns-clause-taken g c =
     let old = c.args.state.now in
-    let new = c.count_addition.new.self in
     let p = g.M.ClauseMap.caller_view c.args.map.now in
     let q = g.M.ClauseMap.caller_view c.add.new.map in
     let judged = c.in_ok-add.ensures.judged in
-    let added = c.count_addition.ensures in
-    let adds : Adds old new c.args.id c.is_empty.result c.refutes-within.result = record {
-      last = added.last;
-      added = added.added;
-      empty = added.empty;
-      within = added.within;
-      line = added.line;
-      dropped = added.dropped;
-      retired = added.retired;
-    } in
     let room = room_publish old p q p.room judged.0 c.args.id c.args.lits.now c.args.hints.now c.requires.ready.at
     (g.met.M.ClauseMap.moves_are_step c.args.map.now c.add.new.map judged.0 judged.1) judged.2 in
     let within : c.refutes-within.result ≡ is_within old.params.cube (distinct c.args.lits.now) =
-    c.refutes-within.ensures ∙ ap (is_within old.params.cube) (c.clause.ensures ∙ c.in_ok-add.ensures.clause) in (
+    c.refutes-within.ensures ∙ ap (λ (v : StreamStateValue). is_within v.params.cube c.clause.result.now) c.state.view_is
+    ∙ ap (is_within old.params.cube) (c.clause.ensures ∙ c.in_ok-add.ensures.clause) in
+    rw c.count_addition.ensures (
       judged.0,
       judged.1,
-      takes_addition old new p.room q.room c.args.id c.args.lits.now c.args.hints.now judged.0 c.is_empty.result c.refutes-within.result
-          adds c.is_empty.ensures within room judged.2,
+      takes_addition old p.room q.room c.args.id c.args.lits.now c.args.hints.now judged.0 c.is_empty.result c.refutes-within.result
+          c.is_empty.ensures within room judged.2,
     )
 
 pub returns-clause-ready : goal.returns-clause-ready
@@ -64,6 +55,5 @@ returns-clause-ready g c =
     let p = g.M.ClauseMap.caller_view c.args.map.now in
     let q = g.M.ClauseMap.caller_view c.add.new.map in
     let judged = c.in_ok-add.ensures.judged in
-    let added = c.count_addition.ensures in
-    ready_publish old c.count_addition.new.self p q p.room judged.0 c.args.id c.args.lits.now c.args.hints.now
-    (g.met.M.ClauseMap.moves_are_step c.args.map.now c.add.new.map judged.0 judged.1) judged.2 added.params added.last c.requires.ready
+    rw c.count_addition.ensures (ready_publish old _ p q p.room judged.0 c.args.id c.args.lits.now c.args.hints.now
+    (g.met.M.ClauseMap.moves_are_step c.args.map.now c.add.new.map judged.0 judged.1) judged.2 refl refl c.requires.ready)

@@ -4,7 +4,7 @@ use Rattle.stream_check.specs.internal.Checking.{IsFetch}
 use Rattle.stream_check.specs.internal.CheckerInside.{context_at}
 use Rattle.stream_check.specs.lemmas.EventLemmas.{import_all}
 use Rattle.stream_check.proofs.AddLemmas.{room_stays}
-use Rattle.stream_check.proofs.LineLemmas.{Counts, ready_fetches, takes_import, stops_import, still_ready}
+use Rattle.stream_check.proofs.LineLemmas.{ready_fetches, takes_import, stops_import}
 use Rattle.stream_check.proofs.line.take_import.Goals as goal
 
 pub returns-in_err-import-clause-taken : goal.returns-in_err-import-clause-taken
@@ -29,23 +29,13 @@ returns-in_err-import-clause-ready g c =
 pub returns-clause-taken : goal.returns-clause-taken
 returns-clause-taken g c =
     let old = c.args.state.now in
-    let new = c.count_line.new.self in
     let p = g.M.ClauseMap.caller_view c.args.map.now in
     let q = g.M.ClauseMap.caller_view c.import.new.map in
     let judged = c.in_ok-import.ensures.judged in
-    let taken = c.count_line.ensures in
-    let counts : Counts old new = record {
-      line = taken.line;
-      last = taken.last;
-      added = taken.added;
-      empty = taken.empty;
-      within = taken.within;
-      dropped = taken.dropped;
-      retired = taken.retired;
-    } in
     let room = room_stays p q judged.0 (g.met.M.ClauseMap.moves_are_step c.args.map.now c.import.new.map judged.0 judged.1)
     (import_all old.params IsFetch (λ h r. tt) (context_at old p.room) c.args.id c.args.lits.now judged.0 Good judged.2) in
-    (judged.0, judged.1, takes_import old new p.room q.room c.args.id c.args.lits.now judged.0 counts room judged.2)
+    rw c.count_line.ensures
+    (judged.0, judged.1, takes_import old p.room q.room c.args.id c.args.lits.now judged.0 room judged.2)
 
 pub returns-clause-ready : goal.returns-clause-ready
 returns-clause-ready g c =
@@ -57,4 +47,4 @@ returns-clause-ready g c =
     (g.met.M.ClauseMap.moves_are_step c.args.map.now c.import.new.map judged.0 judged.1)
     (import_all old.params IsFetch (λ h r. tt) (context_at old p.room) c.args.id c.args.lits.now judged.0 Good judged.2)
     c.requires.ready in
-    still_ready old c.count_line.new.self q c.count_line.ensures.params c.count_line.ensures.last ready
+    rw c.count_line.ensures (record { at = ready.at; vacant = ready.vacant })

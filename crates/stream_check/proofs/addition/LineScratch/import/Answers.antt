@@ -1,4 +1,4 @@
-use Rattle.std.proofs.Common.{◌≡◌, ◌≤◌, ℕ, [], nat_abs, refl, sym, subst, ◌∙◌, append-nil}
+use Rattle.std.proofs.Common.{◌≡◌, ◌≤◌, ℕ, [], nat_abs, refl, sym, subst, ◌∙◌, append-nil, rules}
 use Rattle.std.specs.Prelude.{◌↔◌, List, ℤ}
 use Rattle.std.specs.List.{AllByRecursion}
 use Rattle.std.proofs.lemmas.Bool.{true≢false}
@@ -21,7 +21,7 @@ returns-then-not-shares-clause-judged g c =
     let st = context_at c.args.state.now (g.M.ClauseMap.caller_view c.args.map.now).room in (
       [],
       g.met.M.ClauseMap.moves_none c.args.map.now,
-      bad_identity s st c.args.id c.args.lits.now (sym c.shares.ensures ∙ c.if-not-shares.true),
+      bad_identity s st c.args.id c.args.lits.now (search rules),
     )
 
 pub returns-then-not-make_literals-clause-judged : goal.returns-then-not-make_literals-clause-judged
@@ -34,7 +34,7 @@ returns-then-not-make_literals-clause-judged g c =
     (literals_within s.layout.vars c.args.lits.now c.requires.nonzero all)))) in (
       [],
       g.met.M.ClauseMap.moves_none c.args.map.now,
-      bad_literal s st c.args.id c.args.lits.now (sym c.shares.ensures ∙ c.if-not-shares.false) no,
+      bad_literal s st c.args.id c.args.lits.now (search rules) no,
     )
 
 -- the lookup has a fault
@@ -49,7 +49,7 @@ returns-in_err-clip-clause-judged g c =
     let given = err_from_is_err_and c.from_residual.result c.from_residual.ensures.1 in (
       looked.0,
       looked.1,
-      rw (given.1, given.2) (import_unfound s st c.args.id lits (sym c.shares.ensures ∙ c.if-not-shares.false)
+      rw (given.1, given.2) (import_unfound s st c.args.id lits (search rules)
           (variables_within s.layout.vars lits within) looked.0 c.in_err-clip.field-0.0 looked.2),
     )
 
@@ -70,7 +70,7 @@ returns-clause-judged g c =
     g.met.M.ClauseMap.moves_append c.args.map.now c.look_up.new.map c.same.new.map looked.0 [] looked.1 c.same.ensures.event in (
       looked.0,
       subst (g.M.ClauseMap.moves c.args.map.now c.same.new.map) (append-nil looked.0) moved,
-      import_same s st c.args.id lits (sym c.shares.ensures ∙ c.if-not-shares.false) (variables_within s.layout.vars lits within) looked.0
+      import_same s st c.args.id lits (search rules) (variables_within s.layout.vars lits within) looked.0
           (clip_clause q c.in_ok-clip.clip) looked.2 same,
     )
 
@@ -91,6 +91,6 @@ returns-then-not-same-clause-judged g c =
     g.met.M.ClauseMap.moves_append c.args.map.now c.look_up.new.map c.same.new.map looked.0 [] looked.1 c.same.ensures.event in (
       looked.0,
       subst (g.M.ClauseMap.moves c.args.map.now c.same.new.map) (append-nil looked.0) moved,
-      import_differs s st c.args.id lits (sym c.shares.ensures ∙ c.if-not-shares.false) (variables_within s.layout.vars lits within)
+      import_differs s st c.args.id lits (search rules) (variables_within s.layout.vars lits within)
           looked.0 (clip_clause q c.in_ok-clip.clip) looked.2 other,
     )
