@@ -4,7 +4,7 @@ ghost use Rattle.std.specs.Bool.{OnTrue, OnFalse};
 ghost use Rattle.lrup_model.specs.Event.{History};
 ghost use Rattle.lrup_model.specs.Layout.{IsStream};
 ghost use Rattle.stream_check.specs.CheckerValue.{report_of_tally};
-ghost use Rattle.stream_check.specs.Checker.{AreBlocksOf, Ends, IsReadyAt, ReportsEnd};
+ghost use Rattle.stream_check.specs.Checker.{AreBlocksOf, IsReadyAt};
 ghost use Rattle.stream_check.specs.Judging.{joined};
 ghost use Rattle.runs.specs.Readings.{readers_view};
 ghost use Rattle.portfolio.specs.internal.Working.{AreBlocksOfTurn, IsStarted, WorkerStep};
@@ -96,8 +96,6 @@ impl<R: Source + Drop, G: Gate + Drop> Worker<R, G> {
     {
         for _ in wait.forever() {
             if !self.read() {
-                self.gate
-                    .when_over(self.checker.stream(), &self.checker.report());
                 return;
             }
             if self.feed(map) != CheckStatus::More {
@@ -106,8 +104,8 @@ impl<R: Source + Drop, G: Gate + Drop> Worker<R, G> {
         }
     }
 
-    /// Reads the next piece, if all bytes were taken. It returns `false` if there is none: the stream ended, or the read failed, and the
-    /// checker is over.
+    /// Reads the next piece, if all bytes were taken. It returns `false` if there is none: the stream ended, or the read failed, the
+    /// checker is over, and the gate has its report.
     fn read(&mut self) -> bool
         requires { self.old.checker.ending ≡ None }
         ensures holds { (room : ℕ) → WorkerStep (readers_view R.Source)
@@ -122,7 +120,7 @@ impl<R: Source + Drop, G: Gate + Drop> Worker<R, G> {
         }
         match self.reader.read(&mut self.buffer) {
             Ok(0) => {
-                close(&mut self.checker, StreamEnd::Ended);
+                self.checker.finish(&mut self.gate, StreamEnd::Ended);
                 false
             }
             Ok(count) => {
@@ -131,7 +129,7 @@ impl<R: Source + Drop, G: Gate + Drop> Worker<R, G> {
                 true
             }
             Err(_) => {
-                close(&mut self.checker, StreamEnd::Failed);
+                self.checker.finish(&mut self.gate, StreamEnd::Failed);
                 false
             }
         }
@@ -170,16 +168,5 @@ impl<R: Source + Drop, G: Gate + Drop> Worker<R, G> {
             ..
         } = self;
         (checker.report(), reader, checker.into_dropped())
-    }
-}
-
-/// Lets the checker take the end of the stream, or a read that failed.
-fn close(checker: &mut Checker, end: StreamEnd)
-    ensures ends { Ends end checker.old checker.new }
-    ensures reports { ReportsEnd end checker.old checker.new }
-{
-    match end {
-        StreamEnd::Ended => checker.end(),
-        StreamEnd::Failed => checker.read_failed(),
     }
 }

@@ -19,7 +19,7 @@ use crate::progress::{CheckStatus, Progress};
 use crate::report::{Ending, Report};
 use crate::stream_state::StreamState;
 use lrup_model::{ClauseMap, Cube, Layout};
-use lrup_text::{End, LineReader, ReaderStatus};
+use lrup_text::{End, LineReader, ReaderStatus, StreamEnd};
 use std::alloc::{AllocError, Global};
 use std::marker::Model;
 
@@ -147,6 +147,23 @@ impl Checker {
         Progress {
             used,
             status: CheckStatus::Over,
+        }
+    }
+
+    /// Takes the end of the stream by `end`, or the failure of a read by `read_failed`, and gives the gate the report, unless the checker
+    /// was over before: the gate has got it then.
+    #[cold]
+    pub fn finish<G: Gate>(&mut self, gate: &mut G, end: StreamEnd)
+        ensures ends { Ends end self.old self.new }
+        ensures reports { ReportsEnd end self.old self.new }
+    {
+        let was_over = self.is_over();
+        match end {
+            StreamEnd::Ended => self.end(),
+            StreamEnd::Failed => self.read_failed(),
+        }
+        if !was_over {
+            gate.when_over(self.stream(), &self.report());
         }
     }
 

@@ -1,9 +1,8 @@
 -- What a checker took, piece by piece, and what both ends know together.
-use Rattle.std.proofs.Common.{◌≡◌, ◌++◌, ◌∙◌, ◌⊎◌, inl, inr, ℕ, Bool, true, false, List, [], ◌∷◌, Option, Some, None, IsSome, IfSome}
-use Rattle.std.proofs.Common.{refl, sym, ap, subst, append_assoc, append-nil}
+use Rattle.std.proofs.Common.{◌≡◌, ◌++◌, ◌∙◌, ◌⊎◌, inl, inr, ℕ, Bool, List, [], ◌∷◌, Option, Some, None, IfSome}
+use Rattle.std.proofs.Common.{refl, sym, ap, subst, append_assoc}
 use Rattle.lrup_model.specs.Event.{History}
 use Rattle.lrup_text.specs.declared.device.StreamEnd.{StreamEnd}
-use Rattle.lrup_text.specs.declared.device.StreamEnd.TheVariants as stream_ends
 use Rattle.stream_check.specs.declared.report.Ending.{Ending}
 use Rattle.stream_check.specs.declared.report.Report.{Report}
 use Rattle.stream_check.specs.declared.progress.CheckStatus.{CheckStatus}
@@ -16,8 +15,8 @@ use Rattle.stream_check.specs.Reaching.{CheckerState, Over, ReachesState}
 use Rattle.stream_check.specs.StreamParams.{StreamParams}
 use Rattle.stream_check.specs.StreamContext.{is_among}
 use Rattle.stream_check.specs.lemmas.StoppingLemmas.{drops_longer}
-use Rattle.stream_jobs.specs.Judged.{ending_with}
-use Rattle.stream_ring.specs.Items.{EndsBeforeMark}
+use Rattle.stream_jobs.specs.Judged.{ending_with, JudgesAtMark}
+use Rattle.stream_ring.specs.Items.{EndsAtMark, EndsBeforeMark}
 
 pub reaches_append : (c : StreamParams) (one two three : CheckerState) (xs ys : List ℕ) (front back : List History)
     → Extends c one xs front two → Extends c two ys back three → Extends c one (xs ++ ys) (front ++ back) three
@@ -60,24 +59,6 @@ pub no_line : (status : CheckStatus) → (status ≡ statuses.More) ⊎ (status 
 no_line status (inl more) line = cc
 no_line status (inr over) line = cc
 
-ends_by : (ending : Option Ending) (end : StreamEnd) (old new : CheckerValue) → old.ending ≡ ending → EndsBy ending end old new
-    → IsSome new.ending
-ends_by None end old new is ends = subst (λ (e : Option Ending). IsSome e) (sym ends.2) refl
-ends_by (Some ending) end old new is ends =
-    subst (λ (e : Option Ending). IsSome e) (sym (ap (λ (v : CheckerValue). v.ending) ends ∙ is)) refl
-
--- the end, or a failed read, leaves a checker over
-pub ends_over : (end : StreamEnd) (old new : CheckerValue) → Ends end old new → IsSome new.ending
-ends_over end old new ends = ends_by old.ending end old new refl ends
-
-drops_by : (ending : Option Ending) (end : StreamEnd) (old new : CheckerValue) → EndsBy ending end old new → new.dropped ≡ old.dropped
-drops_by None end old new ends = ends.4
-drops_by (Some ending) end old new ends = ap (λ (v : CheckerValue). v.dropped) ends
-
--- and what was dropped stays
-pub ends_dropped : (end : StreamEnd) (old new : CheckerValue) → Ends end old new → new.dropped ≡ old.dropped
-ends_dropped end old new ends = drops_by old.ending end old new ends
-
 -- what was taken so far, and then more, with the same parameters
 pub reaches_more : (c d : StreamParams) (one two three : CheckerState) (xs ys all : List ℕ) (front back : List History) → d ≡ c
     → all ≡ xs ++ ys
@@ -86,30 +67,39 @@ reaches_more c d one two three xs ys all front back same split first second =
     subst (λ (t : List ℕ). Extends c one t (front ++ back) three) (sym split)
     (reaches_append c one two three xs ys front back first (subst (λ (e : StreamParams). Extends e two ys back three) same second))
 
--- the report of a checker that was ended
-pub closes : (end : StreamEnd) (v u : CheckerValue) (report : Report) → ReportsEnd end v u
-    → IfSome u.ending (λ ending. report ≡ report_of_tally u.tally ending)
-    → (bytes : List ℕ) (blocks : List History) (free : ℕ) → ReachesState v.params bytes blocks (checker_state v free)
-    → JudgesBlocks v.params bytes end blocks report
-closes end v u report reports told bytes blocks free reaches =
-    let judged = reports bytes blocks free reaches in
-    let same : report ≡ report_of_tally u.tally judged.0 =
-    subst (λ (e : Option Ending). IfSome e (λ ending. report ≡ report_of_tally u.tally ending)) judged.1 told in
-    subst (JudgesBlocks v.params bytes end blocks) (sym same) judged.2
+-- after the end, or a failed read, a checker that was over keeps its ending, and each keeps its counts and what it dropped
+ends_by : (o : Option Ending) (end : StreamEnd) (v u : CheckerValue) → v.ending ≡ o → EndsBy o end v u
+    → (u.ending ≡ Some (ending_with o end v)) × (u.tally ≡ v.tally) × (u.dropped ≡ v.dropped)
+ends_by None end v u is ends = (ends.2, ends.1, ends.4)
+ends_by (Some ending) end v u is ends =
+    (ap (λ (w : CheckerValue). w.ending) ends ∙ is, ap (λ (w : CheckerValue). w.tally) ends, ap (λ (w : CheckerValue). w.dropped) ends)
 
--- it is of the counts before the end, and where it was over before, its ending stays
-says_by : (o : Option Ending) (end : StreamEnd) (v u : CheckerValue) → v.ending ≡ o → EndsBy o end v u
-    → (u.ending ≡ Some (ending_with o end v)) × (u.tally ≡ v.tally)
-says_by None end v u is ends = (ends.2, ends.1)
-says_by (Some ending) end v u is ends = (ap (λ (w : CheckerValue). w.ending) ends ∙ is, ap (λ (w : CheckerValue). w.tally) ends)
-
-pub says_with : (end : StreamEnd) (v u : CheckerValue) (report : Report) → Ends end v u
-    → IfSome u.ending (λ ending. report ≡ report_of_tally u.tally ending)
-    → report ≡ report_of_tally v.tally (ending_with v.ending end v)
-says_with end v u report ends told =
-    let by = says_by v.ending end v u refl ends in
-    subst (λ (o : Option Ending). IfSome o (λ its. report ≡ report_of_tally u.tally its)) by.0 told
-    ∙ ap (λ (t : Tally). report_of_tally t (ending_with v.ending end v)) by.1
+-- a checker that took all up to the mark, and then its end, judges by its report
+pub at_mark : (start v u : CheckerValue) (room free : ℕ) (bytes items : List ℕ) (blocks : List History) (end : StreamEnd) (report : Report)
+    → EndsAtMark bytes end items → v.params ≡ start.params
+    → Extends start.params (checker_state start room) bytes blocks (checker_state v free) → Ends end v u → ReportsEnd end v u
+    → IfSome u.ending (λ ending. report ≡ report_of_tally u.tally ending) → JudgesAtMark start room items blocks u.dropped report
+at_mark start v u room free bytes items blocks end report marked params left ends reports told =
+    let by = ends_by v.ending end v u refl ends in
+    let tells = λ (e : Option Ending). IfSome e (λ ending. report ≡ report_of_tally u.tally ending) in
+    record {
+      bytes = bytes;
+      end = end;
+      marked = marked;
+      dropped = record {
+        last = v;
+        free = free;
+        left = left;
+        are = by.2;
+        end = end;
+        reports = subst tells by.0 told ∙ ap (λ (t : Tally). report_of_tally t (ending_with v.ending end v)) by.1;
+      };
+      judged = λ fresh.
+          let reached = subst (λ (c : StreamParams). ReachesState c bytes blocks (checker_state v free)) (sym params) (left [] [] fresh) in
+          let judged = reports bytes blocks free reached in
+          subst (λ (c : StreamParams). JudgesBlocks c bytes end blocks report) params
+          (subst (JudgesBlocks v.params bytes end blocks) (sym (subst tells judged.1 told)) judged.2);
+    }
 
 -- where nothing was received, there was no mark
 pub none_before : EndsBeforeMark []

@@ -153,42 +153,8 @@ fn judge<W: Wait, G: Gate, M: ClauseMap>(
     ensures no_mark { IfNone result (EndsBeforeMark (received receiver.new.consumer)) }
 {
     let end = check_received(wait, checker, gate, receiver, items, bytes, map)?;
-    Some(finish_and_notify_gate(checker, gate, end))
-}
-
-/// Finishes the checker, and returns the stream's report. The gate gets it, too, unless the checker was over before: it has got it then.
-fn finish_and_notify_gate<G: Gate>(checker: &mut Checker, gate: &mut G, end: StreamEnd) -> Report
-    ensures judges { (bytes : List ℕ) (blocks : List History) (free : ℕ)
-        → ReachesState checker.old.params bytes blocks (checker_state checker.old free)
-        → JudgesBlocks checker.old.params bytes end blocks result }
-    ensures dropped { checker.new.dropped ≡ checker.old.dropped }
-    // A checker that was over keeps its ending.
-    ensures reports { result ≡ report_of_tally checker.old.tally
-        (ending_with checker.old.ending end checker.old) }
-{
-    let was_over = checker.is_over();
-    let report = finish_checker(checker, end);
-    if !was_over {
-        gate.when_over(checker.stream(), &report);
-    }
-    report
-}
-
-/// Lets the checker take the end of the stream, or the read that failed, and returns the stream's report.
-fn finish_checker(checker: &mut Checker, end: StreamEnd) -> Report
-    ensures judges { (bytes : List ℕ) (blocks : List History) (free : ℕ)
-        → ReachesState checker.old.params bytes blocks (checker_state checker.old free)
-        → JudgesBlocks checker.old.params bytes end blocks result }
-    ensures dropped { checker.new.dropped ≡ checker.old.dropped }
-    // A checker that was over keeps its ending.
-    ensures reports { result ≡ report_of_tally checker.old.tally
-        (ending_with checker.old.ending end checker.old) }
-{
-    match end {
-        StreamEnd::Ended => checker.end(),
-        StreamEnd::Failed => checker.read_failed(),
-    }
-    checker.report()
+    checker.finish(gate, end);
+    Some(checker.report())
 }
 
 /// Checks what is received, through the mark, and returns the end for which the mark stands, or none if no mark came.

@@ -31,9 +31,9 @@ returns-in-Ok-eq0-clause-holds g c room =
     let last = subst (λ (k : ℕ). view.reads w.reader (length c.read.new.buffer) (Some (take k c.read.new.buffer)) reader)
     c.in-Ok-eq0.field-0-test c.in-Ok-eq0.ensures.reads in
     let stops : EndsSo stream_ends.Ended new has = (read.1 c.in-Ok-eq0.field-0-test some, c.in-Ok-eq0.ensures.failed) in
-    let over = worker_over view stream_ends.Ended w.reader reader _ rest w.checker c.close.new.checker room stops
-    (length c.read.new.buffer, some, last) none taken going c.close.ensures.ends c.close.ensures.reports in
-    subst (λ (v : WorkerValue g.row.R.Denot). WorkerStep view v room [] (worker_of reader rest c.close.new.checker) room)
+    let over = worker_over view stream_ends.Ended w.reader reader _ rest w.checker c.finish.new.self room stops
+    (length c.read.new.buffer, some, last) none taken going c.finish.ensures.ends c.finish.ensures.reports in
+    subst (λ (v : WorkerValue g.row.R.Denot). WorkerStep view v room [] (worker_of reader rest c.finish.new.self) room)
     c.self.view_is over
 
 pub returns-in-Ok-clause-holds : goal.returns-in-Ok-clause-holds
@@ -70,7 +70,7 @@ returns-in-Err-clause-holds g c room =
     let going : w.checker.ending ≡ None = ap (λ (v : WorkerValue g.row.R.Denot). v.checker.ending) c.self.view_is ∙ c.requires in
     let taken : take (w.to - w.from) (drop w.from w.buffer.items) ≡ [] = none_between w.buffer.items w.from w.to c.if-self.false in
     let none = Consumes-kept old old new [] (Consumes-nil old) c.in-Err.ensures.bytes in
-    let over = worker_over view stream_ends.Failed w.reader reader _ rest w.checker c.close-in-Err.new.checker room c.in-Err.ensures.failed
-    (length c.read.new.buffer, c.in-Err.ensures.reads) none taken going c.close-in-Err.ensures.ends c.close-in-Err.ensures.reports in
-    subst (λ (v : WorkerValue g.row.R.Denot). WorkerStep view v room [] (worker_of reader rest c.close-in-Err.new.checker) room)
+    let over = worker_over view stream_ends.Failed w.reader reader _ rest w.checker c.finish-in-Err.new.self room c.in-Err.ensures.failed
+    (length c.read.new.buffer, c.in-Err.ensures.reads) none taken going c.finish-in-Err.ensures.ends c.finish-in-Err.ensures.reports in
+    subst (λ (v : WorkerValue g.row.R.Denot). WorkerStep view v room [] (worker_of reader rest c.finish-in-Err.new.self) room)
     c.self.view_is over

@@ -48,12 +48,9 @@ returns-then-not-read-clause-holds g c =
     let over : IsSome c.read.new.self.checker.ending = search rules in (
       [],
       old.0,
-      subst (λ (v : WorkerValue g.row.R.Denot). AreBlocksOfTurn v.checker.ending []) (sym c.self.view_is)
-          (over_without c.read.new.self.checker.ending over),
-      subst (λ (v : WorkerValue g.row.R.Denot). WorkerStep view c.args.self.now (g.M.ClauseMap.caller_view start).room [] v room)
-          (sym c.self.view_is)
-          (worker_append view c.args.self.now c.loop.self c.read.new.self (g.M.ClauseMap.caller_view start).room room room [] [] old.1
-          (c.read.ensures.holds room)),
+      over_without c.read.new.self.checker.ending over,
+      worker_append view c.args.self.now c.loop.self c.read.new.self (g.M.ClauseMap.caller_view start).room room room [] [] old.1
+          (c.read.ensures.holds room),
     )
 
 pub loop-preserved : goal.loop-preserved
