@@ -12,7 +12,7 @@ ghost use Rattle.stream_ring.specs.Items.{EndsAtMark, EndsBeforeMark};
 
 use crate::start::wait_for_start;
 use lrup_model::ClauseMap;
-use lrup_text::{PIECE, StreamEnd};
+use lrup_text::PIECE;
 use rtrb::Consumer;
 use runs::RunParams;
 use std::alloc::{AllocError, Global};
@@ -115,7 +115,7 @@ pub fn check_on_signal<'a, W: Wait, G: Gate + Drop, M: ClauseMap>(
         mut items,
         mut bytes,
     } = job;
-    let report = judge(
+    let report = check_received(
         wait,
         &mut checker,
         &mut gate,
@@ -132,7 +132,7 @@ pub fn check_on_signal<'a, W: Wait, G: Gate + Drop, M: ClauseMap>(
 }
 
 /// Checks what is received, through the mark, and returns the stream's report, or none if no mark came.
-fn judge<W: Wait, G: Gate, M: ClauseMap>(
+fn check_received<W: Wait, G: Gate, M: ClauseMap>(
     wait: &W,
     checker: &mut Checker,
     gate: &mut G,
@@ -152,41 +152,13 @@ fn judge<W: Wait, G: Gate, M: ClauseMap>(
         blocks checker.new.dropped report) }
     ensures no_mark { IfNone result (EndsBeforeMark (received receiver.new.consumer)) }
 {
-    let end = check_received(wait, checker, gate, receiver, items, bytes, map)?;
-    checker.finish(gate, end);
-    Some(checker.report())
-}
-
-/// Checks what is received, through the mark, and returns the end for which the mark stands, or none if no mark came.
-fn check_received<W: Wait, G: Gate, M: ClauseMap>(
-    wait: &W,
-    checker: &mut Checker,
-    gate: &mut G,
-    receiver: &mut Receiver,
-    items: &mut [u16],
-    bytes: &mut [u8],
-    map: &mut M,
-) -> Option<StreamEnd>
-    requires ready { IsReadyAt checker.old (M.caller_view map.old) }
-    requires some { 0 < length items.old }
-    requires room { length items.old ≡ length bytes.old }
-    requires nothing { received receiver.old.consumer ≡ [] }
-    ensures ring { SameConsumer receiver.old.consumer receiver.new.consumer }
-    ensures params { checker.new.params ≡ checker.old.params }
-    ensures took { let old = checker_state checker.old (M.caller_view map.old).room in
-        let new = checker_state checker.new (M.caller_view map.new).room in
-        IfSome result (λ end. (fed : List ℕ) × (blocks : List History)
-        × M.moves map.old map.new (joined blocks)
-        × EndsAtMark fed end (received receiver.new.consumer)
-        × Extends checker.old.params old fed blocks new) }
-    ensures no_mark { IfNone result (EndsBeforeMark (received receiver.new.consumer)) }
-{
     for _ in wait.forever() {
         match receiver.receive(wait, items, bytes) {
             Received::Bytes(count) => take_all(checker, gate, map, &bytes[..count]),
             Received::Mark(count, end) => {
                 take_all(checker, gate, map, &bytes[..count]);
-                return Some(end);
+                checker.finish(gate, end);
+                return Some(checker.report());
             }
             Received::Abandoned => return None,
         }

@@ -4,7 +4,7 @@ use Rattle.rtrb.specs.Ring.{received}
 use Rattle.stream_check.specs.Checker.{Extends, checker_state}
 use Rattle.stream_check.specs.lemmas.ReportLemmas.{joined-append, reaches_still}
 use Rattle.stream_ring.specs.Items.{EndsBeforeMark, byte_of}
-use Rattle.stream_jobs.proofs.JudgingLemmas.{reaches_more, none_before}
+use Rattle.stream_jobs.proofs.JudgingLemmas.{reaches_more, at_mark, none_before}
 use Rattle.stream_jobs.proofs.checking.check_received.Goals as goal
 
 pub loop-init : goal.loop-init
@@ -63,24 +63,26 @@ pub slice_bounds-take_all-end-in-Mark-2 : goal.slice_bounds-take_all-end-in-Mark
 slice_bounds-take_all-end-in-Mark-2 g c =
     sym (length-take-le c.in-Mark.count c.receive.new.bytes (c.receive.ensures.mark c.in-Mark.count c.in-Mark.end c.in-Mark.is).0)
 
-pub returns-in-Mark-clause-took : goal.returns-in-Mark-clause-took
-returns-in-Mark-clause-took g c =
+pub returns-in-Mark-clause-judged : goal.returns-in-Mark-clause-judged
+returns-in-Mark-clause-judged g c =
     let start = c.args.map.now in
     let mid = c.loop.map in
     let end = c.take_all-in-Mark.new.map in
     let old = c.loop.invariant.took in
     let fed = c.take_all-in-Mark.ensures.took in
     let came = c.receive.ensures.mark c.in-Mark.count c.in-Mark.end c.in-Mark.is in
-    let bytes = map byte_of (received c.loop.receiver.consumer) ++ take c.in-Mark.count c.receive.new.bytes in (
-      bytes,
+    let bytes = map byte_of (received c.loop.receiver.consumer) ++ take c.in-Mark.count c.receive.new.bytes in
+    let checker = c.take_all-in-Mark.new.checker in
+    let reaches = reaches_more c.args.checker.now.params c.loop.checker.params _ _
+    (checker_state checker (g.M.ClauseMap.caller_view end).room)
+    (map byte_of (received c.loop.receiver.consumer)) (take c.in-Mark.count c.receive.new.bytes) bytes old.0 fed.0
+    c.loop.invariant.params refl old.2 fed.2 in (
       old.0 ++ fed.0,
       subst (g.M.ClauseMap.moves start end) (sym (joined-append old.0 fed.0))
           (g.met.M.ClauseMap.moves_append start mid end _ _ old.1 fed.1),
-      came.1,
-      reaches_more c.args.checker.now.params c.loop.checker.params _ _
-          (checker_state c.take_all-in-Mark.new.checker (g.M.ClauseMap.caller_view end).room)
-          (map byte_of (received c.loop.receiver.consumer)) (take c.in-Mark.count c.receive.new.bytes) bytes old.0 fed.0
-          c.loop.invariant.params refl old.2 fed.2,
+      at_mark c.args.checker.now checker c.finish.new.self _ _ bytes _ (old.0 ++ fed.0) c.in-Mark.end c.report.result came.1
+          (c.take_all-in-Mark.ensures.params ∙ c.loop.invariant.params) reaches c.finish.ensures.ends c.finish.ensures.reports
+          c.report.ensures,
     )
 
 pub returns-in-Abandoned-clause-no_mark : goal.returns-in-Abandoned-clause-no_mark
