@@ -13,8 +13,8 @@ ROOT = Path(__file__).resolve().parent.parent
 CRATES = ROOT / "crates"
 DOCS = ROOT / "docs"
 
-NAME = re.compile(r"[^\s(){}\[\];,.:λ→×⊎≡≢¬↔↦≤<>+*/%^∷&|=]+")
-WORDS = set("record data where let in if then else elim λ _ Type Unit ⊥".split())
+NAME = re.compile(r"[^\s(){}⟦⟧\[\];,.:λ→×⊎≡≢¬↔↦≤<>+*/%^∷&|=]+")
+WORDS = set("record data where let in if then else elim as λ _ Type Unit ⊥".split())
 ITEM = re.compile(r"((?:^(?:///|#\[).*\n)*)^(?:pub(?:\(crate\))? )?(?:struct|enum|trait) (?:[^\n{]*;$|[\s\S]*?^\}$)", re.M)
 
 

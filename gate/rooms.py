@@ -45,18 +45,23 @@ class Exports:
 
 
 class Owner(NamedTuple):
-    """A type, a trait or a block of functions: whether the crate passes it on, and whether all of its functions are public then."""
+    """A type, a trait or a block of functions: whether the crate passes it on, and whether all of its functions are public then. A block
+    of a trait for all types that it fits is passed on with the trait."""
 
     public: bool
     is_type: bool
     is_trait: bool
+    is_model: bool
 
     @staticmethod
     def of(line: str, module: str, exports: Exports) -> Optional[Owner]:
         declared, block = TYPE.match(line), BLOCK.match(line)
         if declared:
-            return Owner(exports.has(module, declared[2]), declared[1] != "trait", declared[1] == "trait")
-        return Owner(exports.has(module, block[2]), False, block[1] is not None) if block else None
+            return Owner(exports.has(module, declared[2]), declared[1] != "trait", declared[1] == "trait", False)
+        if not block:
+            return None
+        name = block[1] if re.match(rf"impl<[^>]*\b{block[2]}:", line) and block[1] else block[2]
+        return Owner(exports.has(module, name), False, block[1] is not None, block[1] == "Model")
 
 
 def contracts(path: Path, module: str, exports: Exports) -> Iterator[Tuple[bool, str]]:
@@ -71,7 +76,8 @@ def contracts(path: Path, module: str, exports: Exports) -> Iterator[Tuple[bool,
         elif function:
             public = function[2] is not None and exports.has(module, function[3])
         if member and not text:
-            public = owner is not None and owner.public and not owner.is_type and member[1] not in PRIVATE_MEMBERS
+            public = owner is not None and owner.public and not owner.is_type
+            public = public and not (owner.is_model and member[1] in PRIVATE_MEMBERS)
         if text or member or CLAUSE.match(line):
             text += line + "\n"
             if text.count("{") == text.count("}"):

@@ -4,7 +4,7 @@ use Rattle.std.proofs.lemmas.List.{append_assoc}
 use Rattle.std.proofs.KnownBytes.{Appends-trans}
 use Rattle.std.specs.Io.KnownBytes.{Appends, Keeps}
 use Rattle.checkpoint.specs.declared.saving.SaveFault.{SaveFault}
-use Rattle.command.specs.Commands.{SaysOfRound, SinkTook, TakesUnlessFailed, change}
+use Rattle.command.specs.Commands.{SaysOfRound, SinkChange, SinkTook, TakesUnlessFailed}
 use Rattle.std.specs.Fmt.{decimal}
 use Rattle.std.specs.Prelude.{codes, Result, Ok, Err}
 use Rattle.std.proofs.lemmas.Bool.{eq-eqb, ne_eqb}
@@ -43,11 +43,15 @@ took_after_text true a b c first text one took = (
   Appends-trans a b c first took.0 one took.3,
 )
 
+-- what became of a sink, by its parts
+abbrev changed : Option (List ℕ) → Option (List ℕ) → Bool → SinkChange
+changed before after failed = record { before = before; after = after; failed = failed }
+
 -- A line on the report follows what was said of the checkpoint of the round, if that went out whole.
 pub says_both : (round : ℕ) (a b c : Option (List ℕ)) (broken failed : Bool) (unsaved : Option SaveFault)
-    → SaysOfRound round false unsaved (change a b broken)
-    → (broken ≡ true → (c ≡ b) × (failed ≡ true)) → (broken ≡ false → SinkTook (change b c failed) (error_text faults.Unwritten))
-    → SaysOfRound round true unsaved (change a c failed)
+    → SaysOfRound round false unsaved (changed a b broken)
+    → (broken ≡ true → (c ≡ b) × (failed ≡ true)) → (broken ≡ false → SinkTook (changed b c failed) (error_text faults.Unwritten))
+    → SaysOfRound round true unsaved (changed a c failed)
 says_both round a b c broken failed None said stays goes =
     took_after_nothing failed a b c (error_text faults.Unwritten) said.written (goes said.failed)
 says_both round a b c false failed (Some fault) said stays goes =

@@ -202,10 +202,10 @@ pub record Deeds : Type 1 where
   pub written : Output → Option (List ℕ)
   pub has_failed : Output → Bool
 
--- as the types of files, of their readers and of their sinks say it
-abbrev pub deeds : {F R W M : Type 0} → Files.Ghosts F R → Machine.Ghosts F W M R → Source.Ghosts R
-    → Sink.Ghosts W → Deeds
-deeds {F = F} {R = R} {W = W} its more input output = record {
+-- what files do and tell, as the types of files, of their readers and of their sinks say it
+abbrev pub deeds_of : {F R W M : Type 0} → Files.Ghosts F R → Machine.Ghosts F W M R
+    → Source.Ghosts R → Sink.Ghosts W → Deeds
+deeds_of {F = F} {R = R} {W = W} its more input output = record {
   State = F;
   Reader = R;
   Output = W;
@@ -231,13 +231,13 @@ pub record FilesView : Type 1 where
   pub first : its.State
   pub tells : Text → Option (List ℕ)
 
--- these, as the types of files, of their readers and of their sinks say them
+-- what is known of files, as these types say it, where these are the first ones
 abbrev pub files_view : {F R W M : Type 0} → Files.Ghosts F R → Machine.Ghosts F W M R
     → Source.Ghosts R → Sink.Ghosts W → F → FilesView
 files_view its more input output first =
-    record { its = deeds its more input output; first = first; tells = its.tells first }
+    record { its = deeds_of its more input output; first = first; tells = its.tells first }
 
--- the same, where others were the first ones
+-- what is known of the same files, where others were the first ones
 abbrev pub from_first : (files : FilesView) → files.its.State → FilesView
 from_first files first = record { its = files.its; first = first; tells = files.tells }
 
@@ -516,9 +516,13 @@ pub record SinkChange : Type 0 where
   pub after : Option (List ℕ)
   pub failed : Bool
 
--- what became of a sink
-abbrev pub change : Option (List ℕ) → Option (List ℕ) → Bool → SinkChange
-change before after failed = record { before = before; after = after; failed = failed }
+-- what became of a sink, as its type says it
+abbrev pub change : {W : Type 0} → Sink.Ghosts W → W → W → SinkChange
+change its before after = record {
+  before = its.written before;
+  after = its.written after;
+  failed = its.has_failed after;
+}
 
 -- a text went out to the sink; or a beginning of it, where the sink failed
 abbrev pub TakesUnlessFailed : Bool → Option (List ℕ) → Option (List ℕ) → List ℕ → Type 0

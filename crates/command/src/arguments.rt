@@ -10,10 +10,10 @@ ghost use Rattle.command.specs.Arguments.{words_after_name};
 ghost use Rattle.command.specs.Commands.{NameCheckpoint, NameUnsatisfiable};
 ghost use Rattle.command.specs.Rounds.{ProgramEnds, ReportsEntailed};
 ghost use Rattle.command.specs.Commands.{NameUnsatisfiableUnder, Text, WasLeftEmpty, WasSaved};
-ghost use Rattle.command.specs.Commands.{SinkTook, WasRead, change, files_view};
+ghost use Rattle.command.specs.Commands.{SinkTook, WasRead, change};
 
 use crate::fault::CommandFault;
-use crate::files::Machine;
+use crate::files::{Machine, Viewed};
 use crate::program::{command, say};
 use lrup_text::{Sink, write_all};
 use std::alloc::{AllocError, Global};
@@ -54,12 +54,9 @@ pub fn command_with_arguments<
         → IsOkAnd arguments (λ given.
         NameUnsatisfiableUnder _ read files.old (words_after_name given)) }
     // Either the report is printed, or one error line; in both cases the exit status matches.
-    ensures ends { let view = files_view F.Files F.Machine.own F.Input.Source F.Output.Sink
-        files.old in
-        let output = change (O.written out.old) (O.written out.new) (O.has_failed out.new) in
-        let errors = change (E.written err.old) (E.written err.new) (E.has_failed err.new) in
-        IfOk arguments (λ given.
-        ProgramEnds view (words_after_name given) files.new output errors (exit_status result)) }
+    ensures ends { IfOk arguments (λ given. ProgramEnds (⟦<F as Viewed>⟧.view files.old)
+        (words_after_name given) files.new (change O.Sink out.old out.new)
+        (change E.Sink err.old err.new) (exit_status result)) }
     // With status 3 or 8, if the words ask for a checkpoint, what was saved there is a text of a formula each clause of which
     // follows from that of FORMULA.
     ensures saved { let read = WasRead F.opens F.Input.Source.reads (F.tells files.old) in
@@ -69,14 +66,11 @@ pub fn command_with_arguments<
         → NameCheckpoint F.opens read save files.old (words_after_name given) path files.new) }
     // If a report was written (status 0, 3, 8 or 9), and the words ask for rounds, each round but the last saved, for the next one, a text
     // of a formula over the same variables, each clause of which follows from that of FORMULA. With status 3 or 8 so did the last one.
-    ensures saved_rounds { let view = files_view F.Files F.Machine.own F.Input.Source F.Output.Sink
-        files.old in
-        let output = change (O.written out.old) (O.written out.new) (O.has_failed out.new) in
-        let errors = change (E.written err.old) (E.written err.new) (E.has_failed err.new) in
-        let status = exit_status result in
+    ensures saved_rounds { let status = exit_status result in
         IfOk arguments (λ given. (folder : Text) → AskForRounds (words_after_name given) folder
         → (status ≡ 0) ⊎ ((status ≡ 3) ⊎ ((status ≡ 8) ⊎ (status ≡ 9)))
-        → ReportsEntailed view (words_after_name given) folder files.new output errors status) }
+        → ReportsEntailed (⟦<F as Viewed>⟧.view files.old) (words_after_name given) folder files.new
+        (change O.Sink out.old out.new) (change E.Sink err.old err.new) status) }
     // With status 0, where the words ask for a checkpoint, none was written: the last that was done to the files was that one was
     // created there, and discarded before anything went to it.
     ensures none_saved { IfOk arguments (λ given. (path : Text)
@@ -84,9 +78,7 @@ pub fn command_with_arguments<
         → WasLeftEmpty F.creates F.Output.Sink.written F.discards path files.new) }
     // No arguments, and the cause.
     ensures refused { IfErr arguments (λ error. EndsWithoutArguments (error_kind error)
-        (change (O.written out.old) (O.written out.new) (O.has_failed out.new))
-        (change (E.written err.old) (E.written err.new) (E.has_failed err.new))
-        (exit_status result)) }
+        (change O.Sink out.old out.new) (change E.Sink err.old err.new) (exit_status result)) }
     // Nor was anything done to the files.
     ensures untouched { IfErr arguments (λ _. files.new ≡ files.old) }
     // Words with a fault have a status of their own, unless memory ran out.
@@ -120,22 +112,16 @@ fn with_words<T: Threads + Wait + Sync, C: Clock + Sync, F: Machine, O: Sink, E:
         result ≡ 0 → NameUnsatisfiable _ read files.old (words_after_name arguments) }
     ensures sound_under { let read = WasRead F.opens F.Input.Source.reads (F.tells files.old) in
         result ≡ 8 → NameUnsatisfiableUnder _ read files.old (words_after_name arguments) }
-    ensures ends { let view = files_view F.Files F.Machine.own F.Input.Source F.Output.Sink
-        files.old in
-        let output = change (O.written out.old) (O.written out.new) (O.has_failed out.new) in
-        let errors = change (E.written err.old) (E.written err.new) (E.has_failed err.new) in
-        ProgramEnds view (words_after_name arguments) files.new output errors result }
+    ensures ends { ProgramEnds (⟦<F as Viewed>⟧.view files.old) (words_after_name arguments)
+        files.new (change O.Sink out.old out.new) (change E.Sink err.old err.new) result }
     ensures saved { let read = WasRead F.opens F.Input.Source.reads (F.tells files.old) in
         let save = WasSaved F.creates F.Output.Sink.written F.keeps in
         (path : Text) → AskToSave (words_after_name arguments) path → (result ≡ 3) ⊎ (result ≡ 8)
         → NameCheckpoint F.opens read save files.old (words_after_name arguments) path files.new }
-    ensures saved_rounds { let view = files_view F.Files F.Machine.own F.Input.Source F.Output.Sink
-        files.old in
-        let output = change (O.written out.old) (O.written out.new) (O.has_failed out.new) in
-        let errors = change (E.written err.old) (E.written err.new) (E.has_failed err.new) in
-        (folder : Text) → AskForRounds (words_after_name arguments) folder
+    ensures saved_rounds { (folder : Text) → AskForRounds (words_after_name arguments) folder
         → (result ≡ 0) ⊎ ((result ≡ 3) ⊎ ((result ≡ 8) ⊎ (result ≡ 9)))
-        → ReportsEntailed view (words_after_name arguments) folder files.new output errors result }
+        → ReportsEntailed (⟦<F as Viewed>⟧.view files.old) (words_after_name arguments) folder
+        files.new (change O.Sink out.old out.new) (change E.Sink err.old err.new) result }
     ensures none_saved { (path : Text) → AskToSave (words_after_name arguments) path → result ≡ 0
         → WasLeftEmpty F.creates F.Output.Sink.written F.discards path files.new }
     ensures usage { HaveFault (words_after_name arguments) → (result ≡ 2) ⊎ (result ≡ 6) }
@@ -174,8 +160,7 @@ pub(crate) fn words_of<'a>(
 /// Says why the system gave no arguments, and gives the status.
 fn refuse<E: Sink>(kind: io::ErrorKind, err: &mut E) -> u8
     requires err { E.has_failed err.old ≡ false }
-    ensures said { SinkTook (change (E.written err.old) (E.written err.new) (E.has_failed err.new))
-        (refusal_text kind) }
+    ensures said { SinkTook (change E.Sink err.old err.new) (refusal_text kind) }
     ensures status { result ≡ refusal_status kind }
 {
     match kind {
@@ -187,8 +172,7 @@ fn refuse<E: Sink>(kind: io::ErrorKind, err: &mut E) -> u8
 /// Says that an argument isn't UTF-8, and gives the status.
 fn say_not_utf8<E: Sink>(err: &mut E) -> u8
     requires err { E.has_failed err.old ≡ false }
-    ensures said { SinkTook (change (E.written err.old) (E.written err.new) (E.has_failed err.new))
-        not_utf8 }
+    ensures said { SinkTook (change E.Sink err.old err.new) not_utf8 }
     ensures status { result ≡ 2 }
 {
     let text = b"error: invalid UTF-8 was detected in one or more arguments\n";

@@ -12,7 +12,7 @@ ghost use Rattle.lrup_model.specs.Formula.{Cnf};
 ghost use Rattle.lrup_text.specs.Reads.{GaveAll};
 ghost use Rattle.command.specs.Commands.{AreAssumed, AreOpened, AskForOne, IsAssumeCause, IsCause, IsFileCause, IsOpenCause, HasNoFault};
 ghost use Rattle.command.specs.internal.Running.{IsFailedRead, run_params_on, IsLayoutCause};
-ghost use Rattle.command.specs.Commands.{IsOutcome, LeavesCheckpoint, Text, WasRead, WasReadIn, assumed_at, deeds, files_view};
+ghost use Rattle.command.specs.Commands.{IsOutcome, LeavesCheckpoint, Text, WasRead, WasReadIn, assumed_at};
 ghost use Rattle.command.specs.Commands.{from_first, path_of, rounds_at};
 ghost use Rattle.runs.specs.Readings.{readers_view};
 ghost use Rattle.command.specs.internal.RoundProgress.{HasBegun};
@@ -21,7 +21,7 @@ ghost use Rattle.stream_check.specs.StreamParams.{max_tries};
 
 use crate::closing::{close_checkpoint, create_checkpoint, discard_it};
 use crate::fault::CommandFault;
-use crate::files::{Machine, OpenFault};
+use crate::files::{Machine, OpenFault, Viewed};
 use crate::running::{EndedRun, Setup, run_streams};
 use checkpoint::SaveFault;
 use command_line::{CommandLine, read_words};
@@ -63,13 +63,10 @@ pub fn read_asked<'a, W: Wait, F: Machine>(
     files: &mut F,
 ) -> Result<Asked<'a>, CommandFault>
     ensures line { IfOk result (λ asked. IsCommandLineOf (texts words.now) asked.line) }
-    ensures bytes { let view = files_view F.Files F.Machine.own F.Input.Source F.Output.Sink
-        files.old in
-        IfOk result (λ asked. WasReadIn view files.old
+    ensures bytes { IfOk result (λ asked. WasReadIn (⟦<F as Viewed>⟧.view files.old) files.old
         asked.line.formula.now asked.formula.items files.new) }
-    ensures cause { let view = files_view F.Files F.Machine.own F.Input.Source F.Output.Sink
-        files.old in
-        IfErr result (λ fault. IsCause view (texts words.now) fault files.new) }
+    ensures cause { IfErr result (λ fault. IsCause (⟦<F as Viewed>⟧.view files.old)
+        (texts words.now) fault files.new) }
     ensures stays { F.tells files.new ≡ F.tells files.old }
 {
     let line = read_words(alloc, words)?;
@@ -89,8 +86,7 @@ pub fn check_asked<T: Threads + Wait + Sync, C: Clock + Sync, F: Machine>(
     requires tries { asked.line.tries ≤ max_tries }
     requires once { rounds_at asked.line ≡ None }
     ensures outcome { (words : List Text) (first : F) →
-        let view = from_first (files_view F.Files F.Machine.own F.Input.Source F.Output.Sink
-        files.old) first in
+        let view = from_first (⟦<F as Viewed>⟧.view files.old) first in
         IsCommandLineOf words asked.entry.line
         → WasReadIn view first asked.entry.line.formula.now asked.entry.formula.items files.old
         → IfOk result (λ found. (outcome : IsOutcome view words found.reports.items found.verdict)
@@ -105,8 +101,7 @@ pub fn check_asked<T: Threads + Wait + Sync, C: Clock + Sync, F: Machine>(
         × AreAssumed read f.vars files.old (assumed_at asked.entry.line) cube after
         × IsUnsatisfiableUnder f cube) }
     ensures cause { (words : List Text) (first : F) →
-        let view = from_first (files_view F.Files F.Machine.own F.Input.Source F.Output.Sink
-        files.old) first in
+        let view = from_first (⟦<F as Viewed>⟧.view files.old) first in
         IsCommandLineOf words asked.entry.line
         → WasReadIn view first asked.entry.line.formula.now asked.entry.formula.items files.old
         → IfErr result (λ fault. IsCause view words fault files.new) }
@@ -170,15 +165,12 @@ pub(crate) fn begin<W: Wait, F: Machine>(
 ) -> Result<Beginning<F::Input>, CommandFault>
     requires one { AskForOne line.now }
     ensures formula { IfOk result (λ begun. IsFormulaText bytes.items begun.formula) }
-    ensures begun { let view = files_view F.Files F.Machine.own F.Input.Source F.Output.Sink
-        files.old in
-        IfOk result (λ begun. HasBegun view line.now begun.formula begun.cube files.old
-        begun.readers.items files.new) }
+    ensures begun { IfOk result (λ begun. HasBegun (⟦<F as Viewed>⟧.view files.old) line.now
+        begun.formula begun.cube files.old begun.readers.items files.new) }
     ensures running { IfOk result (λ begun.
         AllByRecursion (λ r. F.Input.Source.has_failed r ≡ false) begun.readers.items) }
     ensures cause { (words : List Text) (first : F) →
-        let view = from_first (files_view F.Files F.Machine.own F.Input.Source F.Output.Sink
-        files.old) first in
+        let view = from_first (⟦<F as Viewed>⟧.view files.old) first in
         IsCommandLineOf words line.now
         → WasReadIn view first line.now.formula.now bytes.items files.old
         → IfErr result (λ fault. IsCause view words fault files.new) }
@@ -210,14 +202,10 @@ fn read_assumed<W: Wait, F: Machine>(
     path: Option<&str>,
     formula: &Formula,
 ) -> Result<Cube, CommandFault>
-    ensures cube { let view = files_view F.Files F.Machine.own F.Input.Source F.Output.Sink
-        files.old in
-        IfOk result (λ cube. AreAssumed (WasReadIn view) formula.now.vars files.old
-        (path_of path.entry) cube files.new) }
-    ensures cause { let view = files_view F.Files F.Machine.own F.Input.Source F.Output.Sink
-        files.old in
-        IfErr result (λ fault. IsAssumeCause view formula.now.vars files.old
-        (path_of path.entry) fault files.new) }
+    ensures cube { IfOk result (λ cube. AreAssumed (WasReadIn (⟦<F as Viewed>⟧.view files.old))
+        formula.now.vars files.old (path_of path.entry) cube files.new) }
+    ensures cause { IfErr result (λ fault. IsAssumeCause (⟦<F as Viewed>⟧.view files.old)
+        formula.now.vars files.old (path_of path.entry) fault files.new) }
     ensures stays { F.tells files.new ≡ F.tells files.old }
 {
     match path {
@@ -234,14 +222,10 @@ fn read_cube_at<W: Wait, F: Machine>(
     path: &str,
     formula: &Formula,
 ) -> Result<Cube, CommandFault>
-    ensures cube { let view = files_view F.Files F.Machine.own F.Input.Source F.Output.Sink
-        files.old in
-        IfOk result (λ cube. AreAssumed (WasReadIn view) formula.now.vars files.old
-        (Some path.now) cube files.new) }
-    ensures cause { let view = files_view F.Files F.Machine.own F.Input.Source F.Output.Sink
-        files.old in
-        IfErr result (λ fault. IsAssumeCause view formula.now.vars files.old (Some path.now) fault
-        files.new) }
+    ensures cube { IfOk result (λ cube. AreAssumed (WasReadIn (⟦<F as Viewed>⟧.view files.old))
+        formula.now.vars files.old (Some path.now) cube files.new) }
+    ensures cause { IfErr result (λ fault. IsAssumeCause (⟦<F as Viewed>⟧.view files.old)
+        formula.now.vars files.old (Some path.now) fault files.new) }
     ensures stays { F.tells files.new ≡ F.tells files.old }
 {
     match read_file(wait, alloc, files, path) {
@@ -267,13 +251,10 @@ fn read_file<W: Wait, F: Machine>(
     files: &mut F,
     path: &str,
 ) -> Result<Vec<u8>, CommandFault>
-    ensures bytes { let view = files_view F.Files F.Machine.own F.Input.Source F.Output.Sink
-        files.old in
-        IfOk result (λ bytes.
-        WasReadIn view files.old path.now bytes.items files.new) }
-    ensures cause { let view = files_view F.Files F.Machine.own F.Input.Source F.Output.Sink
-        files.old in
-        IfErr result (λ fault. IsFileCause view files.old path.now fault files.new) }
+    ensures bytes { IfOk result (λ bytes. WasReadIn (⟦<F as Viewed>⟧.view files.old) files.old
+        path.now bytes.items files.new) }
+    ensures cause { IfErr result (λ fault. IsFileCause (⟦<F as Viewed>⟧.view files.old) files.old
+        path.now fault files.new) }
     ensures stays { F.tells files.new ≡ F.tells files.old }
 {
     let mut source = files.open(path)?;
@@ -319,9 +300,8 @@ pub(crate) fn open_streams<F: Machine>(
         AreOpened F.opens files.old (texts paths.now) readers.items files.new) }
     ensures running { IfOk result (λ readers.
         AllByRecursion (λ r. F.Input.Source.has_failed r ≡ false) readers.items) }
-    ensures cause { let its = deeds F.Files F.Machine.own F.Input.Source F.Output.Sink in
-        IfErr result (λ fault.
-        IsOpenCause its 0 files.old (texts paths.now) fault files.new) }
+    ensures cause { IfErr result (λ fault. IsOpenCause ⟦<F as Viewed>⟧.deeds 0 files.old
+        (texts paths.now) fault files.new) }
 {
     let mut readers = Vec::with_capacity(alloc, paths.len())?;
     for path in paths {

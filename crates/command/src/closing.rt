@@ -3,13 +3,13 @@ ghost use Rattle.std.specs.Prelude.{◌≡◌, ◌⊎◌, [], None, Some, false,
 ghost use Rattle.std.specs.Option.{ForSome};
 ghost use Rattle.lrup_model.specs.Event.{History};
 ghost use Rattle.lrup_model.specs.Formula.{Cnf};
-ghost use Rattle.command.specs.Commands.{SavesCheckpoint, deeds, path_of};
+ghost use Rattle.command.specs.Commands.{SavesCheckpoint, path_of};
 ghost use Rattle.command.specs.Rounds.{CarriesCheckpoint};
 ghost use Rattle.command.specs.internal.Running.{CanBeSaved, HasHistory, dropped_in, left_layout};
 ghost use Rattle.command.specs.internal.Saving.{ClosesCheckpoint, CreatesCheckpoint, DiscardsIt, IsNotCreated, KeepsNext, SavesAndCloses};
 
 use crate::fault::CommandFault;
-use crate::files::{Machine, OpenFault};
+use crate::files::{Machine, OpenFault, Viewed};
 use crate::running::{LeftClauses, carry_left, save_left};
 use checkpoint::SaveFault;
 use lrup_model::Formula;
@@ -22,14 +22,12 @@ pub(crate) fn create_checkpoint<F: Machine>(
     files: &mut F,
     path: Option<&str>,
 ) -> Result<Option<F::Output>, CommandFault>
-    ensures created { let its = deeds F.Files F.Machine.own F.Input.Source F.Output.Sink in
-        IfOk result (λ output.
-        CreatesCheckpoint its files.old (path_of path.entry) output files.new) }
+    ensures created { IfOk result (λ output. CreatesCheckpoint ⟦<F as Viewed>⟧.deeds files.old
+        (path_of path.entry) output files.new) }
     ensures running { IfOk result (λ output.
         ForSome output (λ sink. F.Output.Sink.has_failed sink ≡ false)) }
-    ensures cause { let its = deeds F.Files F.Machine.own F.Input.Source F.Output.Sink in
-        IfErr result (λ fault.
-        IsNotCreated its files.old (path_of path.entry) fault files.new) }
+    ensures cause { IfErr result (λ fault. IsNotCreated ⟦<F as Viewed>⟧.deeds files.old
+        (path_of path.entry) fault files.new) }
 {
     match path {
         None => Ok(None),
@@ -46,8 +44,8 @@ pub(crate) fn create_new<F: Machine>(files: &mut F, path: &str) -> Result<F::Out
     ensures empty { IfOk result (λ output.
         ForSome (F.Output.Sink.written output) (λ all. all ≡ [])) }
     ensures running { IfOk result (λ output. F.Output.Sink.has_failed output ≡ false) }
-    ensures cause { let its = deeds F.Files F.Machine.own F.Input.Source F.Output.Sink in
-        IfErr result (λ fault. IsNotCreated its files.old (Some path.now) fault files.new) }
+    ensures cause { IfErr result (λ fault. IsNotCreated ⟦<F as Viewed>⟧.deeds files.old
+        (Some path.now) fault files.new) }
 {
     match files.create(path) {
         Ok(output) => Ok(output),
@@ -58,8 +56,7 @@ pub(crate) fn create_new<F: Machine>(files: &mut F, path: &str) -> Result<F::Out
 
 /// Discards the checkpoint's file, if there is one.
 pub(crate) fn discard_it<F: Machine>(files: &mut F, output: Option<F::Output>)
-    ensures { let its = deeds F.Files F.Machine.own F.Input.Source F.Output.Sink in
-        DiscardsIt its files.old output files.new }
+    ensures { DiscardsIt ⟦<F as Viewed>⟧.deeds files.old output files.new }
 {
     if let Some(output) = output {
         files.discard(output);
@@ -77,7 +74,7 @@ pub(crate) fn close_checkpoint<F: Machine>(
 ) -> Option<SaveFault>
     requires ready { CanBeSaved left }
     requires running { ForSome output (λ sink. F.Output.Sink.has_failed sink ≡ false) }
-    ensures { let its = deeds F.Files F.Machine.own F.Input.Source F.Output.Sink in
+    ensures { let its = ⟦<F as Viewed>⟧.deeds in
         (f : Cnf) (h : History) → HasHistory f h left
         → ClosesCheckpoint its (SavesCheckpoint its f (left_layout left) h (dropped_in left))
         verdict files.old output result files.new }
@@ -105,7 +102,7 @@ fn save_and_close<F: Machine>(
 ) -> Option<SaveFault>
     requires ready { CanBeSaved left }
     requires running { F.Output.Sink.has_failed output ≡ false }
-    ensures { let its = deeds F.Files F.Machine.own F.Input.Source F.Output.Sink in
+    ensures { let its = ⟦<F as Viewed>⟧.deeds in
         (f : Cnf) (h : History) → HasHistory f h left
         → SavesAndCloses its (SavesCheckpoint its f (left_layout left) h (dropped_in left))
         files.old output result files.new }
@@ -140,15 +137,14 @@ pub(crate) fn close_round<F: Machine>(
 ) -> CarriedClauses
     requires ready { CanBeSaved left }
     requires running { F.Output.Sink.has_failed output ≡ false }
-    ensures closes { let its = deeds F.Files F.Machine.own F.Input.Source F.Output.Sink in
+    ensures closes { let its = ⟦<F as Viewed>⟧.deeds in
         (f : Cnf) (h : History) → HasHistory f h left
         → ClosesCheckpoint its (CarriesCheckpoint its f (left_layout left) h (dropped_in left))
         verdict files.old (Some output) result.unsaved files.new }
-    ensures next { let its = deeds F.Files F.Machine.own F.Input.Source F.Output.Sink in
+    ensures next { let its = ⟦<F as Viewed>⟧.deeds in
         (f : Cnf) (h : History) → HasHistory f h left
-        → ForSome result.next (KeepsNext its
-        (CarriesCheckpoint its f (left_layout left) h (dropped_in left))
-        files.old output files.new) }
+        → ForSome result.next (KeepsNext its (CarriesCheckpoint its f (left_layout left) h
+        (dropped_in left)) files.old output files.new) }
     ensures none { result.next ≡ None → (verdict ≡ Verdict.Unsatisfiable)
         ⊎ ((fault : SaveFault) × (result.unsaved ≡ Some fault)) }
 {
@@ -175,15 +171,14 @@ fn carry_and_close<F: Machine>(
 ) -> CarriedClauses
     requires ready { CanBeSaved left }
     requires running { F.Output.Sink.has_failed output ≡ false }
-    ensures closes { let its = deeds F.Files F.Machine.own F.Input.Source F.Output.Sink in
+    ensures closes { let its = ⟦<F as Viewed>⟧.deeds in
         (f : Cnf) (h : History) → HasHistory f h left
         → SavesAndCloses its (CarriesCheckpoint its f (left_layout left) h (dropped_in left))
         files.old output result.unsaved files.new }
-    ensures next { let its = deeds F.Files F.Machine.own F.Input.Source F.Output.Sink in
+    ensures next { let its = ⟦<F as Viewed>⟧.deeds in
         (f : Cnf) (h : History) → HasHistory f h left
-        → ForSome result.next (KeepsNext its
-        (CarriesCheckpoint its f (left_layout left) h (dropped_in left))
-        files.old output files.new) }
+        → ForSome result.next (KeepsNext its (CarriesCheckpoint its f (left_layout left) h
+        (dropped_in left)) files.old output files.new) }
     ensures none { result.next ≡ None
         → (fault : SaveFault) × (result.unsaved ≡ Some fault) }
 {

@@ -122,3 +122,22 @@ pub trait Machine: Files {
     fn watcher(&self) -> Self::Watcher
         ensures { Self.Watcher.Sink.has_failed result ≡ false };
 }
+
+/// What contracts see of any machine's files: all that the two traits say of them, as one value. It has no code.
+pub trait Viewed {
+    ghost use Rattle.command.specs.Commands.{Deeds, FilesView};
+
+    /// What files do and tell.
+    ghost deeds: { Deeds };
+
+    /// The same, and these files as the first ones.
+    ghost view: { Self → FilesView };
+}
+
+impl<F: Machine> Viewed for F {
+    ghost use Rattle.command.specs.Commands.{deeds_of, files_view};
+
+    ghost deeds = { deeds_of F.Files F.Machine.own F.Input.Source F.Output.Sink };
+
+    ghost view = { files_view F.Files F.Machine.own F.Input.Source F.Output.Sink };
+}

@@ -15,5 +15,5 @@ mod watching;
 
 pub use arguments::command_with_arguments;
 pub use checking::Asked;
-pub use files::{Files, Machine, OpenFault};
+pub use files::{Files, Machine, OpenFault, Viewed};
 pub use program::{check_formula, command};

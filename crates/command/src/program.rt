@@ -10,13 +10,13 @@ ghost use Rattle.command.specs.Commands.{AreAssumed, EndsWithFault, EndsWithRepo
 ghost use Rattle.command.specs.Rounds.{ProgramEnds, EndsInRounds, ReportsEntailed, last_text, round_text};
 ghost use Rattle.lrup_text.specs.Writing.{WritesText};
 ghost use Rattle.command.specs.Commands.{NameUnsatisfiableUnder, SaysOfRound, SinkTook, Text, WasLeftEmpty, WasRead, WasReadIn, WasSaved};
-ghost use Rattle.command.specs.Commands.{assumed_at, change, files_view, from_first, report_status};
+ghost use Rattle.command.specs.Commands.{assumed_at, change, from_first, report_status};
 ghost use Rattle.command.specs.Faults.{error_text, round_error_text, status_of};
 ghost use Rattle.stream_check.specs.StreamParams.{max_tries};
 
 use crate::checking::{Asked, RunResult, check_asked, read_asked};
 use crate::fault::CommandFault;
-use crate::files::Machine;
+use crate::files::{Machine, Viewed};
 use crate::rounds::check_rounds;
 use checkpoint::SaveFault;
 use checkpoint::laws::{entails_itself, entails_onward};
@@ -70,11 +70,8 @@ pub fn command<T: Threads + Wait + Sync, C: Clock + Sync, F: Machine, O: Sink, E
     ensures sound_under { let read = WasRead F.opens F.Input.Source.reads (F.tells files.old) in
         result ≡ 8 → NameUnsatisfiableUnder _ read files.old (texts words.now) }
     // Either the report is printed, or one error line; in both cases the exit status matches.
-    ensures ends { let view = files_view F.Files F.Machine.own F.Input.Source F.Output.Sink
-        files.old in
-        let output = change (O.written out.old) (O.written out.new) (O.has_failed out.new) in
-        let errors = change (E.written err.old) (E.written err.new) (E.has_failed err.new) in
-        ProgramEnds view (texts words.now) files.new output errors result }
+    ensures ends { ProgramEnds (⟦<F as Viewed>⟧.view files.old) (texts words.now) files.new
+        (change O.Sink out.old out.new) (change E.Sink err.old err.new) result }
     // With status 3 or 8, if the words ask for a checkpoint, what was saved there is a text of a formula each clause of which
     // follows from that of FORMULA.
     ensures saved { let read = WasRead F.opens F.Input.Source.reads (F.tells files.old) in
@@ -83,13 +80,10 @@ pub fn command<T: Threads + Wait + Sync, C: Clock + Sync, F: Machine, O: Sink, E
         → NameCheckpoint F.opens read save files.old (texts words.now) path files.new }
     // If a report was written (status 0, 3, 8 or 9), and the words ask for rounds, each round but the last saved, for the next one, a text
     // of a formula over the same variables, each clause of which follows from that of FORMULA. With status 3 or 8 so did the last one.
-    ensures saved_rounds { let view = files_view F.Files F.Machine.own F.Input.Source F.Output.Sink
-        files.old in
-        let output = change (O.written out.old) (O.written out.new) (O.has_failed out.new) in
-        let errors = change (E.written err.old) (E.written err.new) (E.has_failed err.new) in
-        (folder : Text) → AskForRounds (texts words.now) folder
-        → (result ≡ 0) ⊎ ((result ≡ 3) ⊎ ((result ≡ 8) ⊎ (result ≡ 9)))
-        → ReportsEntailed view (texts words.now) folder files.new output errors result }
+    ensures saved_rounds { (folder : Text) → AskForRounds (texts words.now) folder → (result ≡ 0)
+        ⊎ ((result ≡ 3) ⊎ ((result ≡ 8) ⊎ (result ≡ 9)))
+        → ReportsEntailed (⟦<F as Viewed>⟧.view files.old) (texts words.now) folder files.new
+        (change O.Sink out.old out.new) (change E.Sink err.old err.new) result }
     // With status 0, where the words ask for a checkpoint, none was written: the last that was done to the files was that one was
     // created there, and discarded before anything went to it.
     ensures none_saved { (path : Text) → AskToSave (texts words.now) path → result ≡ 0
@@ -137,13 +131,11 @@ pub fn check_formula<T: Threads + Wait + Sync, C: Clock + Sync, F: Machine, O: S
     // Where words give this command line, and the bytes are what was read of FORMULA by the first opening of files that were `first`
     // before it: a report of what these words and files come to, or none and the cause; what goes out; and the status.
     ensures ends { (words : List Text) (first : F) →
-        let view = from_first (files_view F.Files F.Machine.own F.Input.Source F.Output.Sink
-        files.old) first in
-        let output = change (O.written out.old) (O.written out.new) (O.has_failed out.new) in
-        let errors = change (E.written err.old) (E.written err.new) (E.has_failed err.new) in
+        let view = from_first (⟦<F as Viewed>⟧.view files.old) first in
         IsCommandLineOf words asked.entry.line
         → WasReadIn view first asked.entry.line.formula.now asked.entry.formula.items files.old
-        → ProgramEnds view words files.new output errors result }
+        → ProgramEnds view words files.new (change O.Sink out.old out.new)
+        (change E.Sink err.old err.new) result }
 {
     match asked.line.rounds {
         None => check_once(threads, clock, alloc, asked, files, out, err),
@@ -174,10 +166,9 @@ fn check_once<T: Threads + Wait + Sync, C: Clock + Sync, F: Machine, O: Sink, E:
         × AreAssumed read f.vars files.old (assumed_at asked.entry.line) cube after
         × IsUnsatisfiableUnder f cube }
     ensures ends { (words : List Text) (first : F) →
-        let view = from_first (files_view F.Files F.Machine.own F.Input.Source F.Output.Sink
-        files.old) first in
-        let output = change (O.written out.old) (O.written out.new) (O.has_failed out.new) in
-        let errors = change (E.written err.old) (E.written err.new) (E.has_failed err.new) in
+        let view = from_first (⟦<F as Viewed>⟧.view files.old) first in
+        let output = change O.Sink out.old out.new in
+        let errors = change E.Sink err.old err.new in
         IsCommandLineOf words asked.entry.line
         → WasReadIn view first asked.entry.line.formula.now asked.entry.formula.items files.old
         → EndsWithReport view words files.new output errors result
@@ -213,10 +204,9 @@ fn check_in_rounds<T: Threads + Wait + Sync, C: Clock + Sync, F: Machine, O: Sin
         × AreAssumed read f.vars files.old (assumed_at asked.entry.line) cube after
         × IsUnsatisfiableUnder f cube }
     ensures ends { (words : List Text) (first : F) →
-        let view = from_first (files_view F.Files F.Machine.own F.Input.Source F.Output.Sink
-        files.old) first in
-        let output = change (O.written out.old) (O.written out.new) (O.has_failed out.new) in
-        let errors = change (E.written err.old) (E.written err.new) (E.has_failed err.new) in
+        let view = from_first (⟦<F as Viewed>⟧.view files.old) first in
+        let output = change O.Sink out.old out.new in
+        let errors = change E.Sink err.old err.new in
         IsCommandLineOf words asked.entry.line
         → WasReadIn view first asked.entry.line.formula.now asked.entry.formula.items files.old
         → EndsWithFault view words files.new output errors result
@@ -233,11 +223,10 @@ fn check_in_rounds<T: Threads + Wait + Sync, C: Clock + Sync, F: Machine, O: Sin
 fn report<O: Sink, E: Sink>(round: u64, found: &RunResult, out: &mut O, err: &mut E) -> u8
     requires out { O.has_failed out.old ≡ false }
     requires err { E.has_failed err.old ≡ false }
-    ensures printed { SinkTook
-        (change (O.written out.old) (O.written out.new) (O.has_failed out.new))
+    ensures printed { SinkTook (change O.Sink out.old out.new)
         (last_text round found.now.reports.items found.now.verdict) }
     ensures said { SaysOfRound round (O.has_failed out.new) found.now.unsaved
-        (change (E.written err.old) (E.written err.new) (E.has_failed err.new)) }
+        (change E.Sink err.old err.new) }
     ensures status { result
         ≡ report_status (O.has_failed out.new) found.now.unsaved found.now.verdict }
 {
@@ -280,8 +269,7 @@ fn write_number<O: Sink>(number: u64, out: &mut O) -> Result<(), WriteFault>
 /// Says why the checkpoint of a round wasn't saved, if it wasn't.
 fn say_unsaved<E: Sink>(round: u64, unsaved: Option<SaveFault>, err: &mut E)
     requires err { E.has_failed err.old ≡ false }
-    ensures { SaysOfRound round false unsaved
-        (change (E.written err.old) (E.written err.new) (E.has_failed err.new)) }
+    ensures { SaysOfRound round false unsaved (change E.Sink err.old err.new) }
 {
     if let Some(fault) = unsaved {
         let _ = say_of_round(round, &CommandFault::NotSaved(fault), err);
@@ -306,8 +294,7 @@ fn written_status(found: &RunResult) -> u8
 fn say_next<E: Sink>(fault: &CommandFault, err: &mut E) -> u8
     ensures failed { E.has_failed err.old ≡ true → err.new ≡ err.old }
     ensures said { E.has_failed err.old ≡ false
-        → SinkTook (change (E.written err.old) (E.written err.new) (E.has_failed err.new))
-        (error_text fault.now) }
+        → SinkTook (change E.Sink err.old err.new) (error_text fault.now) }
     ensures status { result ≡ status_of fault.now }
 {
     if err.failed() {
@@ -319,8 +306,7 @@ fn say_next<E: Sink>(fault: &CommandFault, err: &mut E) -> u8
 /// Reports a fault, and gives the status, whether the fault could be written or not.
 pub fn say<E: Sink>(fault: &CommandFault, err: &mut E) -> u8
     requires err { E.has_failed err.old ≡ false }
-    ensures said { SinkTook (change (E.written err.old) (E.written err.new) (E.has_failed err.new))
-        (error_text fault.now) }
+    ensures said { SinkTook (change E.Sink err.old err.new) (error_text fault.now) }
     ensures status { result ≡ status_of fault.now }
 {
     say_of_round(1, fault, err)
@@ -329,8 +315,7 @@ pub fn say<E: Sink>(fault: &CommandFault, err: &mut E) -> u8
 /// Reports a fault of a round, from 1 on, and gives the status, whether the fault could be written or not.
 fn say_of_round<E: Sink>(round: u64, fault: &CommandFault, err: &mut E) -> u8
     requires err { E.has_failed err.old ≡ false }
-    ensures said { SinkTook (change (E.written err.old) (E.written err.new) (E.has_failed err.new))
-        (round_error_text round fault.now) }
+    ensures said { SinkTook (change E.Sink err.old err.new) (round_error_text round fault.now) }
     ensures status { result ≡ status_of fault.now }
 {
     let _ = fault.write(round, err);

@@ -7,7 +7,7 @@ ghost use Rattle.lrup_model.specs.Cube.{CubeValue, IsUnsatisfiableUnder};
 ghost use Rattle.lrup_model.specs.Entailment.{IsUnsatisfiable};
 ghost use Rattle.lrup_model.specs.Formula.{Cnf};
 ghost use Rattle.command_line.specs.CommandLine.{IsCommandLineOf};
-ghost use Rattle.command.specs.Commands.{AreAssumed, AreOpened, IsCause, IsOpenCause, Text, WasRead, WasReadIn, assumed_at, deeds, files_view, from_first};
+ghost use Rattle.command.specs.Commands.{AreAssumed, AreOpened, IsCause, IsOpenCause, Text, WasRead, WasReadIn, assumed_at, from_first};
 ghost use Rattle.command.specs.Commands.{rounds_at};
 ghost use Rattle.command.specs.Paths.{formula_path, stream_path, stream_paths};
 ghost use Rattle.command.specs.Rounds.{HaveEnded, IsRoundStartCause, IsStreamCause, StreamsOpened};
@@ -22,7 +22,7 @@ use crate::checking::{Asked, Beginning, RunResult, begin, find_layout, open_stre
 use crate::closing::{close_round, create_new};
 use crate::course::{Course, LastRound, OpenRound, RoundFault};
 use crate::fault::CommandFault;
-use crate::files::{Machine, OpenFault};
+use crate::files::{Machine, OpenFault, Viewed};
 use crate::running::{EndedRun, Setup, run_streams};
 use crate::sizing::sizes_of_round;
 use crate::watching::{now_if, report_begin};
@@ -58,14 +58,12 @@ fn check_round<T: Threads + Wait + Sync, C: Clock + Sync, F: Machine>(
         round.readers.items }
     requires count { length round.readers.items ≡ round.sizes.streams }
     requires number { round.number < u64.MAX }
-    ensures found { let its = deeds F.Files F.Machine.own F.Input.Source F.Output.Sink in
-        IfOk result (λ found. WasFound its (plan_of course.now) round.formula round.readers.items
-        files.old found.last found.next files.new) }
+    ensures found { IfOk result (λ found. WasFound ⟦<F as Viewed>⟧.deeds (plan_of course.now)
+        round.formula round.readers.items files.old found.last found.next files.new) }
     ensures number { IfOk result (λ found. found.last.number ≡ round.number) }
     ensures sizes { IfOk result (λ found. found.last.sizes ≡ round.sizes) }
-    ensures cause { IfErr result (λ fault. IsRoundStartCause
-        (deeds F.Files F.Machine.own F.Input.Source F.Output.Sink) (plan_of course.now) round.number
-        round.formula round.sizes files.old fault files.new) }
+    ensures cause { IfErr result (λ fault. IsRoundStartCause ⟦<F as Viewed>⟧.deeds
+        (plan_of course.now) round.number round.formula round.sizes files.old fault files.new) }
 {
     let OpenRound {
         number,
@@ -185,7 +183,7 @@ fn open_round<F: Machine>(
     streams: u64,
 ) -> Result<Option<Vec<F::Input>>, CommandFault>
     requires some { 0 < streams }
-    ensures opened { let its = deeds F.Files F.Machine.own F.Input.Source F.Output.Sink in
+    ensures opened { let its = ⟦<F as Viewed>⟧.deeds in
         IfOk result (λ found. IfSome found (λ readers. StreamsOpened its files.old
         (stream_paths folder.now number streams) readers.items files.new)) }
     ensures running { IfOk result (λ found. IfSome found (λ readers.
@@ -194,9 +192,8 @@ fn open_round<F: Machine>(
         length readers.items ≡ streams)) }
     ensures lacks { result ≡ Ok None
         → F.lacks files.old (stream_path folder.now number 1) files.new }
-    ensures cause { let its = deeds F.Files F.Machine.own F.Input.Source F.Output.Sink in
-        IfErr result (λ fault.
-        IsStreamCause its files.old folder.now number streams fault files.new) }
+    ensures cause { IfErr result (λ fault. IsStreamCause ⟦<F as Viewed>⟧.deeds files.old folder.now
+        number streams fault files.new) }
 {
     let paths = stream_paths(alloc, folder, number, streams)?;
     let words = words_of(alloc, &paths)?;
@@ -225,9 +222,8 @@ fn open_others<F: Machine>(
         × (map F.Input.Source.left others ≡ map (F.tells files.old) (texts paths.now))) }
     ensures running { IfOk result (λ readers.
         AllByRecursion (λ r. F.Input.Source.has_failed r ≡ false) readers.items) }
-    ensures cause { let its = deeds F.Files F.Machine.own F.Input.Source F.Output.Sink in
-        IfErr result (λ fault.
-        IsOpenCause its 1 files.old (texts paths.now) fault files.new) }
+    ensures cause { IfErr result (λ fault. IsOpenCause ⟦<F as Viewed>⟧.deeds 1 files.old
+        (texts paths.now) fault files.new) }
 {
     let mut readers = match open_streams(alloc, files, paths) {
         Ok(readers) => readers,
@@ -253,21 +249,17 @@ fn next_round<T: Threads + Wait + Sync, C: Clock + Sync, F: Machine>(
 ) -> Result<Option<CheckedRound>, CommandFault>
     requires after { number ≡ last.now.number + 1 }
     requires number { number < u64.MAX }
-    ensures stands { (given : Cnf) (sizes : Sizes) (first : F) (paths : List Text) →
-        RoundsStand (deeds F.Files F.Machine.own F.Input.Source F.Output.Sink) (plan_of course.now)
-        given sizes
-        first paths last.now (Some formula) files.old → IfOk result (λ next. ForSome next (λ found.
-        RoundsStand (deeds F.Files F.Machine.own F.Input.Source F.Output.Sink) (plan_of course.now)
-        given sizes
-        first paths found.last found.next files.new)) }
+    ensures stands { let its = ⟦<F as Viewed>⟧.deeds in
+        (given : Cnf) (sizes : Sizes) (first : F) (paths : List Text)
+        → RoundsStand its (plan_of course.now) given sizes first paths last.now (Some formula)
+        files.old → IfOk result (λ next. ForSome next (λ found. RoundsStand its (plan_of course.now)
+        given sizes first paths found.last found.next files.new)) }
     ensures number { IfOk result (λ next. ForSome next (λ found.
         found.last.number ≡ number)) }
-    ensures over { result ≡ Ok None → IsAlone (deeds F.Files F.Machine.own F.Input.Source
-        F.Output.Sink)
-        (plan_of course.now) last.now files.old files.new }
-    ensures cause { IfErr result (λ fault. IsUnchecked
-        (deeds F.Files F.Machine.own F.Input.Source F.Output.Sink) (plan_of course.now) last.now
-        formula files.old fault files.new) }
+    ensures over { result ≡ Ok None → IsAlone ⟦<F as Viewed>⟧.deeds (plan_of course.now) last.now
+        files.old files.new }
+    ensures cause { IfErr result (λ fault. IsUnchecked ⟦<F as Viewed>⟧.deeds (plan_of course.now)
+        last.now formula files.old fault files.new) }
 {
     let sizes = sizes_of_round(alloc, files, course.folder, number, last.sizes)?;
     let readers = match open_round(alloc, files, course.folder, number, sizes.streams) {
@@ -303,19 +295,16 @@ fn go_on<T: Threads + Wait + Sync, C: Clock + Sync, F: Machine>(
         round.readers.items }
     requires count { length round.readers.items ≡ round.sizes.streams }
     requires one { round.number ≡ 1 }
-    ensures over { (first : F) (paths : List Text) →
-        StreamsOpened (deeds F.Files F.Machine.own F.Input.Source F.Output.Sink) first paths
-        round.readers.items
-        files.old → IfOk result (λ last.
-        EndsAt (deeds F.Files F.Machine.own F.Input.Source F.Output.Sink) (plan_of course.now)
-        round.formula
-        round.sizes first paths last files.new) }
-    ensures cause { (first : F) (paths : List Text) →
-        StreamsOpened (deeds F.Files F.Machine.own F.Input.Source F.Output.Sink) first paths
-        round.readers.items
-        files.old → IfErr result (λ failed.
-        FailsAt (deeds F.Files F.Machine.own F.Input.Source F.Output.Sink) (plan_of course.now)
-        round.formula round.sizes first paths files.old failed files.new) }
+    ensures over { let its = ⟦<F as Viewed>⟧.deeds in
+        (first : F) (paths : List Text)
+        → StreamsOpened its first paths round.readers.items files.old
+        → IfOk result (λ last. EndsAt its (plan_of course.now) round.formula round.sizes first paths
+        last files.new) }
+    ensures cause { let its = ⟦<F as Viewed>⟧.deeds in
+        (first : F) (paths : List Text)
+        → StreamsOpened its first paths round.readers.items files.old
+        → IfErr result (λ failed. FailsAt its (plan_of course.now) round.formula round.sizes first
+        paths files.old failed files.new) }
 {
     let checked = match check_round(threads, clock, alloc, course, round, files) {
         Ok(checked) => checked,
@@ -357,8 +346,7 @@ pub(crate) fn check_rounds<T: Threads + Wait + Sync, C: Clock + Sync, F: Machine
     requires tries { asked.line.tries ≤ max_tries }
     requires folder { rounds_at asked.line ≡ Some folder.now }
     ensures reported { (words : List Text) (first : F) →
-        let view = from_first (files_view F.Files F.Machine.own F.Input.Source F.Output.Sink
-        files.old) first in
+        let view = from_first (⟦<F as Viewed>⟧.view files.old) first in
         IsCommandLineOf words asked.entry.line
         → WasReadIn view first asked.entry.line.formula.now asked.entry.formula.items files.old
         → IfOk result (λ last. IsReported view asked.entry.line folder.now last files.new) }
@@ -371,12 +359,11 @@ pub(crate) fn check_rounds<T: Threads + Wait + Sync, C: Clock + Sync, F: Machine
         × AreAssumed read f.vars files.old (assumed_at asked.entry.line) cube after
         × IsUnsatisfiableUnder f cube) }
     ensures cause { (words : List Text) (first : F) →
-        let view = from_first (files_view F.Files F.Machine.own F.Input.Source F.Output.Sink
-        files.old) first in
+        let view = from_first (⟦<F as Viewed>⟧.view files.old) first in
         IsCommandLineOf words asked.entry.line
         → WasReadIn view first asked.entry.line.formula.now asked.entry.formula.items files.old
-        → IfErr result (λ failed.
-        IsRoundsFault view words asked.entry.line folder.now failed files.new) }
+        → IfErr result (λ failed. IsRoundsFault view words asked.entry.line folder.now failed
+        files.new) }
 {
     let Asked {
         line,

@@ -1,13 +1,12 @@
 //! The sizes of a round, from their file.
 ghost use Rattle.std.specs.Prelude.{◌≡◌, false, IfErr, IfNone, IfOk, IfSome, string_bytes};
-ghost use Rattle.command.specs.Commands.{deeds};
 ghost use Rattle.runs.specs.Readings.{readers_view};
 ghost use Rattle.command.specs.Paths.{sizes_path};
 ghost use Rattle.command.specs.Rounds.{AreSized, IsSizesCause};
 ghost use Rattle.command.specs.internal.RoundProgress.{IsUnsized, ReadsSizes};
 
 use crate::fault::CommandFault;
-use crate::files::{Machine, OpenFault};
+use crate::files::{Machine, OpenFault, Viewed};
 use command_line::{Sizes, read_sizes};
 use lrup_text::{ReadFault, Source};
 use std::alloc::{AllocError, Global};
@@ -23,12 +22,10 @@ pub(crate) fn sizes_of_round<F: Machine>(
     number: u64,
     sizes: Sizes,
 ) -> Result<Sizes, CommandFault>
-    ensures sized { let its = deeds F.Files F.Machine.own F.Input.Source F.Output.Sink in
-        IfOk result (λ new.
-        AreSized its (sizes_path folder.now number) sizes files.old new files.new) }
-    ensures cause { let its = deeds F.Files F.Machine.own F.Input.Source F.Output.Sink in
-        IfErr result (λ fault.
-        IsSizesCause its files.old (sizes_path folder.now number) fault files.new) }
+    ensures sized { IfOk result (λ new. AreSized ⟦<F as Viewed>⟧.deeds
+        (sizes_path folder.now number) sizes files.old new files.new) }
+    ensures cause { IfErr result (λ fault. IsSizesCause ⟦<F as Viewed>⟧.deeds files.old
+        (sizes_path folder.now number) fault files.new) }
 {
     let path = sizes_path(alloc, folder, number)?;
     match files.open_if_there(path.as_str()) {

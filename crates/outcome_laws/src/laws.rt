@@ -1,5 +1,4 @@
 //! Laws of outcomes. Each function does nothing; its contract is the law.
-ghost use Rattle.command.specs.Commands.{files_view};
 ghost use Rattle.outcome_laws.specs.Printed.{NoBadLineShown};
 ghost use Rattle.outcome_laws.specs.Refuting.{OutcomesRefute, OutcomesRefuteUnder};
 ghost use Rattle.outcome_laws.specs.Valid.{ValidOrderSays, ValidRefutationSays};
@@ -8,7 +7,7 @@ ghost use Rattle.outcome_laws.specs.Serial.{ValidTurnsSay, SerialOutcomesAgree};
 ghost use Rattle.outcome_laws.specs.Laws.{NoCubeJudgesAlike, SameBytesSayTheSame, SameWordsAskAlike, OutcomesAgree, PlainEnds, Status0HasACommandLine};
 
 use checkpoint::laws::{files_refute, files_refute_under};
-use command::Machine;
+use command::{Machine, Viewed};
 use dimacs::laws::{formula_or_fault, one_formula};
 use run_laws::groups::same_bytes_agree;
 use run_laws::turns::{bytes_decide, valid_by_turns};
@@ -40,9 +39,7 @@ pub fn same_words_ask_alike()
 /// the options and the number of streams are the same, and the files of the formula and of the stream tell the same bytes, unless a
 /// report of the stream is of memory or of a failed read.
 pub fn outcomes_agree<F: Machine, G: Machine>(files: &F, others: &G)
-    ensures { let view = files_view F.Files F.Machine.own F.Input.Source F.Output.Sink files.now in
-        let other = files_view G.Files G.Machine.own G.Input.Source G.Output.Sink others.now in
-        OutcomesAgree view other }
+    ensures { OutcomesAgree (⟦<F as Viewed>⟧.view files.now) (⟦<G as Viewed>⟧.view others.now) }
 {
     one_formula();
     same_bytes_say_the_same();
@@ -51,23 +48,20 @@ pub fn outcomes_agree<F: Machine, G: Machine>(files: &F, others: &G)
 /// If the words ask for no rounds, the clause `ends` of `command` says what the other laws take: a report of a single run, or none
 /// and the cause.
 pub fn plain_ends<F: Machine>(files: &F)
-    ensures { let view = files_view F.Files F.Machine.own F.Input.Source F.Output.Sink files.now in
-        PlainEnds view }
+    ensures { PlainEnds (⟦<F as Viewed>⟧.view files.now) }
 {}
 
 /// With status 0 of a single run the words have a whole command line, and what was read at its FORMULA is a text of a formula that no
 /// assignment satisfies: the clause `ends` of `command` says so.
 pub fn status_0_has_a_command_line<F: Machine>(files: &F)
-    ensures { let view = files_view F.Files F.Machine.own F.Input.Source F.Output.Sink files.now in
-        Status0HasACommandLine view }
+    ensures { Status0HasACommandLine (⟦<F as Viewed>⟧.view files.now) }
 {}
 
 /// If the words ask for a valid refutation, the program ends with status 0; or with 7, for a report that wasn't written; or with
 /// 5 or 6, for a fault of the machine; or with 3 or 8, and then memory ran out, or a read failed, in the refutation's lines; or with
 /// 9 in their place, for a checkpoint that the words ask for and that wasn't saved: the clause `ends` of `command` says so.
 pub fn valid_refutation_says<F: Machine>(files: &F)
-    ensures { let view = files_view F.Files F.Machine.own F.Input.Source F.Output.Sink files.now in
-        ValidRefutationSays view }
+    ensures { ValidRefutationSays (⟦<F as Viewed>⟧.view files.now) }
 {
     one_formula();
     formula_or_fault();
@@ -80,8 +74,7 @@ pub fn valid_refutation_says<F: Machine>(files: &F)
 /// 'unsatisfiable'. The law `valid_refutation_says` alone says so: a status 5 or 6 leaves standard output as it was, and each other
 /// report tells that the stream was stopped by the machine.
 pub fn no_bad_line_shown<F: Machine>(files: &F)
-    ensures { let view = files_view F.Files F.Machine.own F.Input.Source F.Output.Sink files.now in
-        NoBadLineShown view }
+    ensures { NoBadLineShown (⟦<F as Viewed>⟧.view files.now) }
 {
     valid_refutation_says(files);
 }
@@ -90,8 +83,7 @@ pub fn no_bad_line_shown<F: Machine>(files: &F)
 /// 3 or 8, or 9 in their place, and then a line of that stream cites a clause of another stream, which wasn't there, or wasn't any
 /// more.
 pub fn valid_order_says<F: Machine>(files: &F)
-    ensures { let view = files_view F.Files F.Machine.own F.Input.Source F.Output.Sink files.now in
-        ValidOrderSays view }
+    ensures { ValidOrderSays (⟦<F as Viewed>⟧.view files.now) }
 {
     one_formula();
     formula_or_fault();
@@ -104,9 +96,8 @@ pub fn valid_order_says<F: Machine>(files: &F)
 /// and the assumed literals are the same, and the files of the formula and of each stream tell the same bytes, unless some report
 /// is of memory or of a failed read.
 pub fn serial_outcomes_agree<F: Machine, G: Machine>(files: &F, others: &G)
-    ensures { let view = files_view F.Files F.Machine.own F.Input.Source F.Output.Sink files.now in
-        let other = files_view G.Files G.Machine.own G.Input.Source G.Output.Sink others.now in
-        SerialOutcomesAgree view other }
+    ensures { SerialOutcomesAgree (⟦<F as Viewed>⟧.view files.now)
+        (⟦<G as Viewed>⟧.view others.now) }
 {
     one_formula();
     bytes_decide();
@@ -117,8 +108,7 @@ pub fn serial_outcomes_agree<F: Machine, G: Machine>(files: &F, others: &G)
 /// or with 3 or 8, or 9 in their place, and then memory ran out in some stream, or a read of it failed: the clause `ends` of `command`
 /// says so.
 pub fn valid_turns_say<F: Machine>(files: &F)
-    ensures { let view = files_view F.Files F.Machine.own F.Input.Source F.Output.Sink files.now in
-        ValidTurnsSay view }
+    ensures { ValidTurnsSay (⟦<F as Viewed>⟧.view files.now) }
 {
     one_formula();
     formula_or_fault();
@@ -134,8 +124,7 @@ pub fn valid_turns_say<F: Machine>(files: &F)
 /// that memory ran out, or a read failed: in the refutation's lines, or in some stream of a round before the last. The clause `ends` of
 /// `command` says so.
 pub fn valid_rounds_say<F: Machine>(files: &F)
-    ensures { let view = files_view F.Files F.Machine.own F.Input.Source F.Output.Sink files.now in
-        ValidRoundsSay view }
+    ensures { ValidRoundsSay (⟦<F as Viewed>⟧.view files.now) }
 {
     one_formula();
     formula_or_fault();
@@ -150,8 +139,7 @@ pub fn valid_rounds_say<F: Machine>(files: &F)
 /// the empty clause, the program ends so too; or with 3, and then such a line cites a clause of another stream, which wasn't there, or
 /// wasn't any more.
 pub fn valid_orders_say<F: Machine>(files: &F)
-    ensures { let view = files_view F.Files F.Machine.own F.Input.Source F.Output.Sink files.now in
-        ValidOrdersSay view }
+    ensures { ValidOrdersSay (⟦<F as Viewed>⟧.view files.now) }
 {
     one_formula();
     formula_or_fault();
@@ -166,8 +154,7 @@ pub fn valid_orders_say<F: Machine>(files: &F)
 /// one some stream adds the empty clause, the program ends so too; with 3 the report says that memory ran out in some stream, or that
 /// a read of it failed.
 pub fn valid_turn_rounds_say<F: Machine>(files: &F)
-    ensures { let view = files_view F.Files F.Machine.own F.Input.Source F.Output.Sink files.now in
-        ValidTurnRoundsSay view }
+    ensures { ValidTurnRoundsSay (⟦<F as Viewed>⟧.view files.now) }
 {
     one_formula();
     formula_or_fault();
@@ -180,14 +167,14 @@ pub fn valid_turn_rounds_say<F: Machine>(files: &F)
 /// If runs of the program follow one another, each on the checkpoint that the one before it saved, and the last one ends with
 /// status 0, what the first one read is a text of a formula that no assignment satisfies: the clause `ends` of `command` says so.
 pub fn outcomes_refute<F: Machine>(_files: &F)
-    ensures { OutcomesRefute (files_view F.Files F.Machine.own F.Input.Source F.Output.Sink) }
+    ensures { OutcomesRefute ⟦<F as Viewed>⟧.view }
 {
     files_refute();
 }
 
 /// If the last one ends with status 8, no assignment makes the literals that it assumed true besides.
 pub fn outcomes_refute_under<F: Machine>(_files: &F)
-    ensures { OutcomesRefuteUnder (files_view F.Files F.Machine.own F.Input.Source F.Output.Sink) }
+    ensures { OutcomesRefuteUnder ⟦<F as Viewed>⟧.view }
 {
     files_refute_under();
 }

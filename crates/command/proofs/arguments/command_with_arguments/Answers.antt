@@ -14,8 +14,8 @@ returns-in-Ok-clause-ends g c =
     let files = files_view g.F.Files g.F.Machine g.F.Input.Source g.F.Output.Sink c.args.files.now in
     let out = c.with_words-status.new.out in
     let err = c.with_words-status.new.err in
-    let output = change (g.O.Sink.written c.args.out.now) (g.O.Sink.written out) (g.O.Sink.has_failed out) in
-    let errors = change (g.E.Sink.written c.args.err.now) (g.E.Sink.written err) (g.E.Sink.has_failed err) in
+    let output = change g.O.Sink c.args.out.now out in
+    let errors = change g.E.Sink c.args.err.now err in
     rw c.in-Ok.is (subst (λ (n : ℕ). ProgramEnds files (words_after_name c.in-Ok.arguments) c.with_words-status.new.files output errors n)
     (sym c.from.ensures) c.with_words-status.ensures.ends)
 
@@ -24,8 +24,8 @@ returns-in-Ok-clause-saved_rounds g c =
     let files = files_view g.F.Files g.F.Machine g.F.Input.Source g.F.Output.Sink c.args.files.now in
     let out = c.with_words-status.new.out in
     let err = c.with_words-status.new.err in
-    let output = change (g.O.Sink.written c.args.out.now) (g.O.Sink.written out) (g.O.Sink.has_failed out) in
-    let errors = change (g.E.Sink.written c.args.err.now) (g.E.Sink.written err) (g.E.Sink.has_failed err) in
+    let output = change g.O.Sink c.args.out.now out in
+    let errors = change g.E.Sink c.args.err.now err in
     let words = words_after_name c.in-Ok.arguments in
     rw c.in-Ok.is (subst (λ (n : ℕ). (folder : Text) → AskForRounds words folder → (n ≡ 0) ⊎ ((n ≡ 3) ⊎ ((n ≡ 8) ⊎ (n ≡ 9)))
     → ReportsEntailed files words folder c.with_words-status.new.files output errors n) (sym c.from.ensures)

@@ -7,7 +7,7 @@ pub returns-in_default : goal.returns-in_default
 returns-in_default g c =
     let other = c.in_default.not-OutOfMemory in
     let said = c.say_not_utf8 in
-    let err = change (g.E.Sink.written c.args.err.now) (g.E.Sink.written said.new.err) (g.E.Sink.has_failed said.new.err) in
+    let err = change g.E.Sink c.args.err.now said.new.err in
     record {
       said = subst (SinkTook err) (sym (other_text c.args.kind other)) said.ensures.said;
       status = said.ensures.status ∙ sym (other_status c.args.kind other);

@@ -55,8 +55,8 @@ returns-clause-saved g c path ask is =
 pub returns-clause-saved_rounds : goal.returns-clause-saved_rounds
 returns-clause-saved_rounds g c folder ask is =
     let files = files_view g.F.Files g.F.Machine g.F.Input.Source g.F.Output.Sink c.args.files.now in
-    let output = change (g.O.Sink.written c.args.out.now) (g.O.Sink.written c.command.new.out) (g.O.Sink.has_failed c.command.new.out) in
-    let errors = change (g.E.Sink.written c.args.err.now) (g.E.Sink.written c.command.new.err) (g.E.Sink.has_failed c.command.new.err) in
+    let output = change g.O.Sink c.args.out.now c.command.new.out in
+    let errors = change g.E.Sink c.args.err.now c.command.new.err in
     let asked = subst (λ (words : List Text). AskForRounds words folder) (sym (same_words g c)) ask in
     subst (λ (words : List Text). ReportsEntailed files words folder c.command.new.files output errors c.command.result) (same_words g c)
     (c.command.ensures.saved_rounds folder asked is)
@@ -71,7 +71,7 @@ returns-clause-usage g c fault = c.command.ensures.usage (subst HaveFault (sym (
 pub returns-clause-ends : goal.returns-clause-ends
 returns-clause-ends g c =
     let files = files_view g.F.Files g.F.Machine g.F.Input.Source g.F.Output.Sink c.args.files.now in
-    let output = change (g.O.Sink.written c.args.out.now) (g.O.Sink.written c.command.new.out) (g.O.Sink.has_failed c.command.new.out) in
-    let errors = change (g.E.Sink.written c.args.err.now) (g.E.Sink.written c.command.new.err) (g.E.Sink.has_failed c.command.new.err) in
+    let output = change g.O.Sink c.args.out.now c.command.new.out in
+    let errors = change g.E.Sink c.args.err.now c.command.new.err in
     subst (λ (words : List Text). ProgramEnds files words c.command.new.files output errors c.command.result) (same_words g c)
     c.command.ensures.ends

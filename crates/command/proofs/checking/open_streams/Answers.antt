@@ -2,7 +2,7 @@ use Rattle.std.proofs.Common.{◌∙◌, ◌≡◌, [], false, inl, inr, refl, s
 use Rattle.std.specs.List.{AllByRecursion}
 use Rattle.lrup_model.specs.lemmas.ListLemmas.{All-push}
 use Rattle.clap.specs.Walk.{texts}
-use Rattle.command.specs.Commands.{IsOpenCause, deeds}
+use Rattle.command.specs.Commands.{IsOpenCause, deeds_of}
 use Rattle.command.specs.declared.fault.CommandFault.{CommandFault}
 use Rattle.command.specs.declared.fault.CommandFault.TheVariants as faults
 use Rattle.command.proofs.CheckingLemmas.{err_given}
@@ -33,7 +33,7 @@ loop-path-preserved g c =
 pub returns-in-Err-NotOpened-clause-cause : goal.returns-in-Err-NotOpened-clause-cause
 returns-in-Err-NotOpened-clause-cause g c =
     let now = c.loop-path in
-    let its = deeds g.F.Files g.F.Machine g.F.Input.Source g.F.Output.Sink in (
+    let its = deeds_of g.F.Files g.F.Machine g.F.Input.Source g.F.Output.Sink in (
       now.path-index,
       (let count : c.len.result ≡ now.path-index = c.len.ensures ∙ now.invariant.count in omega (arith, count)),
       refused_at its (λ p. p.now) c.args.files.now c.args.paths.now now.readers.items now.files now.path-index _ _ c.open.new.self
@@ -44,7 +44,7 @@ returns-in-Err-NotOpened-clause-cause g c =
 pub returns-in-Err-Memory-clause-cause : goal.returns-in-Err-Memory-clause-cause
 returns-in-Err-Memory-clause-cause g c =
     let now = c.loop-path in
-    let its = deeds g.F.Files g.F.Machine g.F.Input.Source g.F.Output.Sink in
+    let its = deeds_of g.F.Files g.F.Machine g.F.Input.Source g.F.Output.Sink in
     inl (
       now.path-index,
       refused_at its (λ p. p.now) c.args.files.now c.args.paths.now now.readers.items now.files now.path-index _ _ c.open.new.self
@@ -55,7 +55,7 @@ returns-in-Err-Memory-clause-cause g c =
 pub returns-in_err-readers-clause-cause : goal.returns-in_err-readers-clause-cause
 returns-in_err-readers-clause-cause g c =
     let before = c.args.files.now in
-    let Cause : CommandFault → Type 0 = λ fault. IsOpenCause (deeds g.F.Files g.F.Machine g.F.Input.Source g.F.Output.Sink) 0 before (texts
-    c.args.paths.now) fault before in
+    let Cause : CommandFault → Type 0 = λ fault. IsOpenCause (deeds_of g.F.Files g.F.Machine g.F.Input.Source g.F.Output.Sink) 0 before
+    (texts c.args.paths.now) fault before in
     let cause : Cause faults.Memory = inr (0, [], refl) in
     err_given c.from_residual.result _ Cause (λ fault is. subst Cause (sym is) cause) c.from_residual.ensures.1

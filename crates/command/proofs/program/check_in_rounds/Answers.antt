@@ -22,8 +22,8 @@ returns-in-Ok-clause-ends g c words first good at =
     let round = is.round in
     let number : ℕ = length (round ∷ is.before) in
     let failed = g.O.Sink.has_failed c.report.new.out in
-    let output = change (g.O.Sink.written c.args.out.now) (g.O.Sink.written c.report.new.out) failed in
-    let errors = change (g.E.Sink.written c.args.err.now) (g.E.Sink.written c.report.new.err) (g.E.Sink.has_failed c.report.new.err) in
+    let output = change g.O.Sink c.args.out.now c.report.new.out in
+    let errors = change g.E.Sink c.args.err.now c.report.new.err in
     let text = ap (λ (n : ℕ). last_text n last.found.reports.items last.found.verdict) is.number
     ∙ ap (λ (rs : List Report). last_text number rs last.found.verdict) (sym is.reports)
     ∙ ap (λ (v : Verdict). last_text number round.reports v) (sym is.verdict) in
@@ -50,8 +50,7 @@ returns-in-Ok-clause-ends g c words first good at =
 pub returns-in-Err-clause-ends : goal.returns-in-Err-clause-ends
 returns-in-Err-clause-ends g c words first good at =
     let failed = c.in-Err.failed in
-    let errors = change (g.E.Sink.written c.args.err.now) (g.E.Sink.written c.say_of_round.new.err)
-    (g.E.Sink.has_failed c.say_of_round.new.err) in
+    let errors = change g.E.Sink c.args.err.now c.say_of_round.new.err in
     let said = λ (n : ℕ) (is : failed.round ≡ n). subst (λ (m : ℕ). SinkTook errors (round_error_text m failed.fault)) is
     c.say_of_round.ensures.said in
     elim (c.in-Err.ensures.cause words first good at) [

@@ -31,9 +31,9 @@ returns-in-Ok-clause-ends g c =
     let view : (Text → Option (List ℕ)) → FilesView =
     λ t. record (files_view g.F.Files g.F.Machine g.F.Input.Source g.F.Output.Sink first) { tells = t } in
     let output =
-    change (g.O.Sink.written c.args.out.now) (g.O.Sink.written c.check_formula.new.out) (g.O.Sink.has_failed c.check_formula.new.out) in
+    change g.O.Sink c.args.out.now c.check_formula.new.out in
     let errors =
-    change (g.E.Sink.written c.args.err.now) (g.E.Sink.written c.check_formula.new.err) (g.E.Sink.has_failed c.check_formula.new.err) in
+    change g.E.Sink c.args.err.now c.check_formula.new.err in
     let Told : (Text → Option (List ℕ)) → Type 0 = λ t. WasReadIn (view t) first asked.line.formula.now asked.formula.items next
     → ProgramEnds (view t) words c.check_formula.new.files output errors c.check_formula.result in
     let ends = c.check_formula.ensures.ends words first c.in-Ok.ensures.line in

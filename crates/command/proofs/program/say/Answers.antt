@@ -5,6 +5,5 @@ use Rattle.command.proofs.program.say.Goals as goal
 
 pub returns-clause-said : goal.returns-clause-said
 returns-clause-said g c =
-    let errors = change (g.E.Sink.written c.args.err.now) (g.E.Sink.written c.say_of_round.new.err)
-    (g.E.Sink.has_failed c.say_of_round.new.err) in
+    let errors = change g.E.Sink c.args.err.now c.say_of_round.new.err in
     subst (λ (text : List ℕ). SinkTook errors text) (first_error c.args.fault.now) c.say_of_round.ensures.said

@@ -1,5 +1,5 @@
 use Rattle.std.proofs.Common.{◌≡◌, ◌+◌, ◌∙◌, None, Some, inl, inr, length, subst}
-use Rattle.command.specs.Commands.{Text, deeds}
+use Rattle.command.specs.Commands.{Text, deeds_of}
 use Rattle.runs.specs.Readings.{readers_view}
 use Rattle.command.specs.Paths.{formula_path}
 use Rattle.command.specs.Rounds.{CarriesCheckpoint, HaveEnded, run_params_by}
@@ -29,7 +29,7 @@ stands g c =
 
 -- the file of the next round's formula was created
 created : (g : given.Over) (c : goal.After-drop-path-2 g)
-    → CreatesCheckpoint (deeds g.F.Files g.F.Machine g.F.Input.Source g.F.Output.Sink) c.args.files.now
+    → CreatesCheckpoint (deeds_of g.F.Files g.F.Machine g.F.Input.Source g.F.Output.Sink) c.args.files.now
     (Some (formula_path c.args.course.now.folder.now (c.args.round.number + 1))) (Some c.in_ok-output.output) c.create_new.new.files
 created g c =
     let path_is = c.as_str.ensures.value ∙ c.in_ok-path.ensures in
@@ -39,7 +39,7 @@ created g c =
 
 pub returns-clause-found : goal.returns-clause-found
 returns-clause-found g c =
-    let its = deeds g.F.Files g.F.Machine g.F.Input.Source g.F.Output.Sink in
+    let its = deeds_of g.F.Files g.F.Machine g.F.Input.Source g.F.Output.Sink in
     let plan = plan_of c.args.course.now in
     let number = c.args.round.number in
     let f = c.args.round.formula in

@@ -1,6 +1,6 @@
 use Rattle.std.proofs.Common.{◌≡◌, ◌∙◌, ℕ, IfErr, IfOk, None, ap, inl, inr, map, subst, sym}
 use Rattle.command_line.specs.declared.sizes.Sizes.{Sizes}
-use Rattle.command.specs.Commands.{IsCause, IsFormulaAt, checkpoint_at, deeds, files_view, from_first}
+use Rattle.command.specs.Commands.{IsCause, IsFormulaAt, checkpoint_at, deeds_of, files_view, from_first}
 use Rattle.command.specs.Rounds.{StreamsOpened, plan_at, sizes_of}
 use Rattle.command.specs.internal.RoundProgress.{EndsAt, FailsAt, IsReported, IsRoundsFault}
 use Rattle.command.specs.declared.fault.CommandFault.{CommandFault}
@@ -23,7 +23,7 @@ returns-in-Err-clause-cause g c words first good at =
     inl (of.round, subst Cause (sym of.fault) cause)
 
 -- the streams of round 1 were opened
-opened : (g : given.Over) (c : goal.After-drop-line-2 g) → StreamsOpened (deeds g.F.Files g.F.Machine g.F.Input.Source g.F.Output.Sink)
+opened : (g : given.Over) (c : goal.After-drop-line-2 g) → StreamsOpened (deeds_of g.F.Files g.F.Machine g.F.Input.Source g.F.Output.Sink)
     c.in-Ok.ensures.begun.later c.args.asked.line.streams c.in-Ok.begun.readers.items c.begin.new.files
 opened g c =
     let of = c.in-Ok.ensures.begun in
@@ -42,10 +42,11 @@ sizes_are g c =
 
 -- how the rounds ended, by the command line
 over : (g : given.Over) (c : goal.After-drop-line-2 g) → IfOk c.go_on.result (λ last.
-    EndsAt (deeds g.F.Files g.F.Machine g.F.Input.Source g.F.Output.Sink) (plan_at c.args.asked.line c.in-Ok.begun.cube c.args.folder.now)
-    c.in-Ok.begun.formula (sizes_of c.args.asked.line) c.in-Ok.ensures.begun.later c.args.asked.line.streams last c.go_on.new.files)
+    EndsAt (deeds_of g.F.Files g.F.Machine g.F.Input.Source g.F.Output.Sink)
+    (plan_at c.args.asked.line c.in-Ok.begun.cube c.args.folder.now) c.in-Ok.begun.formula (sizes_of c.args.asked.line)
+    c.in-Ok.ensures.begun.later c.args.asked.line.streams last c.go_on.new.files)
 over g c =
-    let its = deeds g.F.Files g.F.Machine g.F.Input.Source g.F.Output.Sink in
+    let its = deeds_of g.F.Files g.F.Machine g.F.Input.Source g.F.Output.Sink in
     let line = c.args.asked.line in
     let begun = c.in-Ok.begun in
     let later = c.in-Ok.ensures.begun.later in
@@ -88,7 +89,7 @@ returns-clause-reported g c words first good at =
 
 pub returns-clause-sound : goal.returns-clause-sound
 returns-clause-sound g c =
-    let its = deeds g.F.Files g.F.Machine g.F.Input.Source g.F.Output.Sink in
+    let its = deeds_of g.F.Files g.F.Machine g.F.Input.Source g.F.Output.Sink in
     let line = c.args.asked.line in
     let begun = c.in-Ok.begun in
     let plan = plan_at line begun.cube c.args.folder.now in
@@ -102,7 +103,7 @@ returns-clause-sound g c =
 
 pub returns-clause-sound_under : goal.returns-clause-sound_under
 returns-clause-sound_under g c =
-    let its = deeds g.F.Files g.F.Machine g.F.Input.Source g.F.Output.Sink in
+    let its = deeds_of g.F.Files g.F.Machine g.F.Input.Source g.F.Output.Sink in
     let line = c.args.asked.line in
     let begun = c.in-Ok.begun in
     let of = c.in-Ok.ensures.begun in
@@ -121,7 +122,7 @@ returns-clause-sound_under g c =
 pub returns-clause-cause : goal.returns-clause-cause
 returns-clause-cause g c words first good at =
     let files = from_first (files_view g.F.Files g.F.Machine g.F.Input.Source g.F.Output.Sink c.args.files.now) first in
-    let its = deeds g.F.Files g.F.Machine g.F.Input.Source g.F.Output.Sink in
+    let its = deeds_of g.F.Files g.F.Machine g.F.Input.Source g.F.Output.Sink in
     let line = c.args.asked.line in
     let folder = c.args.folder.now in
     let begun = c.in-Ok.begun in

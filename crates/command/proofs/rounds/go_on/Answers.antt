@@ -1,13 +1,13 @@
 use Rattle.std.proofs.Common.{◌∙◌, Ok, Option, ap, arith, inr, subst}
 use Rattle.lrup_model.specs.Formula.{Cnf}
-use Rattle.command.specs.Commands.{deeds}
+use Rattle.command.specs.Commands.{deeds_of}
 use Rattle.command.specs.internal.RoundProgress.{RoundsStand, plan_of}
 use Rattle.command.proofs.RoundLemmas.{ends_alone, ends_barred, ends_high, fails_after, stands_first}
 use Rattle.command.proofs.rounds.go_on.Goals as goal
 
 pub loop-number-init : goal.loop-number-init
 loop-number-init g c =
-    let its = deeds g.F.Files g.F.Machine g.F.Input.Source g.F.Output.Sink in
+    let its = deeds_of g.F.Files g.F.Machine g.F.Input.Source g.F.Output.Sink in
     let of = c.in-Ok.ensures in
     let checked = c.in-Ok.checked in
     let round = c.args.round in
@@ -21,7 +21,7 @@ loop-number-init g c =
 -- the last round doesn't go on
 pub returns-in-None-clause-over : goal.returns-in-None-clause-over
 returns-in-None-clause-over g c first paths opened =
-    let its = deeds g.F.Files g.F.Machine g.F.Input.Source g.F.Output.Sink in
+    let its = deeds_of g.F.Files g.F.Machine g.F.Input.Source g.F.Output.Sink in
     let plan = plan_of c.args.course.now in
     let now = c.loop-number in
     let round = c.args.round in
@@ -32,7 +32,7 @@ returns-in-None-clause-over g c first paths opened =
 -- there is no next one
 pub returns-in-Ok-None-clause-over : goal.returns-in-Ok-None-clause-over
 returns-in-Ok-None-clause-over g c first paths opened =
-    let its = deeds g.F.Files g.F.Machine g.F.Input.Source g.F.Output.Sink in
+    let its = deeds_of g.F.Files g.F.Machine g.F.Input.Source g.F.Output.Sink in
     let plan = plan_of c.args.course.now in
     let now = c.loop-number in
     let round = c.args.round in
@@ -44,7 +44,7 @@ returns-in-Ok-None-clause-over g c first paths opened =
 -- it has no report
 pub returns-in-Err-next_round-clause-cause : goal.returns-in-Err-next_round-clause-cause
 returns-in-Err-next_round-clause-cause g c first paths opened =
-    let its = deeds g.F.Files g.F.Machine g.F.Input.Source g.F.Output.Sink in
+    let its = deeds_of g.F.Files g.F.Machine g.F.Input.Source g.F.Output.Sink in
     let plan = plan_of c.args.course.now in
     let now = c.loop-number in
     let round = c.args.round in
@@ -57,7 +57,7 @@ returns-in-Err-next_round-clause-cause g c first paths opened =
 -- its number would be too high
 pub returns-clause-over : goal.returns-clause-over
 returns-clause-over g c first paths opened =
-    let its = deeds g.F.Files g.F.Machine g.F.Input.Source g.F.Output.Sink in
+    let its = deeds_of g.F.Files g.F.Machine g.F.Input.Source g.F.Output.Sink in
     let plan = plan_of c.args.course.now in
     let now = c.loop-number in
     let round = c.args.round in

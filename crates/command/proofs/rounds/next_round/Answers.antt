@@ -1,7 +1,7 @@
 use Rattle.std.proofs.Common.{◌∙◌, inl, inr, subst, sym, ℕ}
 use Rattle.command_line.specs.declared.sizes.Sizes.{Sizes}
 use Rattle.command.specs.Paths.{sizes_path, stream_paths}
-use Rattle.command.specs.Commands.{deeds}
+use Rattle.command.specs.Commands.{deeds_of}
 use Rattle.command.specs.Rounds.{AreSized, IsRoundStartCause, IsStreamCause, StreamsOpened}
 use Rattle.command.specs.internal.RoundProgress.{RoundsStand, plan_of}
 use Rattle.command.proofs.RoundLemmas.{for_some, stands_next}
@@ -9,7 +9,7 @@ use Rattle.command.proofs.rounds.next_round.Goals as goal
 
 pub returns-in-Ok-clause-stands : goal.returns-in-Ok-clause-stands
 returns-in-Ok-clause-stands g c given sizes first paths stands =
-    let its = deeds g.F.Files g.F.Machine g.F.Input.Source g.F.Output.Sink in
+    let its = deeds_of g.F.Files g.F.Machine g.F.Input.Source g.F.Output.Sink in
     let plan = plan_of c.args.course.now in
     let before = c.args.files.now in
     let sized = c.sizes_of_round.new.files in
@@ -30,7 +30,7 @@ returns-in-Ok-clause-stands g c given sizes first paths stands =
 -- the streams of the round were opened, and then came the fault
 pub returns-in-Err-check_round-clause-cause : goal.returns-in-Err-check_round-clause-cause
 returns-in-Err-check_round-clause-cause g c =
-    let its = deeds g.F.Files g.F.Machine g.F.Input.Source g.F.Output.Sink in
+    let its = deeds_of g.F.Files g.F.Machine g.F.Input.Source g.F.Output.Sink in
     let plan = plan_of c.args.course.now in
     let last = c.args.last.now in
     let sized = c.sizes_of_round.new.files in
@@ -58,7 +58,7 @@ returns-in-Err-check_round-clause-cause g c =
 -- the streams of the round weren't all opened
 pub returns-in-Err-clause-cause : goal.returns-in-Err-clause-cause
 returns-in-Err-clause-cause g c =
-    let its = deeds g.F.Files g.F.Machine g.F.Input.Source g.F.Output.Sink in
+    let its = deeds_of g.F.Files g.F.Machine g.F.Input.Source g.F.Output.Sink in
     let plan = plan_of c.args.course.now in
     let sized = c.sizes_of_round.new.files in
     let sizes = c.in_ok-sizes.sizes in

@@ -1,6 +1,6 @@
 use Rattle.std.proofs.Common.{◌≡◌, ◌∙◌, ◌-◌, List, Ok, ap, drop, inl, inr, length, map, refl, string_bytes, subst, take}
 use Rattle.clap.specs.Walk.{texts}
-use Rattle.command.specs.Commands.{AreOpened, IsOpenCause, Text, deeds}
+use Rattle.command.specs.Commands.{AreOpened, IsOpenCause, Text, deeds_of}
 use Rattle.command.specs.Paths.{stream_paths}
 use Rattle.command.specs.declared.files.OpenFault.TheVariants as open_faults
 use Rattle.command.proofs.RoundLemmas.{first_word, left_from, opened_count, opened_from, other_words, path_and_rest, paths_count}
@@ -62,7 +62,7 @@ returns-in-Ok-Some-clause-cause g c =
     let rest_is = ap (λ ws. texts (take (length ws - 1) (drop 1 ws))) c.deref-in-Ok-Some.ensures.value ∙ other_words words
     ∙ ap (drop 1) same in
     let opens : g.F.Files.opens before c.index.result.now.now first next = rw c.in-Ok-Some.field-0-is at c.in-Ok-Some.ensures.opens in
-    let its = deeds g.F.Files g.F.Machine g.F.Input.Source g.F.Output.Sink in
+    let its = deeds_of g.F.Files g.F.Machine g.F.Input.Source g.F.Output.Sink in
     inr (
       first,
       next,

@@ -1,5 +1,5 @@
 use Rattle.std.proofs.Common.{◌≡◌, ◌∙◌, subst}
-use Rattle.command.specs.Commands.{Text, deeds}
+use Rattle.command.specs.Commands.{Text, deeds_of}
 use Rattle.command.specs.Paths.{sizes_path}
 use Rattle.command.specs.Rounds.{IsSizesCause}
 use Rattle.command.proofs.CheckingLemmas.{if_err}
@@ -8,7 +8,7 @@ use Rattle.command.proofs.sizing.sizes_of_round.Goals as goal
 
 pub returns-in-Ok-Some-clause-cause : goal.returns-in-Ok-Some-clause-cause
 returns-in-Ok-Some-clause-cause g c =
-    let its = deeds g.F.Files g.F.Machine g.F.Input.Source g.F.Output.Sink in
+    let its = deeds_of g.F.Files g.F.Machine g.F.Input.Source g.F.Output.Sink in
     let before = c.args.files.now in
     let after = c.open_if_there.new.self in
     let source = c.in-Ok-Some.source in
