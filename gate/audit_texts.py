@@ -85,8 +85,8 @@ ACCOUNT = """**Which reads?** Whoever hands in the files chooses `opens` and `re
 each call stands in them. The machine's files tell nothing and allow all, so of such files alone the clause says only that the
 words have no fault. The step to your machine is an argument:
 
-- `command` hands the bytes that it read to [[fn check_formula]]: [[fn check_formula.sound: result ≡ 0 → (f : Cnf) ×
-  IsFormulaText asked.entry.formula.items f × IsUnsatisfiable f]]. One loop is left, `read_all`, which fills their list.
+- `command` hands the bytes that it read to [[fn check_formula]]: [[fn check_formula.sound: result ≡ 0 →
+  IsUnsatisfiableText asked.entry.formula.items]] ([[IsUnsatisfiableText]]). One loop is left, `read_all`, which fills their list.
 - Take any run, and files that play its calls back: their `opens` and `reads` hold of the calls in that run alone. `command`
   knows files only by calls, so it does the same with them, and the clause speaks of the bytes that were read.
 
@@ -111,10 +111,10 @@ CHECKPOINTS_TOP = """## Checkpoints"""
 CHECKPOINT_ROWS: Rows = [
     ("If a run with a checkpoint ends with status 3 or 8, the saved bytes are a text of a formula over the same variables. "
      "All its clauses follow from the run's formula.",
-     """[[fn command.saved: (result ≡ 3) ⊎ (result ≡ 8)]], [[SavesFrom: Save before path saved last × IsCheckpoint formula
+     """[[CheckpointEntailed: (status ≡ 3) ⊎ (status ≡ 8)]], [[CheckpointEntailed: Save before path saved last × IsCheckpoint formula
      saved]]. `Save` is [[fn command.saved: WasSaved F.creates F.Output.Sink.written F.keeps]]: a file was created at the
      path ([[Machine]]), and it was empty; these bytes went to it ([[WasSaved]], [[Sink]]); and it was kept."""),
-    ("The run's formula was read at FORMULA.", """[[SavesFrom: Read first given.formula.now bytes next × IsFormulaText bytes
+    ("The run's formula was read at FORMULA.", """[[CheckpointEntailed: Read first given.formula.now bytes next × IsFormulaText bytes
      formula]], by what the words say ([[IsCommandLineOf]], [[IsSaidBy: formula : first_of (codes "FORMULA") rows ≡ Some
      given.formula.now]]). Then assumptions were read and streams opened ([[AreOpened]])."""),
     ("If each run of a chain writes its report, the next reads what it saved, and the last has status 0, no assignment "
@@ -413,7 +413,7 @@ ROUNDS_ROWS: Rows = [
      next]]; [[SavesRound: saved : WasSavedBy its round.opened (formula_path plan.folder (number + 1)) bytes round.after]]."""),
     ("If the report was written, what each round but the last saved follows from the first formula. With status 3 or 8, so does "
      "what the last one saved.",
-     """[[fn command.saved_rounds: (result ≡ 0) ⊎ ((result ≡ 3) ⊎ ((result ≡ 8) ⊎ (result ≡ 9)))]], [[ReportsEntailed: saved :
+     """[[fn command.saved_rounds]]: [[RoundsEntailed: (status ≡ 0) ⊎ ((status ≡ 3) ⊎ ((status ≡ 8) ⊎ (status ≡ 9)))]], [[ReportsEntailed: saved :
      SaveEntailed]], [[ReportsEntailed: last_saved : (status ≡ 3) ⊎ (status ≡ 8)]]. What a round saved is a text of a formula over the same variables, and
      all its clauses follow from that of FORMULA ([[SavesEntailed]])."""),
     ("The streams of each round are checked as those of a single run.", """[[Round: checked : AreChecked its.reading]]: with a history, or

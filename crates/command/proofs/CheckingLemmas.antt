@@ -3,9 +3,7 @@ use Rattle.std.proofs.Common.{◌≡◌, ◌∙◌, ℕ, Bool, false, List, map,
 use Rattle.std.proofs.Common.{inr, refl, sym, ap, subst, rules}
 use Rattle.std.proofs.lemmas.List.{length-map}
 use Rattle.std.specs.Prelude.{◌↔◌, IsErrAnd}
-use Rattle.dimacs.specs.FormulaText.{IsFormulaText}
-use Rattle.lrup_model.specs.Cube.{CubeValue, IsUnsatisfiableUnder}
-use Rattle.lrup_model.specs.Entailment.{IsUnsatisfiable}
+use Rattle.lrup_model.specs.Cube.{CubeValue}
 use Rattle.lrup_model.specs.Formula.{Cnf}
 use Rattle.lrup_model.specs.Layout.{LayoutValue, IsFault, IsStream}
 use Rattle.lrup_model.specs.declared.layout.LayoutFault.{LayoutFault}
@@ -15,12 +13,14 @@ use Rattle.portfolio.specs.declared.outcome.RunFault.{RunFault}
 use Rattle.portfolio.specs.declared.outcome.RunFault.TheVariants as runs
 use Rattle.portfolio.specs.declared.outcome.Verdict.{Verdict}
 use Rattle.stream_check.specs.declared.report.Report.{Report}
+use Rattle.checkpoint.specs.Checkpoints.{IsUnsatisfiableText}
 use Rattle.checkpoint.specs.declared.saving.SaveFault.{SaveFault}
 use Rattle.command_line.specs.CommandLine.{AskFor, IsCommandLineOf}
 use Rattle.command_line.specs.declared.words.CommandLine.{CommandLine}
 use Rattle.command.specs.Commands.{AreAssumed, AreChecked, AreOpened, Deeds, FilesView, HasNoFault, IsAssumeCause, IsBegunWith, IsCause}
-use Rattle.command.specs.Commands.{IsFormulaAt, IsLeftUnused, IsOpenCause, IsOutcome, IsReadCause, IsStartCause, LeavesBehind}
-use Rattle.command.specs.Commands.{LeavesCheckpoint, NameUnsatisfiable, NameUnsatisfiableUnder, SavesCheckpoint, Text, WasRead, WasReadIn}
+use Rattle.command.specs.Commands.{IsFormulaAt, IsLeftUnused, IsOpenCause, IsOutcome, IsReadCause, IsStartCause, IsUnsatisfiableTextWith}
+use Rattle.command.specs.Commands.{LeavesBehind, LeavesCheckpoint, NameUnsatisfiable, NameUnsatisfiableUnder, SavesCheckpoint, Text}
+use Rattle.command.specs.Commands.{WasRead, WasReadIn}
 use Rattle.command.specs.Commands.{assumed_at, checkpoint_at, created_at, layout_at, options_of, run_params_given}
 use Rattle.command.specs.internal.Running.{IsLayoutCause, IsRunCause}
 use Rattle.command.specs.internal.Saving.{IsNotCreated}
@@ -91,7 +91,7 @@ ask_for words given line = record { good = line.good; formula_is = line.said.for
 -- what was read is a text of a formula that no assignment satisfies
 pub names_unsatisfiable : (files : FilesView) (words : List Text) (given : CommandLine) (bytes : List ℕ) (next : files.its.State)
     → IsCommandLineOf words given
-    → WasReadIn files files.first given.formula.now bytes next → (f : Cnf) × IsFormulaText bytes f × IsUnsatisfiable f
+    → WasReadIn files files.first given.formula.now bytes next → IsUnsatisfiableText bytes
     → NameUnsatisfiable files.its.State (WasReadIn files) files.first words
 names_unsatisfiable files words given bytes next line read refuted =
     (given.formula.now, assumed_at given, bytes, refuted.0, next, ask_for words given line, read, refuted.1, refuted.2)
@@ -100,9 +100,7 @@ names_unsatisfiable files words given bytes next line read refuted =
 pub names_unsatisfiable_under : (files : FilesView) (words : List Text) (given : CommandLine) (bytes : List ℕ) (next : files.its.State)
     (tells : Text → Option (List ℕ))
     → tells ≡ files.tells → IsCommandLineOf words given → WasReadIn files files.first given.formula.now bytes next
-    → (f : Cnf) × (cube : CubeValue) × (after : files.its.State) × IsFormulaText bytes f
-    × AreAssumed (WasRead files.its.opens files.its.reading.reads tells) f.vars next (assumed_at given) cube after × IsUnsatisfiableUnder f
-    cube
+    → IsUnsatisfiableTextWith (WasRead files.its.opens files.its.reading.reads tells) bytes next (assumed_at given)
     → NameUnsatisfiableUnder files.its.State (WasReadIn files) files.first words
 names_unsatisfiable_under files words given bytes next tells told line read (f, cube, after, text, assumed, refuted) =
     let same =

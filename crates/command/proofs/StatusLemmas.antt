@@ -12,9 +12,9 @@ use Rattle.portfolio.specs.declared.outcome.Verdict.TheVariants.{Unsatisfiable, 
 use Rattle.checkpoint.specs.Checkpoints.{IsCheckpoint}
 use Rattle.checkpoint.specs.declared.saving.SaveFault.{SaveFault}
 use Rattle.command_line.specs.CommandLine.{AskToSave}
-use Rattle.command.specs.Commands.{Deeds, EndsWithFault, EndsWithReport, FilesView, IsAssumeCause, IsCause, ClosesSink, IsOutcome}
-use Rattle.command.specs.Commands.{LeavesBehind, LeavesFile, NameCheckpoint, SavesCheckpoint, SinkChange, Text, WasLeftEmpty, WasReadIn}
-use Rattle.command.specs.Commands.{WasSavedBy, assumed_at, checkpoint_at, layout_at, report_status}
+use Rattle.command.specs.Commands.{CheckpointEntailed, CheckpointLeftEmpty, ClosesSink, Deeds, EndsWithFault, EndsWithReport, FilesView}
+use Rattle.command.specs.Commands.{IsAssumeCause, IsCause, IsOutcome, LeavesBehind, LeavesFile, SavesCheckpoint, SinkChange, Text}
+use Rattle.command.specs.Commands.{WasReadIn, WasSavedBy, assumed_at, checkpoint_at, layout_at, report_status}
 use Rattle.command.specs.Faults.{status_of}
 use Rattle.command.specs.declared.fault.CommandFault.{CommandFault}
 use Rattle.command.specs.declared.fault.CommandFault.TheVariants as faults
@@ -181,8 +181,7 @@ module _ (files : FilesView) where
 
   pub ends_saved : (words : List Text) (after : files.its.State) (out err : SinkChange) (status : ℕ)
       → EndsWithReport files words after out err status ⊎ EndsWithFault files words after out err status
-      → (path : Text) → AskToSave words path → (status ≡ 3) ⊎ (status ≡ 8)
-      → NameCheckpoint files.its.opens (WasReadIn files) (WasSavedBy files.its) files.first words path after
+      → CheckpointEntailed files.its.opens (WasReadIn files) (WasSavedBy files.its) files.first words after status
   ends_saved words after out err status (inl report) path ask is =
       let outcome = report.outcome in
       let given = outcome.given in
@@ -191,24 +190,22 @@ module _ (files : FilesView) where
       let saved = leaves_saved files.its (Saves words report.reports report.verdict outcome) outcome.formula
       (λ done first last saves. saves.checkpoint) out.failed report.unsaved report.verdict path outcome.last after statuses leaves in
       let read = outcome.is_formula in (
+        given,
+        outcome.formula,
+        outcome.cube,
         read.0,
         saved.0,
-        (
-          given,
-          outcome.formula,
-          outcome.cube,
-          outcome.next,
-          outcome.later,
-          outcome.last,
-          outcome.readers,
-          outcome.command_line,
-          read.1,
-          read.2,
-          outcome.assumed,
-          outcome.opened,
-          saved.1,
-          saved.2,
-        ),
+        outcome.next,
+        outcome.later,
+        outcome.last,
+        outcome.readers,
+        outcome.command_line,
+        read.1,
+        read.2,
+        outcome.assumed,
+        outcome.opened,
+        saved.1,
+        saved.2,
       )
   ends_saved words after out err status (inr fault) path ask is =
       absurd (no_fault fault.fault (subst (λ (n : ℕ). (n ≡ 3) ⊎ (n ≡ 8)) fault.status_is is))
@@ -238,8 +235,7 @@ no_zero faults.Sizes is = let no : Path ℕ 2 0 = is in cc
 
 pub ends_empty : (files : FilesView) (words : List Text) (after : files.its.State) (out err : SinkChange) (status : ℕ)
     → EndsWithReport files words after out err status ⊎ EndsWithFault files words after out err status
-    → (path : Text) → AskToSave words path → status ≡ 0
-    → WasLeftEmpty files.its.creates files.its.written files.its.discards path after
+    → CheckpointLeftEmpty files.its words after status
 ends_empty files words after out err status (inl report) path ask is =
     let outcome = report.outcome in
     let refuted = zero_is out.failed report.unsaved report.verdict (sym report.status_is ∙ is) in
@@ -294,14 +290,13 @@ module _ (files : FilesView) (words : List Text) where
       ]
 
   pub all_saved : (after : files.its.State) (out err : SinkChange) (status : ℕ) → ProgramEnds files words after out err status
-      → (path : Text) → AskToSave words path → (status ≡ 3) ⊎ (status ≡ 8)
-      → NameCheckpoint files.its.opens (WasReadIn files) (WasSavedBy files.its) files.first words path after
+      → CheckpointEntailed files.its.opens (WasReadIn files) (WasSavedBy files.its) files.first words after status
   all_saved after out err status (inl report) path ask is = ends_saved files words after out err status (inl report.0) path ask is
   all_saved after out err status (inr (inl fault)) path ask is = ends_saved files words after out err status (inr fault) path ask is
   all_saved after out err status (inr (inr rounds)) path ask is = absurd (not_both after out err status path ask rounds)
 
   pub all_empty : (after : files.its.State) (out err : SinkChange) (status : ℕ) → ProgramEnds files words after out err status
-      → (path : Text) → AskToSave words path → status ≡ 0 → WasLeftEmpty files.its.creates files.its.written files.its.discards path after
+      → CheckpointLeftEmpty files.its words after status
   all_empty after out err status (inl report) path ask is = ends_empty files words after out err status (inl report.0) path ask is
   all_empty after out err status (inr (inl fault)) path ask is = ends_empty files words after out err status (inr fault) path ask is
   all_empty after out err status (inr (inr rounds)) path ask is = absurd (not_both after out err status path ask rounds)

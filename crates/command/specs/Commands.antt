@@ -105,6 +105,13 @@ AreAssumed Read vars before None cube after = (cube ≡ []) × (after ≡ before
 AreAssumed Read vars before (Some path) cube after =
     (bytes : List ℕ) × Read before path bytes after × IsCubeText vars bytes cube
 
+-- The bytes are a text of a formula that no assignment satisfies under the literals that are assumed next, at the path if there is one.
+abbrev pub IsUnsatisfiableTextWith : {F : Type 0} → (F → Text → List ℕ → F → Type 0) → List ℕ → F
+    → Option Text → Type 0
+IsUnsatisfiableTextWith {F = F} Read bytes before path =
+    (formula : Cnf) × (cube : CubeValue) × (after : F) × IsFormulaText bytes formula
+    × AreAssumed Read formula.vars before path cube after × IsUnsatisfiableUnder formula cube
+
 -- The words ask for a formula and for assumed literals, and what was read of their files, the first
 -- two to be opened, is a text of the one and of the others, under which no assignment satisfies the
 -- formula.
@@ -134,26 +141,20 @@ AreOpened {F = F} opens before (path ∷ paths) (reader ∷ readers) after =
     (next : F) × opens before path reader next × AreOpened opens next paths readers after
 AreOpened opens before _ _ after = ⊥
 
--- The words have a command line. The bytes that were read of the file at its FORMULA, the first to be
--- opened, are a text of a formula; then the assumed literals were read, if any, and the streams were
--- opened; then these bytes were saved at this path, as the last that was done to the files, and they are
--- a checkpoint of the formula.
-abbrev pub SavesFrom : {F R : Type 0} → (F → Text → R → F → Type 0)
-    → (F → Text → List ℕ → F → Type 0) → (F → Text → List ℕ → F → Type 0) → F → List Text → Text
-    → List ℕ → List ℕ → F → Type 0
-SavesFrom {F = F} {R = R} opens Read Save first words path bytes saved last =
-    (given : CommandLine) × (formula : Cnf) × (cube : CubeValue) × (next later before : F)
-    × (readers : List R) × IsCommandLineOf words given × Read first given.formula.now bytes next
-    × IsFormulaText bytes formula × AreAssumed Read formula.vars next (assumed_at given) cube later
+-- With status 3 or 8, if the words ask for a checkpoint at a path: the bytes that were read of the file at FORMULA, the first to be
+-- opened, are a text of a formula; then the assumed literals were read, if any, and the streams opened; then other bytes were saved at
+-- the path, as the last that was done to the files, and they are a checkpoint of the formula.
+abbrev pub CheckpointEntailed : {F R : Type 0} → (F → Text → R → F → Type 0)
+    → (F → Text → List ℕ → F → Type 0) → (F → Text → List ℕ → F → Type 0) → F → List Text → F → ℕ
+    → Type 0
+CheckpointEntailed {F = F} {R = R} opens Read Save first words last status =
+    (path : Text) → AskToSave words path → (status ≡ 3) ⊎ (status ≡ 8)
+    → (given : CommandLine) × (formula : Cnf) × (cube : CubeValue) × (bytes saved : List ℕ)
+    × (next later before : F) × (readers : List R) × IsCommandLineOf words given
+    × Read first given.formula.now bytes next × IsFormulaText bytes formula
+    × AreAssumed Read formula.vars next (assumed_at given) cube later
     × AreOpened opens later given.streams readers before
     × Save before path saved last × IsCheckpoint formula saved
-
--- a run of these words saved a checkpoint at this path
-abbrev pub NameCheckpoint : {F R : Type 0} → (F → Text → R → F → Type 0)
-    → (F → Text → List ℕ → F → Type 0) → (F → Text → List ℕ → F → Type 0) → F → List Text → Text
-    → F → Type 0
-NameCheckpoint opens Read Save first words path last =
-    (bytes saved : List ℕ) × SavesFrom opens Read Save first words path bytes saved last
 
 -- the options of a command line
 abbrev pub options_of : CommandLine → OptionsValue
@@ -249,6 +250,13 @@ WasReadIn files = WasRead files.its.opens files.its.reading.reads files.tells
 -- what was saved at a path, by what files do
 abbrev pub WasSavedBy : (its : Deeds) → its.State → Text → List ℕ → its.State → Type 0
 WasSavedBy its = WasSaved its.creates its.written its.keeps
+
+-- With status 0, if the words ask for a checkpoint, none was written: the last that was done to the files was that one was created
+-- at that path, and discarded before anything went to it.
+abbrev pub CheckpointLeftEmpty : (its : Deeds) → List Text → its.State → ℕ → Type 0
+CheckpointLeftEmpty its words last status =
+    (path : Text) → AskToSave words path → status ≡ 0
+    → WasLeftEmpty its.creates its.written its.discards path last
 
 -- the formula whose text was read of the file at a path, the first to be opened, and the files after that
 abbrev pub IsFormulaAt : (files : FilesView) → Text → Cnf → files.its.State → Type 0

@@ -328,6 +328,14 @@ pub record ReportsEntailed (files : FilesView) (words : List Text) (folder : Tex
   pub last_saved : (status ≡ 3) ⊎ (status ≡ 8)
       → SavesEntailed ending.were.formula (length (ending.last ∷ ending.before)) ending.last
 
+-- If the words ask for rounds, and a report was written, which has status 0, 3, 8 or 9, it is the one of such rounds.
+abbrev pub RoundsEntailed : (files : FilesView) → List Text → files.its.State → SinkChange
+    → SinkChange → ℕ → Type 0
+RoundsEntailed files words after out err status =
+    (folder : Text) → AskForRounds words folder
+    → (status ≡ 0) ⊎ ((status ≡ 3) ⊎ ((status ≡ 8) ⊎ (status ≡ 9)))
+    → ReportsEntailed files words folder after out err status
+
 -- No report, why the round after the last one has none, and the files then.
 pub record FailsInRound (files : FilesView) (given : CommandLine) (folder : Text)
     (after : files.its.State) (out err : SinkChange) (status : ℕ) : Type 0 where

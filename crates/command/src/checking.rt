@@ -6,11 +6,9 @@ ghost use Rattle.clap.specs.Walk.{texts};
 ghost use Rattle.command_line.specs.CommandLine.{IsCommandLineOf};
 ghost use Rattle.dimacs.specs.FormulaFault.{IsFormulaFault};
 ghost use Rattle.dimacs.specs.FormulaText.{IsFormulaText};
-ghost use Rattle.lrup_model.specs.Cube.{CubeValue, IsUnsatisfiableUnder};
-ghost use Rattle.lrup_model.specs.Entailment.{IsUnsatisfiable};
-ghost use Rattle.lrup_model.specs.Formula.{Cnf};
+ghost use Rattle.checkpoint.specs.Checkpoints.{IsUnsatisfiableText};
 ghost use Rattle.lrup_text.specs.Reads.{GaveAll};
-ghost use Rattle.command.specs.Commands.{AreAssumed, AreOpened, AskForOne, IsAssumeCause, IsCause, IsFileCause, IsOpenCause, HasNoFault};
+ghost use Rattle.command.specs.Commands.{AreAssumed, AreOpened, AskForOne, IsAssumeCause, IsCause, IsFileCause, IsOpenCause, HasNoFault, IsUnsatisfiableTextWith};
 ghost use Rattle.command.specs.internal.Running.{IsFailedRead, run_params_on, IsLayoutCause};
 ghost use Rattle.command.specs.Commands.{IsOutcome, LeavesCheckpoint, Text, WasRead, WasReadIn, assumed_at};
 ghost use Rattle.command.specs.Commands.{from_first, path_of, rounds_at};
@@ -93,13 +91,11 @@ pub fn check_asked<T: Threads + Wait + Sync, C: Clock + Sync, F: Machine>(
         × LeavesCheckpoint view words found.reports.items found.verdict outcome found.unsaved
         files.new) }
     ensures sound { IfOk result (λ found. found.verdict ≡ Verdict.Unsatisfiable
-        → (f : Cnf) × IsFormulaText asked.entry.formula.items f × IsUnsatisfiable f) }
+        → IsUnsatisfiableText asked.entry.formula.items) }
     ensures sound_under { let read = WasRead F.opens F.Input.Source.reads (F.tells files.old) in
         IfOk result (λ found. found.verdict ≡ Verdict.UnsatisfiableUnder
-        → (f : Cnf) × (cube : CubeValue) × (after : F)
-        × IsFormulaText asked.entry.formula.items f
-        × AreAssumed read f.vars files.old (assumed_at asked.entry.line) cube after
-        × IsUnsatisfiableUnder f cube) }
+        → IsUnsatisfiableTextWith read asked.entry.formula.items files.old
+        (assumed_at asked.entry.line)) }
     ensures cause { (words : List Text) (first : F) →
         let view = from_first (⟦<F as Viewed>⟧.view files.old) first in
         IsCommandLineOf words asked.entry.line

@@ -1,15 +1,12 @@
 //! The whole program, over the files, threads, clock and sinks that its caller hands in.
 ghost use Rattle.std.specs.Prelude.{◌≡◌, ◌↔◌, ◌⊎◌, ◌≤◌, IsTrue, List, None, Some, false, is_err, true};
 ghost use Rattle.clap.specs.Walk.{texts};
-ghost use Rattle.dimacs.specs.FormulaText.{IsFormulaText};
-ghost use Rattle.lrup_model.specs.Cube.{CubeValue, IsUnsatisfiableUnder};
-ghost use Rattle.lrup_model.specs.Entailment.{IsUnsatisfiable};
-ghost use Rattle.lrup_model.specs.Formula.{Cnf};
-ghost use Rattle.command_line.specs.CommandLine.{AskForRounds, AskToSave, HaveFault, IsCommandLineOf};
-ghost use Rattle.command.specs.Commands.{AreAssumed, EndsWithFault, EndsWithReport, NameCheckpoint, NameUnsatisfiable, rounds_at};
-ghost use Rattle.command.specs.Rounds.{ProgramEnds, EndsInRounds, ReportsEntailed, last_text, round_text};
+ghost use Rattle.checkpoint.specs.Checkpoints.{IsUnsatisfiableText};
+ghost use Rattle.command_line.specs.CommandLine.{HaveFault, IsCommandLineOf};
+ghost use Rattle.command.specs.Commands.{CheckpointEntailed, CheckpointLeftEmpty, EndsWithFault, EndsWithReport, IsUnsatisfiableTextWith, NameUnsatisfiable, rounds_at};
+ghost use Rattle.command.specs.Rounds.{ProgramEnds, EndsInRounds, RoundsEntailed, last_text, round_text};
 ghost use Rattle.lrup_text.specs.Writing.{WritesText};
-ghost use Rattle.command.specs.Commands.{NameUnsatisfiableUnder, SaysOfRound, SinkTook, Text, WasLeftEmpty, WasRead, WasReadIn, WasSaved};
+ghost use Rattle.command.specs.Commands.{NameUnsatisfiableUnder, SaysOfRound, SinkTook, Text, WasRead, WasReadIn, WasSaved};
 ghost use Rattle.command.specs.Commands.{assumed_at, change, from_first, report_status};
 ghost use Rattle.command.specs.Faults.{error_text, round_error_text, status_of};
 ghost use Rattle.stream_check.specs.StreamParams.{max_tries};
@@ -76,18 +73,15 @@ pub fn command<T: Threads + Wait + Sync, C: Clock + Sync, F: Machine, O: Sink, E
     // follows from that of FORMULA.
     ensures saved { let read = WasRead F.opens F.Input.Source.reads (F.tells files.old) in
         let save = WasSaved F.creates F.Output.Sink.written F.keeps in
-        (path : Text) → AskToSave (texts words.now) path → (result ≡ 3) ⊎ (result ≡ 8)
-        → NameCheckpoint F.opens read save files.old (texts words.now) path files.new }
+        CheckpointEntailed F.opens read save files.old (texts words.now) files.new result }
     // If a report was written (status 0, 3, 8 or 9), and the words ask for rounds, each round but the last saved, for the next one, a text
     // of a formula over the same variables, each clause of which follows from that of FORMULA. With status 3 or 8 so did the last one.
-    ensures saved_rounds { (folder : Text) → AskForRounds (texts words.now) folder → (result ≡ 0)
-        ⊎ ((result ≡ 3) ⊎ ((result ≡ 8) ⊎ (result ≡ 9)))
-        → ReportsEntailed (⟦<F as Viewed>⟧.view files.old) (texts words.now) folder files.new
-        (change O.Sink out.old out.new) (change E.Sink err.old err.new) result }
+    ensures saved_rounds { RoundsEntailed (⟦<F as Viewed>⟧.view files.old) (texts words.now)
+        files.new (change O.Sink out.old out.new) (change E.Sink err.old err.new) result }
     // With status 0, where the words ask for a checkpoint, none was written: the last that was done to the files was that one was
     // created there, and discarded before anything went to it.
-    ensures none_saved { (path : Text) → AskToSave (texts words.now) path → result ≡ 0
-        → WasLeftEmpty F.creates F.Output.Sink.written F.discards path files.new }
+    ensures none_saved { CheckpointLeftEmpty ⟦<F as Viewed>⟧.deeds (texts words.now) files.new
+        result }
     // Words with a fault have a status of their own, unless memory ran out.
     ensures usage { HaveFault (texts words.now) → (result ≡ 2) ⊎ (result ≡ 6) }
     // So does a report that wasn't written.
@@ -120,16 +114,14 @@ pub fn check_formula<T: Threads + Wait + Sync, C: Clock + Sync, F: Machine, O: S
     // The words allow no greater number.
     requires tries { asked.line.tries ≤ max_tries }
     // With status 0 the bytes are a text of a formula that no assignment satisfies.
-    ensures sound { result ≡ 0
-        → (f : Cnf) × IsFormulaText asked.entry.formula.items f × IsUnsatisfiable f }
+    ensures sound { result ≡ 0 → IsUnsatisfiableText asked.entry.formula.items }
     // With status 8 no assignment makes it and every literal of the assumptions' file true, which is the next to be opened.
     ensures sound_under { let read = WasRead F.opens F.Input.Source.reads (F.tells files.old) in
-        result ≡ 8 → (f : Cnf) × (cube : CubeValue) × (after : F)
-        × IsFormulaText asked.entry.formula.items f
-        × AreAssumed read f.vars files.old (assumed_at asked.entry.line) cube after
-        × IsUnsatisfiableUnder f cube }
+        result ≡ 8 → IsUnsatisfiableTextWith read asked.entry.formula.items files.old
+        (assumed_at asked.entry.line) }
     // Where words give this command line, and the bytes are what was read of FORMULA by the first opening of files that were `first`
-    // before it: a report of what these words and files come to, or none and the cause; what goes out; and the status.
+    // before it, the program ends with a report of what these words and files come to, or with none and the cause; and what goes out
+    // and the status match.
     ensures ends { (words : List Text) (first : F) →
         let view = from_first (⟦<F as Viewed>⟧.view files.old) first in
         IsCommandLineOf words asked.entry.line
@@ -158,13 +150,10 @@ fn check_once<T: Threads + Wait + Sync, C: Clock + Sync, F: Machine, O: Sink, E:
     // The words allow no greater number.
     requires tries { asked.line.tries ≤ max_tries }
     requires once { rounds_at asked.line ≡ None }
-    ensures sound { result ≡ 0
-        → (f : Cnf) × IsFormulaText asked.entry.formula.items f × IsUnsatisfiable f }
+    ensures sound { result ≡ 0 → IsUnsatisfiableText asked.entry.formula.items }
     ensures sound_under { let read = WasRead F.opens F.Input.Source.reads (F.tells files.old) in
-        result ≡ 8 → (f : Cnf) × (cube : CubeValue) × (after : F)
-        × IsFormulaText asked.entry.formula.items f
-        × AreAssumed read f.vars files.old (assumed_at asked.entry.line) cube after
-        × IsUnsatisfiableUnder f cube }
+        result ≡ 8 → IsUnsatisfiableTextWith read asked.entry.formula.items files.old
+        (assumed_at asked.entry.line) }
     ensures ends { (words : List Text) (first : F) →
         let view = from_first (⟦<F as Viewed>⟧.view files.old) first in
         let output = change O.Sink out.old out.new in
@@ -196,13 +185,10 @@ fn check_in_rounds<T: Threads + Wait + Sync, C: Clock + Sync, F: Machine, O: Sin
     // The words allow no greater number.
     requires tries { asked.line.tries ≤ max_tries }
     requires folder { rounds_at asked.line ≡ Some folder.now }
-    ensures sound { result ≡ 0
-        → (f : Cnf) × IsFormulaText asked.entry.formula.items f × IsUnsatisfiable f }
+    ensures sound { result ≡ 0 → IsUnsatisfiableText asked.entry.formula.items }
     ensures sound_under { let read = WasRead F.opens F.Input.Source.reads (F.tells files.old) in
-        result ≡ 8 → (f : Cnf) × (cube : CubeValue) × (after : F)
-        × IsFormulaText asked.entry.formula.items f
-        × AreAssumed read f.vars files.old (assumed_at asked.entry.line) cube after
-        × IsUnsatisfiableUnder f cube }
+        result ≡ 8 → IsUnsatisfiableTextWith read asked.entry.formula.items files.old
+        (assumed_at asked.entry.line) }
     ensures ends { (words : List Text) (first : F) →
         let view = from_first (⟦<F as Viewed>⟧.view files.old) first in
         let output = change O.Sink out.old out.new in

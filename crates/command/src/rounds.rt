@@ -2,12 +2,10 @@
 ghost use Rattle.std.specs.Prelude.{◌≡◌, ◌↔◌, ◌⊎◌, ◌<◌, ◌≤◌, ◌+◌, ◌∷◌, List, None, false, IfErr, IfOk, IfSome, IsTrue, Ok, Some, length, map, string_bytes};
 ghost use Rattle.std.specs.List.{AllByRecursion};
 ghost use Rattle.std.specs.Option.{ForSome};
-ghost use Rattle.dimacs.specs.FormulaText.{IsFormulaText};
-ghost use Rattle.lrup_model.specs.Cube.{CubeValue, IsUnsatisfiableUnder};
-ghost use Rattle.lrup_model.specs.Entailment.{IsUnsatisfiable};
+ghost use Rattle.checkpoint.specs.Checkpoints.{IsUnsatisfiableText};
 ghost use Rattle.lrup_model.specs.Formula.{Cnf};
 ghost use Rattle.command_line.specs.CommandLine.{IsCommandLineOf};
-ghost use Rattle.command.specs.Commands.{AreAssumed, AreOpened, IsCause, IsOpenCause, Text, WasRead, WasReadIn, assumed_at, from_first};
+ghost use Rattle.command.specs.Commands.{AreOpened, IsCause, IsOpenCause, IsUnsatisfiableTextWith, Text, WasRead, WasReadIn, assumed_at, from_first};
 ghost use Rattle.command.specs.Commands.{rounds_at};
 ghost use Rattle.command.specs.Paths.{formula_path, stream_path, stream_paths};
 ghost use Rattle.command.specs.Rounds.{HaveEnded, IsRoundStartCause, IsStreamCause, StreamsOpened};
@@ -88,7 +86,7 @@ fn check_round<T: Threads + Wait + Sync, C: Clock + Sync, F: Machine>(
             return Err(fault);
         }
     };
-    // Before the next formula is made.
+    // Its memory is given back before the next formula is made.
     drop(formula);
     let ended = now_if(clock, course.watch);
     let EndedRun {
@@ -351,13 +349,11 @@ pub(crate) fn check_rounds<T: Threads + Wait + Sync, C: Clock + Sync, F: Machine
         → WasReadIn view first asked.entry.line.formula.now asked.entry.formula.items files.old
         → IfOk result (λ last. IsReported view asked.entry.line folder.now last files.new) }
     ensures sound { IfOk result (λ last. last.found.verdict ≡ Verdict.Unsatisfiable
-        → (f : Cnf) × IsFormulaText asked.entry.formula.items f × IsUnsatisfiable f) }
+        → IsUnsatisfiableText asked.entry.formula.items) }
     ensures sound_under { let read = WasRead F.opens F.Input.Source.reads (F.tells files.old) in
         IfOk result (λ last. last.found.verdict ≡ Verdict.UnsatisfiableUnder
-        → (f : Cnf) × (cube : CubeValue) × (after : F)
-        × IsFormulaText asked.entry.formula.items f
-        × AreAssumed read f.vars files.old (assumed_at asked.entry.line) cube after
-        × IsUnsatisfiableUnder f cube) }
+        → IsUnsatisfiableTextWith read asked.entry.formula.items files.old
+        (assumed_at asked.entry.line)) }
     ensures cause { (words : List Text) (first : F) →
         let view = from_first (⟦<F as Viewed>⟧.view files.old) first in
         IsCommandLineOf words asked.entry.line
