@@ -214,6 +214,7 @@ struct Cause<'a> {
 }
 
 impl<'a> Cause<'a> {
+    /// A text alone.
     fn plain(text: &'a [u8]) -> Cause<'a>
         ensures { cause_bytes result.text.now result.number result.rest.now ≡ text.now }
     {
@@ -224,6 +225,7 @@ impl<'a> Cause<'a> {
         }
     }
 
+    /// A text and a number.
     fn numbered(text: &'a [u8], number: u64) -> Cause<'a>
         ensures text { result.text.now ≡ text.now }
         ensures number { result.number ≡ Some number }
@@ -327,6 +329,7 @@ fn put_round<W: Sink>(buffer: &mut WriteBuffer, round: u64, sink: &mut W) -> Res
     buffer.put(b": ", sink)
 }
 
+/// Puts the contents of a line.
 fn put_cause<W: Sink>(
     buffer: &mut WriteBuffer,
     cause: &Cause<'_>,
@@ -342,6 +345,7 @@ fn put_cause<W: Sink>(
     buffer.put(cause.rest, sink)
 }
 
+/// Puts a number, if there is one.
 fn put_if_any<W: Sink>(
     buffer: &mut WriteBuffer,
     number: Option<u64>,

@@ -14,7 +14,7 @@ use Rattle.command.specs.declared.files.OpenFault.TheVariants as opens
 use Rattle.command.specs.declared.fault.CommandFault.{CommandFault}
 use Rattle.command.specs.declared.fault.CommandFault.TheVariants as faults
 
--- out of memory is one fault, wherever it comes
+-- the fault of the words, of the formula, of the assumed literals and of an opening; out of memory is one fault, wherever it comes
 abbrev pub of_words : WordsFault → CommandFault
 of_words (words.Usage text) = faults.Usage text
 of_words words.Memory = faults.Memory
@@ -36,6 +36,7 @@ abbrev pub of_cube_file : CommandFault → CommandFault
 of_cube_file faults.Unread = faults.CubeUnread
 of_cube_file fault = fault
 
+-- the fault of a run
 abbrev pub of_run : RunFault → CommandFault
 of_run (runs.Layout fault) = faults.Layout fault
 of_run runs.Memory = faults.Memory

@@ -18,7 +18,7 @@ use Rattle.command.specs.declared.course.Course.{Course}
 use Rattle.command.specs.declared.course.LastRound.{LastRound}
 use Rattle.command.specs.declared.course.RoundFault.{RoundFault}
 
--- What stays the same, as the program has it.
+-- the plan of the rounds, by what the program has of it
 abbrev pub plan_of : Course → Plan
 plan_of course = record {
   tries = course.tries;
@@ -34,7 +34,7 @@ pub record WasChecked (its : Deeds) (plan : Plan) (formula : Cnf) (readers : Lis
   pub checked : AreChecked its.reading plan.serial formula
       (run_params_by plan formula last.sizes) readers last.found.reports.items last.found.verdict
 
--- that round, by the files after the opening of its streams and those after its check
+-- the round that was checked so, with the files after the opening of its streams and those after its check
 abbrev pub round_of : {its : Deeds} {plan : Plan} (formula : Cnf) (readers : List its.Reader)
     (opened : its.State) (last : LastRound) (after : its.State)
     → WasChecked its plan formula readers last → Round its plan
@@ -51,7 +51,7 @@ round_of formula readers opened last after was = record {
   checked = was.checked;
 }
 
--- It was checked, and there is a next formula with which it goes on; or none, and it doesn't.
+-- The round's streams were checked. It goes on with the next formula; or there is none, and it is barred.
 pub record WasFound (its : Deeds) (plan : Plan) (formula : Cnf) (readers : List its.Reader)
     (opened : its.State) (last : LastRound) (next : Option Cnf) (after : its.State) : Type 0 where
   pub was : WasChecked its plan formula readers last
@@ -59,7 +59,7 @@ pub record WasFound (its : Deeds) (plan : Plan) (formula : Cnf) (readers : List 
       (CarriesOn last.number (round_of formula readers opened last after was))
   pub over : next ≡ None → IsBarred last.number (round_of formula readers opened last after was)
 
--- The rounds up to this one, which was found so and left these files.
+-- The rounds up to this one were checked. It goes on or is barred, as the next formula says, and left these files.
 pub record RoundsStand (its : Deeds) (plan : Plan) (formula : Cnf) (sizes : Sizes)
     (first : its.State) (paths : List Text) (last : LastRound) (next : Option Cnf)
     (after : its.State) : Type 0 where
@@ -73,7 +73,7 @@ pub record RoundsStand (its : Deeds) (plan : Plan) (formula : Cnf) (sizes : Size
   pub number : last.number
       ≡ length (round_of current readers opened last after is_found.was ∷ before)
 
--- There is no round after this one, which was to go on: the sizes of the next were read, and there is no file of its stream 1.
+-- No round follows this one, which goes on: the sizes of the next were read, and there is no file of its stream 1.
 abbrev pub IsAlone : (its : Deeds) → Plan → LastRound → its.State → its.State → Type 0
 IsAlone its plan last before after =
     (sizes : Sizes) × (sized : its.State)
@@ -86,7 +86,7 @@ abbrev pub IsUnchecked : (its : Deeds) → Plan → LastRound → Cnf → its.St
 IsUnchecked its plan last next before fault after =
     IsRoundCause its plan last.number last.sizes next before fault after
 
--- The rounds ended with this one, and these are the files then.
+-- The rounds ended with this one and left these files.
 pub record EndsAt (its : Deeds) (plan : Plan) (formula : Cnf) (sizes : Sizes) (first : its.State)
     (paths : List Text) (last : LastRound) (after : its.State) : Type 0 where
   pub round : Round its plan
@@ -98,7 +98,7 @@ pub record EndsAt (its : Deeds) (plan : Plan) (formula : Cnf) (sizes : Sizes) (f
   pub unsaved : round.unsaved ≡ last.found.unsaved
   pub over : RoundsEnd (length (round ∷ before)) round after
 
--- After these rounds the next one had no report, and these are the files then.
+-- The round after these has no report, for this cause, and left these files.
 pub record FailsAfter (its : Deeds) (plan : Plan) (formula : Cnf) (sizes : Sizes)
     (first : its.State) (paths : List Text) (failed : RoundFault) (after : its.State) : Type 0 where
   pub last : Round its plan
@@ -107,14 +107,14 @@ pub record FailsAfter (its : Deeds) (plan : Plan) (formula : Cnf) (sizes : Sizes
   pub number : failed.round ≡ length (last ∷ before) + 1
   pub cause : IsNextCause (length (last ∷ before)) last failed.fault after
 
--- a fault of round 1, whose streams were opened and left these files; or of a round after it
+-- The fault is one of round 1, after the opening of its streams; or one of a round after it.
 abbrev pub FailsAt : (its : Deeds) → Plan → Cnf → Sizes → its.State → List Text → its.State
     → RoundFault → its.State → Type 0
 FailsAt its plan formula sizes first paths opened failed after =
     ((failed.round ≡ 1) × IsRoundStartCause its plan 1 formula sizes opened failed.fault after)
     ⊎ FailsAfter its plan formula sizes first paths failed after
 
--- what is known of the end of the rounds, by the command line
+-- The rounds of a command line ended with this one and left these files.
 pub record IsReported (files : FilesView) (given : CommandLine) (folder : Text) (last : LastRound)
     (after : files.its.State) : Type 0 where
   pub cube : CubeValue
@@ -127,7 +127,7 @@ pub record IsReported (files : FilesView) (given : CommandLine) (folder : Text) 
   pub unsaved : round.unsaved ≡ last.found.unsaved
   pub over : RoundsEnd (length (round ∷ before)) round after
 
--- what is known of a fault of the rounds, by the words, and of the files then
+-- The round after these of a command line has no report, for this cause, and left these files.
 pub record FailsLater (files : FilesView) (given : CommandLine) (folder : Text)
     (failed : RoundFault) (after : files.its.State) : Type 0 where
   pub cube : CubeValue
@@ -137,24 +137,25 @@ pub record FailsLater (files : FilesView) (given : CommandLine) (folder : Text)
   pub number : failed.round ≡ length (last ∷ before) + 1
   pub cause : IsNextCause (length (last ∷ before)) last failed.fault after
 
+-- The fault is one of round 1, as of a single run; or one of a round after it.
 abbrev pub IsRoundsFault : (files : FilesView) → List Text → CommandLine → Text → RoundFault
     → files.its.State → Type 0
 IsRoundsFault files words given folder failed after =
     ((failed.round ≡ 1) × IsCause files words failed.fault after)
     ⊎ FailsLater files given folder failed after
 
--- What was read of a file of sizes, to its end.
+-- Reads of a file gave these bytes, up to its end. Where its device tells the file's bytes, they are these.
 pub record GaveWhole {R : Type 0} (reading : SourceView R) (first : R)
     (bytes : List ℕ) : Type 0 where
   pub gave : GaveAll R reading.reads first bytes
   pub told : ForSome (reading.left first) (λ all. all ≡ bytes)
 
--- the sizes that it holds
+-- The bytes that the reads of a file gave are a text of these sizes.
 abbrev pub ReadsSizes : {R : Type 0} → SourceView R → R → Sizes → Type 0
 ReadsSizes reading first sizes =
     (bytes : List ℕ) × GaveWhole reading first bytes × IsSizesText bytes sizes
 
--- why none were read
+-- why no sizes were read
 abbrev pub IsUnsized : {R : Type 0} → SourceView R → R → CommandFault → Type 0
 IsUnsized reading first faults.SizesUnread =
     (broken : HasBrokenOff reading first) × (length broken.bytes ≤ 64)
@@ -165,7 +166,7 @@ IsUnsized {R = R} reading first faults.Sizes =
 IsUnsized reading first faults.Memory = Unit {0}
 IsUnsized reading first fault = ⊥
 
--- What a run begins with: the assumed literals were read, and then the streams of the command line were opened.
+-- A run has begun: the assumed literals were read, and then the streams of the command line were opened.
 pub record HasBegun (files : FilesView) (given : CommandLine) (formula : Cnf) (cube : CubeValue)
     (next : files.its.State) (readers : List files.its.Reader) (last : files.its.State) : Type 0
   where

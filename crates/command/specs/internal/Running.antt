@@ -38,7 +38,7 @@ HasHistory formula history (lefts.Shared left) =
 HasHistory formula history (lefts.Plain left) =
     (formula_of left.map ≡ formula) × (plain_state left.map ≡ state formula history)
 
--- they can be saved
+-- these clauses can be saved
 abbrev pub CanBeSaved : LeftClauses → Type 0
 CanBeSaved (lefts.Shared left) =
     AreOf left.store left.passes.items × (0 < vec_len left.passes)
@@ -68,7 +68,7 @@ IsRunCause serial layout (faults.Ring stream) =
 IsRunCause serial layout faults.Memory = Unit {0}
 IsRunCause serial layout fault = ⊥
 
--- the same, of a setup and so many streams
+-- what so many streams are checked by, with this setup
 abbrev pub run_params_on : Setup → ℕ → RunParamsValue
 run_params_on setup streams = run_params_of setup.options setup.cube.now setup.formula.now streams
 

@@ -18,7 +18,7 @@ CreatesCheckpoint its before (Some path) (Some output) after =
     its.creates before path output after × ForSome (its.written output) (λ all. all ≡ [])
 CreatesCheckpoint its before path output after = ⊥
 
--- why it wasn't
+-- why the file at the path wasn't created
 abbrev pub IsNotCreated : (its : Deeds) → its.State → Option Text → CommandFault → its.State
     → Type 0
 IsNotCreated its before path faults.NotCreated after =
