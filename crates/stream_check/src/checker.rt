@@ -76,9 +76,10 @@ impl Checker {
         })
     }
 
-    /// Takes bytes of a piece: through the end of one line, through the first byte that no line can have there, or all of them. A line
-    /// that ends is checked: its hints are fetched, and its clause is published, or its identities are retired or dropped. After a good
-    /// line the caller feeds the rest of the piece. If the line is bad, the checker is over, and the gate gets the report.
+    /// Takes bytes of a piece: through the LF of one line, through the first byte with which no line can go on, or all of them. A line that
+    /// ends is checked. Of an addition the hints are fetched, and the clause is published; the identities of a deletion are retired or
+    /// dropped; an import's identity is fetched, and its literals are compared. After a good line the caller feeds the rest of the piece.
+    /// After a bad one, or if memory ran out, the checker is over, and the gate gets the report. Later calls use no byte.
     pub fn feed<M: ClauseMap, G: Gate>(
         &mut self,
         map: &mut M,
@@ -167,7 +168,8 @@ impl Checker {
         }
     }
 
-    /// Takes the end of the stream, which makes the checker over. If bytes of a line are pending, the line is bad, as truncated.
+    /// Takes the end of the stream, which makes the checker over. If bytes of a line are pending, the line is bad, as truncated. The gate
+    /// isn't told: `finish` does that.
     pub fn end(&mut self)
         ensures ends { Ends stream_ends.Ended self.old self.new }
         ensures reports { ReportsEnd stream_ends.Ended self.old self.new }
@@ -181,7 +183,7 @@ impl Checker {
         });
     }
 
-    /// Takes the failure of a read, which makes the checker over.
+    /// Takes the failure of a read, which makes the checker over. The gate isn't told: `finish` does that.
     pub fn read_failed(&mut self)
         ensures ends { Ends stream_ends.Failed self.old self.new }
         ensures reports { ReportsEnd stream_ends.Failed self.old self.new }

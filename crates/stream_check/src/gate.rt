@@ -11,7 +11,7 @@ pub trait Gate {
     /// Called after each publish that answered `Done`.
     fn after_publish(&mut self, stream: u64, id: Id);
 
-    /// Called once, when the checker is over: after the first bad line, or if memory ran out in a line, by `Checker::feed`; at the end of
-    /// the stream or at a failed read by whoever tells the checker so. No fetch and no publish comes after it, and the report is final.
+    /// Called once, when the checker is over: by `Checker::feed` after the first bad line, or if memory ran out in a line; by
+    /// `Checker::finish` at the end of the stream, or at a failed read. No fetch and no publish comes after it, and the report is final.
     fn when_over(&mut self, _stream: u64, _report: &Report) {}
 }

@@ -24,14 +24,14 @@ use stream_ring::{Received, Receiver};
 /// The most items that one pop takes, and the most bytes that the checker is fed at once.
 const POP_BATCH: usize = PIECE;
 
-/// What a checking thread is given: a stream's checker and its gate, and the receiving end of the ring. Nothing was received yet.
+/// What a checking thread is given: a stream's checker and its gate, and the receiving half of the ring. Nothing was received yet.
 #[derive(Drop)]
 pub struct CheckingJob<G: Gate + Drop> {
     /// The stream's checker, before its first byte.
     pub checker: Checker,
     /// The stream's gate, which is called before each fetch, after each publish, and when the stream is over.
     pub gate: G,
-    /// The end of the ring from which the stream's bytes come.
+    /// The half of the ring from which the stream's bytes come.
     pub receiver: Receiver,
     items: Vec<u16>,
     bytes: Vec<u8>,
@@ -39,14 +39,14 @@ pub struct CheckingJob<G: Gate + Drop> {
     ghost nothing: { received receiver.consumer ≡ [] },
 }
 
-/// What a checking thread gives back: the stream's report, or none if no mark came; what the stream dropped; and the end of the ring.
+/// What a checking thread gives back: the stream's report, or none if no mark came; what the stream dropped; and its half of the ring.
 #[derive(Drop)]
 pub struct Checked {
     /// The stream's report. There is none if the ring was found abandoned before a mark came.
     pub report: Option<Report>,
     /// The identities that the stream dropped.
     pub dropped: DroppedIds,
-    /// The receiving end, from which all was received, through the mark.
+    /// The receiving half, from which all was received, through the mark.
     pub consumer: Consumer<u16>,
 }
 
@@ -85,7 +85,8 @@ impl<G: Gate + Drop> CheckingJob<G> {
     }
 }
 
-/// Waits for the start signal, and then checks what is received, through the mark. After a bad line the rest is received, and thrown away.
+/// Waits for the start signal, and then checks what is received, through the mark. After a bad line the rest is received and thrown away:
+/// else the ring would fill, and the reading thread would wait for ever.
 /// If the signal says to leave, nothing is received, and the signal's token comes back: it shows that the signal said so. It blocks while
 /// the ring is empty.
 pub fn check_on_signal<'a, W: Wait, G: Gate + Drop, M: ClauseMap>(
@@ -179,6 +180,7 @@ fn take_all<G: Gate, M: ClauseMap>(checker: &mut Checker, gate: &mut G, map: &mu
     // A law, which does nothing: the proof uses that a report of a checker that is over stays right, whatever follows.
     over_stays();
     let mut rest = piece;
+    // Each good line uses a byte at least, so that many rounds suffice.
     for _ in 0..piece.len() {
         let progress = checker.feed(map, gate, rest);
         match progress.status {

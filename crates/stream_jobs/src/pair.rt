@@ -18,12 +18,12 @@ use lrup_text::{PIECE, Source};
 use runs::RunParams;
 use std::alloc::{AllocError, Global};
 use stream_check::Gate;
-use stream_ring::{ends_agree, ring};
+use stream_ring::{halves_agree, ring};
 
 /// How many items a ring has room for, two bytes each: as many as one read gives bytes.
 const CAPACITY: usize = PIECE;
 
-/// Makes the two jobs of stream `stream`, from 1 on, with the two ends of one ring. All memory is taken here, except for the identities
+/// Makes the two jobs of stream `stream`, from 1 on, with the two halves of one ring. All memory is taken here, except for the identities
 /// that the stream drops.
 pub fn jobs<R: Source + Drop, G: Gate + Drop>(
     alloc: Global,
@@ -73,5 +73,5 @@ pub fn jobs_agree<R: Source + Drop>(sent: &mut Sent<R>, checked: &mut Checked)
         × JudgesStream v.params stream blocks report
         × DropsBy v room stream.bytes blocks ids report }
 {
-    ends_agree(&mut sent.producer, &mut checked.consumer);
+    halves_agree(&mut sent.producer, &mut checked.consumer);
 }

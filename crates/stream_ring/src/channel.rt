@@ -276,7 +276,7 @@ fn end_of(mark: u16) -> StreamEnd
 
 /// Brings the two halves together, once both threads have given them back. It is for the proof alone, and changes nothing: its contract
 /// says that what was received is the beginning of what was sent, and all of it, if it ends at a mark.
-pub fn ends_agree(producer: &mut Producer<u16>, consumer: &mut Consumer<u16>)
+pub fn halves_agree(producer: &mut Producer<u16>, consumer: &mut Consumer<u16>)
     requires { IsPair producer.old consumer.old }
     ensures beginning { (left : List ℕ)
         × (sent producer.old ≡ received consumer.old ++ left) }

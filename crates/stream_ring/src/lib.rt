@@ -5,4 +5,4 @@
 mod blocks;
 mod channel;
 
-pub use channel::{Received, Receiver, Sender, ends_agree, ring};
+pub use channel::{Received, Receiver, Sender, halves_agree, ring};

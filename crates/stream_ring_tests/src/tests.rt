@@ -11,7 +11,7 @@ use std::sync::atomic::{AtomicU64, Ordering};
 use std::test::Fail;
 use std::thread::{self, Threads, join, yield_now};
 use std::time::{Clock, Duration};
-use stream_ring::{Received, Receiver, Sender, ends_agree, ring};
+use stream_ring::{Received, Receiver, Sender, halves_agree, ring};
 
 /// Stops the test where two values differ: an assertion that is proved once for all tests.
 fn same<T: PartialEq + fmt::Debug + Drop>(rt: &impl Abort, value: T, wanted: T) {
@@ -488,7 +488,7 @@ fn a_refused_ring_can_be_made_again(rt: HostRuntime) -> Result<(), Fail> {
         Ok(ends) => ends,
         Err(_) => ring(rt.alloc(), 4)?,
     };
-    ends_agree(&mut sender.producer, &mut receiver.consumer);
+    halves_agree(&mut sender.producer, &mut receiver.consumer);
     same(&rt, sender.producer.slots(), 4);
     let mut consumer = receiver.into_consumer();
     same(&rt, consumer.is_abandoned(), false);

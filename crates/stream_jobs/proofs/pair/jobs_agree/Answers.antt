@@ -23,7 +23,7 @@ returns-clause-read g c first sent = (
 
 pub returns-clause-judged : goal.returns-clause-judged
 returns-clause-judged g c first v room blocks ids report sent marked fresh =
-    let same = c.ends_agree.ensures.same sent.bytes marked.bytes sent.end marked.end sent.sent marked.marked in (
+    let same = c.halves_agree.ensures.same sent.bytes marked.bytes sent.end marked.end sent.sent marked.marked in (
       record { bytes = sent.bytes; unneeded = []; end = Some sent.end },
       refl,
       (

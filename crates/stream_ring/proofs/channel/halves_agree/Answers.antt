@@ -1,7 +1,7 @@
 use Rattle.std.proofs.Common.{◌++◌, ap, sym, ◌∙◌}
 use Rattle.rtrb.specs.Ring.{sent, received, known_items}
 use Rattle.stream_ring.proofs.Through.{came_by}
-use Rattle.stream_ring.proofs.channel.ends_agree.Goals as goal
+use Rattle.stream_ring.proofs.channel.halves_agree.Goals as goal
 
 pub returns-clause-beginning : goal.returns-clause-beginning
 returns-clause-beginning c =
