@@ -283,7 +283,7 @@ HISTORY_ROWS: Rows = [
      history t ≡ joined blocks]]). Good lines come first, and then what ended the stream ([[JudgesBlocks]]). If memory ran
      out, events and bytes don't decide the report: any deletion that drops something may have stopped for that
      ([[StopsDeletion]])."""),
-    ("The bytes are those that the reads of the stream gave, up to its end or to a failed read.", """[[IsRunOf: read : AreRead S view.reads
+    ("The bytes are those that the reads of the stream gave, up to its end or to a failed read.", """[[IsRunOfSome: read : AreRead S view.reads
      firsts lasts run.streams]]: [[ReadOut: given : Gave S reads first bytes last]], then [[ReadOut: ends : IsLastRead S reads end last after]]. With
      threads each stream has an end ([[InThreads: AllByRecursion (λ stream. IsSome stream.end) streams]]). If the reader tells its bytes, the stream's bytes begin these ([[MatchesInput]])."""),
     ("'Unsatisfiable' means that no assignment satisfies the formula; 'unsatisfiable under assumptions', that none makes the "

@@ -4,6 +4,7 @@ use Rattle.std.proofs.Common.{Some, refl, sym, ap, ap₂, subst, ◌∙◌, arit
 use Rattle.std.specs.Result.{IfErr, IsErrAnd}
 use Rattle.std.specs.Prelude.{IsSome, IsSomeAnd, Option, None, Result, Ok, Err, slice_get, if◌then◌else◌}
 use Rattle.std.specs.List.{AllByRecursion, list_any, AllZip}
+use Rattle.std.proofs.lemmas.List.{length-take-le}
 use Rattle.std.proofs.lemmas.Simd.{map-map}
 use Rattle.std.proofs.lemmas.Option.{slice_get_within}
 use Rattle.std.proofs.lemmas.Bool.{or_cases}
@@ -21,7 +22,7 @@ use Rattle.lrup_model.specs.CallerView.{Caller}
 use Rattle.lrup_model.specs.State.{state}
 use Rattle.clause_store.specs.Passes.{StoreValue, PassValue, IsOpened, AreOf, ShareHistory, views}
 use Rattle.stream_check.specs.declared.report.Report.{Report}
-use Rattle.stream_check.specs.Checker.{checker_state}
+use Rattle.stream_check.specs.Checker.{IsNew, checker_state}
 use Rattle.stream_check.specs.Judging.{joined}
 use Rattle.stream_check.specs.Reaching.{ReachesState}
 use Rattle.stream_check.specs.DroppedIdsValue.{DroppedIdsValue}
@@ -32,18 +33,20 @@ use Rattle.portfolio.specs.declared.outcome.Verdict.{Verdict}
 use Rattle.portfolio.specs.declared.outcome.Verdict.TheVariants.{Unsatisfiable, UnsatisfiableUnder, Unknown}
 use Rattle.portfolio.specs.Dropping.{HasDropped, HaveDropped}
 use Rattle.portfolio.specs.Outcomes.{OptionsValue, layout_of, run_params_of, verdict_of}
-use Rattle.portfolio.specs.Histories.{InThreads, IsRunOf}
-use Rattle.portfolio.specs.internal.Threads.{AreGathered, HaveReadyJobs, IsBegun, HasReadyJobs, WereGathered}
-use Rattle.portfolio.specs.RingStops.{WasReadOut, WereJudged}
-use Rattle.runs.specs.Each.{EachOfThree}
+use Rattle.portfolio.specs.Histories.{InThreads, IsRunOf, IsRunOfSome}
+use Rattle.portfolio.specs.RingStops.{StopsAtRing, WasReadOut}
+use Rattle.runs.specs.Each.{Each, EachOfThree}
 use Rattle.runs.specs.lemmas.EachLemmas.{each_count, each_take, zip_count}
 use Rattle.runs.specs.lemmas.StreamLemmas.{IsJudgedBy, observed_as_many, observed_count}
 use Rattle.runs.specs.SequentialConsistency.{HaveOneHistory, AreJudgedIn, seen_by}
-use Rattle.stream_threads.specs.Jobs.{StreamJobsValue, StreamResultValue, CanBegin, Finishes, AllFinish, AreJobs, MissesMark}
+use Rattle.stream_threads.specs.Faults.{IsFaultOf}
+use Rattle.stream_threads.specs.Jobs.{StreamJobsValue, StreamResultValue, StreamResultsValue, CanBegin, Finishes, AllFinish, AreFound}
+use Rattle.stream_threads.specs.Jobs.{AreJobs, MissesMark}
+use Rattle.stream_threads.specs.declared.jobs.ThreadFault.TheVariants as thread_faults
 use Rattle.lrup_text.specs.ReadOut.{SourceView}
 use Rattle.runs.specs.Readings.{AreRead, IsStreamOf}
 use Rattle.runs.specs.Streams.{Stream, InputObservation, observations, MatchesInput, JudgesStream, RunParamsValue, stream_params}
-use Rattle.run_laws.specs.Groups.{IsRun, IsRunOfFirst}
+use Rattle.run_laws.specs.Groups.{IsRun}
 use Rattle.portfolio.proofs.DroppingLemmas.{job_drops}
 use Rattle.portfolio.proofs.EmptyLemmas.{sound}
 
@@ -179,6 +182,26 @@ HasCalls f p h s v = (v.caller ≡ record { formula = f; layout = p; stream = s 
 
 -- ---- of readers of one kind
 
+-- the jobs of stream s before its first byte, at the pass that the store has opened
+pub record HasReadyJobs {S : Type 0} (store : StoreValue) (f : Cnf) (run_params : RunParamsValue) (s : ℕ) (first : S)
+    (jobs : StreamJobsValue S) : Type 0 where
+  pub reader_is : jobs.reader ≡ first
+  pub checker : IsNew run_params.layout run_params.cube s run_params.tries jobs.checker
+  pub opened : IsOpened store f s jobs.pass
+
+-- those of the streams counted on from s
+abbrev pub HaveReadyJobs : {S : Type 0} → StoreValue → Cnf → RunParamsValue → ℕ → List S → List (StreamJobsValue S) → Type 0
+HaveReadyJobs store f run_params s firsts all = Each (HasReadyJobs store f run_params) s firsts all
+
+-- a run before its threads start, by its parameters: the store, and the jobs of all readers
+pub record IsBegun {S : Type 0} (f : Cnf) (run_params : RunParamsValue) (store : StoreValue) (firsts : List S)
+    (all : List (StreamJobsValue S)) : Type 0 where
+  pub is : IsLayout run_params.layout
+  pub fits : Fits run_params.layout f
+  pub count : length firsts ≡ run_params.layout.streams
+  pub store_is : store.layout ≡ run_params.layout
+  pub ready : HaveReadyJobs store f run_params 1 firsts all
+
 module _ {S : Type 0} (view : SourceView S) where
   are_ready : (store : StoreValue) (f : Cnf) (run_params : RunParamsValue) (s : ℕ) (firsts : List S) (ps : List PassValue)
       (js : List (StreamJobsValue S))
@@ -238,19 +261,19 @@ module _ {S : Type 0} (view : SourceView S) where
       → HaveReadyJobs store f run_params s firsts js → length js ≡ length firsts
   ready_count store f run_params s firsts js ready = each_count _ s firsts js ready
 
-  -- the jobs of the first streams
-  pub ready_take : (store : StoreValue) (f : Cnf) (run_params : RunParamsValue) (s n : ℕ) (firsts : List S) (js : List (StreamJobsValue S))
-      → HaveReadyJobs store f run_params s firsts js → HaveReadyJobs store f run_params s (take n firsts) (take n js)
-  ready_take store f run_params s n firsts js ready = each_take _ n s firsts js ready
-
   -- ---- what was found, and the passes when all have met
 
-  pub finish_of : (store : StoreValue) (js : List (StreamJobsValue S)) (fs : List (StreamResultValue S))
+  finish_of : (store : StoreValue) (js : List (StreamJobsValue S)) (fs : List (StreamResultValue S))
       → AllByRecursion (CanBegin store) js → AllFinish view js fs → AreOf store (map (λ x. x.pass) fs)
   finish_of store [] [] begin all = tt
   finish_of store [] (x ∷ fs) begin all = absurd all
   finish_of store (j ∷ js) [] begin all = absurd all
   finish_of store (j ∷ js) (x ∷ fs) begin all = (all.0.store ∙ begin.0.here, finish_of store js fs begin.1 all.1)
+
+  pub found_of : (store : StoreValue) (js : List (StreamJobsValue S)) (results : StreamResultsValue S)
+      → AllByRecursion (CanBegin store) js → AreFound view js results → AreOf store results.passes
+  found_of store js results begin so =
+      subst (λ (ps : List PassValue). AreOf store ps) (sym so.passes) (finish_of store js so.found begin so.finish)
 
   pub begin_take : (store : StoreValue) (n : ℕ) (js : List (StreamJobsValue S)) → AllByRecursion (CanBegin store) js
       → AllByRecursion (CanBegin store) (take n js)
@@ -394,53 +417,29 @@ module _ {S : Type 0} (view : SourceView S) where
       }
 
   -- By a legal history that has their calls, it is a run as far as these streams go.
-  abbrev first_run : (f : Cnf) (run_params : RunParamsValue) (h : History) (firsts : List S) (fs : List (StreamResultValue S))
-      (vs : List View)
-      → (j : Judged run_params 1 firsts fs vs) → IsLegal f run_params.layout h
+  first_run : (f : Cnf) (run_params : RunParamsValue) (h : History) (firsts : List S) (js : List (StreamJobsValue S))
+      (results : StreamResultsValue S) (vs : List View)
+      → (so : AreFound view js results) → Judged run_params 1 firsts so.found vs → IsLegal f run_params.layout h
       → ((k : ℕ) (v : View) → slice_get vs k ≡ Some v → v.mine ≡ own h (1 + k))
-      → IsRunOfFirst (length firsts) f run_params (observations view firsts (map (λ x. x.reader) fs)) (map (λ x. x.report) fs)
-  first_run f run_params h firsts fs vs j legal calls = record {
-    streams = j.streams;
-    match_inputs = j.told;
-    count = observed_count _ _ j.told ∙ observed_as_many view firsts (map (λ x. x.reader) fs) j.streams j.read;
-    history = h;
-    legal = legal;
-    judged = judged_in run_params h 1 j.streams vs (map (λ x. x.report) fs) j.judged calls;
-  }
-
-  -- Of the first streams alone, whose passes have met: so by the history that they have.
-  pub were_judged : (f : Cnf) (run_params : RunParamsValue) (store : StoreValue) → store.layout ≡ run_params.layout
-      → (firsts : List S) (js : List (StreamJobsValue S)) (fs : List (StreamResultValue S)) (vs : List View)
-      → HaveReadyJobs store f run_params 1 firsts js → AllFinish view js fs → AreSynced (views (map (λ x. x.pass) fs)) vs → ShareHistory vs
-      → WereJudged view f run_params firsts
-  were_judged f run_params store same [] [] [] vs ready all synced one = record {
-    lasts = [];
-    reports = [];
-    run = record {
-      streams = [];
-      match_inputs = tt;
-      count = refl;
-      history = [];
-      legal = record { events = tt; room = λ s. omega arith };
-      judged = tt;
-    };
-    ended = tt;
-    read = tt;
-  }
-  were_judged f run_params store same [] [] (x ∷ fs) vs ready all synced one = absurd all
-  were_judged f run_params store same [] (j ∷ js) fs vs ready all synced one = absurd ready
-  were_judged f run_params store same (e ∷ es) [] fs vs ready all synced one = absurd ready
-  were_judged f run_params store same (e ∷ es) (j ∷ js) fs vs ready all synced one =
-      let so = judged_by f run_params store same 1 (e ∷ es) (j ∷ js) fs vs ready all synced in
-      let calls = have_calls f run_params store one.0 same 1 (e ∷ es) (j ∷ js) fs vs ready all synced one.1 in
-      let legal = have_legal f run_params store one.0 same 1 (e ∷ es) (j ∷ js) fs vs ready all synced one.1 (omega arith) in
-      record {
-        lasts = map (λ x. x.reader) fs;
-        reports = map (λ x. x.report) fs;
-        run = first_run f run_params one.0 (e ∷ es) fs vs so legal (λ k v at. (calls k v at).2);
-        ended = so.out;
-        read = so.read;
-      }
+      → (ran : IsRunOfSome (length firsts) InThreads view f run_params firsts results.readers results.reports results.dropped)
+      × (ran.run.history ≡ h)
+  first_run f run_params h firsts js results vs so j legal calls =
+      rw (so.readers, so.reports, so.dropped) (
+        record {
+          run = record {
+            streams = j.streams;
+            match_inputs = j.told;
+            count = observed_count _ _ j.told ∙ observed_as_many view firsts (map (λ x. x.reader) so.found) j.streams j.read;
+            history = h;
+            legal = legal;
+            judged = judged_in run_params h 1 j.streams vs (map (λ x. x.report) so.found) j.judged calls;
+          };
+          way = j.out;
+          read = j.read;
+          have_dropped = rw (map-map (λ (d : DroppedIdsValue). d.ids) (λ (x : StreamResultValue S). x.dropped) so.found) j.dropped;
+        },
+        refl,
+      )
 
   -- ---- the run as a whole
 
@@ -457,61 +456,70 @@ module _ {S : Type 0} (view : SourceView S) where
       → IsBegun f run_params store firsts js → (s : ℕ) → (0 < s) × (s ≤ length js) → IsStream run_params.layout s
   stream_within begun s within = (omega (arith, within.0), omega (arith, within.1, begun_count begun))
 
+  met : (js : List (StreamJobsValue S)) (results : StreamResultsValue S) (vs : List View) → (so : AreFound view js results)
+      → AreSynced (views results.passes) vs → AreSynced (views (map (λ x. x.pass) so.found)) vs
+  met js results vs so synced = subst (λ (ps : List PassValue). AreSynced (views ps) vs) so.passes synced
+
   pub run_history : {f : Cnf} {run_params : RunParamsValue} {store : StoreValue} {firsts : List S} {js : List (StreamJobsValue S)}
       → IsBegun f run_params store firsts js
-      → (vs : List View) (reports : List Report) (lasts : List S) (dropped : List DroppedIdsValue)
-      → AreGathered view js vs reports lasts dropped → HaveOneHistory f run_params.layout (seen_by vs) vs
-  run_history {f} {run_params} begun vs reports lasts dropped so =
-      one_history f run_params _ _ _ so.found vs begun.is begun.store_is (begun_count begun) begun.ready so.finish so.synced so.one
-
-  -- the outcome's lists are those of what was found
-  gathered : (f : Cnf) (run_params : RunParamsValue) (store : StoreValue) (firsts : List S) (js : List (StreamJobsValue S))
-      → IsBegun f run_params store firsts js
-      → (vs : List View) (fs : List (StreamResultValue S)) → AllFinish view js fs → AreSynced (views (map (λ x. x.pass) fs)) vs
-      → HaveOneHistory f run_params.layout (seen_by vs) vs
-      → (reports : List Report) (lasts : List S) (dropped : List DroppedIdsValue) → reports ≡ map (λ x. x.report) fs
-      → lasts ≡ map (λ x. x.reader) fs → map (λ d. d.ids) dropped ≡ map (λ x. x.dropped.ids) fs
-      → (ran : IsRunOf InThreads view f run_params firsts lasts reports dropped) × (ran.run.history ≡ seen_by vs)
-  gathered f run_params store firsts js begun vs fs finish synced one reports lasts dropped reports_are lasts_are dropped_are =
-      let j = judged_by f run_params store begun.store_is 1 firsts js fs vs begun.ready finish synced in
-      let run = first_run f run_params (seen_by vs) firsts fs vs j one.legal (mine_at f run_params.layout vs one) in
-      let told : AllZip MatchesInput (observations view firsts lasts) j.streams =
-      subst (λ (ls : List S). AllZip MatchesInput (observations view firsts ls) j.streams) (sym lasts_are) j.told in (
-        record {
-          run = record {
-            streams = j.streams;
-            match_inputs = told;
-            count = run.count ∙ begun.count;
-            history = seen_by vs;
-            legal = one.legal;
-            judged = subst (AreJudgedIn run_params (λ s. true) (seen_by vs) 1 j.streams) (sym reports_are) run.judged;
-          };
-          way = j.out;
-          read = subst (λ (ls : List S). AreRead S view.reads firsts ls j.streams) (sym lasts_are) j.read;
-          have_dropped = rw dropped_are (rw reports_are j.dropped);
-        },
-        refl,
-      )
+      → (results : StreamResultsValue S) (vs : List View) → AreFound view js results → AreSynced (views results.passes) vs
+      → ShareHistory vs → HaveOneHistory f run_params.layout (seen_by vs) vs
+  run_history {f} {run_params} begun results vs so synced one =
+      one_history f run_params _ _ _ so.found vs begun.is begun.store_is (begun_count begun) begun.ready so.finish
+      (met _ results vs so synced) one
 
   pub run_reports : {f : Cnf} {run_params : RunParamsValue} {store : StoreValue} {firsts : List S} {js : List (StreamJobsValue S)}
       → IsBegun f run_params store firsts js
-      → (vs : List View) (reports : List Report) (lasts : List S) (dropped : List DroppedIdsValue)
-      → AreGathered view js vs reports lasts dropped
-      → (ran : IsRunOf InThreads view f run_params firsts lasts reports dropped) × (ran.run.history ≡ seen_by vs)
-  run_reports {f} {run_params} {store} {firsts} {js} begun vs reports lasts dropped so =
-      let same_dropped : map (λ (d : DroppedIdsValue). d.ids) dropped ≡ map (λ (x : StreamResultValue S). x.dropped.ids) so.found =
-      ap (map (λ (d : DroppedIdsValue). d.ids)) so.dropped_are
-      ∙ map-map (λ (d : DroppedIdsValue). d.ids) (λ (x : StreamResultValue S). x.dropped) so.found in
-      gathered f run_params store firsts js begun vs so.found so.finish so.synced (run_history begun vs reports lasts dropped so)
-      reports lasts
-      dropped so.reports_are so.readers_are same_dropped
+      → (results : StreamResultsValue S) (vs : List View) → AreFound view js results → AreSynced (views results.passes) vs
+      → ShareHistory vs
+      → (ran : IsRunOf InThreads view f run_params firsts results.readers results.reports results.dropped)
+      × (ran.run.history ≡ seen_by vs)
+  run_reports {f} {run_params} {store} {firsts} {js} begun results vs so synced one =
+      let one = run_history begun results vs so synced one in
+      let j = judged_by f run_params store begun.store_is 1 firsts js so.found vs begun.ready so.finish (met js results vs so synced) in
+      subst (λ (n : ℕ). (ran : IsRunOfSome n InThreads view f run_params firsts results.readers results.reports results.dropped)
+      × (ran.run.history ≡ seen_by vs)) begun.count
+      (first_run f run_params (seen_by vs) firsts js results vs so j one.legal (mine_at f run_params.layout vs one))
 
-  -- the streams before the one that a ring's fault names
-  pub run_before : {f : Cnf} {run_params : RunParamsValue} {store : StoreValue} {firsts : List S} {js : List (StreamJobsValue S)}
-      → IsBegun f run_params store firsts js → (n : ℕ) → WereGathered view (take n js)
-      → WereJudged view f run_params (take n firsts)
-  run_before {f} {run_params} begun n (vs, reports, lasts, dropped, so) =
-      were_judged f run_params _ begun.store_is _ _ so.found vs (ready_take _ _ _ _ n _ _ begun.ready) so.finish so.synced so.one
+  -- Of the first streams alone, whose passes have met: so by the history that they have.
+  run_before : (f : Cnf) (run_params : RunParamsValue) (store : StoreValue) → store.layout ≡ run_params.layout
+      → (firsts : List S) (js : List (StreamJobsValue S)) → HaveReadyJobs store f run_params 1 firsts js
+      → (results : StreamResultsValue S) (vs : List View) → AreFound view js results → AreSynced (views results.passes) vs
+      → ShareHistory vs
+      → (lasts : List S) × (reports : List Report) × (dropped : List DroppedIdsValue)
+      × IsRunOfSome (length firsts) InThreads view f run_params firsts lasts reports dropped
+  run_before f run_params store same [] [] ready results vs so synced one = (
+    [],
+    [],
+    [],
+    record {
+      run = record {
+        streams = [];
+        match_inputs = tt;
+        count = refl;
+        history = [];
+        legal = record { events = tt; room = λ s. omega arith };
+        judged = tt;
+      };
+      way = tt;
+      read = tt;
+      have_dropped = tt;
+    },
+  )
+  run_before f run_params store same [] (j ∷ js) ready results vs so synced one = absurd ready
+  run_before f run_params store same (e ∷ es) [] ready results vs so synced one = absurd ready
+  run_before f run_params store same (e ∷ es) (j ∷ js) ready results vs so synced one =
+      let fs = so.found in
+      let synced = met (j ∷ js) results vs so synced in
+      let judged = judged_by f run_params store same 1 (e ∷ es) (j ∷ js) fs vs ready so.finish synced in
+      let calls = have_calls f run_params store one.0 same 1 (e ∷ es) (j ∷ js) fs vs ready so.finish synced one.1 in
+      let legal =
+      have_legal f run_params store one.0 same 1 (e ∷ es) (j ∷ js) fs vs ready so.finish synced one.1 (omega arith) in (
+        results.readers,
+        results.reports,
+        results.dropped,
+        (first_run f run_params one.0 (e ∷ es) (j ∷ js) results vs so judged legal (λ k v at. (calls k v at).2)).0,
+      )
 
   -- whose mark was missed was read out
   pub read_out_of : (one : Option (StreamJobsValue S)) → IsSomeAnd one (λ j. MissesMark view j.reader)
@@ -530,11 +538,34 @@ module _ {S : Type 0} (view : SourceView S) where
   reader_read_out f run_params store s (e ∷ es) (j ∷ js) (suc n) ready read =
       reader_read_out f run_params store (s + 1) es js n ready.1 read
 
-  -- and that one's reader was read out
-  pub run_read_out : {f : Cnf} {run_params : RunParamsValue} {store : StoreValue} {firsts : List S} {js : List (StreamJobsValue S)}
-      → IsBegun f run_params store firsts js → (n : ℕ) → IsSomeAnd (slice_get js n) (λ one. WasReadOut view one.reader)
-      → IsSomeAnd (slice_get firsts n) (WasReadOut view)
-  run_read_out begun n read = reader_read_out _ _ _ _ _ _ n begun.ready read
+  some_within : {A : Type 0} (P : A → Type 0) (xs : List A) (n : ℕ) → IsSomeAnd (slice_get xs n) P → n < length xs
+  some_within P [] n at = absurd at
+  some_within P (x ∷ xs) zero at = omega arith
+  some_within P (x ∷ xs) (suc n) at = omega (arith, some_within P xs n at)
+
+  -- the ring of the stream behind these stopped it
+  pub stops_at_ring : {f : Cnf} {run_params : RunParamsValue} {store : StoreValue} {firsts : List S} {js : List (StreamJobsValue S)}
+      → IsBegun f run_params store firsts js → (results : StreamResultsValue S) (vs : List View)
+      → AreSynced (views results.passes) vs → ShareHistory vs
+      → IsFaultOf view js (thread_faults.Ring results) → (stream : ℕ) → length results.passes + 1 ≡ stream
+      → StopsAtRing view f run_params firsts stream
+  stops_at_ring {f} {run_params} {store} {firsts} {js} begun results vs synced one so stream is =
+      let n : length results.passes ≡ stream - 1 = omega (arith, is) in
+      let at = subst (λ (k : ℕ). AreFound view (take k js) results × IsSomeAnd (slice_get js k) (λ j. MissesMark view j.reader)) n so in
+      let within : stream - 1 < length js = some_within _ js (stream - 1) at.1 in
+      let ran = run_before f run_params store begun.store_is (take (stream - 1) firsts) (take (stream - 1) js)
+      (each_take _ (stream - 1) 1 firsts js begun.ready) results vs at.0 synced one in
+      let many : length (take (stream - 1) firsts) ≡ stream - 1 =
+      length-take-le (stream - 1) firsts (omega (arith, within, begun_count begun, begun.count)) in
+      record {
+        is_stream = stream_within begun stream (omega (arith, is), omega (arith, is, within));
+        lasts = ran.0;
+        reports = ran.1;
+        dropped = ran.2;
+        before = subst (λ (k : ℕ). IsRunOfSome k InThreads view f run_params (take (stream - 1) firsts) ran.0 ran.1 ran.2) many ran.3;
+        read_out = reader_read_out f run_params store 1 firsts js (stream - 1) begun.ready
+            (read_out_of (slice_get js (stream - 1)) at.1);
+      }
 
 -- ---- 'unsatisfiable'
 

@@ -9,7 +9,7 @@ use Rattle.stream_check.specs.declared.report.Report.{Report}
 use Rattle.runs.specs.Readings.{AreRead}
 use Rattle.runs.specs.Streams.{Stream, RunParamsValue, events_in, observations}
 use Rattle.runs.specs.Turns.{IsOrderedByTurns}
-use Rattle.run_laws.specs.Groups.{IsRun}
+use Rattle.run_laws.specs.Groups.{IsRun, IsRunOfFirst}
 use Rattle.portfolio.specs.Dropping.{HaveDropped}
 
 -- in which way the streams were checked: what more is known of a run's history, its streams and its reports
@@ -32,16 +32,22 @@ abbrev pub way_of : Bool → Way
 way_of true = OnOneThread
 way_of false = InThreads
 
--- What a run promises of its streams, which were checked in this way. `firsts` are their readers before the first read, and `lasts`
--- those in the end. It is a run of what these told; reads of them gave its streams; and each stream dropped just what its lines drop,
--- or where one stopped it what was dropped until then.
-pub record IsRunOf {S : Type 0} (Checked : Way) (view : SourceView S) (formula : Cnf)
+-- What a run promises of its first streams, so many, which were checked in this way. `firsts` are their readers before the first read,
+-- and `lasts` those in the end. It is a run of what these told; reads of them gave its streams; and each stream dropped just what its
+-- lines drop, or where one stopped it what was dropped until then.
+pub record IsRunOfSome {S : Type 0} (many : ℕ) (Checked : Way) (view : SourceView S) (formula : Cnf)
     (run_params : RunParamsValue) (firsts lasts : List S) (reports : List Report)
     (dropped : List DroppedIdsValue) : Type 0 where
-  pub run : IsRun formula run_params (observations view firsts lasts) reports
+  pub run : IsRunOfFirst many formula run_params (observations view firsts lasts) reports
   pub way : Checked formula run_params run.history run.streams reports
   pub read : AreRead S view.reads firsts lasts run.streams
   pub have_dropped : HaveDropped run_params 1 run.streams reports (map (λ d. d.ids) dropped)
+
+-- so it is with all streams of the layout
+abbrev pub IsRunOf : {S : Type 0} → Way → SourceView S → Cnf → RunParamsValue → (firsts lasts : List S)
+    → List Report → List DroppedIdsValue → Type 0
+IsRunOf Checked view formula run_params firsts lasts reports dropped =
+    IsRunOfSome run_params.layout.streams Checked view formula run_params firsts lasts reports dropped
 
 -- These readers, reports and dropped identities are of a run that was checked in this way, and of which this holds.
 abbrev pub IsOfRun : {S : Type 0} → Way → (view : SourceView S) (formula : Cnf)

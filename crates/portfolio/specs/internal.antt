@@ -2,4 +2,3 @@
 pub mod WatchText
 pub mod Working
 pub mod Turns
-pub mod Threads

@@ -1,9 +1,10 @@
 -- What the threads of a stream gave back, and lists of them.
-use Rattle.std.proofs.Common.{◌≡◌, ◌++◌, ◌+◌, ◌∙◌, ℕ, List, [], ◌∷◌, Option, Some, None, IfSome, Result, Ok, Err, IfOk, IfErr}
+use Rattle.std.proofs.Common.{◌≡◌, ◌++◌, ◌+◌, ◌∙◌, ℕ, List, [], ◌∷◌, Option, Some, None, IfSome, Result, Ok}
 use Rattle.std.specs.Prelude.{IsSomeAnd, MatchResult, slice_get}
 use Rattle.std.specs.List.{AllByRecursion}
 use Rattle.std.proofs.Common.{length, map, take, refl, sym, ap, subst, arith, append_assoc, append-nil}
-use Rattle.std.proofs.lemmas.List.{length-append, length-map, map-append, nil_from_length}
+use Rattle.std.proofs.Math.Seq.{take-append_seam}
+use Rattle.std.proofs.lemmas.List.{length-map, map-append, nil_from_length}
 use Rattle.std.specs.declared.vec.IntoIter.{IntoIter}
 use Rattle.std.specs.Vec.Iter.{into_iter_items, into_iter_len}
 use Rattle.lrup_model.specs.Event.{History}
@@ -15,11 +16,11 @@ use Rattle.stream_check.specs.CheckerValue.{CheckerValue}
 use Rattle.stream_check.specs.Judging.{joined}
 use Rattle.stream_jobs.specs.Judged.{JudgesAtMark}
 use Rattle.lrup_text.specs.ReadOut.{SourceView}
-use Rattle.stream_threads.specs.Faults.{IsFaultWithin, IsFirstFault}
-use Rattle.stream_threads.specs.internal.Workers.{IsRingBehind, AllEnd, IsEndOf, JudgesAtPass, StartedValue, started_with}
-use Rattle.stream_threads.specs.Jobs.{AllFinish, AreJobs, StreamResultValue, IsJob, StreamJobsValue, MissesMark}
-use Rattle.stream_threads.specs.declared.jobs.ThreadFault.{ThreadFault}
-use Rattle.stream_threads.specs.declared.jobs.ThreadFault.TheVariants.{Spawn, Ring}
+use Rattle.stream_threads.specs.Faults.{IsFaultOf}
+use Rattle.stream_threads.specs.internal.Workers.{JudgesAtPass, StartedValue, started_with}
+use Rattle.stream_threads.specs.Jobs.{AllFinish, AreFound, AreJobs, Finishes, IsJob, MissesMark, StreamJobsValue, StreamResultValue}
+use Rattle.stream_threads.specs.Jobs.{StreamResultsValue, more_results, no_results}
+use Rattle.stream_threads.specs.declared.jobs.ThreadFault.TheVariants.{Ring}
 use Rattle.runs.specs.lemmas.EachLemmas.{zip_count}
 use Rattle.runs.specs.Streams.{RunParamsValue}
 
@@ -41,96 +42,56 @@ pub moved_more : {A : Type 0} (done before rest all new : List A) (x : A) → be
 moved_more done before rest all new x taken pushed whole =
     ap (λ xs. xs ++ rest) pushed ∙ append_assoc done (x ∷ []) rest ∙ ap (λ xs. done ++ xs) (sym taken) ∙ whole
 
--- one more stream has ended
-all_end-snoc : {S : Type 0} (view : SourceView S) (jobs : List (StreamJobsValue S)) (ends : List (Option (StreamResultValue S)))
-    (one : StreamJobsValue S)
-    (end : Option (StreamResultValue S))
-    → AllEnd view jobs ends → IsEndOf view one end → AllEnd view (jobs ++ one ∷ []) (ends ++ end ∷ [])
-all_end-snoc view [] [] one end all here = (here, tt)
-all_end-snoc view [] (e ∷ ends) one end all here = absurd all
-all_end-snoc view (j ∷ jobs) [] one end all here = absurd all
-all_end-snoc view (j ∷ jobs) (e ∷ ends) one end all here = (all.0, all_end-snoc view jobs ends one end all.1 here)
+-- what was found of one stream more
+finish_more : {S : Type 0} (view : SourceView S) (jobs : List (StreamJobsValue S)) (found : List (StreamResultValue S))
+    (job : StreamJobsValue S) (one : StreamResultValue S)
+    → AllFinish view jobs found → Finishes view job one → AllFinish view (jobs ++ job ∷ []) (found ++ one ∷ [])
+finish_more view [] [] job one all here = (here, tt)
+finish_more view [] (f ∷ found) job one all here = absurd all
+finish_more view (j ∷ jobs) [] job one all here = absurd all
+finish_more view (j ∷ jobs) (f ∷ found) job one all here = (all.0, finish_more view jobs found job one all.1 here)
 
-pub all_end-more : {S : Type 0} (view : SourceView S) (jobs : List (StreamJobsValue S)) (old new : List (Option (StreamResultValue S)))
-    (one : StreamJobsValue S) (end : Option (StreamResultValue S))
-    → AllEnd view jobs old → IsEndOf view one end → new ≡ old ++ end ∷ [] → AllEnd view (jobs ++ one ∷ []) new
-all_end-more view jobs old new one end all here pushed =
-    subst (AllEnd view (jobs ++ one ∷ [])) (sym pushed) (all_end-snoc view jobs old one end all here)
+pub found_more : {S : Type 0} (view : SourceView S) (jobs : List (StreamJobsValue S)) (old : StreamResultsValue S)
+    (job : StreamJobsValue S) (one : StreamResultValue S)
+    → AreFound view jobs old → Finishes view job one → AreFound view (jobs ++ job ∷ []) (more_results old one)
+found_more {S} view jobs old job one all here = record {
+  found = all.found ++ one ∷ [];
+  finish = finish_more view jobs all.found job one all.finish here;
+  reports = pushed (λ f. f.report) all.reports;
+  readers = pushed (λ f. f.reader) all.readers;
+  passes = pushed (λ f. f.pass) all.passes;
+  dropped = pushed (λ f. f.dropped) all.dropped;
+}
+  where
+    pushed : {X : Type 0} {parts : List X} (part : StreamResultValue S → X) → parts ≡ map part all.found
+        → parts ++ part one ∷ [] ≡ map part (all.found ++ one ∷ [])
+    pushed {X} part are = ap (λ (xs : List X). xs ++ part one ∷ []) are ∙ sym (map-append part all.found (one ∷ []))
 
--- something was found of each
-pub all_finish : {S : Type 0} (view : SourceView S) (jobs : List (StreamJobsValue S)) (ends : List (Option (StreamResultValue S)))
-    (found : List (StreamResultValue S)) → AllEnd view jobs ends → ends ≡ map (λ f. Some f) found → AllFinish view jobs found
-all_finish {S} view [] [] [] all is = tt
-all_finish {S} view [] [] (f ∷ found) all is = cc
-all_finish {S} view [] (e ∷ ends) found all is = absurd all
-all_finish {S} view (j ∷ jobs) [] found all is = absurd all
-all_finish {S} view (j ∷ jobs) (e ∷ ends) [] all is = cc
-all_finish {S} view (j ∷ jobs) (e ∷ ends) (f ∷ found) all is =
-    let here : e ≡ Some f = cc in
-    let more : ends ≡ map (λ f. Some f) found = cc in
-    (subst (IsEndOf view j) here all.0, all_finish view jobs ends found all.1 more)
+-- of no streams nothing is found
+pub none_found : {S : Type 0} (view : SourceView S) (jobs : List (StreamJobsValue S)) (room : ℕ) (found : StreamResultsValue S)
+    → length jobs ≡ 0 → found ≡ no_results room → AreFound view jobs found
+none_found view [] room found none is =
+    subst (AreFound view []) (sym is)
+    (record { found = []; finish = tt; reports = refl; readers = refl; passes = refl; dropped = refl })
+none_found view (j ∷ jobs) room found none is = cc
 
-pub finish_if_ok : {A : Type 0} {S : Type 0} (view : SourceView S) (found_in : A
-    → List (StreamResultValue S)) (jobs : List (StreamJobsValue S))
-    (ends : List (Option (StreamResultValue S))) (r : Result A (ThreadFault S)) → AllEnd view jobs ends
-    → IfOk r (λ a. ends ≡ map (λ f. Some f) (found_in a)) → IfOk r (λ a. AllFinish view jobs (found_in a))
-finish_if_ok view found_in jobs ends (Ok a) all is = all_finish view jobs ends (found_in a) all is
-finish_if_ok view found_in jobs ends (Err fault) all is = tt
+-- the ring of a stream failed, behind those of which this was found
+behind : {A : Type 0} (before after : List A) (x : A) → slice_get (before ++ x ∷ after) (length before) ≡ Some x
+behind [] after x = refl
+behind (b ∷ before) after x = behind before after x
 
-ends_count : {S : Type 0} (view : SourceView S) (jobs : List (StreamJobsValue S)) (ends : List (Option (StreamResultValue S)))
-    → AllEnd view jobs ends
-    → length ends ≡ length jobs
-ends_count view jobs ends all = zip_count (IsEndOf view) jobs ends all
-
--- what was found of each stream before the first of which nothing was
-abbrev EndsAtRing : {S : Type 0} → List (Option (StreamResultValue S)) → ThreadFault S → Type 0
-EndsAtRing {S} ends fault =
-    (before : List (StreamResultValue S)) × (after : List (Option (StreamResultValue S)))
-    × (ends ≡ map (λ f. Some f) before ++ None ∷ after)
-    × IsRingBehind before fault
-
--- that one is one of the streams
-pub first_within : {A : Type 0} {S : Type 0} (view : SourceView S) (count : ℕ) (jobs : List (StreamJobsValue S))
-    (ends : List (Option (StreamResultValue S))) (r : Result A (ThreadFault S)) → AllEnd view jobs ends → count ≡ length jobs
-    → IfErr r (EndsAtRing ends) → IfErr r (IsFaultWithin count)
-first_within view count jobs ends (Ok a) all same first = tt
-first_within view count jobs ends (Err (Spawn stream)) all same first = absurd first.3
-first_within view count jobs ends (Err (Ring found)) all same first =
-    let whole : length ends ≡ length first.0 + length (None ∷ first.1) =
-    ap length first.2 ∙ length-append (map (λ f. Some f) first.0) (None ∷ first.1)
-    ∙ ap (λ k. k + length (None ∷ first.1)) (length-map first.0 (λ f. Some f)) in
-    let before : length found.items ≡ length first.0 = ap length first.3 in
-    (omega arith, omega (arith, whole, before, ends_count view jobs ends all, same))
-
--- something was found of each stream before it
-finish_before : {S : Type 0} (view : SourceView S) (jobs : List (StreamJobsValue S)) (before : List (StreamResultValue S))
-    (after : List (Option (StreamResultValue S)))
-    → AllEnd view jobs (map (λ f. Some f) before ++ None ∷ after) → AllFinish view (take (length before) jobs) before
-finish_before view [] [] after all = absurd all
-finish_before view [] (f ∷ before) after all = absurd all
-finish_before view (j ∷ jobs) [] after all = tt
-finish_before view (j ∷ jobs) (f ∷ before) after all = (all.0, finish_before view jobs before after all.1)
-
--- and that one's mark was missed
-missed_behind : {S : Type 0} (view : SourceView S) (jobs : List (StreamJobsValue S)) (before : List (StreamResultValue S))
-    (after : List (Option (StreamResultValue S))) → AllEnd view jobs (map (λ f. Some f) before ++ None ∷ after)
-    → IsSomeAnd (slice_get jobs (length before)) (λ j. MissesMark view j.reader)
-missed_behind view [] [] after all = absurd all
-missed_behind view [] (f ∷ before) after all = absurd all
-missed_behind view (j ∷ jobs) [] after all = all.0
-missed_behind view (j ∷ jobs) (f ∷ before) after all = missed_behind view jobs before after all.1
-
-pub first_fault : {A : Type 0} {S : Type 0} (view : SourceView S) (jobs : List (StreamJobsValue S))
-    (ends : List (Option (StreamResultValue S)))
-    (r : Result A (ThreadFault S)) → AllEnd view jobs ends
-    → IfErr r (EndsAtRing ends) → IfErr r (IsFirstFault view jobs)
-first_fault view jobs ends (Ok a) all first = tt
-first_fault view jobs ends (Err (Spawn stream)) all first = tt
-first_fault {A} {S} view jobs ends (Err (Ring found)) all first =
-    let ends : AllEnd view jobs (map (λ f. Some f) first.0 ++ None ∷ first.1) = subst (AllEnd view jobs) first.2 all in
-    subst (λ (fs : List (StreamResultValue S)). AllFinish view (take (length fs) jobs) fs
-    × IsSomeAnd (slice_get jobs (length fs)) (λ j. MissesMark view j.reader)) (sym first.3)
-    (finish_before view jobs first.0 first.1 ends, missed_behind view jobs first.0 first.1 ends)
+pub ring_behind : {S : Type 0} (view : SourceView S) (before after jobs : List (StreamJobsValue S)) (job : StreamJobsValue S)
+    (found : StreamResultsValue S)
+    → AreFound view before found → MissesMark view job.reader → before ++ job ∷ after ≡ jobs → IsFaultOf view jobs (Ring found)
+ring_behind {S} view before after jobs job found all missed whole =
+    let count : length before ≡ length found.passes =
+    sym (ap length all.passes ∙ length-map all.found (λ one. one.pass) ∙ zip_count (Finishes view) before all.found all.finish) in
+    subst (λ js. IsFaultOf view js (Ring found)) whole (
+      subst (λ (n : ℕ). AreFound view (take n (before ++ job ∷ after)) found) count
+          (subst (λ js. AreFound view js found) (sym (take-append_seam before (job ∷ after))) all),
+      subst (λ (n : ℕ). IsSomeAnd (slice_get (before ++ job ∷ after) n) (λ j. MissesMark view j.reader)) count
+          (subst (λ one. IsSomeAnd one (λ j. MissesMark view j.reader)) (sym (behind before after job)) missed),
+    )
 
 -- ---- the jobs of all streams
 
@@ -202,12 +163,6 @@ jobs_started {S} signal jobs all is = ap (map (λ (one : StartedValue S). one.jo
 pub started_count : {S : Type 0} (signal : ℕ) (jobs : List (StreamJobsValue S)) (all : List (StartedValue S))
     → all ≡ map (started_with signal) jobs → length all ≡ length jobs
 started_count signal jobs all is = ap length is ∙ length-map jobs (started_with signal)
-
--- of no streams nothing is found
-pub none_to_find : {S : Type 0} (view : SourceView S) (jobs : List (StreamJobsValue S)) (found : List (StreamResultValue S))
-    → length jobs ≡ 0 → found ≡ [] → AllFinish view jobs found
-none_to_find view [] found none is = subst (AllFinish view []) (sym is) tt
-none_to_find view (j ∷ jobs) found none is = cc
 
 -- what a thread gave back that wasn't told to leave keeps its promise
 pub if_stayed : {A E : Type 0} (end : Result A E) (P : A → Type 0) (Q : E → Type 0) → MatchResult end P Q

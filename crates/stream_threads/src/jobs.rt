@@ -5,7 +5,7 @@ ghost use Rattle.lrup_model.specs.Layout.{IsStream};
 ghost use Rattle.stream_check.specs.Checker.{IsNew};
 ghost use Rattle.stream_threads.specs.Jobs.{AreJobs};
 
-use crate::joining::StreamResult;
+use crate::results::StreamResults;
 use crate::tasks::{CheckTask, CheckedPass, ReadTask};
 use clause_store::Pass;
 use lrup_text::Source;
@@ -24,7 +24,7 @@ pub enum ThreadFault<R: Source + Drop> {
     Spawn(u64),
     /// All threads have ended, but a checking thread found its ring abandoned before a mark. These are the results of the streams before
     /// the first such stream.
-    Ring(Vec<StreamResult<R>>),
+    Ring(StreamResults<R>),
 }
 
 /// The two jobs of a stream, which have the two ends of one ring, and the stream's pass.

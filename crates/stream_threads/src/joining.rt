@@ -1,51 +1,26 @@
 //! Starts all threads, joins them, and gathers the result of each stream.
-ghost use Rattle.std.specs.Prelude.{◌≡◌, ◌+◌, ◌++◌, ◌↔◌, ◌<◌, ◌≤◌, true, false, List, Option, [], ◌∷◌, None, Some, IfErr, IfNone, IfOk, IfSome, IsNone, OnOk, length, map, vec_capacity, vec_len};
+ghost use Rattle.std.specs.Prelude.{◌≡◌, ◌↔◌, ◌<◌, ◌≤◌, true, false, [], IfErr, IfNone, IfOk, IfSome, IsNone, OnOk, map, vec_capacity, vec_len};
 ghost use Rattle.std.specs.List.{AllByRecursion};
 ghost use Rattle.rtrb.specs.Ring.{received, IsPair};
 ghost use Rattle.stream_ring.specs.Items.{EndsBeforeMark, SendsAll};
 ghost use Rattle.runs.specs.Readings.{readers_view};
-ghost use Rattle.stream_threads.specs.Faults.{IsFaultWithin, IsFirstFault};
-ghost use Rattle.stream_threads.specs.internal.Workers.{IsRingBehind, AllEnd, IsEndOf, JudgesAtPass};
-ghost use Rattle.stream_threads.specs.Jobs.{AllFinish, CanBegin, Finishes, StreamResultValue, StreamJobsValue, MissesMark};
+ghost use Rattle.stream_threads.specs.Faults.{IsFaultOf};
+ghost use Rattle.stream_threads.specs.internal.Workers.{IsEndOf, JudgesAtPass};
+ghost use Rattle.stream_threads.specs.Jobs.{AreFound, CanBegin, StreamJobsValue};
 
 use crate::jobs::{HalfStarted, Started, StreamJobs, ThreadFault};
+use crate::results::{StreamResult, StreamResults};
 use crate::starting::{start_all_checking, start_all_reading};
 use crate::tasks::{CheckedPass, result_after_start};
-use clause_store::{Pass, Store};
+use clause_store::Store;
 use lrup_text::Source;
 use std::alloc::{AllocError, Global};
 use std::marker::Model;
 use std::sync::{OnceLock, OnceToken, Wait};
 use std::thread;
 use std::thread::{Scope, Threads};
-use stream_check::{DroppedIds, Gate, Report};
+use stream_check::Gate;
 use stream_jobs::{Sent, jobs_agree};
-
-/// The result of a stream, whose two threads have ended.
-#[derive(Drop)]
-pub struct StreamResult<R: Source + Drop> {
-    /// How the stream is judged.
-    pub report: Report,
-    /// The reader, at its end or after a read that failed.
-    pub reader: R,
-    /// The stream's pass. Contracts know from it which calls the stream made.
-    pub pass: Pass,
-    /// The identities that the stream dropped.
-    pub dropped: DroppedIds,
-}
-
-impl<R: Source + Drop> Model for StreamResult<R> {
-    ghost use Rattle.stream_threads.specs.Jobs.{StreamResultValue};
-
-    ghost Value = { StreamResultValue R };
-
-    ghost view = { λ found. record {
-      report = found.report;
-      reader = found.reader;
-      pass = found.pass;
-      dropped = found.dropped;
-    } };
-}
 
 /// The start signal of a run, for which its threads wait before they do anything. It says once to start, or to leave.
 #[derive(Drop)]
@@ -69,22 +44,20 @@ pub struct ThreadLists<'a, R: Source + Drop, G: Gate + Drop> {
     signal: &'a OnceLock<bool>,
     halves: Vec<HalfStarted<'a, R, G>>,
     started: Vec<Started<'a, R, G>>,
-    ends: Vec<Option<StreamResult<R>>>,
-    found: Vec<StreamResult<R>>,
+    found: StreamResults<R>,
 }
 
 impl<'a, R: Source + Drop, G: Gate + Drop> Model for ThreadLists<'a, R, G> {
     ghost use Rattle.std.specs.Prelude.{◌≡◌, ℕ, [], vec_capacity};
+    ghost use Rattle.stream_threads.specs.Jobs.{no_results};
 
     ghost Value = { ℕ };
 
     ghost view = { λ lists. vec_capacity lists.halves };
 
     ghost invariant = { λ lists. (lists.halves.items ≡ []) × (lists.started.items ≡ [])
-        × (lists.ends.items ≡ []) × (lists.found.items ≡ [])
         × (vec_capacity lists.started ≡ vec_capacity lists.halves)
-        × (vec_capacity lists.ends ≡ vec_capacity lists.halves)
-        × (vec_capacity lists.found ≡ vec_capacity lists.halves) };
+        × (lists.found ≡ no_results (vec_capacity lists.halves)) };
 }
 
 impl<'a, R: Source + Drop, G: Gate + Drop> ThreadLists<'a, R, G> {
@@ -100,8 +73,7 @@ impl<'a, R: Source + Drop, G: Gate + Drop> ThreadLists<'a, R, G> {
             signal: &signal.signalled,
             halves: Vec::with_capacity(alloc, count)?,
             started: Vec::with_capacity(alloc, count)?,
-            ends: Vec::with_capacity(alloc, count)?,
-            found: Vec::with_capacity(alloc, count)?,
+            found: StreamResults::with_room(alloc, count)?,
         })
     }
 }
@@ -148,45 +120,28 @@ impl<'a, R: Source + Drop, G: Gate + Drop> Started<'a, R, G> {
     }
 }
 
-/// Joins the threads of all streams, stream 1 first. They were told to start.
+/// Joins the threads of all streams, stream 1 first, and gathers their results. They were told to start. At the first stream that has no
+/// result it leaves the others to the scope, which joins them.
 fn join_all<'a, T: Threads, R: Source + Drop, G: Gate + Drop>(
     threads: &T,
     signalled: &OnceToken<'a, bool>,
     all: Vec<Started<'a, R, G>>,
-    mut ends: Vec<Option<StreamResult<R>>>,
-) -> Vec<Option<StreamResult<R>>>
+    mut found: StreamResults<R>,
+) -> Result<StreamResults<R>, ThreadFault<R>>
     requires signalled { signalled.now.value ≡ true }
     requires signal { AllByRecursion (λ started. started.signal ≡ signalled.now.of) all.items }
-    requires none { ends.items ≡ [] }
-    requires room { vec_len all ≤ vec_capacity ends }
-    ensures ends { AllEnd (readers_view R.Source)
-        (map (λ started. started.jobs) all.entry.items) result.items }
-    ensures count { vec_len result ≡ vec_len all.entry }
+    requires none { AreFound (readers_view R.Source) [] found }
+    requires room { vec_len all ≤ found.room }
+    ensures found { IfOk result (AreFound (readers_view R.Source)
+        (map (λ started. started.jobs) all.entry.items)) }
+    ensures fault { IfErr result (IsFaultOf (readers_view R.Source)
+        (map (λ started. started.jobs) all.entry.items)) }
 {
     for started in all {
-        ends.push_reserved(started.join(threads, signalled));
-    }
-    ends
-}
-
-/// The results of all streams. If some stream has none, the fault has the results of the streams before the first such stream.
-fn all_found<R: Source + Drop>(
-    ends: Vec<Option<StreamResult<R>>>,
-    mut found: Vec<StreamResult<R>>,
-) -> Result<Vec<StreamResult<R>>, ThreadFault<R>>
-    requires none { found.items ≡ [] }
-    requires room { vec_len ends ≤ vec_capacity found }
-    ensures found { IfOk result (λ all. ends.items ≡ map (λ f. Some f) all.items) }
-    ensures first { IfErr result (λ fault. (before : List (StreamResultValue R))
-        × (after : List (Option (StreamResultValue R)))
-        × (ends.items ≡ map (λ f. Some f) before ++ None ∷ after)
-        × IsRingBehind before fault) }
-{
-    for end in ends {
-        let Some(one) = end else {
+        let Some(one) = started.join(threads, signalled) else {
             return Err(ThreadFault::Ring(found));
         };
-        found.push_reserved(one);
+        found.push(one);
     }
     Ok(found)
 }
@@ -206,20 +161,16 @@ fn start_and_join<
     store: &'s Store,
     all: Vec<StreamJobs<R, G>>,
     lists: ThreadLists<'a, R, G>,
-) -> Result<Vec<StreamResult<R>>, ThreadFault<R>>
+) -> Result<StreamResults<R>, ThreadFault<R>>
     requires begin { AllByRecursion (CanBegin store.now) all.items }
     requires room { vec_len all ≤ lists }
-    ensures found { IfOk result (λ found.
-        AllFinish (readers_view R.Source) all.items found.items) }
-    ensures fault { IfErr result (IsFaultWithin (vec_len all)) }
-    ensures first { IfErr result
-        (IsFirstFault (readers_view R.Source) all.items) }
+    ensures found { IfOk result (AreFound (readers_view R.Source) all.items) }
+    ensures fault { IfErr result (IsFaultOf (readers_view R.Source) all.items) }
 {
     let ThreadLists {
         signal,
         mut halves,
         mut started,
-        ends,
         found,
     } = lists;
     // If a start fails, the threads that have started are told to leave, and the scope joins them before `check_all` returns.
@@ -232,15 +183,14 @@ fn start_and_join<
         return Err(ThreadFault::Spawn(stream));
     }
     // The signal is the run's own, so nobody set it before, and this fault never comes. No contract of `OnceLock` says so. `Spawn` has to
-    // name a stream that there is, so without streams the answer is the empty list.
+    // name a stream that there is, so without streams the answer is the empty lists.
     let Ok(signalled) = signal_start(threads, signal) else {
         if started.is_empty() {
             return Ok(found);
         }
         return Err(ThreadFault::Spawn(1));
     };
-    let ends = join_all(threads, &signalled, started, ends);
-    all_found(ends, found)
+    join_all(threads, &signalled, started, found)
 }
 
 /// Tells all threads to start, and returns the signal's token, which shows it. If they were told to leave before, its token is the fault.
@@ -272,26 +222,20 @@ pub fn check_all<T: Threads + Wait + Sync, R: Source + Send + Drop, G: Gate + Se
     store: &Store,
     all: Vec<StreamJobs<R, G>>,
     lists: ThreadLists<'_, R, G>,
-) -> Result<Vec<StreamResult<R>>, ThreadFault<R>>
+) -> Result<StreamResults<R>, ThreadFault<R>>
     requires begin { AllByRecursion (CanBegin store.now) all.items }
     requires room { vec_len all ≤ lists }
-    ensures found { IfOk result (λ found.
-        AllFinish (readers_view R.Source) all.items found.items) }
-    ensures fault { IfErr result (IsFaultWithin (vec_len all)) }
-    ensures first { IfErr result
-        (IsFirstFault (readers_view R.Source) all.items) }
+    ensures found { IfOk result (AreFound (readers_view R.Source) all.items) }
+    ensures fault { IfErr result (IsFaultOf (readers_view R.Source) all.items) }
 {
     thread::scope(
         thread::scope_env(),
         threads,
-        move |scope| -> Result<Vec<StreamResult<R>>, ThreadFault<R>>
+        move |scope| -> Result<StreamResults<R>, ThreadFault<R>>
             requires begin { AllByRecursion (CanBegin store.now) all.items }
             requires room { vec_len all ≤ lists }
-            ensures found { IfOk result (λ found.
-                AllFinish (readers_view R.Source) all.items found.items) }
-            ensures fault { IfErr result (IsFaultWithin (vec_len all)) }
-            ensures first { IfErr result
-                (IsFirstFault (readers_view R.Source) all.items) }
+            ensures found { IfOk result (AreFound (readers_view R.Source) all.items) }
+            ensures fault { IfErr result (IsFaultOf (readers_view R.Source) all.items) }
         { start_and_join(scope, threads, store, all, lists) },
     )
 }

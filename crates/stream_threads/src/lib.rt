@@ -3,8 +3,10 @@
 
 mod jobs;
 mod joining;
+mod results;
 mod starting;
 mod tasks;
 
 pub use jobs::{StreamJobs, ThreadFault, jobs_of};
-pub use joining::{StartSignal, StreamResult, ThreadLists, check_all};
+pub use joining::{StartSignal, ThreadLists, check_all};
+pub use results::StreamResults;

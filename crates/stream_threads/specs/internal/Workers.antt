@@ -1,10 +1,7 @@
 -- What is known of workers that were started, and of those that have ended (this project's own).
 use Rattle.std.specs.Prelude.{◌≡◌, ℕ, List, Option, Some, None}
-use Rattle.std.specs.List.{AllZip}
 use Rattle.lrup_text.specs.ReadOut.{SourceView}
 use Rattle.stream_threads.specs.Jobs.{StreamResultValue, StreamJobsValue, MissesMark, Finishes}
-use Rattle.stream_threads.specs.declared.jobs.ThreadFault.{ThreadFault}
-use Rattle.stream_threads.specs.declared.jobs.ThreadFault.TheVariants.{Spawn, Ring}
 use Rattle.lrup_model.specs.Event.{History}
 use Rattle.lrup_model.specs.Pass.{PassMoves, pass_caller_view}
 use Rattle.clause_store.specs.Passes.{PassValue, store_of}
@@ -12,11 +9,6 @@ use Rattle.stream_check.specs.declared.report.Report.{Report}
 use Rattle.stream_check.specs.CheckerValue.{CheckerValue}
 use Rattle.stream_check.specs.Judging.{joined}
 use Rattle.stream_jobs.specs.Judged.{JudgesAtMark}
-
--- the fault is that of a ring, behind the streams of which this was found
-abbrev pub IsRingBehind : {S : Type 0} → List (StreamResultValue S) → ThreadFault S → Type 0
-IsRingBehind found (Spawn stream) = ⊥
-IsRingBehind found (Ring before) = before.items ≡ found
 
 -- what they were started with: the jobs, and the signal for which they wait
 pub record StartedValue (S : Type 0) : Type 0 where
@@ -41,9 +33,3 @@ abbrev pub IsEndOf : {S : Type 0} → SourceView S → StreamJobsValue S → Opt
     → Type 0
 IsEndOf view jobs (Some found) = Finishes view jobs found
 IsEndOf view jobs None = MissesMark view jobs.reader
-
--- what came of each stream, in order
-abbrev pub AllEnd : {S : Type 0} → SourceView S → List (StreamJobsValue S)
-    → List (Option (StreamResultValue S))
-    → Type 0
-AllEnd view all ends = AllZip (IsEndOf view) all ends
