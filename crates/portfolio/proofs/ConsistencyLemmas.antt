@@ -1,5 +1,5 @@
 -- The one history of a run with threads, and what the reports say of it.
-use Rattle.std.proofs.Common.{◌≡◌, inl, inr, ℕ, zero, suc, ◌+◌, ◌-◌, ◌<◌, ◌≤◌, Bool, true, false, List, [], ◌∷◌, ◌++◌, length, map, take}
+use Rattle.std.proofs.Common.{◌≡◌, ◌≢◌, inl, inr, ℕ, zero, suc, ◌+◌, ◌-◌, ◌<◌, ◌≤◌, Bool, true, false, List, [], ◌∷◌, ◌++◌, length, map, take}
 use Rattle.std.proofs.Common.{Some, refl, sym, ap, ap₂, subst, ◌∙◌, arith, append-nil}
 use Rattle.std.specs.Result.{IfErr, IsErrAnd}
 use Rattle.std.specs.Prelude.{IsSome, IsSomeAnd, Option, None, Result, Ok, Err, slice_get, if◌then◌else◌}
@@ -82,15 +82,10 @@ pub not_layout : {T : Type 0} (result : Result T RunFault) (fault : LayoutFault)
 not_layout (Ok value) fault memory is = no_error is
 not_layout (Err e) fault memory is = cc
 
-pub not_spawn : {T : Type 0} (result : Result T RunFault) (stream : ℕ) → IfErr result (λ e. e ≡ Memory)
-    → result ≡ Err (Spawn stream) → ⊥
-not_spawn (Ok value) stream memory is = no_error is
-not_spawn (Err e) stream memory is = cc
-
-pub not_ring : {T : Type 0} (result : Result T RunFault) (stream : ℕ) → IfErr result (λ e. e ≡ Memory)
-    → result ≡ Err (Ring stream) → ⊥
-not_ring (Ok value) stream memory is = no_error is
-not_ring (Err e) stream memory is = cc
+pub no_threads : {T : Type 0} (result : Result T RunFault) → IfErr result (λ e. e ≡ Memory) → (stream : ℕ)
+    → (result ≢ Err (Spawn stream)) × (result ≢ Err (Ring stream))
+no_threads (Ok value) memory stream = (no_error, no_error)
+no_threads (Err e) memory stream = ((λ is. cc), (λ is. cc))
 
 -- what `?` hands on is out of memory, and so is whatever fault there is
 pub is_memory : {T : Type 0} (result : Result T RunFault) → IsErrAnd result (λ e. e ≡ Memory) → IfErr result (λ e. e ≡ Memory)

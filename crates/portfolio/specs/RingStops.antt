@@ -1,5 +1,5 @@
 -- A run that the ring of a stream stopped (this project's own).
-use Rattle.std.specs.Prelude.{◌-◌, ℕ, List, IsSome, IsSomeAnd, length, slice_get, take}
+use Rattle.std.specs.Prelude.{◌-◌, ℕ, List, IsSome, IsSomeAnd, slice_get, take}
 use Rattle.lrup_model.specs.Formula.{Cnf}
 use Rattle.lrup_model.specs.Layout.{IsStream}
 use Rattle.lrup_text.specs.ReadOut.{SourceView}

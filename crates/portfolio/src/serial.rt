@@ -4,7 +4,7 @@ ghost use Rattle.std.specs.List.{AllByRecursion};
 ghost use Rattle.lrup_model.specs.Cube.{IsUnsatisfiableUnder};
 ghost use Rattle.lrup_model.specs.Entailment.{IsUnsatisfiable};
 ghost use Rattle.lrup_model.specs.Event.{History};
-ghost use Rattle.lrup_model.specs.Layout.{Fits, IsFault, IsStream};
+ghost use Rattle.lrup_model.specs.Layout.{IsFault, IsStream};
 ghost use Rattle.lrup_model.specs.declared.layout.LayoutFault.{LayoutFault};
 ghost use Rattle.lrup_model.specs.Plain.{PlainMoves, formula_of, free_at, plain_caller_view, plain_state};
 ghost use Rattle.lrup_model.specs.State.{state};
@@ -14,7 +14,7 @@ ghost use Rattle.run_laws.specs.Groups.{AreIsolated};
 ghost use Rattle.portfolio.specs.Histories.{IsOfRun, OnOneThread};
 ghost use Rattle.portfolio.specs.Outcomes.{layout_of, run_params_of, verdict_of};
 ghost use Rattle.runs.specs.Readings.{readers_view};
-ghost use Rattle.portfolio.specs.internal.Turns.{AreOver, SerialEnd, AreStarted, SerialStep, HaveReports, IsOverAt, IsInSerialRun, SerialInvariant};
+ghost use Rattle.portfolio.specs.internal.Turns.{AreOver, SerialEnd, AreStarted, SerialStep, HaveReports, IsOverAt, IsInSerialRun};
 ghost use Rattle.portfolio.specs.internal.Working.{AreBlocksOfTurn, WorkerStep};
 
 use crate::options::Options;
@@ -75,30 +75,11 @@ pub fn run_serial<W: Wait, R: Source + Drop, G: Gate + Drop>(
 {
     let layout = options.layout(formula, readers.len())?;
     let run_params = RunParams::new(&layout, cube, options.tries());
-    let (map, workers) = open(alloc, formula, &run_params, readers, gates)?;
+    let map = PlainMap::open(alloc, formula, &layout)?;
+    let workers = workers_of(alloc, &run_params, readers, gates)?;
     // A law, which does nothing: the proof of `isolated` uses its contract.
     run_isolated();
     check(wait, alloc, map, workers)
-}
-
-/// Opens the map of a run, and makes a worker for each stream.
-fn open<R: Source + Drop, G: Gate + Drop>(
-    alloc: Global,
-    formula: &Formula,
-    run_params: &RunParams<'_>,
-    readers: Vec<R>,
-    gates: Vec<G>,
-) -> Result<(PlainMap, Vec<Worker<R, G>>), AllocError>
-    requires fits { Fits run_params.now.layout formula.now }
-    requires streams { run_params.now.layout.streams ≡ length readers.items }
-    requires gates { vec_len gates ≡ vec_len readers }
-    requires running { AllByRecursion (λ r. R.has_failed r ≡ false) readers.items }
-    ensures { IfOk result (λ opened. SerialInvariant (readers_view R.Source) formula.now
-        run_params.now readers.items 0 opened.0 opened.1.items) }
-{
-    let map = PlainMap::open(alloc, formula, run_params.layout())?;
-    let workers = workers_of(alloc, run_params, readers, gates)?;
-    Ok((map, workers))
 }
 
 /// Takes turns until all streams are over, and gathers their results. Memory for these is taken before the first turn.
