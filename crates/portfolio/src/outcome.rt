@@ -48,8 +48,8 @@ pub enum RunFault {
     #[error("worker {0} not started")]
     Spawn(u64),
     /// The checking thread of this stream, from 1 on, found its ring abandoned before the mark for the end, though the stream was read out.
-    /// The reading thread pushes the mark, and keeps its half of the ring until both are joined. No contract of `rtrb` says that this is
-    /// enough, so the fault stands here. Tests show that it doesn't come.
+    /// The reading thread pushes the mark, and its `Producer` is kept until both threads are joined. No contract of `rtrb` says that this
+    /// is enough, so the fault stands here. Tests show that it doesn't come.
     #[error("ring of stream {0}")]
     Ring(u64),
 }

@@ -31,11 +31,12 @@ use stream_threads::{StartSignal, StreamResults, ThreadFault, ThreadLists, check
 
 /// Checks all streams of a formula, with two threads for each: one reads the stream's bytes to the end, and the other checks them, against
 /// one store of clauses. The outcome has a report for each stream, and the verdict of these: whether a stream added the empty clause, or
-/// one that the cube, of assumed literals, makes false. There is one gate for each reader.
+/// one that the cube, of assumed literals, makes false. Element k of `readers`, of `gates` and of the outcome's lists is stream k + 1's.
 ///
-/// All lists and buffers are made before the first thread starts. After that, threads take memory of their own, or a start fails; and
-/// streams keep the identities that they drop. No reader is read before all threads have started. `run` returns when all threads have
-/// ended, so it blocks while a reader does. The faults, and when they come, are those of `RunFault`; after a fault there are no reports.
+/// All lists and buffers are made before the first thread starts. After that only starts take memory, which without it fail
+/// (`RunFault::Spawn`), and checkers for the identities that their streams drop, whose reports say so (`Ending::Memory`). No reader is
+/// read before all threads have started. `run` returns when all threads have ended, so it blocks while a reader does. The faults, and
+/// when they come, are those of `RunFault`; after a fault there are no reports.
 pub fn run<T: Threads + Wait + Sync, R: Source + Send + Drop, G: Gate + Send + Drop>(
     threads: &T,
     alloc: Global,
@@ -104,14 +105,14 @@ pub fn run<T: Threads + Wait + Sync, R: Source + Send + Drop, G: Gate + Send + D
         Err(ThreadFault::Spawn(stream)) => Err(RunFault::Spawn(stream)),
         Err(ThreadFault::Ring(found)) => {
             let stream = found.passes.len() as u64 + 1;
-            // For the proof alone, and dropped at once: what was found of the streams before shows what the fault promises of them.
+            // For the proof alone: the contract of `outcome_of` shows what the fault promises of the streams before.
             let _before = outcome_of(store, found);
             Err(RunFault::Ring(stream))
         }
     }
 }
 
-/// The outcome of the streams, whose threads have ended. All passes meet, so that contracts know one history of all.
+/// The outcome of the streams, whose threads have ended. All passes meet, which takes a few loads: contracts then know one history of all.
 fn outcome_of<R: Source + Drop>(store: Store, found: StreamResults<R>) -> Outcome<R>
     requires store { AreOf store found.passes }
     ensures reports { result.reports.items ≡ found.reports }

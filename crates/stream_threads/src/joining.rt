@@ -22,7 +22,7 @@ use std::thread::{Scope, Threads};
 use stream_check::Gate;
 use stream_jobs::{Sent, jobs_agree};
 
-/// The start signal of a run, for which its threads wait before they do anything. It says once to start, or to leave.
+/// The start signal of a run, for which its threads wait before they do anything. It says once to start (`true`), or to leave (`false`).
 #[derive(Drop)]
 pub struct StartSignal {
     signalled: OnceLock<bool>,
@@ -37,8 +37,8 @@ impl StartSignal {
     }
 }
 
-/// Lists with room for the threads and the results of a number of streams, and the signal for which the threads wait. With them no start
-/// and no join takes memory for a list.
+/// The signal for which the threads wait, and lists with room for the threads and the results of a number of streams: so no start and no
+/// join takes memory for a list. They are made before the scope of the threads, since the threads' tokens borrow the signal.
 #[derive(Drop)]
 pub struct ThreadLists<'a, R: Source + Drop, G: Gate + Drop> {
     signal: &'a OnceLock<bool>,
@@ -173,7 +173,8 @@ fn start_and_join<
         mut started,
         found,
     } = lists;
-    // If a start fails, the threads that have started are told to leave, and the scope joins them before `check_all` returns.
+    // If a start fails, the threads that have started are told to leave, and the scope joins them before `check_all` returns. Nobody set
+    // the signal before, so `set` succeeds.
     if let Err(stream) = start_all_checking(scope, threads, store, signal, all, &mut halves) {
         let _ = signal.set(threads, false);
         return Err(ThreadFault::Spawn(stream));
@@ -182,8 +183,8 @@ fn start_and_join<
         let _ = signal.set(threads, false);
         return Err(ThreadFault::Spawn(stream));
     }
-    // The signal is the run's own, so nobody set it before, and this fault never comes. No contract of `OnceLock` says so. `Spawn` has to
-    // name a stream that there is, so without streams the answer is the empty lists.
+    // An `Err` says that somebody told the threads to leave before. The signal is the run's own, so nobody did, but no contract of
+    // `OnceLock` says so. `Spawn` has to name a stream that there is, so without streams the answer is the empty lists.
     let Ok(signalled) = signal_start(threads, signal) else {
         if started.is_empty() {
             return Ok(found);
