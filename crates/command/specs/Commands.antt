@@ -142,8 +142,8 @@ AreOpened {F = F} opens before (path ∷ paths) (reader ∷ readers) after =
 AreOpened opens before _ _ after = ⊥
 
 -- With status 3 or 8, if the words ask for a checkpoint at a path: the bytes that were read of the file at FORMULA, the first to be
--- opened, are a text of a formula; then the assumed literals were read, if any, and the streams opened; then other bytes were saved at
--- the path, as the last that was done to the files, and they are a checkpoint of the formula.
+-- opened, are a text of a formula; then the assumed literals were read, if any, and the streams opened; then a checkpoint of the
+-- formula was saved at the path, as the last that was done to the files.
 abbrev pub CheckpointEntailed : {F R : Type 0} → (F → Text → R → F → Type 0)
     → (F → Text → List ℕ → F → Type 0) → (F → Text → List ℕ → F → Type 0) → F → List Text → F → ℕ
     → Type 0
