@@ -1,5 +1,6 @@
 -- The one history of a run with threads, and what the reports say of it.
-use Rattle.std.proofs.Common.{◌≡◌, ◌≢◌, inl, inr, ℕ, zero, suc, ◌+◌, ◌-◌, ◌<◌, ◌≤◌, Bool, true, false, List, [], ◌∷◌, ◌++◌, length, map, take}
+use Rattle.std.proofs.Common.{◌≡◌, ◌≢◌, inl, inr, ℕ, zero, suc, ◌+◌, ◌-◌, ◌<◌, ◌≤◌, Bool, true, false, List, [], ◌∷◌, ◌++◌, length, map}
+use Rattle.std.proofs.Common.{take}
 use Rattle.std.proofs.Common.{Some, refl, sym, ap, ap₂, subst, ◌∙◌, arith, append-nil}
 use Rattle.std.specs.Result.{IfErr, IsErrAnd}
 use Rattle.std.specs.Prelude.{IsSome, IsSomeAnd, Option, None, Result, Ok, Err, slice_get, if◌then◌else◌}
@@ -40,7 +41,7 @@ use Rattle.runs.specs.lemmas.EachLemmas.{each_count, each_take, zip_count}
 use Rattle.runs.specs.lemmas.StreamLemmas.{IsJudgedBy, observed_as_many, observed_count}
 use Rattle.runs.specs.SequentialConsistency.{HaveOneHistory, AreJudgedIn, seen_by}
 use Rattle.stream_threads.specs.Faults.{IsFaultOf}
-use Rattle.stream_threads.specs.Jobs.{StreamJobsValue, StreamResultValue, StreamResultsValue, CanBegin, Finishes, AllFinish, AreFound}
+use Rattle.stream_threads.specs.Jobs.{StreamJobsValue, StreamResultValue, StreamResultsValue, CanBegin, Finishes, AllFinish, AreResults}
 use Rattle.stream_threads.specs.Jobs.{AreJobs, MissesMark}
 use Rattle.stream_threads.specs.declared.jobs.ThreadFault.TheVariants as thread_faults
 use Rattle.lrup_text.specs.ReadOut.{SourceView}
@@ -266,7 +267,7 @@ module _ {S : Type 0} (view : SourceView S) where
   finish_of store (j ∷ js) (x ∷ fs) begin all = (all.0.store ∙ begin.0.here, finish_of store js fs begin.1 all.1)
 
   pub found_of : (store : StoreValue) (js : List (StreamJobsValue S)) (results : StreamResultsValue S)
-      → AllByRecursion (CanBegin store) js → AreFound view js results → AreOf store results.passes
+      → AllByRecursion (CanBegin store) js → AreResults view js results → AreOf store results.passes
   found_of store js results begin so =
       subst (λ (ps : List PassValue). AreOf store ps) (sym so.passes) (finish_of store js so.found begin so.finish)
 
@@ -414,7 +415,7 @@ module _ {S : Type 0} (view : SourceView S) where
   -- By a legal history that has their calls, it is a run as far as these streams go.
   first_run : (f : Cnf) (run_params : RunParamsValue) (h : History) (firsts : List S) (js : List (StreamJobsValue S))
       (results : StreamResultsValue S) (vs : List View)
-      → (so : AreFound view js results) → Judged run_params 1 firsts so.found vs → IsLegal f run_params.layout h
+      → (so : AreResults view js results) → Judged run_params 1 firsts so.found vs → IsLegal f run_params.layout h
       → ((k : ℕ) (v : View) → slice_get vs k ≡ Some v → v.mine ≡ own h (1 + k))
       → (ran : IsRunOfSome (length firsts) InThreads view f run_params firsts results.readers results.reports results.dropped)
       × (ran.run.history ≡ h)
@@ -451,13 +452,13 @@ module _ {S : Type 0} (view : SourceView S) where
       → IsBegun f run_params store firsts js → (s : ℕ) → (0 < s) × (s ≤ length js) → IsStream run_params.layout s
   stream_within begun s within = (omega (arith, within.0), omega (arith, within.1, begun_count begun))
 
-  met : (js : List (StreamJobsValue S)) (results : StreamResultsValue S) (vs : List View) → (so : AreFound view js results)
+  met : (js : List (StreamJobsValue S)) (results : StreamResultsValue S) (vs : List View) → (so : AreResults view js results)
       → AreSynced (views results.passes) vs → AreSynced (views (map (λ x. x.pass) so.found)) vs
   met js results vs so synced = subst (λ (ps : List PassValue). AreSynced (views ps) vs) so.passes synced
 
   pub run_history : {f : Cnf} {run_params : RunParamsValue} {store : StoreValue} {firsts : List S} {js : List (StreamJobsValue S)}
       → IsBegun f run_params store firsts js
-      → (results : StreamResultsValue S) (vs : List View) → AreFound view js results → AreSynced (views results.passes) vs
+      → (results : StreamResultsValue S) (vs : List View) → AreResults view js results → AreSynced (views results.passes) vs
       → ShareHistory vs → HaveOneHistory f run_params.layout (seen_by vs) vs
   run_history {f} {run_params} begun results vs so synced one =
       one_history f run_params _ _ _ so.found vs begun.is begun.store_is (begun_count begun) begun.ready so.finish
@@ -465,7 +466,7 @@ module _ {S : Type 0} (view : SourceView S) where
 
   pub run_reports : {f : Cnf} {run_params : RunParamsValue} {store : StoreValue} {firsts : List S} {js : List (StreamJobsValue S)}
       → IsBegun f run_params store firsts js
-      → (results : StreamResultsValue S) (vs : List View) → AreFound view js results → AreSynced (views results.passes) vs
+      → (results : StreamResultsValue S) (vs : List View) → AreResults view js results → AreSynced (views results.passes) vs
       → ShareHistory vs
       → (ran : IsRunOf InThreads view f run_params firsts results.readers results.reports results.dropped)
       × (ran.run.history ≡ seen_by vs)
@@ -479,7 +480,7 @@ module _ {S : Type 0} (view : SourceView S) where
   -- Of the first streams alone, whose passes have met: so by the history that they have.
   run_before : (f : Cnf) (run_params : RunParamsValue) (store : StoreValue) → store.layout ≡ run_params.layout
       → (firsts : List S) (js : List (StreamJobsValue S)) → HaveReadyJobs store f run_params 1 firsts js
-      → (results : StreamResultsValue S) (vs : List View) → AreFound view js results → AreSynced (views results.passes) vs
+      → (results : StreamResultsValue S) (vs : List View) → AreResults view js results → AreSynced (views results.passes) vs
       → ShareHistory vs
       → (lasts : List S) × (reports : List Report) × (dropped : List DroppedIdsValue)
       × IsRunOfSome (length firsts) InThreads view f run_params firsts lasts reports dropped
@@ -546,7 +547,7 @@ module _ {S : Type 0} (view : SourceView S) where
       → StopsAtRing view f run_params firsts stream
   stops_at_ring {f} {run_params} {store} {firsts} {js} begun results vs synced one so stream is =
       let n : length results.passes ≡ stream - 1 = omega (arith, is) in
-      let at = subst (λ (k : ℕ). AreFound view (take k js) results × IsSomeAnd (slice_get js k) (λ j. MissesMark view j.reader)) n so in
+      let at = subst (λ (k : ℕ). AreResults view (take k js) results × IsSomeAnd (slice_get js k) (λ j. MissesMark view j.reader)) n so in
       let within : stream - 1 < length js = some_within _ js (stream - 1) at.1 in
       let ran = run_before f run_params store begun.store_is (take (stream - 1) firsts) (take (stream - 1) js)
       (each_take _ (stream - 1) 1 firsts js begun.ready) results vs at.0 synced one in

@@ -44,10 +44,11 @@ pub record IsRunOfSome {S : Type 0} (many : ℕ) (Checked : Way) (view : SourceV
   pub have_dropped : HaveDropped run_params 1 run.streams reports (map (λ d. d.ids) dropped)
 
 -- so it is with all streams of the layout
-abbrev pub IsRunOf : {S : Type 0} → Way → SourceView S → Cnf → RunParamsValue → (firsts lasts : List S)
-    → List Report → List DroppedIdsValue → Type 0
+abbrev pub IsRunOf : {S : Type 0} → Way → SourceView S → Cnf → RunParamsValue
+    → (firsts lasts : List S) → List Report → List DroppedIdsValue → Type 0
 IsRunOf Checked view formula run_params firsts lasts reports dropped =
-    IsRunOfSome run_params.layout.streams Checked view formula run_params firsts lasts reports dropped
+    IsRunOfSome run_params.layout.streams Checked view formula run_params firsts lasts reports
+    dropped
 
 -- These readers, reports and dropped identities are of a run that was checked in this way, and of which this holds.
 abbrev pub IsOfRun : {S : Type 0} → Way → (view : SourceView S) (formula : Cnf)

@@ -2,7 +2,7 @@ pub mod Outcomes
 pub mod ReportText
 pub mod Saving
 pub mod Dropping
-pub mod RingStops
 pub mod Histories
+pub mod RingStops
 pub mod internal
 pub mod lemmas

@@ -18,8 +18,9 @@ use Rattle.stream_jobs.specs.Judged.{JudgesAtMark}
 use Rattle.lrup_text.specs.ReadOut.{SourceView}
 use Rattle.stream_threads.specs.Faults.{IsFaultOf}
 use Rattle.stream_threads.specs.internal.Workers.{JudgesAtPass, StartedValue, started_with}
-use Rattle.stream_threads.specs.Jobs.{AllFinish, AreFound, AreJobs, Finishes, IsJob, MissesMark, StreamJobsValue, StreamResultValue}
-use Rattle.stream_threads.specs.Jobs.{StreamResultsValue, more_results, no_results}
+use Rattle.stream_threads.specs.Jobs.{AllFinish, AreResults, AreJobs, Finishes, IsJob, MissesMark, StreamJobsValue, StreamResultValue}
+use Rattle.stream_threads.specs.Jobs.{StreamResultsValue}
+use Rattle.stream_threads.specs.internal.Workers.{more_results, no_results}
 use Rattle.stream_threads.specs.declared.jobs.ThreadFault.TheVariants.{Ring}
 use Rattle.runs.specs.lemmas.EachLemmas.{zip_count}
 use Rattle.runs.specs.Streams.{RunParamsValue}
@@ -53,7 +54,7 @@ finish_more view (j ∷ jobs) (f ∷ found) job one all here = (all.0, finish_mo
 
 pub found_more : {S : Type 0} (view : SourceView S) (jobs : List (StreamJobsValue S)) (old : StreamResultsValue S)
     (job : StreamJobsValue S) (one : StreamResultValue S)
-    → AreFound view jobs old → Finishes view job one → AreFound view (jobs ++ job ∷ []) (more_results old one)
+    → AreResults view jobs old → Finishes view job one → AreResults view (jobs ++ job ∷ []) (more_results old one)
 found_more {S} view jobs old job one all here = record {
   found = all.found ++ one ∷ [];
   finish = finish_more view jobs all.found job one all.finish here;
@@ -69,9 +70,9 @@ found_more {S} view jobs old job one all here = record {
 
 -- of no streams nothing is found
 pub none_found : {S : Type 0} (view : SourceView S) (jobs : List (StreamJobsValue S)) (room : ℕ) (found : StreamResultsValue S)
-    → length jobs ≡ 0 → found ≡ no_results room → AreFound view jobs found
+    → length jobs ≡ 0 → found ≡ no_results room → AreResults view jobs found
 none_found view [] room found none is =
-    subst (AreFound view []) (sym is)
+    subst (AreResults view []) (sym is)
     (record { found = []; finish = tt; reports = refl; readers = refl; passes = refl; dropped = refl })
 none_found view (j ∷ jobs) room found none is = cc
 
@@ -82,13 +83,13 @@ behind (b ∷ before) after x = behind before after x
 
 pub ring_behind : {S : Type 0} (view : SourceView S) (before after jobs : List (StreamJobsValue S)) (job : StreamJobsValue S)
     (found : StreamResultsValue S)
-    → AreFound view before found → MissesMark view job.reader → before ++ job ∷ after ≡ jobs → IsFaultOf view jobs (Ring found)
+    → AreResults view before found → MissesMark view job.reader → before ++ job ∷ after ≡ jobs → IsFaultOf view jobs (Ring found)
 ring_behind {S} view before after jobs job found all missed whole =
     let count : length before ≡ length found.passes =
     sym (ap length all.passes ∙ length-map all.found (λ one. one.pass) ∙ zip_count (Finishes view) before all.found all.finish) in
     subst (λ js. IsFaultOf view js (Ring found)) whole (
-      subst (λ (n : ℕ). AreFound view (take n (before ++ job ∷ after)) found) count
-          (subst (λ js. AreFound view js found) (sym (take-append_seam before (job ∷ after))) all),
+      subst (λ (n : ℕ). AreResults view (take n (before ++ job ∷ after)) found) count
+          (subst (λ js. AreResults view js found) (sym (take-append_seam before (job ∷ after))) all),
       subst (λ (n : ℕ). IsSomeAnd (slice_get (before ++ job ∷ after) n) (λ j. MissesMark view j.reader)) count
           (subst (λ one. IsSomeAnd one (λ j. MissesMark view j.reader)) (sym (behind before after job)) missed),
     )

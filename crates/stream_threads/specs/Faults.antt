@@ -1,7 +1,7 @@
 -- What is promised if some stream has no result (this project's own).
 use Rattle.std.specs.Prelude.{◌≤◌, ◌<◌, List, IsSomeAnd, length, slice_get, take}
 use Rattle.lrup_text.specs.ReadOut.{SourceView}
-use Rattle.stream_threads.specs.Jobs.{AreFound, StreamJobsValue, MissesMark}
+use Rattle.stream_threads.specs.Jobs.{AreResults, StreamJobsValue, MissesMark}
 use Rattle.stream_threads.specs.declared.jobs.ThreadFault.{ThreadFault}
 use Rattle.stream_threads.specs.declared.jobs.ThreadFault.TheVariants.{Spawn, Ring}
 
@@ -10,5 +10,5 @@ use Rattle.stream_threads.specs.declared.jobs.ThreadFault.TheVariants.{Spawn, Ri
 abbrev pub IsFaultOf : {S : Type 0} → SourceView S → List (StreamJobsValue S) → ThreadFault S
     → Type 0
 IsFaultOf view all (Spawn stream) = (0 < stream) × (stream ≤ length all)
-IsFaultOf view all (Ring found) = AreFound view (take (length found.passes) all) found
+IsFaultOf view all (Ring found) = AreResults view (take (length found.passes) all) found
     × IsSomeAnd (slice_get all (length found.passes)) (λ jobs. MissesMark view jobs.reader)

@@ -1,5 +1,5 @@
 -- The two jobs of a stream, and what comes of them (this project's own).
-use Rattle.std.specs.Prelude.{◌≡◌, ◌++◌, ◌-◌, ℕ, List, [], ◌∷◌, IsSome, map}
+use Rattle.std.specs.Prelude.{◌≡◌, ◌++◌, ℕ, List, [], IsSome, map}
 use Rattle.std.specs.List.{AllZip}
 use Rattle.lrup_model.specs.Event.{History}
 use Rattle.lrup_model.specs.Pass.{PassMoves, pass_caller_view}
@@ -51,22 +51,6 @@ pub record StreamResultsValue (S : Type 0) : Type 0 where
   pub dropped : List DroppedIdsValue
   pub room : ℕ
 
--- those of no streams
-abbrev pub no_results : {S : Type 0} → ℕ → StreamResultsValue S
-no_results room = record { reports = []; readers = []; passes = []; dropped = []; room = room }
-
--- with that of one stream more
-abbrev pub more_results : {S : Type 0} → StreamResultsValue S → StreamResultValue S
-    → StreamResultsValue S
-more_results found one =
-    record {
-      reports = found.reports ++ one.report ∷ [];
-      readers = found.readers ++ one.reader ∷ [];
-      passes = found.passes ++ one.pass ∷ [];
-      dropped = found.dropped ++ one.dropped ∷ [];
-      room = found.room - 1;
-    }
-
 -- the pass is one of this store, and the checker may take its first byte at it
 pub record CanBegin {S : Type 0} (store : StoreValue) (jobs : StreamJobsValue S) : Type 0 where
   pub here : store_of jobs.pass ≡ store
@@ -94,7 +78,7 @@ abbrev pub AllFinish : {S : Type 0} → SourceView S → List (StreamJobsValue S
 AllFinish view all found = AllZip (Finishes view) all found
 
 -- the same, where the results are given part by part
-pub record AreFound {S : Type 0} (view : SourceView S) (all : List (StreamJobsValue S))
+pub record AreResults {S : Type 0} (view : SourceView S) (all : List (StreamJobsValue S))
     (results : StreamResultsValue S) : Type 0 where
   pub found : List (StreamResultValue S)
   pub finish : AllFinish view all found

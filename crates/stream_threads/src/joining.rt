@@ -6,7 +6,7 @@ ghost use Rattle.stream_ring.specs.Items.{EndsBeforeMark, SendsAll};
 ghost use Rattle.runs.specs.Readings.{readers_view};
 ghost use Rattle.stream_threads.specs.Faults.{IsFaultOf};
 ghost use Rattle.stream_threads.specs.internal.Workers.{IsEndOf, JudgesAtPass};
-ghost use Rattle.stream_threads.specs.Jobs.{AreFound, CanBegin, StreamJobsValue};
+ghost use Rattle.stream_threads.specs.Jobs.{AreResults, CanBegin, StreamJobsValue};
 
 use crate::jobs::{HalfStarted, Started, StreamJobs, ThreadFault};
 use crate::results::{StreamResult, StreamResults};
@@ -49,7 +49,7 @@ pub struct ThreadLists<'a, R: Source + Drop, G: Gate + Drop> {
 
 impl<'a, R: Source + Drop, G: Gate + Drop> Model for ThreadLists<'a, R, G> {
     ghost use Rattle.std.specs.Prelude.{◌≡◌, ℕ, [], vec_capacity};
-    ghost use Rattle.stream_threads.specs.Jobs.{no_results};
+    ghost use Rattle.stream_threads.specs.internal.Workers.{no_results};
 
     ghost Value = { ℕ };
 
@@ -130,9 +130,9 @@ fn join_all<'a, T: Threads, R: Source + Drop, G: Gate + Drop>(
 ) -> Result<StreamResults<R>, ThreadFault<R>>
     requires signalled { signalled.now.value ≡ true }
     requires signal { AllByRecursion (λ started. started.signal ≡ signalled.now.of) all.items }
-    requires none { AreFound (readers_view R.Source) [] found }
+    requires none { AreResults (readers_view R.Source) [] found }
     requires room { vec_len all ≤ found.room }
-    ensures found { IfOk result (AreFound (readers_view R.Source)
+    ensures found { IfOk result (AreResults (readers_view R.Source)
         (map (λ started. started.jobs) all.entry.items)) }
     ensures fault { IfErr result (IsFaultOf (readers_view R.Source)
         (map (λ started. started.jobs) all.entry.items)) }
@@ -164,7 +164,7 @@ fn start_and_join<
 ) -> Result<StreamResults<R>, ThreadFault<R>>
     requires begin { AllByRecursion (CanBegin store.now) all.items }
     requires room { vec_len all ≤ lists }
-    ensures found { IfOk result (AreFound (readers_view R.Source) all.items) }
+    ensures found { IfOk result (AreResults (readers_view R.Source) all.items) }
     ensures fault { IfErr result (IsFaultOf (readers_view R.Source) all.items) }
 {
     let ThreadLists {
@@ -226,7 +226,7 @@ pub fn check_all<T: Threads + Wait + Sync, R: Source + Send + Drop, G: Gate + Se
 ) -> Result<StreamResults<R>, ThreadFault<R>>
     requires begin { AllByRecursion (CanBegin store.now) all.items }
     requires room { vec_len all ≤ lists }
-    ensures found { IfOk result (AreFound (readers_view R.Source) all.items) }
+    ensures found { IfOk result (AreResults (readers_view R.Source) all.items) }
     ensures fault { IfErr result (IsFaultOf (readers_view R.Source) all.items) }
 {
     thread::scope(
@@ -235,7 +235,7 @@ pub fn check_all<T: Threads + Wait + Sync, R: Source + Send + Drop, G: Gate + Se
         move |scope| -> Result<StreamResults<R>, ThreadFault<R>>
             requires begin { AllByRecursion (CanBegin store.now) all.items }
             requires room { vec_len all ≤ lists }
-            ensures found { IfOk result (AreFound (readers_view R.Source) all.items) }
+            ensures found { IfOk result (AreResults (readers_view R.Source) all.items) }
             ensures fault { IfErr result (IsFaultOf (readers_view R.Source) all.items) }
         { start_and_join(scope, threads, store, all, lists) },
     )

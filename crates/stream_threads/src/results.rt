@@ -1,6 +1,6 @@
 //! What the threads of streams give back.
 ghost use Rattle.std.specs.Prelude.{◌≡◌, ◌<◌, IfOk};
-ghost use Rattle.stream_threads.specs.Jobs.{more_results, no_results};
+ghost use Rattle.stream_threads.specs.internal.Workers.{more_results, no_results};
 
 use clause_store::Pass;
 use lrup_text::Source;

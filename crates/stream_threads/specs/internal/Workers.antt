@@ -1,7 +1,7 @@
 -- What is known of workers that were started, and of those that have ended (this project's own).
-use Rattle.std.specs.Prelude.{◌≡◌, ℕ, List, Option, Some, None}
+use Rattle.std.specs.Prelude.{◌≡◌, ◌++◌, ◌-◌, ℕ, List, [], ◌∷◌, Option, Some, None}
 use Rattle.lrup_text.specs.ReadOut.{SourceView}
-use Rattle.stream_threads.specs.Jobs.{StreamResultValue, StreamJobsValue, MissesMark, Finishes}
+use Rattle.stream_threads.specs.Jobs.{StreamResultValue, StreamResultsValue, StreamJobsValue, MissesMark, Finishes}
 use Rattle.lrup_model.specs.Event.{History}
 use Rattle.lrup_model.specs.Pass.{PassMoves, pass_caller_view}
 use Rattle.clause_store.specs.Passes.{PassValue, store_of}
@@ -9,6 +9,22 @@ use Rattle.stream_check.specs.declared.report.Report.{Report}
 use Rattle.stream_check.specs.CheckerValue.{CheckerValue}
 use Rattle.stream_check.specs.Judging.{joined}
 use Rattle.stream_jobs.specs.Judged.{JudgesAtMark}
+
+-- the results of no streams, with room for so many
+abbrev pub no_results : {S : Type 0} → ℕ → StreamResultsValue S
+no_results room = record { reports = []; readers = []; passes = []; dropped = []; room = room }
+
+-- the results with that of one stream more
+abbrev pub more_results : {S : Type 0} → StreamResultsValue S → StreamResultValue S
+    → StreamResultsValue S
+more_results found one =
+    record {
+      reports = found.reports ++ one.report ∷ [];
+      readers = found.readers ++ one.reader ∷ [];
+      passes = found.passes ++ one.pass ∷ [];
+      dropped = found.dropped ++ one.dropped ∷ [];
+      room = found.room - 1;
+    }
 
 -- what they were started with: the jobs, and the signal for which they wait
 pub record StartedValue (S : Type 0) : Type 0 where

@@ -11,7 +11,8 @@ use Rattle.portfolio.specs.declared.outcome.RunFault.{RunFault}
 use Rattle.portfolio.specs.declared.outcome.RunFault.TheVariants.{Layout}
 use Rattle.portfolio.proofs.CubeLemmas.{sound_under_run}
 use Rattle.portfolio.proofs.ConsistencyLemmas.{IsBegun, begin_take, can_begin, found_of, is_memory, none_of_layout, not_layout}
-use Rattle.portfolio.proofs.ConsistencyLemmas.{run_history, run_params_made, run_ready, run_reports, sound_run, stops_at_ring, stream_within}
+use Rattle.portfolio.proofs.ConsistencyLemmas.{run_history, run_params_made, run_ready, run_reports, sound_run, stops_at_ring}
+use Rattle.portfolio.proofs.ConsistencyLemmas.{stream_within}
 use Rattle.portfolio.proofs.threads.run.Given as given
 use Rattle.portfolio.proofs.threads.run.Goals as goal
 use Rattle.portfolio.proofs.threads.run.Goals.{In_ok-jobs, In_ok-layout}
@@ -63,7 +64,8 @@ jobs_of-requires-clause-streams g c =
     ∙ ap (λ (p : LayoutValue). p.streams) c.in_ok-layout.ensures.layout.0 ∙ c.len.ensures ∙ c.args.readers.ok.0
 
 pub check_all-requires-clause-begin : goal.check_all-requires-clause-begin
-check_all-requires-clause-begin g c κs lives = can_begin (readers_view g.R.Source) (begun g (goal.at.check_all-requires-clause-begin g c).In_ok-jobs)
+check_all-requires-clause-begin g c κs lives =
+    can_begin (readers_view g.R.Source) (begun g (goal.at.check_all-requires-clause-begin g c).In_ok-jobs)
 
 pub returns-in_err-store-clause-layout : goal.returns-in_err-store-clause-layout
 returns-in_err-store-clause-layout g c = no_layout g (goal.at.returns-in_err-store-clause-layout g c).In_ok-layout _
@@ -92,7 +94,8 @@ returns-in-Err-Ring-clause-layout g c =
 pub returns-in-Err-Spawn-clause-spawn : goal.returns-in-Err-Spawn-clause-spawn
 returns-in-Err-Spawn-clause-spawn g c = λ stream e.
     let begun = begun g (goal.at.returns-in-Err-Spawn-clause-spawn g c).In_ok-jobs in
-    let fault = subst (IsFaultOf (readers_view g.R.Source) c.in_ok-jobs.jobs.items) c.in-Err-Spawn.field-0-is c.in-Err-Spawn.ensures.fault in
+    let fault =
+    subst (IsFaultOf (readers_view g.R.Source) c.in_ok-jobs.jobs.items) c.in-Err-Spawn.field-0-is c.in-Err-Spawn.ensures.fault in
     let here : c.in-Err-Spawn.stream ≡ stream = cc in
     stream_within (readers_view g.R.Source) begun stream (subst (λ s. (0 < s) × (s ≤ length c.in_ok-jobs.jobs.items)) here fault)
 

@@ -3,7 +3,7 @@ use Rattle.std.specs.List.{AllByRecursion}
 use Rattle.std.specs.Prelude.{IfErr, IfOk}
 use Rattle.runs.specs.Readings.{readers_view}
 use Rattle.stream_threads.specs.Faults.{IsFaultOf}
-use Rattle.stream_threads.specs.Jobs.{AreFound, StreamJobsValue, StreamResultsValue}
+use Rattle.stream_threads.specs.Jobs.{AreResults, StreamJobsValue, StreamResultsValue}
 use Rattle.stream_threads.specs.internal.Workers.{StartedValue}
 use Rattle.stream_threads.proofs.ThreadLemmas.{jobs_started, none_found, one_signal, started_count}
 use Rattle.stream_threads.proofs.joining.start_and_join.Goals as goal
@@ -51,7 +51,7 @@ returns-then-is_empty-clause-found g c =
 pub returns-clause-found : goal.returns-clause-found
 returns-clause-found g c =
     let started = c.in_default-start_all_reading.ensures.started ∙ c.in_default.ensures.started in
-    subst (λ (jobs : List (StreamJobsValue g.row.R.Denot)). IfOk c.join_all.result (AreFound (readers_view g.R.Source) jobs))
+    subst (λ (jobs : List (StreamJobsValue g.row.R.Denot)). IfOk c.join_all.result (AreResults (readers_view g.R.Source) jobs))
     (jobs_started c.lists.inside.signal.now.id c.args.all.items _ started) c.join_all.ensures.found
 
 pub returns-clause-fault : goal.returns-clause-fault
