@@ -447,8 +447,9 @@ As [on AUDIT](AUDIT.md#how-to-read-it); and besides:
 - **Signs.** `¬ A` is 'not A', `≢` 'is not', `m - n` is 0 if n is greater, `m / n` is rounded down, `m % n` the remainder, `m
   ^ n` a power, `&&` is 'and' of tests. `(x y : A)` are two; `r.0` and `r.1` the parts of a pair. A `data` is one of its
   cases, with what that case takes. `elim x [ | p ↦ a | q ↦ b ]` is a if x is p, and b if it is q. `R.left` is the member
-  `left` of the trait for the type R. Contracts see a slice or a `Vec` as a list (`v.items`), a `u64` and an `Id` as ℕ, a
-  `Lit` as ℤ. A type that they see as something else they know by that alone, whatever its members are.
+  `left` of the trait for the type R, and `⟦<F as Viewed>⟧.view` the member `view` of the trait `Viewed` for F. Contracts
+  see a slice or a `Vec` as a list (`v.items`), a `u64` and an `Id` as ℕ, a `Lit` as ℤ. A type that they see as something
+  else they know by that alone, whatever its members are.
 {constructors}
 {twins}"""
 
