@@ -16,6 +16,7 @@ use std::test::Fail;
 use stream_check::{CheckStatus, Checker, Ending, Fault, Gate, Report};
 
 mod assumptions;
+mod finishing;
 mod imports;
 mod late_map;
 mod memory;
