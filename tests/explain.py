@@ -7,8 +7,8 @@ COUNT is 2,000: faulty streams of one to five solvers. Their lines have hints le
 signs, deletions and imports put in; or bytes are garbled. MUTANTS is 1,000: of those of filter_mutants.py, which are no proofs in this
 form mostly. Of each stream fault and line have to be those of lrupd --serial; with threads they have to be where no stream deletes what
 others cite. Each chain that is offered has to be right: with it in the place of the line's hints lrupd takes the line. Where hints
-alone are wrong one has to be offered. lrup-explain is built for tests, with -fsanitize=address,undefined where the compiler can; of four
-runs on faulty streams three are as users have it. It
+alone are wrong one has to be offered. While streams are rewritten and cut it ends by itself. lrup-explain is built for tests, with
+-fsanitize=address,undefined where the compiler can; of four runs on faulty streams three are as users have it. It
 shows what is off; the last line is 'N passed, M failed', and ', K skipped' where something isn't there. The status is 1 where a run
 failed.
 """
@@ -29,6 +29,7 @@ from faulty import SOLVER, garbled_text, refuted, solved
 from filter_mutants import PROOFS, Mutant
 from harness import (COMPRESSED, EXAMPLES, EXPLAIN, FOUR, ROOT, SANITIZED_EXPLAIN, SANITIZING, Failure, Ran, Row, Skipped, compiler,
                      example, generated, piped, run, run_side_by_side, sanitized_explain, sanitizer, want, words_given, written)
+from rewriting import cut_while_read, withstands
 
 PAGE = ROOT / "docs" / "lrup-explain.1"
 BAD = 3         # the status, where a line is
@@ -592,6 +593,15 @@ def on_the_page(work: Path) -> None:
     want(shown in PAGE.read_text(), True, f"whether lrup-explain.1 has\n{shown}")
 
 
+def cut(work: Path) -> None:
+    cut_while_read([EXPLAIN, "--lines", 10 ** 6], "lrup-explain", work)
+
+
+def while_rewritten(seed: int, work: Path) -> None:
+    command = lambda number, _: [SANITIZED_EXPLAIN, "--all" if number % 2 else "--serial"]
+    withstands(command, (0, 1, BAD), 30, seed, work)
+
+
 def refuses(words: str, status: int, said: str, work: Path) -> None:
     """In a folder with a formula f, a stream s, a pipe p, a folder d without rounds, and a formula that is compressed, z."""
     for name, text in {"f": FOUR.encode(), "s": FIRST.encode(), "z": COMPRESSED["zcat"]}.items():
@@ -633,7 +643,8 @@ def skipped(why: str, work: Path) -> None:
 def rows(count: int, mutants: int) -> List[Row]:
     found: List[Row] = [] if sanitizer() else [("lrup-explain, sanitized", skipped, "the C compiler doesn't build so")]
     found += [("the example solver, a hint left out", emitter), ("carried clauses", carried), ("help", help_of),
-              ("the manual page", on_the_page)]
+              ("the manual page", on_the_page), ("a file that is cut", cut)]
+    found += [(f"rewritten {seed}", while_rewritten, seed) for seed in range(4)]
     found += [(f"fault: {name}", fault, *rest) for name, *rest in FAULTS]
     found += [(f"form {number}", form, *rest) for number, rest in enumerate(FORMS)]
     found += [("a good stream", good, [example("bmc.cnf"), example("bmc.lrup")]),

@@ -7,7 +7,8 @@ COUNT is 300: random runs of one to five solvers, with and without imports, in o
 other hints; and as many garbled records. The core has to be clauses of the formula, lines have to be numbered densely, each has to be
 cited, and deleted right after that. lrupd has to take the lines over the core and over the formula, by the words that are told; where
 streams are garbled, either both or none, as the checker of LRAT does; and none where the formula is satisfiable. Records of lrup-solve
-are trimmed where CaDiCaL's library is there. lrup-trim is built for tests, with -fsanitize=address,undefined where the compiler can. It
+are trimmed where CaDiCaL's library is there. While streams are rewritten and cut, all is written or
+nothing. lrup-trim is built for tests, with -fsanitize=address,undefined where the compiler can. It
 shows what is off; the last line is 'N passed, M failed', and ', K skipped' where something isn't there. The status is 1 where a run failed.
 """
 import hashlib
@@ -16,9 +17,7 @@ import os
 import random
 import re
 import shlex
-import subprocess
 import sys
-import time
 from pathlib import Path
 from typing import Dict, List, NamedTuple, Optional, Sequence, Tuple
 
@@ -26,12 +25,13 @@ PROGRAM = os.path.abspath(sys.argv[1]) if len(sys.argv) > 1 else ""
 COUNT = int(sys.argv.pop(2)) if len(sys.argv) > 2 else 300      # the next word would be flags for lrup-solve
 
 sys.dont_write_bytecode = True
-from harness import (COMPRESSED, EXAMPLES, FILTER, FOUR, GENERATOR, LIMIT, ROOT, SANITIZED_TRIM, SANITIZING, TRIM, VERDICTS, Failure,
-                     Ran, Row, dimacs, example, missing, piped, random_clauses, run, run_all, sanitized_trim, sanitizer, started,
-                     want, within, words_given, written)
+from harness import (COMPRESSED, EXAMPLES, FILTER, FOUR, GENERATOR, ROOT, SANITIZED_TRIM, SANITIZING, TRIM, VERDICTS, Failure,
+                     Ran, Row, dimacs, example, missing, piped, random_clauses, run, run_all, sanitized_trim, sanitizer, want,
+                     within, words_given, written)
 from faulty import garbled_text, refuted, solved
 from lrat import lrat_fault
 from proof_forms import Clause, Step, read_formula, read_steps
+from rewriting import cut_while_read, withstands
 from rounds import ONE, TWO, Proof, round_files
 from solving import build, solve
 
@@ -264,7 +264,9 @@ FEW = [("four clauses", ["5 2 0 1 2 0\n6 0 5 3 4 0\n"], CORE, BEGINS + "6 0 5 3 
         "5 d 3 0\n6 2 0 1 2 0\n6 d 1 2 0\n7 0 6 4 5 0\n", FIVE),
        ("streams that wait for each other", ["8 0 7 9 3 0\n", "7 i 2 0\n9 -1 0 7 4 0\n", "7 2 0 1 2 0\n"], CORE, OF_THREE, OF_THREE, FOUR),
        ("an empty clause in the formula", ["3 0 2 0\n"], "p cnf 1 1\nc id 2\n0\n", "2 0 1 0\n", "2 d 1 0\n3 0 2 0\n",
-        "p cnf 1 2\n1 0\n0\n")]
+        "p cnf 1 2\n1 0\n0\n"),
+       ("an empty clause alone", ["2 0 1 0\n"], "p cnf 0 1\nc id 1\n0\n", "2 0 1 0\n", "2 0 1 0\n",
+        "p cnf 0 1\n0\n")]
 
 
 # Streams that aren't right.
@@ -326,6 +328,15 @@ def garbled(number: int, work: Path) -> None:
     answers = garbled_trim(found, found.formula, number % 4 == 0, work)
     if answers:
         want([done.status for done in answers[1]], [0, 0] if answers[0] else [3, 3], "lrupd's statuses")
+
+
+def no_hints(work: Path) -> None:
+    """A line that cites nothing is copied as it is, and lrupd doesn't take it."""
+    formula, stream = written(FOUR, work), written("5 0 0\n", work, "stream")
+    done = trim(["--lrat", "lrat", formula, stream], work)
+    lines = "4 d 1 2 3 4 0\n5 0 0\n"
+    want((done.err, done.status, (work / "lrat").read_text()), ("", 0, lines), "what is written")
+    want(run([PROGRAM, formula, work / "lrat"]).status, 3, "lrupd's status")
 
 
 def satisfiable(number: int, work: Path) -> None:
@@ -458,15 +469,16 @@ REFUSED = [("", 2, "error: no FORMULA"), ("f", 2, "error: no DIR or STREAM"), ("
            ("--re-hint --core r f s", 1, "r.re-hint is there, and isn't written over")]
 
 
-def cut_while_read(work: Path) -> None:
-    """Where a run races with what cuts it, it is tried again."""
-    stream = written("".join(f"{number} 1 2 0 1 0\n" for number in range(5, 400000)), work, "stream")
-    formula = written(FOUR, work)
-    with started([TRIM, "--lrat", "lrat", formula, stream], cwd=work, stderr=subprocess.PIPE, text=True) as running:
-        time.sleep(0.01)
-        os.truncate(stream, 0)
-        _, said = running.communicate(timeout=LIMIT)
-    want((said, running.returncode), ("lrup-trim: a file was cut while it was read\n", 1), "what is said")
+def cut(work: Path) -> None:
+    cut_while_read([TRIM, "--lrat", "lrat"], "lrup-trim", work)
+
+
+def while_rewritten(seed: int, work: Path) -> None:
+    """It writes all or nothing."""
+    command = lambda number, folder: [SANITIZED_TRIM, *outputs_of(folder),
+                                      *["--re-hint"] * (number % 4 == 3)]
+    for status, folder in withstands(command, (0, 1), 15, seed, work):
+        want(len(os.listdir(folder)), 3 if status == 0 else 0, f"the files after status {status}")
 
 
 def no_place(work: Path) -> None:
@@ -530,12 +542,14 @@ def rows() -> List[Row]:
     found += [(f"few lines: {name}", few, *rest) for name, *rest in FEW]
     found += [("three rounds", few_in_rounds, ONE, OF_ONE), ("three rounds of two", few_in_rounds, TWO, OF_TWO),
               ("fewer streams", fewer_streams), ("assumptions", assuming), ("other hints", other_hints), ("a group", of_a_group),
-              ("pages", whole_pages)]
+              ("pages", whole_pages), ("no hints", no_hints)]
     found += [(f"two halves, {count} solvers, {rounds} rounds", two_halves, count, rounds) for count, rounds in ((1, 0), (3, 0), (2, 4))]
     found += [(f"{output} in rows", longer_than_a_row, output, name) for output, name in (("stream", "core"), ("lrat", "bmc.cnf"))]
     found += [(f"fault: {name}", fault, streams, said) for name, streams, said in FAULTS]
-    found += [("beside a fault", goes_on_beside_a_fault), ("no place", no_place), ("a file that is cut", cut_while_read)]
+    found += [("beside a fault", goes_on_beside_a_fault), ("no place", no_place), ("a file that is cut", cut)]
     found += [("help", help_of), ("digests", digests)]
+    if IS_SANITIZED:
+        found += [(f"rewritten {seed}", while_rewritten, seed) for seed in range(4)]
     found += [(f"bad rounds: {name}", bad_round, files, said) for name, files, said in BAD_ROUNDS]
     found += [(f"lrup-trim {words}", refuses, words, status, said) for words, status, said in REFUSED]
     for limit in (0, 20000, 200000):
@@ -548,7 +562,7 @@ def rows() -> List[Row]:
 def main() -> int:
     if IS_SANITIZED:
         sanitized_trim()
-    return run_all(rows(), tries=3)     # a file that is cut races with the end
+    return run_all(rows())
 
 
 sys.exit(main())

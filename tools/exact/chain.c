@@ -16,6 +16,7 @@
 
 #include "chain.h"
 #include "errors.h"
+#include "folder.h"
 #include "rounds.h"
 #include "row.h"
 #include "write.h"
@@ -39,10 +40,9 @@ static struct stat made;                    // the FIFO
 // No other run has the folder until this process ends, however it does; where the system has no locks nobody is told. Others may
 // not remove files there and make new ones.
 static void lock_folder(void) {
-    struct stat found;
     held = open(folder, O_RDONLY | O_DIRECTORY | O_CLOEXEC);
-    if (held < 0 || fstat(held, &found) != 0) fail("cannot read the folder", folder);
-    if ((found.st_mode & S_IWOTH) && !(found.st_mode & S_ISVTX)) fail("others may write to the folder", folder);
+    if (held < 0) fail("cannot read the folder", folder);
+    if (others_may_write(held)) fail("others may write to the folder", folder);
     if (flock(held, LOCK_EX | LOCK_NB) != 0 && errno == EWOULDBLOCK) fail("another run that goes on has its files in", folder);
 }
 

@@ -71,7 +71,10 @@ static bool read_plain(Words *words, Line line) {
         if (length - 1 >= DIGITS) return false;
         if (*at == '0') {
             if (length > 1 || negative) return false;
-            if (words->zeros++ == 0) words->first_zero = (size_t)(next - words->numbers.items);
+            if (words->zeros++ == 0) {
+                words->first_zero = (size_t)(next - words->numbers.items);
+                words->zero = at;
+            }
         }
         *next++ = with_sign(value, negative);
         at += length;

@@ -17,6 +17,7 @@
 typedef struct {
     Numbers numbers;
     size_t zeros, first_zero;       // words that are "0": how many, and the place of the first
+    const unsigned char *zero;      // of a plain line: the byte of the first one
     bool garbled, strange;          // some are neither numbers nor letters; or are no numbers
     bool plain;                     // single spaces, no zeros before a number
 } Words;

@@ -2,7 +2,8 @@
 //
 // Streams are replayed line by line, as lrupd judges them (replay.c, judge.c). Where a line is bad, what a person needs is told at once,
 // while the literals have the values that the hints before gave them (tell.c, why.c), with a right chain if there is one (chain.c). The
-// bytes of a line that has no right form are gone through one by one (form.c).
+// bytes of a line that has no right form are gone through one by one (form.c). Another process may
+// write to a stream meanwhile, so each line is copied before it is read, and each time it is read.
 #ifndef EXPLAIN_H
 #define EXPLAIN_H
 
@@ -99,7 +100,8 @@ typedef struct {
     size_t most, count;
 } FormFault;
 
-FormFault form_fault(Line line, bool is_whole);
+// Of the line at hand, and a copy of it, which lasts until another line is read.
+FormFault form_fault(const Stream *stream, Line *line, bool *is_whole);
 
 // chain.c. An exact chain for the line's clause, or none; one that keeps to the order of its hints as far as it can.
 typedef struct {

@@ -1,4 +1,5 @@
 // Unverified, as all of this tool. The form of a line, byte by byte: which byte is the first with which no line goes on.
+#include "../exact/errors.h"
 #include "../exact/stream.h"
 #include "explain.h"
 
@@ -33,7 +34,8 @@ static const Rule rules[] = {
     [STATED] = { "a literal or 0", .digit = STATED_DIGITS, .zero = END, .sign = STATED_SIGN, .of = "literals", .most = LITERALS_OF_A_LINE },
     [STATED_SIGN] = { "a digit from 1 to 9", .digit = STATED_DIGITS },
     [STATED_DIGITS] = { "a digit or a space", .digit = STATED_DIGITS, .zero = STATED_DIGITS, .space = STATED },
-    [END] = { "LF, the line's end", .end = WHOLE } };
+    [END] = { "LF, the line's end", .end = WHOLE },
+    [WHOLE] = { .wanted = "nothing more" } };   // LF was written within the line before it was copied
 
 static State after(const Rule *rule, unsigned char byte) {
     if (byte >= '1' && byte <= '9') return rule->digit;
@@ -68,7 +70,7 @@ static size_t digits_on(const unsigned char *at, const unsigned char *end) {
     return (size_t)(at - start);
 }
 
-FormFault form_fault(Line line, bool is_whole) {
+static FormFault first_fault(Line line, bool is_whole) {
     State state = LEAD;
     size_t digits = 0, count = 0;
     for (const unsigned char *at = line.start; at < line.end + is_whole; at++) {
@@ -93,4 +95,13 @@ FormFault form_fault(Line line, bool is_whole) {
     }
     if (is_whole) return (FormFault){ .kind = NO_FAULT };
     return (FormFault){ .kind = TRUNCATED, .place = (size_t)(line.end - line.start), .wanted = rules[state].wanted };
+}
+
+// If the line has none any more, another process has written to it.
+FormFault form_fault(const Stream *stream, Line *line, bool *is_whole) {
+    *line = line_copy(line_at_hand(stream, is_whole));
+    FormFault found = first_fault(*line, *is_whole);
+    unsigned long long number = stream->lines + 1;
+    if (found.kind == NO_FAULT) stop("%s, line %llu: changed while it was read", stream->path, number);
+    return found;
 }

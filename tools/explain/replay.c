@@ -42,8 +42,8 @@ static bool take_line(Replay *replay, Stream *stream) {
     Reading reading;
     const char *misspelled = is_whole ? line_read(line, &reading) : "";
     if (misspelled) {
-        Fault found = { .kind = form_fault(line, is_whole).kind };
-        if (found.kind == NO_FAULT) stop("%s, line %llu: it can't be read", stream->path, (unsigned long long)stream->lines + 1);
+        Line copy;
+        Fault found = { .kind = form_fault(stream, &copy, &is_whole).kind };
         end_with(replay, stream, NULL, found);
         return true;
     }
@@ -233,9 +233,9 @@ uint64_t line_deriving(const Stream *stream, uint64_t identity) {
     return 0;
 }
 
-static bool is_deletion(const unsigned char *at) {
-    while (*at >= '0' && *at <= '9') at++;
-    return at[0] == ' ' && at[1] == 'd';
+static bool is_deletion(const unsigned char *at, const unsigned char *end) {
+    while (at < end && *at >= '0' && *at <= '9') at++;
+    return end - at > 1 && at[0] == ' ' && at[1] == 'd';
 }
 
 // The first one that deletes it, up to the line at hand; or 0.
@@ -245,7 +245,8 @@ uint64_t line_deleting(const Stream *stream, uint64_t identity) {
     for (uint64_t number = 1; number <= stream->lines + 1 && at < stream->end; number++) {
         unsigned char *end = memchr(at, '\n', (size_t)(stream->end - at));
         if (end == NULL) break;
-        if (is_deletion(at) && !line_read((Line){ at, end, true }, &reading))
+        bool is_read = is_deletion(at, end) && !line_read((Line){ at, end, true }, &reading);
+        if (is_read && reading.kind == 'd')
             for (size_t k = 0; k < reading.count; k++)
                 if ((uint64_t)reading.cited[k] == identity) return number;
         at = end + 1;

@@ -60,8 +60,8 @@ static const char *guess_of(const Stream *stream, Line line, size_t place, unsig
 
 static void why_form(const Stream *stream) {
     bool is_whole;
-    Line line = line_at_hand(stream, &is_whole);
-    FormFault fault = form_fault(line, is_whole);
+    Line line;
+    FormFault fault = form_fault(stream, &line, &is_whole);
     bool is_end = line.start + fault.place == line.end;
     unsigned char byte = is_end ? '\n' : line.start[fault.place];
     const char *guess = fault.kind == SPELLING ? guess_of(stream, line, fault.place, byte) : NULL;

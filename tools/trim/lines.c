@@ -1,7 +1,10 @@
-// Unverified, and nothing here is trusted. Files, which are mapped, the lines of streams, and the names of a record's files.
+// Unverified, and nothing here is trusted. Files, which are mapped, the lines of streams, and the
+// names of a record's files. Other processes may write to a file that is mapped: a line is copied,
+// and then read in the copy.
 #define _GNU_SOURCE
 #include <errno.h>
 #include <fcntl.h>
+#include <signal.h>
 #include <stdio.h>
 #include <string.h>
 #include <sys/mman.h>
@@ -18,6 +21,7 @@ enum { BEYOND = 8 };        // bytes that words.c looks at behind a line
 enum { LONGEST_PATH = 4096 };
 
 static Words words;
+static struct { unsigned char *items; size_t capacity; } copy;     // of a line
 
 // It stands for a stream that is left out.
 static bool is_null(const struct stat *found) {
@@ -39,9 +43,17 @@ void file_check(const char *path) {
     close(file_open(path, &length));
 }
 
-// Over pages of zeros, of which one is left where the file fills its own.
+// SIGBUS, where bytes are read that the file doesn't have any more.
+static void file_was_cut(int number) {
+    (void)number;
+    position_set(NULL, 0);
+    stop("a file was cut while it was read");
+}
+
+// Over a page of zeros, so that there is memory for an empty file, too.
 unsigned char *file_map(const char *path, size_t *length) {
     int file = file_open(path, length);
+    signal(SIGBUS, file_was_cut);
     unsigned char *start = mmap(NULL, *length + BEYOND, PROT_READ, MAP_PRIVATE | MAP_ANONYMOUS, -1, 0);
     if (start != MAP_FAILED && *length > 0) start = mmap(start, *length, PROT_READ, MAP_PRIVATE | MAP_FIXED, file, 0);
     if (start == MAP_FAILED) stop("cannot map %s: %s", path, strerror(errno));
@@ -54,16 +66,29 @@ void file_unmap(unsigned char *start, size_t length) { munmap(start, length + BE
 const int64_t *numbers_read(const char *path, size_t *count) {
     size_t length;
     unsigned char *start = file_map(path, &length);
-    if (length == 0 || memchr(start, '\n', length) != start + length - 1) return NULL;
-    words_read(&words, (Line){ start, start + length - 1, true });
+    if (length == 0 || length > LONGEST_STEP) return NULL;
+    if (memchr(start, '\n', length) != start + length - 1) return NULL;
+    words_read(&words, line_copy((Line){ start, start + length - 1, true }));
     *count = words.numbers.length;
     return words.plain ? words.numbers.items : NULL;
 }
 
 // Lines.
 
+// No line that is right is as long as LONGEST_STEP: of one that is longer a part is wrong, too.
+Line line_copy(Line line) {
+    size_t length = (size_t)(line.end - line.start);
+    if (length > LONGEST_STEP) length = LONGEST_STEP;
+    RESERVE(&copy, length + 1 + BEYOND);
+    memcpy(copy.items, line.start, length);
+    memset(copy.items + length, 0, 1 + BEYOND);
+    copy.items[length] = '\n';
+    return (Line){ copy.items, copy.items + length, true };
+}
+
 static bool is_positive(const int64_t *numbers, size_t count) {
     int64_t signs = 0;
+#pragma GCC unroll 8
     for (size_t k = 0; k < count; k++) signs |= numbers[k];
     return signs >= 0;
 }
@@ -71,12 +96,17 @@ static bool is_positive(const int64_t *numbers, size_t count) {
 // The sign of a deletion or an import, behind a number. Its place, or NULL.
 static unsigned char *mark_of(unsigned char *at, uint64_t *lead) {
     unsigned char *start = at;
-    for (*lead = 0; *at >= '0' && *at <= '9' && at - start <= DIGITS; at++) *lead = 10 * *lead + (uint64_t)(*at - '0');
+    uint64_t value = 0;
+    for (; *at >= '0' && *at <= '9' && at - start <= DIGITS; at++)
+        value = 10 * value + (uint64_t)(*at - '0');
+    *lead = value;
     bool is_number = at > start && *start != '0' && at - start <= DIGITS;
     return is_number && at[0] == ' ' && (at[1] == 'd' || at[1] == 'i') && at[2] == ' ' ? at + 1 : NULL;
 }
 
 const char *line_read(Line line, Reading *reading) {
+    line = line_copy(line);
+    reading->text = (const char *)line.start;
     unsigned char *mark = mark_of(line.start, &reading->identity);
     reading->kind = mark ? (char)*mark : 'a';
     if (mark) line.start = mark + 2;
@@ -86,6 +116,7 @@ const char *line_read(Line line, Reading *reading) {
     if (!words.plain || numbers[length - 1] != 0 || words.zeros != (mark ? 1 : 2)) return "spelling";
     if (!mark && numbers[0] <= 0) return "spelling";
     if (!mark) reading->identity = (uint64_t)numbers[0];
+    reading->hints = (const char *)words.zero + 2;
     reading->literals = numbers + !mark;
     reading->length = reading->kind == 'd' ? 0 : words.first_zero - !mark;
     reading->cited = mark ? numbers : reading->literals + reading->length + 1;
@@ -94,13 +125,17 @@ const char *line_read(Line line, Reading *reading) {
     return reading->length > LITERALS_OF_A_LINE || reading->count > IDENTITIES_OF_A_LINE ? "too long" : NULL;
 }
 
-const int64_t *line_numbers(Line line, size_t *count) {
-    words_read(&words, line);
+const int64_t *line_hints(Line line, size_t *count) {
+    words_read(&words, line_copy(line));
+    const int64_t *numbers = words.numbers.items;
     *count = words.numbers.length - 1;
-    return words.numbers.items;
+    return words.plain && numbers[*count] == 0 ? numbers : NULL;
 }
 
-void words_free(void) { words.numbers = (Numbers){ .items = grow(words.numbers.items, 0) }; }
+void lines_free(void) {
+    words.numbers = (Numbers){ .items = grow(words.numbers.items, 0) };
+    copy.items = grow(copy.items, copy.capacity = 0);
+}
 
 // A record.
 
@@ -118,8 +153,8 @@ static bool is_there(const char *path) { return access(path, F_OK) == 0; }
 void record_check(const char *folder, const char *formula) {
     char path[LONGEST_PATH], kept[DIGEST_DIGITS + 2] = "", found[DIGEST_DIGITS + 1];
     size_t length = (size_t)snprintf(path, sizeof path, "%s/formula.sha256", folder);
-    int file = length < sizeof path ? open(path, O_RDONLY | O_CLOEXEC) : -1;
-    if (file < 0) return;
+    if (length >= sizeof path || !is_there(path)) return;
+    int file = file_open(path, &length);
     if (read(file, kept, sizeof kept - 1) < 0) stop("cannot read %s: %s", path, strerror(errno));
     close(file);
     file = file_open(formula, &length);

@@ -6,12 +6,12 @@
 // --core has the clauses of FORMULA that are needed, --stream the lines over these, --lrat the same over FORMULA. With --re-hint the
 // filter finds other hints first.
 #define _POSIX_C_SOURCE 200809L
+#include <ctype.h>
 #include <signal.h>
 #include <stdio.h>
 #include <stdlib.h>
 #include <string.h>
 #include <sys/stat.h>
-#include <unistd.h>
 
 #include "../exact/errors.h"
 #include "../exact/row.h"
@@ -25,18 +25,14 @@ static void end(const char *cause) {
     exit(1);
 }
 
-// A file that is cut while it is mapped gives SIGBUS.
 static void end_by_signal(int number) {
-    static const char text[] = "lrup-trim: a file was cut while it was read\n";
-    if (number == SIGBUS && write(STDERR_FILENO, text, sizeof text - 1) < 0) number = SIGKILL;
     outputs_remove();
-    if (number == SIGBUS) _exit(1);
     signal(number, SIG_DFL);
     raise(number);
 }
 
 static void take_signals(void) {
-    static const int numbers[] = { SIGBUS, SIGHUP, SIGINT, SIGTERM };
+    static const int numbers[] = { SIGHUP, SIGINT, SIGTERM };
     for (size_t k = 0; k < sizeof numbers / sizeof *numbers; k++)
         if (signal(numbers[k], end_by_signal) == SIG_IGN) signal(numbers[k], SIG_IGN);
 }
@@ -141,17 +137,38 @@ static void assume(Proof *proof, const char *path) {
     if (!literals) stop("%s: no line of literals of FORMULA's variables, and 0, with single spaces", path);
 }
 
+// And the word for a shell, as lrup-solve quotes it, too.
+static void print(const char *text, const char *word) {
+    bool is_plain = *word != 0;
+    for (const char *at = word; *at; at++)
+        is_plain &= isalnum((unsigned char)*at) || strchr("-_./+=,:@%", *at);
+    printf("%s%s", text, is_plain ? word : "'");
+    for (; !is_plain && *word; word++) printf(*word == '\'' ? "'\\''" : "%c", *word);
+    if (!is_plain) putchar('\'');
+}
+
 // What comes out, and how lrupd checks it: in one run, or in rounds where a row doesn't do.
 static void tell(const Proof *proof, const CommandLine *given, const Output *output, const char *formula) {
     if (!output->path) return;
-    const char *option = given->assume ? "--assume " : "", *file = given->assume ? given->assume : "", *space = given->assume ? " " : "";
-    printf("c %s: %llu bytes of %llu: ", output->path, (unsigned long long)output->bytes, (unsigned long long)proof->bytes);
-    if (1 + output->below + proof->literals + proof->kept + proof->room <= MOST_WORDS)
-        printf("lrupd %s%s%s--lines %llu --room %llu %s %s\n", option, file, space, (unsigned long long)proof->kept,
-               (unsigned long long)proof->room, formula, output->path);
-    else
-        printf("lrup-exact --rounds live %s %s | { read ready && lrupd %s%s%s--rounds live %s live/round-1.stream-1; }\n", formula,
-               output->path, option, file, space, formula);
+    uint64_t row = 1 + output->below + proof->literals + proof->kept + proof->room;
+    print("c ", output->path);
+    printf(": %llu bytes of %llu: ", (unsigned long long)output->bytes, (unsigned long long)proof->bytes);
+    if (row > MOST_WORDS) {
+        print("lrup-exact --rounds live ", formula);
+        print(" ", output->path);
+        printf(" | { read ready && ");
+    }
+    if (given->assume) print("lrupd --assume ", given->assume);
+    else printf("lrupd");
+    if (row > MOST_WORDS) {
+        print(" --rounds live ", formula);
+        puts(" live/round-1.stream-1; }");
+    } else {
+        printf(" --lines %llu --room %llu", (unsigned long long)proof->kept, (unsigned long long)proof->room);
+        print(" ", formula);
+        print(" ", output->path);
+        putchar('\n');
+    }
 }
 
 static void run(Proof *proof, CommandLine *given) {

@@ -1,5 +1,4 @@
 // Unverified, as all of this tool. What is needed: backwards the first line that cites a clause is the last one that does.
-#include "../exact/checks.h"
 #include "trim.h"
 
 // Streams have their numbers in their order.
@@ -16,11 +15,11 @@ const Stream *stream_with(const Proof *proof, Number number) {
 static void mark_line(Proof *proof, const Stream *stream, Number number) {
     const Round *round = &proof->rounds.items[stream->round];
     size_t count;
-    const int64_t *hints = hints_read(stream, number, &count);
+    const int64_t *hints = hints_again(stream, number, &count);
     proof->kept++;
     for (size_t k = 0; k < count; k++) {
         Number cited = number_of(proof, round, (uint64_t)hints[k]);
-        assert(cited > 0 && cited < proof->numbers && cited != number);
+        if (cited == 0) stream_changed(stream);
         if (proof->last_use[cited] == 0) proof->last_use[cited] = number;
     }
 }

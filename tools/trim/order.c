@@ -30,7 +30,7 @@ static void take(Proof *proof, Stream *stream, const Reading *reading, uint64_t 
     Run *last = proof->runs.length > 0 ? &proof->runs.items[proof->runs.length - 1] : NULL;
     assert(slot >= stream->seen && slot < stream->slots);
     stream->seen = slot + 1;
-    hints_keep(stream, slot, (unsigned char *)strstr((char *)stream->at, " 0 ") + 3);
+    hints_keep(stream, slot, stream->at + (reading->hints - reading->text));
     if (last && last->from >= stream->first && last->to <= number) last->to = number + 1;
     else PUSH(&proof->runs, ((Run){ number, number + 1 }));
     for (size_t k = 0; k < reading->length; k++) {
@@ -184,6 +184,6 @@ void order(Proof *proof) {
         round_end(proof, &proof->rounds.items[index]);
         if (dropped) grow(dropped, 0);
     }
-    words_free();
+    lines_free();
     if (!proof->target) stop("no line derives %s", proof->assumed ? "a clause that contradicts the assumptions" : "the empty clause");
 }

@@ -87,7 +87,8 @@ void core_write(Proof *proof, Output *core, const char *path) {
         if (proof->last_use[k + 1] == 0) continue;
         write_bytes("c id ", 5);
         write_number(name_of(proof, (Number)k + 1), '\n');
-        write_literals(formula->literals.items + formula->starts.items[k], formula->starts.items[k + 1] - formula->starts.items[k]);
+        size_t start = formula->starts.items[k], length = formula->starts.items[k + 1] - start;
+        write_literals(length > 0 ? formula->literals.items + start : NULL, length);
         write_bytes("\n", 1);
     }
     output_close();
@@ -97,16 +98,17 @@ void core_write(Proof *proof, Output *core, const char *path) {
 
 // Lines. Some are read, and then written to one output after the other.
 
-enum { PIECE = 1 << 14 };       // hints
+enum { PIECE = 1 << 16 };       // hints, and bytes of literals
 
-typedef struct { Number number; const char *literals; size_t bytes, first, count; } Kept;   // first, count: of `cited`
+// first, count: of `cited`; text, bytes: of `texts`, with 0 and a space.
+typedef struct { Number number; size_t first, count, text, bytes; } Kept;
 
 static struct { Kept *items; size_t length, capacity; } lines;
 static struct { Number *items; size_t length, capacity; } cited;
+static struct { char *items; size_t length, capacity; } texts;     // of literals
 static Identities list;
 
-// What a line cites comes before it.
-static uint64_t identity_of(const Proof *proof, Number number) {
+static inline uint64_t identity_of(const Proof *proof, Number number) {
     assert(proof->place[number] > 0);
     if (number > proof->formula.clauses) return output->below + proof->place[number];
     return output->whole ? name_of(proof, number) : proof->place[number];
@@ -122,16 +124,18 @@ static void write_deletion(uint64_t lead) {
 }
 
 static void write_line(const Proof *proof, const Kept *line) {
-    const Number *hints = cited.items + line->first;
+    size_t count = line->count;
+    const Number *hints = count > 0 ? cited.items + line->first : NULL;
     uint64_t identity = identity_of(proof, line->number);
-    list.length = 0;
-    for (size_t k = 0; k < line->count; k++) PUSH(&list, identity_of(proof, hints[k]));
+    RESERVE(&list, count);
+    list.length = count;
+    for (size_t k = 0; k < count; k++) list.items[k] = identity_of(proof, hints[k]);
     write_number(identity, ' ');
-    write_bytes(line->literals, line->bytes);
+    write_bytes(texts.items + line->text, line->bytes);
     write_numbers(list.items, list.length);
     if (line->number == proof->target) return;
     list.length = 0;
-    for (size_t k = 0; k < line->count; k++)
+    for (size_t k = 0; k < count; k++)
         if (proof->last_use[hints[k]] == line->number) PUSH(&list, identity_of(proof, hints[k]));
     write_deletion(identity);
 }
@@ -143,18 +147,26 @@ static void piece_write(const Proof *proof, Output *const outputs[2]) {
         for (size_t line = 0; line < lines.length; line++) write_line(proof, &lines.items[line]);
         write_flush();
     }
-    lines.length = cited.length = 0;
+    lines.length = cited.length = texts.length = 0;
 }
 
+// What a line cites comes before it, and is needed.
 static void line_take(Proof *proof, const Stream *stream, Number number) {
     const Round *round = &proof->rounds.items[stream->round];
-    Kept line = { .number = number, .first = cited.length };
-    const int64_t *hints = hints_read(stream, number, &line.count);
-    line.literals = strchr((char *)line_start(stream, number), ' ') + 1;
-    line.bytes = (size_t)((char *)hints_of(stream, number) - line.literals);
-    for (size_t k = 0; k < line.bytes; k++) proof->room += line.literals[k] == ' ';
-    proof->room--;
-    for (size_t k = 0; k < line.count; k++) PUSH(&cited, number_of(proof, round, (uint64_t)hints[k]));
+    Reading reading = line_again(stream, number);
+    const char *text = strchr(reading.text, ' ') + 1;
+    size_t bytes = (size_t)(reading.hints - text);
+    Kept line = { number, cited.length, reading.count, texts.length, bytes };
+    RESERVE(&texts, texts.length + bytes);
+    memcpy(texts.items + texts.length, text, bytes);
+    texts.length += bytes;
+    RESERVE(&cited, cited.length + line.count);
+    for (size_t k = 0; k < line.count; k++) {
+        Number hint = number_of(proof, round, (uint64_t)reading.cited[k]);
+        if (proof->place[hint] == 0) stream_changed(stream);
+        cited.items[cited.length++] = hint;
+    }
+    proof->room += reading.length;
     PUSH(&lines, line);
 }
 
@@ -187,9 +199,9 @@ void lines_write(Proof *proof, Output *stream, Output *lrat) {
         Run run = proof->runs.items[k];
         for (Number number = run.from; number < run.to; number++) {
             if (proof->last_use[number] == 0) continue;
-            proof->place[number] = ++derived;
             line_take(proof, stream_with(proof, run.from), number);
-            if (cited.length >= PIECE) piece_write(proof, outputs);
+            proof->place[number] = ++derived;
+            if (cited.length + texts.length >= PIECE) piece_write(proof, outputs);
         }
     }
     piece_write(proof, outputs);

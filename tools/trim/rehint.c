@@ -18,9 +18,7 @@ static void core_of(const Proof *proof, Formula *core, Number *names) {
 }
 
 static void line_derive(Filter *filter, const Stream *stream, Number number) {
-    unsigned char *start = line_start(stream, number);
-    Reading reading;
-    line_read(line_at(stream, start), &reading);
+    Reading reading = line_again(stream, number);
     filter_add(filter, &(Addition){ .literals = reading.literals, .length = reading.length });
 }
 

@@ -10,9 +10,15 @@
 
 enum { SLOTS = 256 };       // that have one place
 
+void stream_changed(const Stream *stream) {
+    stop("%s was changed while it was read", stream->path);
+}
+
 // One that begins there, and ends with LF.
 Line line_at(const Stream *stream, unsigned char *start) {
-    return (Line){ start, memchr(start, '\n', (size_t)(stream->end - start)), true };
+    unsigned char *end = memchr(start, '\n', (size_t)(stream->end - start));
+    if (end == NULL) stream_changed(stream);
+    return (Line){ start, end, true };
 }
 
 // Of a line the place of its hints is kept, in 4 bytes.
@@ -24,18 +30,26 @@ void hints_keep(Stream *stream, uint64_t slot, unsigned char *place) {
     stream->hints[slot] = (uint32_t)(place - *first) + 1;
 }
 
-unsigned char *hints_of(const Stream *stream, Number number) {
+static unsigned char *hints_of(const Stream *stream, Number number) {
     uint64_t slot = number - stream->first;
+    if (stream->hints[slot] == 0) stream_changed(stream);
     return stream->places[slot / SLOTS] + stream->hints[slot] - 1;
 }
 
-unsigned char *line_start(const Stream *stream, Number number) {
+// A line that was taken.
+
+Reading line_again(const Stream *stream, Number number) {
     unsigned char *before = memrchr(stream->start, '\n', (size_t)(hints_of(stream, number) - stream->start));
-    return before ? before + 1 : stream->start;
+    Reading reading;
+    const char *fault = line_read(line_at(stream, before ? before + 1 : stream->start), &reading);
+    if (fault || reading.kind != 'a') stream_changed(stream);
+    return reading;
 }
 
-const int64_t *hints_read(const Stream *stream, Number number, size_t *count) {
-    return line_numbers(line_at(stream, hints_of(stream, number)), count);
+const int64_t *hints_again(const Stream *stream, Number number, size_t *count) {
+    const int64_t *hints = line_hints(line_at(stream, hints_of(stream, number)), count);
+    if (hints == NULL) stream_changed(stream);
+    return hints;
 }
 
 // How many identities it has, by its last addition.

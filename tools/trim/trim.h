@@ -3,7 +3,8 @@
 //
 // Forwards all lines are put in an order in which each comes after those that it cites (order.c). Backwards the lines that are needed
 // are found, and which of them cites a clause last (mark.c). Forwards these are written (output.c). Streams are mapped, and of a line
-// only its place is kept; so its hints are read once for each of the three.
+// only its place is kept; so its hints are read once for each of the three. Another process may
+// write to a stream meanwhile: so each time the line is copied, and its numbers are checked again.
 #ifndef TRIM_H
 #define TRIM_H
 
@@ -52,18 +53,22 @@ typedef struct {
 } Proof;
 
 Line line_at(const Stream *stream, unsigned char *start);
-unsigned char *hints_of(const Stream *stream, Number number);  // their place
-unsigned char *line_start(const Stream *stream, Number number);
-const int64_t *hints_read(const Stream *stream, Number number, size_t *count);
+Reading line_again(const Stream *stream, Number number);        // as line_read, of an addition
+const int64_t *hints_again(const Stream *stream, Number number, size_t *count);
+_Noreturn void stream_changed(const Stream *stream);            // the end: no longer what it was
 void hints_keep(Stream *stream, uint64_t slot, unsigned char *place);
 void stream_open(Proof *proof, Stream *stream, const Round *round, uint64_t number);
 
 static inline uint64_t owner_of(const Round *round, uint64_t identity) { return (identity - round->formula - 1) % round->count; }
 static inline uint64_t slot_of(const Round *round, uint64_t identity) { return (identity - round->formula - 1) / round->count; }
 
+// 0: it is above the last identity of its stream, or 0.
 static inline Number number_of(const Proof *proof, const Round *round, uint64_t identity) {
-    if (identity <= round->formula) return round->carried ? round->carried[identity - 1] : (Number)identity;
-    return proof->streams.items[round->first + owner_of(round, identity)].first + (Number)slot_of(round, identity);
+    if (identity - 1 < round->formula)
+        return round->carried ? round->carried[identity - 1] : (Number)identity;
+    const Stream *owner = &proof->streams.items[round->first + owner_of(round, identity)];
+    uint64_t slot = slot_of(round, identity);
+    return slot < owner->slots ? owner->first + (Number)slot : 0;
 }
 
 static inline Number name_of(const Proof *proof, Number clause) { return proof->names ? proof->names[clause - 1] : clause; }
