@@ -109,21 +109,26 @@ def started(words: Words, **how: Any) -> Iterator["subprocess.Popen[Any]"]:
             process.kill()
 
 
-def run_by_another(program: str, words: Words, work: Path) -> Ran:
-    """Runs a copy of the program in this folder; the superuser, whom nothing is forbidden, does so as another user."""
-    copy = shutil.copy(program, work / "lrupd")
+def by_another(words: Words, work: Path, user: int = 65534, before: Callable[[], None] = lambda: None, **how: Any) -> Ran:
+    """Runs it in this folder; the superuser, whom nothing is forbidden, does so as another user."""
     work.chmod(0o755)
 
     def become_another() -> None:
+        before()
         if os.getuid() == 0:
-            os.setuid(65534)
+            os.setuid(user)
 
     try:
-        return run([copy, *words], cwd=work, preexec_fn=become_another)
+        return run(words, cwd=work, preexec_fn=become_another, **how)
     except subprocess.TimeoutExpired:
         raise
     except (PermissionError, subprocess.SubprocessError):
         raise Skipped("the superuser can't become another user")
+
+
+def run_by_another(program: str, words: Words, work: Path) -> Ran:
+    """Of a copy of the program."""
+    return by_another([shutil.copy(program, work / "lrupd"), *words], work)
 
 
 def within(limit: Optional[int]) -> None:
@@ -399,11 +404,16 @@ def closing(passed: int, failed: int, skipped: int = 0, title: str = "") -> int:
     return 1 if failed else 0
 
 
-def run_side_by_side(rows: Sequence[Row]) -> int:
-    """As run_all, on all cores; rows and their arguments have to be such that processes can be given them."""
+def run_side_by_side(rows: Sequence[Row], at_once: Optional[int] = None) -> int:
+    """As run_all, on all cores, or that many at once, where rows wait; rows and their arguments have to be such that processes can be
+    given them. One that takes too long beside the others is run again when they have ended."""
     failed = skipped = 0
-    with multiprocessing.Pool() as workers:
-        for name, found in workers.imap_unordered(named_outcome, rows, chunksize=4):
+    with multiprocessing.Pool(at_once) as workers:
+        found_first = list(workers.imap(named_outcome, rows, chunksize=4))
+        for row, (name, found) in zip(rows, found_first):
+            if isinstance(found, subprocess.TimeoutExpired):
+                print(f"{name}, run again alone: {found}", flush=True)
+                found = outcome(row)
             failed += found is not None and not is_skipped(found)
             skipped += is_skipped(found)
             if found:

@@ -11,96 +11,20 @@ failed.
 import os
 import re
 import shlex
+import shutil
 import signal
-import stat
 import subprocess
 import sys
-import time
 from pathlib import Path
-from typing import Any, List, Sequence
+from typing import List
 
 sys.dont_write_bytecode = True
 from harness import FOUR, LIMIT, ROOT, Ran, Row, Skipped, run, started, until, want, words_given, written
-from proof_forms import read_formula
+from hostile import AGAIN, PROOF, SATISFIABLE, is_model, program, run_with
 from solving import PROGRAM, SOLVE, Answer, before_lrupd, in_place_of_lrupd, marked, none_left, run_built
 
 words_given(__doc__, most=2)
-SATISFIABLE = "p cnf 3 4\nc a comment\n1 2 0\n-1\n2 0 1 -3 0\nc 3 0\n3 -2 1 0\n"       # by 1 2, and either 3
-PROOF = "5 2 0 1 2 0\n6 0 5 3 4 0\n"                         # of FOUR
-
-# What the programs have in common. `say` has a line for the front, and `write` any bytes.
-BEGINS = f"""#!{sys.executable}
-import os, signal, subprocess, sys, time
-TOLD, HEARD, of_probe, of_lrupd, formula, assumptions, lrupd = os.environ["LRUP_FRONT"].split(" ", 6)
-FRONT = os.open(f"/proc/{{os.getppid()}}/fd/{{TOLD}}", os.O_RDONLY)
-os.dup2(os.open(f"/proc/{{os.getppid()}}/fd/{{HEARD}}", os.O_WRONLY), 1)
-folder = os.path.dirname(sys.argv[0]) + "/folder"
-os.mkdir(folder)
-FOLDER = os.open(folder, os.O_PATH | os.O_DIRECTORY)
-
-def write(data):
-    os.write(1, data)
-
-def say(line):
-    write(line.encode()[:4096].ljust(4096, b"\\0"))
-
-def check(words="1 10 10 0"):
-    say(f"check {{words}} {{os.getpid()}} {{FOLDER}}")
-
-def model(signs):
-    say("v " + signs)
-    say("model")
-
-def stream(number, text):
-    open(folder + f"/round-1.stream-{{number}}", "w").write(text)
-
-def told(name):
-    text = ""
-    while True:
-        more = os.read(FRONT, 1 << 16).decode()
-        text += more
-        if not more or any(line.startswith(name + " ") for line in text.splitlines()):
-            return text
-
-def everywhere(data):
-    for name in os.listdir("/proc/self/fd"):
-        try:
-            if int(name) != 2:
-                os.set_blocking(int(name), False)
-                os.write(int(name), data)
-        except OSError:
-            pass
-
-"""
-
-
-def program(body: str, work: Path) -> Path:
-    path = written(BEGINS + body + "\n", work, "engines")
-    path.chmod(path.stat().st_mode | stat.S_IXUSR)
-    return path
-
-
-def run_with(body: str, words: Sequence[object], text: str, work: Path, lrupd: object = PROGRAM, **how: Any) -> Answer:
-    """A run that leaves nothing in a temporary folder of its own, and no process. Lines are answers, values or comments."""
-    formula, files, mark = written(text, work), work / "temporary", marked(work)
-    files.mkdir()
-    word = "-" if "given" in how else formula
-    begun = time.monotonic()
-    answer = Answer(run([SOLVE, "--lrupd", lrupd, "--engines", program(body, work), *words, word], limit=60,
-                        env={**os.environ, "TMPDIR": str(files)}, **how))
-    none_left(mark)
-    want(os.listdir(files), [], "files that it makes")
-    strange = [line for line in answer.out.splitlines() if line[:2] not in ("c ", "s ", "v ")]
-    want((strange, len(answer.answers) < 2), ([], True), f"lines of another kind in\n{answer.out[-2000:]}")
-    want(time.monotonic() - begun < 30, True, "whether it came to an end")
-    return answer
-
-
-def is_model(answer: Answer, formula: Path, assumed: Sequence[int] = ()) -> bool:
-    true = set(answer.values)
-    return true.issuperset(assumed) and all(true & set(clause) for clause in read_formula(formula))
-
-
+FRONT = ROOT / "tools" / "solve" / "front" / "front.c"
 def hostile(body: str, wanted: str, words: List[str], text: str, work: Path) -> None:
     """The answer is this, or none; with a status for none."""
     answer = run_with(body, words, text, work)
@@ -114,7 +38,7 @@ def hostile(body: str, wanted: str, words: List[str], text: str, work: Path) -> 
 
 def by_pipe(work: Path) -> None:
     """It can't write to the copy of a formula, from which it could be refuted then."""
-    body = """files = f"/proc/{os.getppid()}/fd/"
+    body = """files = f"/proc/{front}/fd/"
 for path in [formula, *(files + name for name in os.listdir(files) if "memfd:lrup-solve" in os.readlink(files + name))]:
     try:
         file = os.open(path, os.O_RDWR)
@@ -172,7 +96,7 @@ write(b"c " + 10000 * b"x")"""
 
 def impostor(status: int, words: List[str], wanted: str, work: Path) -> None:
     """An lrupd that ends with another status, of a run that is asked for. 8 counts only under assumptions."""
-    path = before_lrupd(f"echo s UNSATISFIABLE; exit {status}", work)
+    path = before_lrupd(f"echo s UNSATISFIABLE{' UNDER ASSUMPTIONS' * (status == 8)}; exit {status}", work)
     cube = written("2 0\n", work, "cube")
     body = "stream(1, '')\ncheck('1 1 1 0')\ntold('lrupd')"
     answer = run_with(body, [word.format(cube=cube) for word in words], SATISFIABLE, work, path)
@@ -217,10 +141,120 @@ def reading_killed(text: str, body: str, wanted: str, status: int, work: Path) -
     want((answer.answers, answer.status, answer.said), ([wanted], status, ""), "the answer")
 
 
+def came_again(work: Path) -> None:
+    if not (work / "again").exists():
+        raise Skipped("no process could have that id again")
+
+
+def checkers_id_again(work: Path) -> None:
+    """After lrupd has ended with status 3, a process that has its id ends with 0, and has lost its parent."""
+    answer = run_with(AGAIN + """os.mkfifo(folder + '/round-1.stream-1')
+told('probe')
+check()
+feeding = open(folder + '/round-1.stream-1', 'w')
+pid = lrupd_of(front, '--rounds')
+feeding.close()
+told('lrupd')
+forge('s UNSATISFIABLE')
+again(pid, 0, here + '/again')""", [], SATISFIABLE, work)
+    want((answer.answers, answer.status), (["s UNKNOWN"], 0), "the answer")
+    came_again(work)
+
+
+def readers_id_again(work: Path) -> None:
+    """After lrupd has refused the formula, a process that has its id ends with the status of one that has read it."""
+    lrupd = in_place_of_lrupd("case \"$*\" in *' /dev/null') sleep 1;; esac\nexec " + shlex.quote(PROGRAM) + ' "$@"', work)
+    answer = run_with(AGAIN + """pid = lrupd_of(front, '/dev/null')
+told('probe')
+again(pid, 3, here + '/again')
+model('+')""", [], "p cnf 1 1\n1 -2 0\n", work, lrupd)
+    want((answer.answers, answer.status, answer.said), ([], 1, "lrup-solve: lrupd took no formula\n"), "the answer")
+    came_again(work)
+
+
+def solvers_id_again(work: Path) -> None:
+    """A solver stops lrup-engines and kills lrupd, and a process that has its id ends with 0."""
+    attack = written(AGAIN + f"""
+def parent_of(pid):
+    return int(open(f"/proc/{{pid}}/stat").read().rsplit(")", 1)[1].split()[1])
+
+def name_of(pid):
+    return open(f"/proc/{{pid}}/comm").read().strip()
+
+def ancestor(name):
+    pid = os.getpid()
+    while name_of(pid) != name:
+        pid = parent_of(pid)
+    return pid
+
+import sys
+with open(sys.argv[1], "w") as proof:
+    for _ in range(200000):
+        print("1 2 0", file=proof, flush=_ % 1000 == 0)
+    engine, engines, front = map(ancestor, ("engine 1", "lrup-engines", "lrup-solve"))
+    pid = lrupd_of(front, "--rounds")
+    os.kill(engines, signal.SIGSTOP)
+    os.setpgid(0, 0)
+    os.kill(engine, signal.SIGKILL)     # orphans would be its children
+    os.kill(pid, signal.SIGKILL)
+    time.sleep(0.3)
+    again(pid, 0, {str(work / "again")!r})
+    os.kill(engines, signal.SIGCONT)
+""", work, "attack.py")
+    done = Answer(run([SOLVE, "--lrupd", PROGRAM, "--time", "20", "--solver",
+                       f"{sys.executable} {attack} %proof; : %formula", written(SATISFIABLE, work)], limit=60))
+    want((done.answers, done.status), (["s UNKNOWN"], 0), f"the answer of\n{done.out}{done.said}")
+    came_again(work)
+
+
+def reading_stopped(work: Path) -> None:
+    """The lrupd that only reads the formula is stopped, and the time ends the run all the same."""
+    lrupd = in_place_of_lrupd("case \"$*\" in *' /dev/null') kill -STOP $$;; esac\nexec " + shlex.quote(PROGRAM) + ' "$@"', work)
+    answer = run_with("time.sleep(1000)", ["-q", "--time", "1"], SATISFIABLE, work, lrupd)
+    want((answer.answers, answer.status), (["s UNKNOWN"], 0), "the answer")
+
+
+def empty_checker(work: Path) -> None:
+    """A shell would run it, with status 0. A name without a slash is looked up."""
+    lrupd = written("", work, "lrupd")
+    lrupd.chmod(0o755)
+    for word in (lrupd, "lrupd"):
+        folder = work / f"run-{len(str(word))}"
+        folder.mkdir()
+        os.environ["PATH"], before = f"{work}:{os.environ['PATH']}", os.environ["PATH"]
+        answer = run_with("stream(1, '')\ncheck()\ntold('lrupd')", [], SATISFIABLE, folder, word)
+        os.environ["PATH"] = before
+        want((answer.answers, answer.status, answer.said), ([], 1, "lrup-solve: lrupd took no formula\n"), "the answer")
+
+
+def signals_of_the_end(work: Path) -> None:
+    """Each process gets a signal a few times, and not for as long as it stays."""
+    body = f"""def count(*_):
+    open({str(work / 'signals')!r}, 'a').write('x')
+signal.signal(signal.SIGTERM, count)
+if os.fork() == 0:
+    os.setsid()
+while True: time.sleep(1)"""
+    answer = run_with(body, ["-q", "--time", "1"], SATISFIABLE, work)
+    want((answer.answers, answer.status), (["s UNKNOWN"], 0), "the answer")
+    want(2 <= len((work / "signals").read_text()) <= 8, True, "signals that two processes got")
+
+
+def version_in_little_memory(work: Path) -> None:
+    """The front takes no memory for an assignment before there is one."""
+    done = run(["sh", "-c", "ulimit -v 16000 && exec \"$@\"", "sh", SOLVE, "--engines", "/bin/echo", "--version"])
+    want((done.out, done.status), ("--engines /bin/echo --version\n", 0), f"what is said: {done.err}")
+
+
 def missing(work: Path) -> None:
-    answer = Answer(run([SOLVE, "--lrupd", PROGRAM, "--engines", work / "none", written(FOUR, work)]))
-    want((answer.out, answer.status, answer.said), ("", 1, f"lrup-solve: cannot start {work}/none: No such file or directory\n"),
-         "what is said")
+    """What isn't there, a folder, and a file that nobody may run."""
+    (work / "folder").mkdir()
+    written("", work, "text")
+    for option, program_name in (("--engines", "lrup-engines"), ("--lrupd", "lrupd")):
+        for name in ("none", "folder", "text"):
+            answer = Answer(run([SOLVE, "--lrupd", PROGRAM, option, work / name, written(FOUR, work)]))
+            said = f"lrup-solve: no {program_name} that can be run: {work}/{name}\n"
+            want((answer.out, answer.status, answer.said), ("", 1, said), "what is said")
 
 
 def endless(work: Path) -> None:
@@ -228,16 +262,15 @@ def endless(work: Path) -> None:
     free = re.search(r"MemAvailable:\s+(\d+)", Path("/proc/meminfo").read_text())
     if not free or int(free[1]) < 5000000:
         raise Skipped("less than 5 GB of memory are free")
-    said = "lrup-solve: /dev/zero: more than 2684354560 bytes, and lrupd takes no formula of so many\n"
+    said = "lrup-solve: /dev/zero: more than 2684354560 bytes, which lrupd doesn't take\n"
     want(run([SOLVE, "--lrupd", PROGRAM, "/dev/zero"]), Ran("", said, 1), "the answer")
 
 
 def length(work: Path) -> None:
-    """What one has to read, and that nothing else is part of it."""
-    files = sorted((ROOT / "tools" / "solve" / "front").iterdir())
-    lines = [line for file in files for line in file.read_text().splitlines()]
-    want((len(files), len(lines) <= 250), (2, True), f"files and lines of the front, {len(lines)}")
-    want([line for line in lines if line.startswith('#include "')], ['#include "inputs.h"'], "headers of the project")
+    """What one has to read, and that nothing else but the supervisor is part of it."""
+    lines = FRONT.read_text().splitlines()
+    want((len(lines) <= 450, max(map(len, lines)) <= 100), (True, True), f"lines of the front, {len(lines)}, and their columns")
+    want([line for line in lines if line.startswith('#include "')], ['#include "supervisor.h"'], "headers of the project")
 
 
 def rows() -> List[Row]:
@@ -297,6 +330,10 @@ def rows() -> List[Row]:
                ("its reading killed, a proof", reading_killed, FOUR, proves + ends, proved, 20), ("by a pipe", by_pipe), ("comments", without_lines),
                ("a formula that lrupd refuses", refused_formula), ("no program", missing), ("length", length),
                ("a formula without end", endless)]
+    listed += [("lrupd's id again", checkers_id_again), ("the reading's id again", readers_id_again),
+               ("lrupd's id again, by a solver", solvers_id_again), ("its reading stopped", reading_stopped),
+               ("an empty file as lrupd", empty_checker), ("signals of the end", signals_of_the_end),
+               ("a version in little memory", version_in_little_memory)]
     listed += [(f"dies after {number}", dies_at_each_moment, number) for number in range(7)]
     under = "stream(1, '5 1 0 1 2 0\\n')\ncheck()\ntold('lrupd')"
     listed += [("under assumptions", assuming, "-2 0\n", "stream(1, '5 2 0 1 2 0\\n')\ncheck()\ntold('lrupd')",

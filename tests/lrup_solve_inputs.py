@@ -6,6 +6,8 @@
 The flags, and what is shown, are as of lrup_solve.py.
 """
 import os
+import re
+import resource
 import shlex
 import shutil
 import signal
@@ -16,12 +18,12 @@ from pathlib import Path
 from typing import Dict, List, Optional, Sequence, Tuple, Union
 
 sys.dont_write_bytecode = True
-from harness import (COMPRESSED, FILTER, FOUR, LIMIT, ROOT, Failure, Ran, Row, dimacs, example, generated, in_shell, piped, run, started,
-                     until, want, words_given, written)
+from harness import (COMPRESSED, FILTER, FOUR, LIMIT, ROOT, Failure, Ran, Row, by_another, dimacs, example, generated, in_shell, piped,
+                     run, started, until, want, words_given, written)
 from lrat import lrat_fault
 from proof_forms import read_formula
 from solving import (OUT, PROGRAM, SOLVE, Answer, before_lrupd, check_again, children_of, command, in_environment, in_place_of_lrupd,
-                     run_built, solve, want_answer)
+                     listed, run_built, solve, want_answer)
 
 words_given(__doc__, most=2)
 CUBE = os.fsdecode(b"cube\xe9")
@@ -41,7 +43,7 @@ def keeps_lrat(words: str, work: Path) -> None:
     """The stream of an engine alone, in one round, is LRAT, for any checker of that."""
     kept, formula = work / "kept", generated(words, work)
     want_answer(solve(["-j", "1", "--memory", "256M", "--proofs", kept, formula], tested={"FIRST_WORDS": 1 << 24}), 20)
-    want(sorted(os.listdir(kept)), ["command", "formula.sha256", "report", "round-1.sizes", "round-1.stream-1"], "what is kept")
+    want(sorted(os.listdir(kept)), ["command", "files", "formula.sha256", "report", "round-1.sizes", "round-1.stream-1"], "what is kept")
     want(lrat_fault(read_formula(formula), (kept / "round-1.stream-1").read_text()), "", "as LRAT")
 
 
@@ -88,9 +90,9 @@ def writes_over(words: List[str], work: Path) -> None:
 
 
 def links_in_a_record(work: Path) -> None:
-    """Links that have a stream's name are removed, and what they lead to stays."""
+    """Links that have a stream's name, and are listed, are removed, and what they lead to stays."""
     kept, targets = work / "kept", [written("text", work, name) for name in ("one", "two", "three")]
-    kept.mkdir()
+    written("files\nround-1.stream-1\nreport\n.report.new\nround-1.stream-2\n", kept, "files")
     for target, name in zip(targets, ("round-1.stream-1", "report", ".report.new")):
         os.symlink(target, kept / name)
     os.link(targets[1], kept / "round-1.stream-2")
@@ -100,17 +102,21 @@ def links_in_a_record(work: Path) -> None:
 
 
 def earlier_run(work: Path) -> None:
-    """Of a record there is nothing left once the next run is there; its formula may come from the record, by a pipe."""
+    """Of a record there is nothing left once the next run is there; its formula may come from the record, by a pipe. What the
+    record doesn't list isn't removed."""
     kept = work / "kept"
-    rounds = [f"round-{k}.{name}" for k in (1, 2, 9, 10, 123) for name in ("sizes", "cnf", "stream-1", "stream-2", "stream-64")]
-    others = ["another", "round-0.sizes", "round-1.stream-", "round-1.stream-x", "round-2.cnf.old", "round.cnf", "stream1"]
-    for name in ["report", "command", "formula.sha256", "assumptions", *rounds, *others]:
+    rounds = [f"round-{k}.{name}" for k in (1, 2, 9, 10, 123) for name in ("sizes", "stream-1", "stream-2", "stream-64")]
+    others = ["another", "round-0.sizes", "round-1.stream-", "round-1.stream-x", "round-2.cnf", "round-2.cnf.old", "round.cnf", "stream1"]
+    names = ["files", "report", "command", "formula.sha256", "formula.cnf", "assumptions", ".round-9.sizes.new", *rounds, "round-7.sizes"]
+    for name in [*names[1:-1], *others]:
         written("of an earlier run\n", kept, name)
+    written("\n".join([*names, "round-1.str"]), kept, "files")     # it was killed before it had written a name
     shutil.copy(example("bmc.cnf"), kept / "formula.cnf")
     in_shell('cat "$2"/formula.cnf | "$0" --lrupd "$1" -j 2 --proofs "$2" -', SOLVE, PROGRAM, kept)
     one = ["round-1.sizes", "round-1.stream-1"]
-    found = [*others, "command", "formula.cnf", "formula.sha256", "report", *one, "round-1.stream-2"]
-    want(sorted(os.listdir(kept)), sorted(found), "what is there")
+    found = ["command", "files", "formula.cnf", "formula.sha256", "report", *one, "round-1.stream-2"]
+    want(sorted(os.listdir(kept)), sorted([*others, *found]), "what is there")
+    want([name for name in listed(kept) if name[0] != "."], found, "what is listed")
     want((kept / "formula.cnf").read_text(), example("bmc.cnf").read_text(), "the formula")
     check_again(kept)
     one_round = {"FIRST_WORDS": 1 << 24}      # no machine fills its row before it is ended
@@ -120,7 +126,8 @@ def earlier_run(work: Path) -> None:
         running.terminate()
         out = running.communicate(timeout=LIMIT)[0]
     want((out.splitlines()[-1], running.returncode), ("s UNKNOWN", -signal.SIGTERM), "the answer of a run that was ended")
-    want(sorted(os.listdir(kept)), sorted([*others, "formula.sha256", *one]), "what is there after 's UNKNOWN'")
+    want(sorted(os.listdir(kept)), sorted([*others, "files", "formula.sha256", *one]), "what is there after 's UNKNOWN'")
+    want([path.read_text() for path in map(kept.joinpath, others)], ["of an earlier run\n"] * len(others), "what others have")
 
 
 def others_write(mode: int, taken: bool, work: Path) -> None:
@@ -146,12 +153,13 @@ def locked(name: str, ends: int, work: Path) -> None:
     kept, words = work / "kept", ["--proofs", work / name, "-j", "1", example("bmc.cnf")]
     os.symlink("kept", work / "link")
     with started(command(["-j", "1", "--proofs", kept, generated("pigeons 11", work)]), stdout=subprocess.DEVNULL) as running:
-        until("an engine is there", lambda: "engine 1" in children_of(running.pid) or running.poll() is not None)
+        until("lrupd's sizes are there", lambda: (kept / "round-1.sizes").exists() or running.poll() is not None)
         before = sorted(os.listdir(kept))
         refused(words, f"{work / name}: another run that goes on has its files there: another --proofs", work)
         want((sorted(os.listdir(kept)), running.poll()), (before, None), "what is there, and the run")
         running.send_signal(ends)
         running.wait(LIMIT)
+        want(set(before) <= set(listed(kept)), True, f"whether all of {before} is listed")
         want_answer(solve(words), 20)
     check_again(kept)
 
@@ -159,11 +167,48 @@ def locked(name: str, ends: int, work: Path) -> None:
 def own_files(name: str, work: Path) -> None:
     """What has a name of the record's, and isn't of one, is left alone. Every run that has read its formula leaves a record."""
     own = work / "own"
-    path = written("mine\n", own, name)
+    path, other = written("mine\n", own, name), written("mine\n", own, "round-5.cnf")
     refused(["--proofs", own, example("bmc.cnf")], f"{path} is there, and isn't of an earlier run: another --proofs", work)
-    want(path.read_text(), "mine\n", "what stands there")
+    want((path.read_text(), sorted(os.listdir(own))), ("mine\n", sorted([name, other.name])), "what stands there")
+    path.unlink()
+    want_answer(solve(["--proofs", own, example("bmc.cnf")]), 20)
+    want(other.read_text(), "mine\n", "what stands there")
+    (own / "files").unlink()
+    said = solve(["--proofs", own, example("bmc.cnf")]).said
+    wanted = f"lrup-solve: {own}/command is there, and isn't of an earlier run: another --proofs\n"
+    want(said, wanted, "what is said of a record without a list")
+    check_again(own)
     for text, status in ((FOUR, 20), ("x", 1), ("p cnf 1 0\n", 10), ("p cnf 1 1\n2 0\n", 1), (FOUR, 20)):
         want(solve(["--proofs", work / "kept", "-"], given=text).status, status, f"the status with {text}")
+
+
+def own_list(text: Optional[str], work: Path) -> None:
+    """A list that is no record's, or is a link or a pipe, names nothing that is removed; nor is it written to."""
+    own, target, mine = work / "own", written("files\nreport\n", work, "target"), written("mine\n", work, "mine")
+    report = written("mine\n", own, "report")
+    {"link": lambda: (own / "files").symlink_to(target), "hard link": lambda: os.link(target, own / "files"),
+     "pipe": lambda: os.mkfifo(own / "files")}.get(str(text), lambda: written(str(text), own, "files"))()
+    answer = solve(["--proofs", own, example("bmc.cnf")], limit=60)
+    want((answer.out, answer.said, answer.status),
+         ("", f"lrup-solve: {own}/files is there, and isn't of an earlier run: another --proofs\n", 1), "what is said")
+    want([path.read_text() for path in (report, target, mine)], ["mine\n", "files\nreport\n", "mine\n"], "what stands there")
+    want(sorted(os.listdir(own)), ["files", "report"], "what is there")
+
+
+LISTS = ["link", "hard link", "pipe", "", "\n", "files", "report\n", "files\n../mine\n", "files\n\nreport\n", "files\nround-1.cnf\n",
+         "files\nmine\n", "files\nround-1.stream-0\n", "files\n.new\n", "files\nreport\0\n", "files\nfiles/../report\n"]
+
+
+def formula_of_a_round(work: Path) -> None:
+    """The formula lies in the record, with the name of what lrupd saves."""
+    kept = work / "kept"
+    formula = written(generated("random 180 3", work).read_bytes(), kept, "round-1.cnf")
+    words, text = ["-j", "2", "--proofs", kept, formula], formula.read_text()
+    for _ in range(2):
+        want_answer(solve(words, tested={"SAME_WORDS": 1, "SLICE": 40, "FIRST_WORDS": 20000}), 20)
+        want(len(list(kept.glob("round-*.sizes"))) > 1, True, "whether there are several rounds")
+        check_again(kept)
+        want(formula.read_text(), text, "the formula")
 
 
 def unkept(work: Path) -> None:
@@ -172,8 +217,9 @@ def unkept(work: Path) -> None:
     path = before_lrupd(f"mkdir {kept}/report", work)
     answer = solve(["--lrupd", path, "--proofs", kept, example("bmc.cnf")])
     want((answer.answers, answer.status, answer.said), (["s UNSATISFIABLE"], 1,
-         f"lrup-solve: cannot write {kept}/report: Is a directory\n"), "the answer")
-    want(sorted(name for name in os.listdir(kept) if not name.startswith("round-1.")), ["formula.sha256", "report"], "what is there")
+         f"lrup-solve: cannot write {kept}/report: File exists\n"), "the answer")
+    found = [name for name in os.listdir(kept) if not name.startswith("round-1.")]
+    want(sorted(found), ["files", "formula.sha256", "report"], "what is there")
 
 
 def another_name(words: List[str], work: Path) -> None:
@@ -243,6 +289,109 @@ def contradicting(work: Path) -> None:
     answer = solve(["-j", "2", "--assume", cube, formula])
     want_answer(answer, 0)
     want(answer.comments[:-1], ["assumptions 1 and -1 contradict each other, which no clause shows"], "what is said")
+
+
+# The run's own folder, and programs.
+
+
+def open_to_others(mode: int, taken: bool, work: Path) -> None:
+    """TMPDIR, by the rule for --proofs."""
+    files = work / "files"
+    files.mkdir()
+    files.chmod(mode)
+    answer = solve(["-j", "1", example("bmc.cnf")], env_more={"TMPDIR": str(files)})
+    if taken:
+        want_answer(answer, 20)
+    else:
+        want(answer.said, f"lrup-solve: {files}: others may write there: another TMPDIR\n", "what is said")
+    want(os.listdir(files), [], "what is left")
+
+
+def another_in_place(ends: int, work: Path) -> None:
+    """What has the name of the run's folder by its end isn't removed, nor what a link in the folder leads to; its own files are."""
+    files, mine = work / "files", written("mine", work / "mine", "mine")
+    files.mkdir()
+    with started(command(["-j", "1", generated("pigeons 11", work)]), env={**os.environ, "TMPDIR": str(files)},
+                 stdout=subprocess.DEVNULL) as running:
+        until("lrupd is there", lambda: "lrupd" in children_of(running.pid) or running.poll() is not None)
+        engines, (folder,) = children_of(running.pid)["lrup-engines"], files.iterdir()
+        moved = folder.rename(work / "moved")
+        (moved / "a link").symlink_to(mine.parent)
+        written("", moved / "folder", "file")
+        written("mine", folder, "mine")
+        os.kill(engines, ends)
+        running.wait(60)
+    want((os.listdir(moved), (folder / "mine").read_text(), mine.read_text()), ([], "mine", "mine"), "what is left")
+
+
+def without_processes(work: Path) -> None:
+    """As another user, who may have no more processes than these: nothing is left, whichever of them can't be started."""
+    (work / "bin").mkdir()
+    for path in (SOLVE, SOLVE.with_name("lrup-engines"), Path(PROGRAM)):
+        shutil.copy(path, work / "bin")
+    formula, files, proved = written(FOUR, work), work / "files", 0
+    files.mkdir(mode=0o1777)
+    files.chmod(0o1777)
+    for most in range(1, 25):
+        answer = Answer(by_another([work / "bin" / "lrup-solve", "-j", "1", formula], work, 60000 + (32 * os.getpid() + most) % 5000,
+                                   lambda: resource.setrlimit(resource.RLIMIT_NPROC, (most, most)), limit=60,
+                                   env={**os.environ, "TMPDIR": str(files)}))
+        proved += answer.status == 20
+        want(os.listdir(files), [], f"what is left, of at most {most} processes, with {answer.said}{answer.out}")
+    want(0 < proved < 24, True, f"whether {proved} of 24 are some")
+
+
+def cleaner_stopped(work: Path) -> None:
+    """The process that removes the folder where the run is killed: the end doesn't wait for it."""
+    files, go = work / "files", work / "go"
+    files.mkdir()
+    lrupd = before_lrupd(f"while [ ! -e {go} ]; do sleep 0.1; done", work)
+    with started([SOLVE, "--lrupd", lrupd, "-j", "1", written(FOUR, work)], env={**os.environ, "TMPDIR": str(files)},
+                 stdout=subprocess.PIPE, text=True) as running:
+        until("the cleaner is there", lambda: "cleaner" in children_of(running.pid) or running.poll() is not None)
+        os.kill(children_of(running.pid)["cleaner"], signal.SIGSTOP)
+        go.touch()
+        out = running.communicate(timeout=60)[0]
+    want((out.splitlines()[-1:], running.returncode, os.listdir(files)), (["s UNSATISFIABLE"], 20, []), "the answer, and what is left")
+
+
+def from_the_current_folder(how: str, work: Path) -> None:
+    """A tool that lies there isn't run: neither by a PATH that has the folder, nor where the program's own path isn't known, since it
+    has more bytes than the system tells."""
+    for name in ("lrup-trim", "lrup-explain", "lrupd", "-mpi"):
+        written(f"#!/bin/sh\n{f': > {work}/ran' * (name != 'lrupd')}\nexit 3\n", work, name).chmod(0o755)
+    (work / "bin").mkdir()
+    for name in ("lrup-solve", "lrup-engines"):
+        shutil.copy(SOLVE.with_name(name), work / "bin")
+    place = os.open(work / "bin", os.O_PATH)
+    for _ in range(30 if how != "PATH" else 0):
+        os.mkdir("x" * 200, dir_fd=place)
+        place = os.open("x" * 200, os.O_PATH, dir_fd=place)
+    if how != "PATH":
+        with open(os.open("lrup-engines", os.O_WRONLY | os.O_CREAT, 0o755, dir_fd=place), "wb") as copy:
+            copy.write(SOLVE.with_name("lrup-engines").read_bytes())
+    formula = written(FOUR, work)
+    words: List[object] = [work / "bin" / "lrup-solve", *["--engines", f"/proc/self/fd/{place}/lrup-engines"] * (how != "PATH")]
+    no_mpi = "no program that can be run" if how == "PATH" else "cannot find this program"
+    for more, said in ((["--lrupd", PROGRAM, "--core", "core"], "no lrup-trim, neither"), ([], "no lrupd that can be run"),
+                       (["--lrupd", PROGRAM, "--mpi", "echo"], no_mpi)):
+        done = run([*words, *more, formula], cwd=work, env={**os.environ, "PATH": ":.:bin/..:/usr/bin:/bin:"}, pass_fds=[place])
+        want((done.out, said in done.err, done.status), ("", True, 1), f"what is said with {more}: {done.err}")
+    want((work / "ran").exists(), False, "whether something was run")
+    if how != "PATH":
+        shutil.rmtree(work / "bin")
+
+
+def control_bytes(what: bytes, shown: str, work: Path) -> None:
+    """Of a file, or of a name, none reaches a terminal. Other letters do on standard error; comments are in ASCII."""
+    name = os.fsdecode(b"a" + what)
+    cube = written(b"1" + what + b" 0\n", work, "cube")
+    said = [solve(["--assume", cube, written(FOUR, work)]).said, solve([name], cwd=work).said]
+    wanted = [f": a word that is no number: 1{shown})\n", f"a{shown}': No such file or directory\n"]
+    want([text[-len(end):] for text, end in zip(said, wanted)], wanted, "what is said")
+    answer = solve(["-v", "-j", "1", written(FOUR, work, name).name], cwd=work)
+    in_ascii = re.sub(rb"[^ -~]", b"?", os.fsencode(shown)).decode()
+    want(f"a{in_ascii}" in answer.out, True, f"whether the name is shown in\n{answer.out}")
 
 
 def quiet(work: Path) -> None:
@@ -372,7 +521,18 @@ def words_and_files() -> List[Row]:
     runs += [("a folder that is made", made_where_all_may_write)]
     runs += [(f"a folder of mode {mode:o}", others_write, mode, taken)
              for mode, taken in ((0o777, False), (0o757, False), (0o1777, True), (0o775, True), (0o700, True))]
-    runs += [(f"an own {name}", own_files, name) for name in ("formula.cnf", "formula.sha256", "assumptions", "report", "command")]
+    runs += [(f"an own {name}", own_files, name) for name in (
+        "formula.cnf", "formula.sha256", "assumptions", "report", "command", ".report.new", "round-7.sizes", "round-2.stream-3")]
+    runs += [(f"an own list {text!r}", own_list, text) for text in LISTS]
+    runs += [("a formula of a round", formula_of_a_round)]
+    runs += [(f"TMPDIR of mode {mode:o}", open_to_others, mode, taken)
+             for mode, taken in ((0o777, False), (0o757, False), (0o1777, True), (0o775, True))]
+    runs += [(f"another folder in place, {ends.name}", another_in_place, ends) for ends in (signal.SIGKILL, signal.SIGTERM)]
+    runs += [("without processes", without_processes), ("the cleaner is stopped", cleaner_stopped)]
+    runs += [(f"from the current folder: {how}", from_the_current_folder, how) for how in ("PATH", "own path")]
+    runs += [(f"control bytes {what!r}", control_bytes, what, shown) for what, shown in (
+        (b"\x1b[31m", "?[31m"), (b"\xc2\x9b31m", "?31m"), (b"\x9b", "?"), (b"\x07\x7f\b", "???"), (b"\xc3\xa9", "\xe9"),
+        (b"\xe2\x9b\x80", "\u26c0"), (b"\xe9", "\udce9"))]
     runs += [(" ".join(["over", *words]), writes_over, words) for words in
              (["formula.cnf"], ["formula.cnf", "{path}"], ["round-1.stream-1", "{path}"], ["round-12.stream-64", "{path}"],
               ["report", "{work}/link"], ["command", "{work}/other"], ["round-1.stream-2", "/dev/stdin"],
@@ -445,7 +605,7 @@ def refusals() -> List[Row]:
                          (["--share-size", "-1", "{formula}"], "--share-size takes 0 to 1000, not -1"),
                          (["--seed", "1.5", "{formula}"], "--seed takes 0 to 1000000000, not 1.5"),
                          (["--lrupd", "{work}/none", "{formula}"], "none"), (["--lrupd", "", "{formula}"], "not ''"),
-                         (["--lrupd", "{work}", "{formula}"], "no program"), (["--lrupd", "none", "{formula}"], "no program"),
+                         (["--lrupd", "{work}", "{formula}"], "no lrupd"), (["--lrupd", "none", "{formula}"], "no lrupd"),
                          (["--proofs", "{work}/none/none", "{formula}"], "none/none"), (["--proofs", "", "{formula}"], "not ''"),
                          (["--proofs", "{formula}", "{formula}"], "Not a directory"), (["--", "{formula}", "-v"], "too many: -v"),
                          (["{work}/none"], "{work}/none: No such file or directory"),

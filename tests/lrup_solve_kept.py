@@ -13,12 +13,14 @@ import os
 import re
 import shlex
 import shutil
+import signal
 import sys
 from pathlib import Path
-from typing import Dict, List, Optional, Sequence
+from typing import Dict, List, Optional, Sequence, Tuple
 
 sys.dont_write_bytecode = True
-from harness import FOUR, Ran, Row, generated, run, until, want, words_given, written
+from harness import (EXPLAIN, FILTER, FOUR, TRIM, Ran, Row, by_another, example, generated, run, started, until, want, words_given,
+                     written)
 from lrat import lrat_fault
 from proof_forms import Clause, read_formula
 from solving import PROGRAM, SOLVE, Answer, before_lrupd, check_again, run_built, solve
@@ -26,6 +28,7 @@ from solving import PROGRAM, SOLVE, Answer, before_lrupd, check_again, run_built
 words_given(__doc__, most=2)
 PROVED, PROVED_UNDER = "s UNSATISFIABLE", "s UNSATISFIABLE UNDER ASSUMPTIONS"
 SMALL = {"SAME_WORDS": 1, "SLICE": 40, "FIRST_WORDS": 20000}
+ROUNDS = {"SAME_WORDS": 1, "SLICE": 50, "FIRST_WORDS": 4000}
 
 
 def core_of(path: Path, formula: List[Clause]) -> List[Clause]:
@@ -42,14 +45,17 @@ def left_in(files: Path) -> None:
 
 
 def kept(words: Sequence[object], formula: Path, work: Path, tested: Optional[Dict[str, object]] = None, verdict: str = PROVED,
-         **how: object) -> Answer:
-    """With both outputs, and nothing left in the folder for temporary files."""
+         names: Sequence[str] = (), **how: object) -> Answer:
+    """With both outputs, of these names, and nothing left in the folder for temporary files."""
     files = work / "temporary"
     files.mkdir(exist_ok=True)
-    core, lrat = work / "core.cnf", work / "proof.lrat"
-    answer = solve(["--core", core, "--lrat", lrat, *words], tested=tested, env_more={"TMPDIR": str(files)}, cwd=work, **how)
+    core, lrat = (work / name for name in names or ("core.cnf", "proof.lrat"))
+    outputs = ["--core", names[0], "--lrat", names[1]] if names else ["--core", core, "--lrat", lrat]
+    answer = solve([*outputs, *words], tested=tested, env_more={"TMPDIR": str(files)}, cwd=work, **how)
     want((answer.status, answer.answers, answer.said), (20, [verdict], ""), f"the answer of\n{answer.out[-3000:]}")
-    for path in (core, lrat):
+    told = sum(line.endswith(f": lrupd says of it: {verdict}") for line in answer.comments)
+    want(told, 2, f"of how many it is told in\n{answer.out[-3000:]}")
+    for path in () if names else (core, lrat):
         want(f"{path}: lrupd says of it: {verdict}" in answer.comments, True, f"whether it is told of {path} in\n{answer.out[-3000:]}")
     clauses = read_formula(formula)
     found = core_of(core, clauses)
@@ -131,7 +137,8 @@ def with_another(tools: Dict[str, str], said: str, work: Path) -> None:
 WRONG_TRIM = r"""while [ "$1" != -- ]; do case $1 in --core) core=$2;; --stream) stream=$2;; --lrat) lrat=$2;; esac; shift; done
 printf 'p cnf 2 1\n1 2 0\n' > "$core"; printf '2 0 1 0\n' > "$stream"; printf '5 0 1 0\n' > "$lrat"
 echo "c 1 of 4 clauses, 1 lines of 2"
-for name in s l; do echo "c $name: 1 bytes of 1: lrupd --lines 1 --room 0 x y"; done
+echo "c $stream: 1 bytes of 1: lrupd --lines 1 --room 0 $core $stream"
+echo "c $lrat: 1 bytes of 1: lrupd --lines 1 --room 0 $2 $lrat"
 """
 ANOTHERS = [("wrong outputs", {"lrup-trim": WRONG_TRIM}, "lrupd hasn't taken lrat, which is removed"),
             ("no outputs", {"lrup-trim": "echo lrup-trim: no line derives the empty clause >&2; exit 1"},
@@ -194,6 +201,113 @@ def strange_name(work: Path) -> None:
     want(run(["sha256sum", "--quiet", "-c", "d/formula.sha256"], cwd=work).status, 0, "what sha256sum says")
 
 
+# Names, and files that aren't what they should be.
+
+
+def strange_names(names: Tuple[str, str], assumes: bool, tested: Optional[Dict[str, object]], work: Path) -> None:
+    """No shell runs a part of a name: neither the record's command, nor what -v shows, nor what a solver's command has. A program
+    that such names have leaves a mark."""
+    mark, programs, folder = work / "mark", work / "programs", work / names[0].replace("/", "")
+    written("#!/bin/sh\n: > \"$MARK\"\n", programs, "ran").chmod(0o755)
+    folder.mkdir()
+    formula, cube = written(example("bmc.cnf").read_text(), folder, names[0]), written("0\n", folder, names[1])
+    more = {"MARK": str(mark), "PATH": f"{programs}:{os.environ['PATH']}"}
+    words: List[object] = ["-v", "-j", 2, "--proofs", "kept"]
+    words += ["--assume", f"./{cube.name}"] if assumes else ["--solver", "cadical -q %formula %proof"] if shutil.which("cadical") else []
+    answer = solve([*words, "--", formula.name], tested=tested, env_more=more, cwd=folder)
+    want((answer.status, answer.answers, answer.said), (20, [PROVED], ""), f"the answer of\n{answer.out[-3000:]}")
+    want(len(list((folder / "kept").glob("round-*.sizes"))) > 1, tested is not None, "whether there are several rounds")
+    check_again(folder / "kept", more)
+    shown = [line for line in answer.comments if " --tries 1000000 " in line and "lrup-" not in line]
+    want(len(shown), 1, f"how many commands are shown in\n{answer.out[-3000:]}")
+    done = run(["sh", "-c", shown[0]], cwd=folder, env={**os.environ, **more})
+    if "\n" not in "".join(names) and "".join(names).isascii():       # other bytes are shown as ?
+        want(done.out.splitlines()[-1:], ["s UNKNOWN" if tested else PROVED], f"what it says, with {done.err}")
+    want(mark.exists(), False, "whether a part of a name was run")
+
+
+STRANGE = [("$(ran).cnf", "FORMULA;.cube"), ("`ran`;ran;", "ASSUME "), ("-$(ran)", "-x"), ("%s%proof %formula", "it's \"a\" $(ran)"),
+           ("a\n$(ran)\nran", "\nFORMULA;\n"), ("'$(ran)'", "';ran;'"), (os.fsdecode(b"\xe9;ran;"), os.fsdecode(b"$(ran)\xe9"))]
+
+
+def strange_outputs(core: str, lrat: str, name: str, assumes: bool, work: Path) -> None:
+    """Right ones stay, whatever their names and the formula's are."""
+    formula, cube = written(generated("pigeons 5", work).read_bytes(), work, name), written("1 0\n", work, f"cube of {name}")
+    words = ["-j", 1, *["--assume", cube.name] * assumes, "--", name]
+    verdict = PROVED_UNDER if assumes else PROVED
+    answer = kept(words, formula, work, verdict=verdict, names=(core, lrat))
+    told = [found[1] for found in (re.search(r": \d+ bytes of \d+: (lrupd .*)", line)
+                                   for line in answer.comments if " says of it: " not in line) if found]
+    want(len(told), 1, "how many commands are told")
+    if (core + lrat + name).isprintable() and (core + lrat + name).isascii():
+        done = run(["sh", "-c", f"lrupd() {{ {shlex.quote(PROGRAM)} \"$@\"; }}; {told[0]}"], cwd=work)
+        want((done.out.splitlines()[-1:], done.err), ([verdict], ""), "what lrupd says by that")
+
+
+OUTPUTS = [("-.core", "-.lrat", "-f"), ("a\ncore", "an\nlrat", "a\nformula"),
+           (" x --lines 0 --room 0 y", "x --lines 0 --room 0 y", " --lines 0"),
+           (os.fsdecode(b"\xe9core"), os.fsdecode(b"\xffl rat"), os.fsdecode(b"\xc0\x80 f")), ("it's", "$(ran)", "a;b"),
+           ("c: 1 bytes of 2: lrupd --lines 1", ": lrupd --lines 0 --room 0 x", "core")]
+
+
+def checked_in_rounds(core: str, lrat: str, name: str, work: Path) -> None:
+    """Where lrup-trim names no row that does, or what it says isn't understood."""
+    trim = f"{shlex.quote(str(TRIM))} \"$@\" | sed 's/ --lines / -lines /'"
+    program = programs_beside({"lrup-trim": trim, "lrup-exact": f"exec {shlex.quote(str(FILTER))} \"$@\""}, work)
+    formula = written(generated("pigeons 5", work).read_bytes(), work, name)
+    done = run([program, "--lrupd", PROGRAM, "-j", 1, "--core", core, "--lrat", lrat, "--", name], cwd=work)
+    want((done.err, done.status, done.out.count(f": lrupd says of it: {PROVED}\n")), ("", 20, 2), f"what is said in\n{done.out}")
+    core_of(work / core, read_formula(formula))
+    want(lrat_fault(read_formula(formula), (work / lrat).read_text()), "", "what the LRAT checker says")
+
+
+def pipe_in_a_record(name: str, work: Path) -> None:
+    """Only regular files are read: nothing hangs."""
+    formula = generated("pigeons 5", work)
+    want(solve(["-j", 1, "--proofs", "d", formula], cwd=work).status, 20, "the status")
+    path = work / (name or formula.name)
+    path.unlink()
+    os.mkfifo(path)
+    want(run(["sh", "d/command"], cwd=work, limit=20), Ran("", f"{path} is no regular file\n", 1), "what the record's check says")
+    for tool in ([TRIM, "--core", "core"], [EXPLAIN]) if name == "d/formula.sha256" else ():
+        done = run([*tool, formula, "d"], cwd=work, limit=20)
+        want((done.status, done.err.endswith("d/formula.sha256: it is read more than once, so it has to be a file\n")), (1, True),
+             f"what {tool[0].name} says: {done.err}")
+
+
+def several_checks(work: Path) -> None:
+    """Two at a time, in a record that is read-only."""
+    shutil.copy(PROGRAM, work / "lrupd")
+    formula = written(generated("random 180 3", work).read_bytes(), work, "formula.cnf")
+    want(solve(["--lrupd", "./lrupd", "-j", 2, "--proofs", "d", formula], tested=SMALL, cwd=work).status, 20, "the status")
+    (work / "d").chmod(0o555)
+    check_again(work / "d")
+    done = by_another(["sh", "-c", "sh d/command > /dev/null & sh d/command && wait \"$!\""], work)
+    want((done.out.splitlines()[-1:], done.err, done.status), ([PROVED], "", 0), "what two checks say, by a user who can't write there")
+
+
+def check_interrupted(number: int, work: Path) -> None:
+    """It ends with its lrupd, leaves nothing, and is as good as another one."""
+    files, slow = work / "temporary", work / "slow"
+    files.mkdir()
+    lrupd = before_lrupd(f"[ ! -e {slow} ] || {{ touch {work}/begun; exec sleep 100; }}", work)
+    formula = generated("random 180 3", work)
+    want(solve(["--lrupd", lrupd, "-j", 2, "--proofs", "d", formula], tested=SMALL, cwd=work).status, 20, "the status")
+    slow.touch()
+    with started(["sh", "d/command"], cwd=work, env={**os.environ, "TMPDIR": str(files)}) as checking:
+        until("it is checked", (work / "begun").exists)
+        want(len(os.listdir(files)), 1, "folders")
+        checking.send_signal(number)
+        want(checking.wait(20), 143, "the status")
+    want(os.listdir(files), [], "what is left")
+    slow.unlink()
+    check_again(work / "d", {"TMPDIR": str(files)})
+    files.chmod(0o777)
+    said = f"{files}: others may write there: another TMPDIR\n"
+    want(run(["sh", "d/command"], cwd=work, env={**os.environ, "TMPDIR": str(files)}), Ran("", said, 1), "where others may write")
+    want(os.listdir(files), [], "what is left there")
+
+
 # Why a line is bad.
 
 
@@ -224,6 +338,15 @@ def rows() -> List[Row]:
     found += [(f"not there: {name or 'the formula'}", not_there, name, piped) for name, piped in (
         ("", False), ("d/formula.cnf", True), ("d/round-1.stream-1", False), ("d/formula.sha256", False))]
     found += [("a strange name", strange_name)]
+    found += [(f"named {names!r}{', assuming' * assumes}{', rounds' * bool(tested)}", strange_names, names, assumes, tested)
+              for names in STRANGE for assumes in (False, True) for tested in (None, ROUNDS)]
+    found += [(f"outputs named {core!r} and {lrat!r}{', assuming' * assumes}", strange_outputs, core, lrat, name, assumes)
+              for core, lrat, name in OUTPUTS for assumes in (False, True)]
+    found += [(f"checked in rounds, {core!r}", checked_in_rounds, core, lrat, name) for core, lrat, name in OUTPUTS]
+    found += [(f"a pipe as {name or 'the formula'}", pipe_in_a_record, name) for name in
+              ("", "d/formula.sha256", "d/round-1.stream-1", "d/round-1.sizes")]
+    found += [("several checks", several_checks)]
+    found += [(f"a check that gets {number.name}", check_interrupted, number) for number in (signal.SIGTERM, signal.SIGINT, signal.SIGHUP)]
     return found + [(f"a bad line, {'with' if record else 'without'} a record", explained, record) for record in (True, False)]
 
 

@@ -15,27 +15,16 @@ import subprocess
 import sys
 import time
 from pathlib import Path
-from typing import Dict, Mapping
+from typing import Mapping
 
 sys.dont_write_bytecode = True
 from harness import LIMIT, Ran, dimacs, random_clauses, started, until, want, words_given, written
-from solving import (EARLY, Answer, children_of, command, in_environment, is_alive, marked, none_left, of_process, run_built,
-                     solve, want_answer)
+from solving import (EARLY, FRONT, READING, Answer, command, in_environment, is_alive, marked, none_left, processes_of_run,
+                     run_built, solve, want_answer)
 
 COUNT = int((words_given(__doc__, most=3) + ["-O2", "10"][len(sys.argv) - 2:])[2])
-FRONT, READING = "lrup-solve", "its reading"
-NAMES = [FRONT, "lrup-engines", "engine 1", "engine 2", "filter 1", "filter 2", "lrupd", READING, "opener", "cleaner"]
+NAMES = [FRONT, "supervisor", "lrup-engines", "engine 1", "engine 2", "filter 1", "filter 2", "lrupd", READING, "opener", "cleaner"]
 SOON = 6        # seconds, after a run has come to its end
-
-
-def processes_of_run(pid: int) -> Dict[str, int]:
-    """With the front, and the lrupd that reads the formula."""
-    found = {**children_of(pid), FRONT: pid}
-    for child in map(int, of_process(pid, f"task/{pid}/children").split()):
-        title, words = of_process(child, "comm").strip(), of_process(child, "cmdline")
-        if title == "lrupd" and "--rounds" not in words:
-            found[READING] = child
-    return found
 
 
 def killed_one(name: str, after: float, formula: Path, hooks: Mapping[str, object], work: Path) -> Answer:

@@ -27,6 +27,7 @@ OUT = ROOT / "tools" / "solve" / "out" / re.sub(r"\W+", "", "".join(["tested", *
 SOLVE, TESTED = OUT / "lrup-solve", OUT / "tested" / "lrup-solve"
 EARLY = "elimint=10 probeint=10 subsumeint=10 compactint=10 reduceint=20 rephase=1 rephaseint=20"
 ELIMINATING = "elimint=1 compact=0"
+FRONT, READING = "lrup-solve", "its reading"      # the front, and the lrupd that reads the formula
 ANSWERS = {0: VERDICTS[3], 10: "s SATISFIABLE", 20: VERDICTS[0]}
 
 
@@ -91,11 +92,18 @@ def random_formula(seed: int) -> str:
     return dimacs(variables, random_clauses(numbers, variables, round(ratio * variables), lengths))
 
 
-def check_again(kept: Path) -> None:
-    """The record is enough to have the streams checked once more, by its command, in any folder. The last report is the same."""
-    done, report = run(["sh", kept / "command"], cwd="/"), (kept / "report").read_text()
-    want((done.out[-len(report):], done.status), (report, 0), "the streams, checked again")
-    want(list(kept.glob("round-*.cnf")), [], "formulas that are left")
+def check_again(kept: Path, env_more: Optional[Mapping[str, str]] = None) -> None:
+    """The record is enough to have the streams checked once more, by its command, in any folder. The last report is the same, and
+    nothing is written."""
+    before = {path: path.lstat().st_mtime_ns for path in [kept, *kept.iterdir()]}
+    done, report = run(["sh", kept / "command"], cwd="/", env=in_environment(more=env_more)), (kept / "report").read_text()
+    want((done.out[-len(report):], done.status), (report, 0), f"the streams, checked again, with {done.err}")
+    want({path: path.lstat().st_mtime_ns for path in [kept, *kept.iterdir()]}, before, "the record's files, and their times")
+
+
+def listed(kept: Path) -> List[str]:
+    """The files of a record, by its list."""
+    return sorted(set((kept / "files").read_text().splitlines()))
 
 
 def in_place_of_lrupd(body: str, work: Path) -> Path:
@@ -127,8 +135,18 @@ def children_of(pid: int) -> Dict[str, int]:
         title = of_process(child, "comm").strip()
         if title and (title != "lrupd" or "--rounds" in of_process(child, "cmdline")):
             found[title] = child
-        if title == "lrup-engines":
+        if title in ("supervisor", "lrup-engines"):
             found.update(children_of(child))
+    return found
+
+
+def processes_of_run(pid: int) -> Dict[str, int]:
+    """With the front, and what only reads the formula."""
+    found = {**children_of(pid), FRONT: pid}
+    for child in map(int, of_process(pid, f"task/{pid}/children").split()):
+        title, words = of_process(child, "comm").strip(), of_process(child, "cmdline")
+        if title == "lrupd" and "--rounds" not in words:
+            found[READING] = child
     return found
 
 
@@ -185,6 +203,14 @@ def processes_of(mark: str) -> List[int]:
 
 def none_left(mark: str) -> None:
     until("no process of the run is left", lambda: not processes_of(mark))
+
+
+def end_all(mark: str) -> None:
+    """Those of a run that may leave some, once its front has ended. Some may be stopped."""
+    for number in (signal.SIGCONT, signal.SIGKILL):
+        for pid in processes_of(mark):
+            with contextlib.suppress(ProcessLookupError):
+                os.kill(pid, number)
 
 
 def kill_children(children: Mapping[str, int], names: Sequence[str], number: int = signal.SIGKILL) -> None:

@@ -44,24 +44,13 @@ bool is_program(const std::string &path) {
     return stat(path.c_str(), &found) == 0 && S_ISREG(found.st_mode) && access(path.c_str(), X_OK) == 0;
 }
 
+// Of absolute folders alone: what lies in the current one isn't run.
 std::string on_the_path(const std::string &name) {
     const char *list = getenv("PATH");
-    std::string rest = list ? list : "";
-    while (!rest.empty()) {
-        size_t end = rest.find(':');
-        std::string folder = rest.substr(0, end), path = (folder.empty() ? "." : folder) + "/" + name;
-        if (is_program(path)) return path;
-        rest = end == std::string::npos ? "" : rest.substr(end + 1);
-    }
+    std::istringstream rest(list ? list : "");
+    for (std::string folder; std::getline(rest, folder, ':');)
+        if (folder[0] == '/' && is_program(folder + "/" + name)) return folder + "/" + name;
     return "";
-}
-
-// Which one the front starts.
-std::string find_checker(const char *given) {
-    std::string found = front.lrupd.find('/') == std::string::npos ? on_the_path(front.lrupd) : front.lrupd;
-    if (is_program(found)) return absolute(found);
-    if (given) refuse("no program that can be run: " + quoted(given));
-    refuse("no lrupd, neither beside this program nor on the PATH: --lrupd says where, or `make build` makes it");
 }
 
 void Front::find(int &count, char **&words) {
@@ -113,13 +102,13 @@ bool Front::has_refused() const {
     return probe.child.ended() && WIFEXITED(probe.child.status) && !probe.child.ended_with(UNKNOWN_STATUS);
 }
 
-// Its children are this process, or MPI's command, which has started it, and each lrupd.
+// Its children are the supervisor, which takes none, and each lrupd.
 double Front::checking() const {
     std::string id = std::to_string(pid);
     std::ifstream children("/proc/" + id + "/task/" + id + "/children");
     double seconds = processor_time(pid, TIME_OF_CHILDREN);
     for (int child; children >> child;)
-        if (child != getpid() && child != getppid()) seconds += processor_time(child, OWN_TIME);
+        seconds += processor_time(child, OWN_TIME);
     return seconds;
 }
 
@@ -159,7 +148,9 @@ void Checker::expect(const std::string &path) {
 }
 
 void Checker::take_end(const std::string &words) {
-    child.status = atoi(words.c_str());
+    int code = 0, status = 0;
+    sscanf(words.c_str(), "%d %d", &code, &status);
+    child.status = code == CLD_EXITED ? W_EXITCODE(status, 0) : W_EXITCODE(0, status);
     child.running = false;
     read_on();
 }

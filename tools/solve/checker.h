@@ -53,7 +53,7 @@ public:
     void read_on();                                         // what it says
     bool next_line(std::string &line);                      // of standard error, each once
     std::string last_line() const;                          // of standard error
-    void take_end(const std::string &words);                // of the front: the status as wait gives it
+    void take_end(const std::string &words);                // of the front: si_code and si_status
 
 private:
     struct Stream {
@@ -102,7 +102,6 @@ private:
 extern Front front;
 bool is_program(const std::string &path);
 std::string on_the_path(const std::string &name);       // empty where it isn't there
-std::string find_checker(const char *given);            // refuses where there is none
 std::string sizes_text(size_t streams, Row row);        // as lrupd reads it from a file
 std::string tries();
 

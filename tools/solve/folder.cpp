@@ -4,64 +4,116 @@
 #include <csignal>
 #include <cstdlib>
 
+#include <dirent.h>
 #include <fcntl.h>
 #include <sys/prctl.h>
+#include <sys/random.h>
+#include <sys/stat.h>
 #include <sys/wait.h>
 #include <unistd.h>
 
+#include "../exact/folder.h"
 #include "solve.h"
 
 namespace {
 
-std::string path;
-int folder_file = -1, life = -1;        // its pipe ends with this process
+std::string path, last_name;                // and without the folder in which it is
+int place = -1, folder_file = -1;           // that folder, and this one
+Pipe life;                                  // ends with this process
 pid_t cleaner = 0;
 
-[[noreturn]] void become_rm() {
-    execl("/bin/rm", "rm", "-rf", "--", path.c_str(), nullptr);
-    _exit(127);
+// By descriptors alone, since a name may be another file's by now. Takes the folder's.
+void remove_within(int file) {
+    DIR *list = file < 0 ? nullptr : fdopendir(file);
+    while (const dirent *entry = list ? readdir(list) : nullptr) {
+        const std::string name = entry->d_name;
+        if (name == "." || name == ".." || unlinkat(file, name.c_str(), 0) == 0) continue;
+        remove_within(openat(file, name.c_str(), O_RDONLY | O_DIRECTORY | O_NOFOLLOW | O_CLOEXEC));
+        unlinkat(file, name.c_str(), AT_REMOVEDIR);
+    }
+    if (list) closedir(list);
 }
 
-// The front waits for it.
-[[noreturn]] void remove_behind(int file) {
-    char byte;
-    close_all_but({ file });
+// Whether its name is still its own.
+bool is_named(int file) {
+    struct stat ours, found;
+    return fstat(file, &ours) == 0 &&
+           fstatat(place, last_name.c_str(), &found, AT_SYMLINK_NOFOLLOW) == 0 &&
+           ours.st_dev == found.st_dev && ours.st_ino == found.st_ino;
+}
+
+int open_folder() {
+    return openat(place, last_name.c_str(), O_PATH | O_DIRECTORY | O_NOFOLLOW | O_CLOEXEC);
+}
+
+void remove_folder() {
+    remove_within(openat(folder_file, ".", O_RDONLY | O_DIRECTORY | O_CLOEXEC));
+    if (is_named(folder_file)) unlinkat(place, last_name.c_str(), AT_REMOVEDIR);
+}
+
+// The front waits for it. The folder is empty until its cleaner knows which one it is.
+[[noreturn]] void become_cleaner() {
+    struct stat made, found;
+    close_all_but({ life.read, place });
     prctl(PR_SET_NAME, "cleaner");
     setsid();
-    while (read(file, &byte, 1) < 0) {}
-    become_rm();
+    bool is_told = read(life.read, &made, sizeof made) == sizeof made;
+    if (is_told) folder_file = open_folder();
+    bool is_ours = fstat(folder_file, &found) == 0 && found.st_dev == made.st_dev &&
+                   found.st_ino == made.st_ino;
+    while (is_told && read(life.read, &made, sizeof made) != 0) {}
+    if (is_ours) remove_folder();
+    if (!is_told) unlinkat(place, last_name.c_str(), AT_REMOVEDIR);
+    _exit(0);
+}
+
+// Before the folder is made: whatever ends this process then, it is removed.
+void start_cleaner() {
+    sigset_t all, before;
+    life = make_pipe(0);
+    sigfillset(&all);
+    sigprocmask(SIG_BLOCK, &all, &before);      // what ends the others doesn't end it
+    cleaner = fork();
+    if (cleaner == 0) become_cleaner();
+    if (cleaner < 0) refuse("cannot start a process: " + error_text());
+    sigprocmask(SIG_SETMASK, &before, nullptr);
+    close_file(life.read);
 }
 
 }
 
 void Folder::make() {
-    const char *place = getenv("TMPDIR");
-    const std::string named = std::string(place && *place ? place : "/tmp") + "/lrup-solve-XXXXXX";
-    path = named;
-    if (!mkdtemp(&path[0])) refuse("cannot make a folder " + named + ": " + error_text());
-    folder_file = kept_open(open(path.c_str(), O_PATH | O_DIRECTORY | O_CLOEXEC));
-    Pipe pipe = make_pipe(0);
-    sigset_t all, before;
-    sigfillset(&all);
-    sigprocmask(SIG_BLOCK, &all, &before);      // what ends the others doesn't end it
-    cleaner = fork();
-    if (cleaner == 0) remove_behind(pipe.read);
-    sigprocmask(SIG_SETMASK, &before, nullptr);
-    close_file(pipe.read);
-    life = pipe.write;
+    const char *given = getenv("TMPDIR");
+    const std::string within = given && *given ? given : "/tmp";
+    uint64_t number;
+    struct stat made;
+    place = kept_open(open(within.c_str(), O_PATH | O_DIRECTORY | O_CLOEXEC));
+    if (place >= 0 && others_may_write(place))
+        refuse(within + ": others may write there: another TMPDIR");
+    if (place < 0 || getrandom(&number, sizeof number, 0) != sizeof number)
+        refuse("cannot make a folder " + within + "/lrup-solve-XXXXXX: " + error_text());
+    last_name = "lrup-solve-" + std::to_string(number);
+    path = within + "/" + last_name;
+    start_cleaner();
+    if (mkdirat(place, last_name.c_str(), 0700) != 0)
+        refuse("cannot make a folder " + path + ": " + error_text());
+    folder_file = kept_open(open_folder());
+    if (fstat(folder_file, &made) != 0 || write(life.write, &made, sizeof made) != sizeof made)
+        refuse("cannot open " + path + ": " + error_text());
 }
 
 const std::string &Folder::name() { return path; }
 
 std::string Folder::numbers() { return std::to_string(getpid()) + " " + std::to_string(folder_file); }
 
-// Also where somebody has ended the cleaner.
+std::string Folder::open_name() { return name_of_file(folder_file); }
+
+// This process does it itself: the cleaner may be stopped.
 void Folder::remove() {
-    int status = 1;
     if (cleaner <= 0) return;
-    close_file(life);
-    while (waitpid(cleaner, &status, 0) < 0 && errno == EINTR) {}
-    if (status != 0 && (cleaner = fork()) == 0) become_rm();
-    if (status != 0) waitpid(cleaner, &status, 0);
+    remove_folder();
+    kill(cleaner, SIGKILL);
+    while (waitpid(cleaner, nullptr, 0) < 0 && errno == EINTR) {}
+    close_file(life.write);
     cleaner = 0;
 }

@@ -115,7 +115,7 @@ void Inputs::refuse_formula(const std::string &cause) const {
     std::string said = front.await_refusal();
     if (said.empty()) refuse(named(cause));
     end_children();
-    fprintf(stderr, "%s (%s)\n", said.c_str(), one_line(named(cause)).c_str());
+    fprintf(stderr, "%s (%s)\n", one_line(said).c_str(), one_line(named(cause)).c_str());
     front.say("refused");
     _exit(1);
 }

@@ -1,4 +1,6 @@
 // Unverified, as all of this solver. Other tools are called once a proof is there.
+#include <algorithm>
+#include <cctype>
 #include <csignal>
 
 #include <fcntl.h>
@@ -13,15 +15,11 @@ namespace {
 std::string find_tool(const std::string &name) {
     std::string whole = own_path(), folder = whole.substr(0, whole.rfind('/') + 1);
     for (const char *place : { "", "../../bin/" })
-        if (is_program(folder + place + name)) return folder + place + name;
+        if (!folder.empty() && is_program(folder + place + name)) return folder + place + name;
     return on_the_path(name);
 }
 
-std::vector<std::string> lines_of(int file) {
-    std::string text;
-    char bytes[4096];
-    ssize_t count;
-    for (off_t at = 0; (count = pread(file, bytes, sizeof bytes, at)) > 0; at += count) text.append(bytes, size_t(count));
+std::vector<std::string> lines_of(const std::string &text) {
     std::vector<std::string> lines;
     for (size_t begin = 0, end; (end = text.find('\n', begin)) != std::string::npos; begin = end + 1)
         lines.push_back(text.substr(begin, end - begin));
@@ -29,7 +27,8 @@ std::vector<std::string> lines_of(int file) {
 }
 
 // What it says on both outputs. False where this run ends meanwhile.
-bool run_tool(const std::vector<std::string> &words, Child &child, std::vector<std::string> &said, const Keeping::Wait &wait) {
+bool run_tool(const std::vector<std::string> &words, Child &child, std::string &said,
+              const Keeping::Wait &wait) {
     int file = file_in_memory();
     if (begin(child, "tool", { file })) {
         std::vector<char *> list;
@@ -40,17 +39,58 @@ bool run_tool(const std::vector<std::string> &words, Child &child, std::vector<s
         _exit(127);
     }
     bool goes_on = wait(child);
-    said = lines_of(file);
+    said = text_of(file);
     close_file(file);
     return goes_on;
 }
 
-// The number behind that word, as a word; of a command that has none, nothing.
-std::string number_behind(const std::string &line, const std::string &word) {
-    size_t at = line.rfind(" " + word + " ");
-    if (at == std::string::npos) return "";
-    at += word.size() + 2;
-    return line.substr(at, line.find_first_not_of("0123456789", at) - at);
+// A text of which all is known but its numbers: a name in it may have anything in it.
+struct Known {
+    std::string text;
+    size_t at = 0;
+    bool is_so = true;
+
+    bool begins(const std::string &words) const {
+        return is_so && text.compare(at, words.size(), words) == 0;
+    }
+
+    void words(const std::string &wanted) {
+        is_so = begins(wanted);
+        if (is_so) at += wanted.size();
+    }
+
+    std::string number() {
+        size_t begin = at;
+        while (at < text.size() && isdigit(static_cast<unsigned char>(text[at]))) at++;
+        return text.substr(begin, at - begin);
+    }
+};
+
+// With what lrup-trim says of it next, where that is understood.
+void read_output(Known &said, const std::string &assume, Keeping::Output &output) {
+    std::string over = quoted(output.over), stream = quoted(output.stream);
+    size_t begin = said.at;
+    said.words("c " + stream + ": ");
+    said.number();
+    said.words(" bytes of ");
+    said.number();
+    if (said.begins(": lrupd ")) {
+        said.words(": lrupd " + assume + "--lines ");
+        output.lines = said.number();
+        said.words(" --room ");
+        output.room = said.number();
+        said.words(" " + over + " " + stream + "\n");
+    } else {
+        said.words(": lrup-exact --rounds live " + over + " " + stream + " | { read ready && ");
+        said.words("lrupd " + assume + "--rounds live " + over + " live/round-1.stream-1; }\n");
+    }
+    if (said.is_so) output.told = said.text.substr(begin + 2, said.at - begin - 3);
+    else output.lines = "";     // it is checked in rounds
+}
+
+// No option.
+std::string as_word(const char *path) {
+    return path ? (path[0] == '-' ? "./" : "") + std::string(path) : "";
 }
 
 }
@@ -67,29 +107,38 @@ void Keeping::prepare(const std::string &program) {
     if (!options.proofs) options.proofs = folder.c_str();
 }
 
-// What lrupd says of it, in rounds where the lines don't fit into a row; empty where it doesn't take it.
-std::string Keeping::verdict_on(const std::string &trimmed, const std::string &over, const std::string &stream, const Wait &wait) const {
+// What lrupd says of it, in rounds where the lines don't fit into a row; empty if it isn't taken.
+// lrupd gets open files: names may be such that it takes none of them.
+std::string Keeping::verdict_on(const Output &output, const Wait &wait) const {
     static const char in_rounds[] =
         "exact=$1 lrupd=$2 folder=$3 formula=$4 stream=$5; shift 5; \"$exact\" --rounds \"$folder\" \"$formula\" \"$stream\" | "
         "{ read ready && \"$lrupd\" --rounds \"$folder\" \"$@\" \"$formula\" \"$folder/round-1.stream-1\"; }";
-    std::string lines = number_behind(trimmed, "--lines"), room = number_behind(trimmed, "--room");
-    std::vector<std::string> words = { checker_program, "--lines", lines, "--room", room }, last = { over, stream }, said;
-    if (lines.empty()) {
-        words = { "/bin/sh", "-c", in_rounds, "sh", find_tool("lrup-exact"), checker_program, Folder::name() + "/checked", over, stream };
+    std::vector<int> files;
+    for (const std::string &path : { output.over, output.stream, inputs.assume_path })
+        files.push_back(open(path.c_str(), O_RDONLY | O_NONBLOCK | O_CLOEXEC));
+    const std::string over = name_of_file(files[0]), stream = name_of_file(files[1]);
+    std::vector<std::string> last = { over, stream };
+    std::vector<std::string> words = { checker_program, "--lines", output.lines, "--room",
+                                       output.room };
+    if (output.lines.empty()) {
+        std::string place = Folder::open_name() + "/checked " + output.what;
+        words = { "/bin/sh", "-c", in_rounds, "sh", find_tool("lrup-exact"), checker_program, place,
+                  over, stream };
         last.clear();
     }
-    if (inputs.options.assume) words.insert(words.end(), { "--assume", inputs.assume_path });
+    if (inputs.options.assume) words.insert(words.end(), { "--assume", name_of_file(files[2]) });
     words.insert(words.end(), last.begin(), last.end());
     Child child;
+    std::string said;
     bool goes_on = run_tool(words, child, said, wait);
+    for (int file : files) close(file);
     bool is_proved = child.ended_with(0) || (inputs.options.assume && child.ended_with(8));
-    return goes_on && is_proved && !said.empty() ? said.back() : "";
+    return goes_on && is_proved && !said.empty() ? lines_of(said).back() : "";
 }
 
 // What was written stays where lrupd takes it.
-std::string Keeping::keep_if_right(const char *path, const std::string &trimmed, const std::string &over, const std::string &stream,
-                                   const Wait &wait) const {
-    std::string verdict = verdict_on(trimmed, over, stream, wait);
+std::string Keeping::keep_if_right(const char *path, const Output &output, const Wait &wait) const {
+    std::string verdict = verdict_on(output, wait);
     if (!verdict.empty()) display.tell(quoted(path) + ": lrupd says of it: " + verdict);
     if (!verdict.empty()) return "";
     unlink(path);
@@ -100,23 +149,30 @@ std::string Keeping::keep(bool is_proved, const Wait &wait) const {
     const Options &options = inputs.options;
     if (is_wanted() && !is_proved) display.tell("no proof, and so no core and no LRAT text");
     if (!is_wanted() || !is_proved) return "";
-    std::string stream = Folder::name() + "/core.lrup";
-    std::vector<std::string> words = { find_tool("lrup-trim") }, said;
-    if (options.core) words.insert(words.end(), { "--core", options.core, "--stream", stream });
-    if (options.lrat) words.insert(words.end(), { "--lrat", options.lrat });
+    Output core = { "core", as_word(options.core), Folder::name() + "/core.lrup" };
+    Output lrat = { "LRAT text", inputs.formula_path, as_word(options.lrat) };
+    std::vector<std::string> words = { find_tool("lrup-trim") };
+    if (options.core) words.insert(words.end(), { "--core", core.over, "--stream", core.stream });
+    if (options.lrat) words.insert(words.end(), { "--lrat", lrat.stream });
     if (options.assume) words.insert(words.end(), { "--assume", inputs.assume_path });
     if (options.rehint) words.push_back("--re-hint");
     words.insert(words.end(), { "--", inputs.formula_path, options.proofs });
     Child child;
-    size_t outputs = size_t(options.core != nullptr) + size_t(options.lrat != nullptr);
-    if (!run_tool(words, child, said, wait)) return "no core and no LRAT text: the run was ended";
-    if (!child.ended_with(0) || said.size() != 1 + outputs)
-        return "no core and no LRAT text: " + (said.empty() ? "lrup-trim " + child.end() : said.back());
-    display.tell(said[0].substr(2));
-    std::string why;
-    if (options.core) why = keep_if_right(options.core, said[1], options.core, stream, wait);
-    if (options.lrat) display.tell(said.back().substr(2));
-    std::string other = options.lrat ? keep_if_right(options.lrat, said.back(), inputs.formula_path, options.lrat, wait) : "";
+    Known said;
+    const std::string none = "no core and no LRAT text: ";
+    if (!run_tool(words, child, said.text, wait)) return none + "the run was ended";
+    const std::vector<std::string> lines = lines_of(said.text);
+    if (!child.ended_with(0) || lines.empty())
+        return none + (lines.empty() ? "lrup-trim " + child.end() : lines.back());
+    display.tell(lines[0].substr(std::min<size_t>(2, lines[0].size())));
+    said.words(lines[0] + "\n");
+    const std::string assume = options.assume ? "--assume " + quoted(inputs.assume_path) + " " : "";
+    std::string why, other;
+    if (options.core) read_output(said, assume, core);
+    if (options.core) why = keep_if_right(options.core, core, wait);
+    if (options.lrat) read_output(said, assume, lrat);
+    if (!lrat.told.empty()) display.tell(lrat.told);
+    if (options.lrat) other = keep_if_right(options.lrat, lrat, wait);
     return other.empty() ? why : other;
 }
 
@@ -126,7 +182,7 @@ void Keeping::explain(const std::string &report, const Wait &wait) const {
     std::string program = find_tool("lrup-explain");
     if (program.empty() || !inputs.options.proofs) return display.tell_more("lrup-explain says why, of a record that --proofs DIR keeps");
     Child child;
-    std::vector<std::string> said;
+    std::string said;
     run_tool({ program, "--", inputs.formula_path, inputs.options.proofs }, child, said, wait);
-    for (const std::string &line : said) display.tell_more(line);
+    for (const std::string &line : lines_of(said)) display.tell_more(line);
 }

@@ -12,6 +12,9 @@ class Keeping {
 public:
     using Wait = std::function<bool(Child &child)>;     // for its end; false where this run is ended meanwhile
 
+    // Of lrup-trim's: a stream over a formula, and lines and room of a row that does for it.
+    struct Output { std::string what, over, stream, lines = "", room = "", told = ""; };
+
     Keeping(Inputs &its_inputs, const Display &its_display) : inputs(its_inputs), display(its_display) {}
     void prepare(const std::string &program);           // before anything is solved; the one that is lrupd
     std::string keep(bool is_proved, const Wait &wait) const;   // why it can't, where it can't
@@ -23,9 +26,8 @@ private:
     std::string checker_program, folder;
 
     bool is_wanted() const { return inputs.options.core || inputs.options.lrat; }
-    std::string keep_if_right(const char *path, const std::string &trimmed, const std::string &over, const std::string &stream,
-                              const Wait &wait) const;
-    std::string verdict_on(const std::string &trimmed, const std::string &over, const std::string &stream, const Wait &wait) const;
+    std::string keep_if_right(const char *path, const Output &output, const Wait &wait) const;
+    std::string verdict_on(const Output &output, const Wait &wait) const;
 };
 
 #endif

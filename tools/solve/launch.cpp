@@ -13,6 +13,7 @@ const std::string ENDING = "-mpi";
 
 std::string program_for_mpi() {
     std::string path = own_path();
+    if (path.empty()) refuse("cannot find this program, and so no lrup-engines-mpi beside it");
     bool is_it = path.size() > ENDING.size() && path.compare(path.size() - ENDING.size(), ENDING.size(), ENDING) == 0;
     if (!is_it) path += ENDING;
     if (!is_program(path)) refuse("no program that can be run: " + quoted(path) + ": `make solve-mpi` makes lrup-engines-mpi");

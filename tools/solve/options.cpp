@@ -135,7 +135,7 @@ bool read_valued(Options &options, Words &words, const char *word) {
     else if (words.option(word, "--core", value)) options.core = name_of_file("--core", "a file", value);
     else if (words.option(word, "--lrat", value)) options.lrat = name_of_file("--lrat", "a file", value);
     else if (words.option(word, "--assume", value)) options.assume = name_of_file("--assume", "a file", value);
-    else if (words.option(word, "--lrupd", value)) options.lrupd = name_of_file("--lrupd", "a program", value);
+    else if (words.option(word, "--lrupd", value)) name_of_file("--lrupd", "a program", value);
     else if (words.option(word, "--engines", value)) name_of_file("--engines", "a program", value);
     else return false;
     return true;

@@ -38,7 +38,7 @@ bool write_all(int file, const char *bytes, size_t length) {
 // A new one: what has the name, or what the name is a link to, isn't written to.
 int new_file(const std::string &path) {
     Place place = place_of(path);
-    if (!remove_file(path)) return -1;
+    if (!claim(place) || !remove_file(path)) return -1;
     return openat(place.folder, place.name.c_str(), O_RDWR | O_CREAT | O_EXCL | O_NOFOLLOW | O_CLOEXEC, 0666);
 }
 
@@ -106,7 +106,7 @@ bool remove_file(const std::string &path) {
 
 bool rename_file(const std::string &path, const std::string &other) {
     Place from = place_of(path), to = place_of(other);
-    return renameat(from.folder, from.name.c_str(), to.folder, to.name.c_str()) == 0;
+    return claim(to) && renameat(from.folder, from.name.c_str(), to.folder, to.name.c_str()) == 0;
 }
 
 void create_pipe(const std::string &path) {
@@ -145,10 +145,22 @@ int file_in_memory() {
     return kept_open(file);
 }
 
+std::string text_of(int file) {
+    std::string text;
+    char bytes[4096];
+    for (ssize_t count; (count = pread(file, bytes, sizeof bytes, off_t(text.size()))) > 0;)
+        text.append(bytes, size_t(count));
+    return text;
+}
+
 int event_file() {
     int file = eventfd(0, EFD_CLOEXEC | EFD_NONBLOCK);
     if (file < 0) refuse("cannot make an eventfd: " + error_text());
     return file;
+}
+
+std::string name_of_file(int file) {
+    return "/proc/" + std::to_string(getpid()) + "/fd/" + std::to_string(file);
 }
 
 void copy_file(int file, const std::string &name, int copy) {

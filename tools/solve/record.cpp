@@ -3,6 +3,7 @@
 #include <cctype>
 #include <cerrno>
 #include <cstring>
+#include <set>
 
 #include <dirent.h>
 #include <fcntl.h>
@@ -11,6 +12,7 @@
 #include <unistd.h>
 
 #include "../exact/digest.h"
+#include "../exact/folder.h"
 #include "solve.h"
 
 namespace {
@@ -33,9 +35,13 @@ bool is_standard_input(const std::string &path) {
 
 // Beside what rounds leave.
 const char *const NAMES[] = { "formula.cnf", "formula.sha256", "assumptions", "report", "command" };
-const char FIRST_STREAM[] = "/round-1.stream-1";
 
-// round-R.stream-K, round-R.sizes, or round-R.cnf, which is there while the command checks.
+// The record's list of its files, itself the first one. A name is there before its file is made.
+const char LIST[] = "files";
+int list_file = -1;
+std::set<std::string> listed;
+
+// round-R.stream-K or round-R.sizes.
 bool is_of_a_round(const std::string &name) {
     auto is_number = [](const std::string &word) {
         return !word.empty() && word[0] != '0' && word.find_first_not_of("0123456789") == std::string::npos;
@@ -43,21 +49,67 @@ bool is_of_a_round(const std::string &name) {
     size_t dot = name.find('.');
     if (name.rfind("round-", 0) != 0 || dot == std::string::npos || !is_number(name.substr(6, dot - 6))) return false;
     std::string rest = name.substr(dot + 1);
-    return rest == "sizes" || rest == "cnf" || (rest.rfind("stream-", 0) == 0 && is_number(rest.substr(7)));
+    return rest == "sizes" || (rest.rfind("stream-", 0) == 0 && is_number(rest.substr(7)));
 }
 
-// All that a run writes, or wrote there.
+// A name that a run gives a file, also while that is written.
+bool is_of_a_record(const std::string &name) {
+    for (const char *known : NAMES)
+        if (name == known || name == unfinished(known)) return true;
+    size_t length = name.size();
+    bool is_unfinished = length > 5 && name[0] == '.' && name.compare(length - 4, 4, ".new") == 0;
+    return is_of_a_round(is_unfinished ? name.substr(1, length - 5) : name);
+}
+
+// All files with such names, also those that no run made.
 std::vector<std::string> files_of(const std::string &folder) {
     std::vector<std::string> paths;
-    for (const char *name : NAMES)
-        for (const std::string &path : { folder + "/" + name, unfinished(folder + "/" + name) }) paths.push_back(path);
     int file = openat(record_folder, ".", O_RDONLY | O_DIRECTORY | O_CLOEXEC);
     if (DIR *list = file < 0 ? nullptr : fdopendir(file)) {
         while (const dirent *entry = readdir(list))
-            if (is_of_a_round(entry->d_name)) paths.push_back(folder + "/" + entry->d_name);
+            if (entry->d_name == std::string(LIST) || is_of_a_record(entry->d_name))
+                paths.push_back(folder + "/" + entry->d_name);
         closedir(list);
     }
+    std::sort(paths.begin(), paths.end());
     return paths;
+}
+
+[[noreturn]] void refuse_own(const std::string &path) {
+    refuse(path + " is there, and isn't of an earlier run: another --proofs");
+}
+
+bool write_list(const std::string &text) {
+    return write(list_file, text.data(), text.size()) == ssize_t(text.size());
+}
+
+// An end without LF is a name whose file wasn't made. A list of another user's may name what that
+// one can't remove.
+void read_list(const std::string &path) {
+    struct stat found;
+    const int how = O_RDWR | O_APPEND | O_NOFOLLOW | O_NONBLOCK | O_CLOEXEC;
+    list_file = openat(record_folder, LIST, how);
+    if (list_file < 0 && errno == ENOENT) return;
+    bool is_ours = list_file >= 0 && fstat(list_file, &found) == 0 && S_ISREG(found.st_mode) &&
+                   found.st_nlink == 1 && found.st_uid == geteuid();
+    if (!is_ours) refuse_own(path);
+    std::string text = text_of(list_file);
+    size_t begin = 0;
+    for (size_t end; (end = text.find('\n', begin)) != std::string::npos; begin = end + 1) {
+        std::string name = text.substr(begin, end - begin);
+        if (begin == 0 ? name != LIST : !is_of_a_record(name)) refuse_own(path);
+        listed.insert(name);
+    }
+    if (begin == 0 || ftruncate(list_file, off_t(begin)) != 0) refuse_own(path);
+}
+
+void list_anew(const std::string &path, const std::set<std::string> &names) {
+    std::string text = std::string(LIST) + "\n";
+    for (const std::string &name : names) text += name + "\n";
+    if (ftruncate(list_file, 0) != 0 || !write_list(text))
+        refuse("cannot write " + path + ": " + error_text());
+    listed = names;
+    listed.insert(LIST);
 }
 
 }
@@ -91,34 +143,48 @@ std::string quoted(const std::string &word) {
     return text + "'";
 }
 
+// The bytes of the letter that begins there, in UTF-8; 0 where none does.
+static size_t read_letter(const std::string &text, size_t at, uint32_t &letter) {
+    static const uint32_t least[] = { 0, 0x80, 0x800, 0x10000 };
+    auto first = static_cast<unsigned char>(text[at]);
+    int more = first < 0x80 ? 0 : first < 0xc0 ? -1 : first < 0xe0 ? 1 : first < 0xf0 ? 2 : 3;
+    if (more < 0 || first >= 0xf8) return 0;
+    letter = more > 0 ? first & (0x3fu >> more) : first;
+    for (int k = 0; k < more; k++) {
+        if (++at == text.size() || (text[at] & 0xc0) != 0x80) return 0;
+        letter = letter << 6 | (text[at] & 0x3f);
+    }
+    bool is_surrogate = letter >= 0xd800 && letter < 0xe000;
+    return letter < least[more] || letter > 0x10ffff || is_surrogate ? 0 : size_t(more) + 1;
+}
+
 // As lrupd's words have to be.
 bool is_utf8(const std::string &text) {
-    static const uint32_t least[] = { 0, 0x80, 0x800, 0x10000 };
-    for (size_t at = 0; at < text.size();) {
-        auto first = static_cast<unsigned char>(text[at++]);
-        int more = first < 0x80 ? 0 : first < 0xc0 ? -1 : first < 0xe0 ? 1 : first < 0xf0 ? 2 : first < 0xf8 ? 3 : -1;
-        if (more < 0) return false;
-        uint32_t letter = more > 0 ? first & (0x3fu >> more) : first;
-        for (int k = 0; k < more; k++, at++) {
-            if (at == text.size() || (text[at] & 0xc0) != 0x80) return false;
-            letter = letter << 6 | (text[at] & 0x3f);
-        }
-        if (letter < least[more] || letter > 0x10ffff || (letter >= 0xd800 && letter < 0xe000)) return false;
-    }
+    uint32_t letter;
+    for (size_t at = 0, length; at < text.size(); at += length)
+        if ((length = read_letter(text, at, letter)) == 0) return false;
     return true;
 }
 
-// A name may have an LF in it.
+// A name may have any byte in it. Controls are ASCII's, and 128 to 159, also as single bytes.
 std::string one_line(const std::string &text) {
     std::string line;
-    for (char letter : text) line += letter == '\n' ? std::string("\\n") : std::string(1, letter);
+    for (size_t at = 0, length; at < text.size(); at += length) {
+        uint32_t letter = static_cast<unsigned char>(text[at]);
+        length = std::max<size_t>(1, read_letter(text, at, letter));
+        if (length == 1) letter = static_cast<unsigned char>(text[at]);
+        bool is_control = letter < ' ' || (letter >= 127 && letter < 160);
+        line += letter == '\n' ? "\\n" : is_control ? "?" : text.substr(at, length);
+    }
     return line;
 }
 
+// Not of a folder that this process doesn't see: that one has no slash in front.
 std::string own_path() {
     char path[LONGEST_PATH];
     ssize_t length = readlink("/proc/self/exe", path, sizeof path);
-    return std::string(path, length > 0 ? size_t(length) : 0);
+    bool is_known = length > 0 && size_t(length) < sizeof path && path[0] == '/';
+    return std::string(path, is_known ? size_t(length) : 0);
 }
 
 std::string absolute(const std::string &path) {
@@ -165,28 +231,55 @@ void check_plain(const std::string &path, const std::string &name) {
 // No other run has it until this process ends, however it does; where the system has no locks nobody is told. Where others may
 // remove files and make new ones, streams that are opened again by their names may be anything.
 static void hold_folder(const std::string &folder) {
-    struct stat found;
     int file = open(folder.c_str(), O_RDONLY | O_DIRECTORY | O_CLOEXEC);
-    if (file < 0 || fstat(file, &found) != 0) refuse(folder + ": " + error_text());
-    if ((found.st_mode & S_IWOTH) && !(found.st_mode & S_ISVTX)) refuse(folder + ": others may write there: another --proofs");
+    if (file < 0) refuse(folder + ": " + error_text());
+    if (others_may_write(file)) refuse(folder + ": others may write there: another --proofs");
     if (flock(kept_open(file), LOCK_EX | LOCK_NB) != 0 && errno == EWOULDBLOCK)
         refuse(folder + ": another run that goes on has its files there: another --proofs");
     record_folder = kept_open(openat(file, ".", O_PATH | O_DIRECTORY | O_CLOEXEC));     // a child that has it doesn't hold the lock
     record_name = absolute(folder) + "/";
 }
 
-// A run that has read its inputs leaves a first stream. Where there is none, a file with one of the names is somebody's own.
+// A file with a name of a record's that no list names is somebody's own.
 void open_record(const std::string &folder, const std::vector<std::string> &inputs) {
     struct stat input, found;
+    std::string list = folder + "/" + LIST;
     if (mkdir(folder.c_str(), 0775) != 0 && errno != EEXIST) refuse("cannot make " + folder + ": " + error_text());
     hold_folder(folder);
-    for (const std::string &path : files_of(folder))
+    std::vector<std::string> paths = files_of(folder);
+    for (const std::string &path : paths)
         for (const std::string &name : inputs)
             if (find(path, found) && find(name, input) && is_same(found, input))
                 refuse(path + " would be written over: another --proofs");
-    for (const std::string name : NAMES)
-        if (!is_there(folder + FIRST_STREAM) && is_there(folder + "/" + name))
-            refuse(folder + "/" + name + " is there, and isn't of an earlier run: another --proofs");
+    read_list(list);
+    for (const std::string &path : paths)
+        if (listed.count(path.substr(folder.size() + 1)) == 0) refuse_own(path);
+    if (list_file < 0) {
+        const int how = O_RDWR | O_APPEND | O_CREAT | O_EXCL | O_CLOEXEC;
+        list_file = openat(record_folder, LIST, how, 0666);
+        list_anew(list, {});
+    }
+    kept_open(list_file);
+}
+
+bool claim(const Place &place) {
+    if (place.folder != record_folder || listed.count(place.name) != 0) return true;
+    struct stat found;
+    bool is_another = fstatat(record_folder, place.name.c_str(), &found, AT_SYMLINK_NOFOLLOW) == 0;
+    if (is_another) errno = EEXIST;
+    else if (write_list(place.name + "\n")) return listed.insert(place.name).second;
+    return false;
+}
+
+void clear_record(const std::string &folder, const std::vector<std::string> &kept) {
+    std::set<std::string> left;
+    for (const std::string &name : listed) {
+        std::string path = folder + "/" + name;
+        if (std::find(kept.begin(), kept.end(), path) != kept.end()) left.insert(name);
+        else if (name != LIST && !remove_file(path))
+            refuse("cannot remove " + path + ": " + error_text());
+    }
+    list_anew(folder + "/" + LIST, left);
 }
 
 // As sha256sum writes it: it marks a name that has such bytes in it.
@@ -199,10 +292,4 @@ std::string digest_line(const std::string &path) {
     for (char letter : whole)
         name += letter == '\\' ? "\\\\" : letter == '\n' ? "\\n" : letter == '\r' ? "\\r" : std::string(1, letter);
     return (name == whole ? "" : "\\") + std::string(digest) + "  " + name + "\n";
-}
-
-void clear_record(const std::string &folder, const std::vector<std::string> &kept) {
-    for (const std::string &path : files_of(folder))
-        if (std::find(kept.begin(), kept.end(), path) == kept.end() && !remove_file(path))
-            refuse("cannot remove " + path + ": " + error_text());
 }

@@ -59,17 +59,16 @@ Row Rounds::needed_row() const {
 
 // What is kept.
 
-std::vector<std::string> Rounds::checker_words(Row sizes, const std::string &assume) const {
-    std::vector<std::string> words = { "--tries", tries(), "--lines", std::to_string(sizes.lines), "--room", std::to_string(sizes.room) };
-    if (inputs.options.assume) words.insert(words.end(), { "--assume", assume });
-    return words;
+static std::string sizes_in_command(Row sizes) {
+    return " --tries " + tries() + " --lines " + std::to_string(sizes.lines) + " --room " +
+           std::to_string(sizes.room);
 }
 
 // A word for lrupd, in a command: where the name isn't UTF-8 the shell opens the file.
 static std::string word_in_command(const std::string &path, int number, std::string &opened) {
-    if (is_utf8(path)) return quoted(path);
+    if (is_utf8(path)) return " " + quoted(path);
     opened += " " + std::to_string(number) + "< " + quoted(path);
-    return OPEN_FILES + std::to_string(number);
+    return " " + (OPEN_FILES + std::to_string(number));
 }
 
 // Without the folder, where it is in that.
@@ -80,35 +79,62 @@ static std::string within(const std::string &folder, const std::string &path) {
 
 // Of round 1, with names that a record's streams have, as they are from this folder.
 std::string Rounds::command_of(Row sizes, const std::string &folder) const {
-    std::string opened, line = quoted(checker_program);
-    std::string formula = word_in_command(within(folder, absolute(inputs.formula_path)), 3, opened);
-    std::string assume = inputs.options.assume ? word_in_command(within(folder, absolute(inputs.assume_path)), 4, opened) : "";
-    for (const std::string &word : checker_words(sizes, "")) line += " " + (word.empty() ? assume : quoted(word));
-    line += " " + formula;
+    std::string opened, line = quoted(checker_program) + sizes_in_command(sizes);
+    const std::string assume = within(folder, absolute(inputs.assume_path));
+    if (inputs.options.assume) line += " --assume" + word_in_command(assume, 4, opened);
+    line += word_in_command(within(folder, absolute(inputs.formula_path)), 3, opened);
     for (size_t k = 0; k < teams.size(); k++) line += " " + quoted(within(folder, teams.stream_path(k, 1)));
     return line + opened;
 }
 
-// Of all rounds, of the formula that was read, from the record's own folder: it may have moved. lrupd leaves what it saves.
-static const char CHECK_AGAIN[] = R"sh(case $0 in */*) CDPATH= cd -- "${0%/*}/" || exit 1 ;; esac
-for file in formula.sha256 round-1.stream-1 ASSUME FORMULA; do
+// Of all rounds, from the record's own folder: it may have moved. Names are values of variables,
+// and stand nowhere else. lrupd reads open files, as sha256sum does. In rounds it writes some, into
+// a new folder with links to the record's files.
+static const char CHECK_AGAIN[] = R"sh(
+CDPATH=
+refuse() { printf '%s\n' "$1" >&2; exit 1; }
+case $0 in */*) cd -- "${0%/*}/" || exit 1 ;; esac
+for file in formula.sha256 round-1.stream-1 round-[1-9]*.sizes round-[1-9]*.stream-[1-9]* \
+    ${assume:+"$assume"} "$formula"; do
     case $file in /*) ;; *) file=$PWD/$file ;; esac
-    [ -r "$file" ] || { printf "%s isn't there, or can't be read\n" "$file" >&2; exit 1; }
+    [ -r "$file" ] || refuse "$file isn't there, or can't be read"
+    [ -f "$file" ] || refuse "$file is no regular file"
 done
+exec 3< "$formula"
 read -r digest name < formula.sha256
-if command -v sha256sum > /dev/null && [ "$(sha256sum < "$file")" != "${digest#\\}  -" ]; then
-    printf "%s isn't the formula of this record, or was changed since\n" "$file" >&2
-    exit 1
+if command -v sha256sum > /dev/null && [ "$(sha256sum < /dev/fd/3)" != "${digest#\\}  -" ]; then
+    refuse "$file isn't the formula of this record, or was changed since"
 fi
+[ -z "$assume" ] || { exec 4< "$assume"; set -- --assume /dev/fd/4 "$@"; }
+trap 'kill "$!" 2> /dev/null; wait; exit 143' HUP INT QUIT TERM
+if [ "$rounds" -gt 1 ]; then
+    place=$(cd -- "${TMPDIR:-/tmp}" && pwd) || exit 1
+    [ -z "$(find "$place/." -prune -perm -2 ! -perm -1000)" ] ||
+        refuse "$place: others may write there: another TMPDIR"
+    record=$PWD made='' inside=''
+    trap '[ -z "$inside" ] || find . -name "round-*" -exec rm -f {} +
+        [ -z "$made" ] || { cd / && rmdir -- "$made"; }' EXIT
+    made=$(mktemp -d "$place/lrupd-XXXXXX") && cd -- "$made" || exit 1
+    inside=yes
+    find "$record/." ! -name . -prune -name 'round-[1-9]*.s*' \
+        -exec sh -c 'ln -s "$@" .' sh {} + || exit 1
+    set -- --rounds . "$@"
+fi
+"$lrupd" "$@" < /dev/null &
+wait "$!"
 )sh";
 
 std::string Rounds::command_again() const {
-    std::string folder = teams.record, text = CHECK_AGAIN;
-    std::string assume = inputs.options.assume ? quoted(within(folder, absolute(inputs.assume_path))) + " " : "";
-    text.replace(text.find("ASSUME "), 7, assume);
-    text.replace(text.find("FORMULA;"), 7, quoted(within(folder, absolute(inputs.formula_path))));
-    if (number == 1) return text + command;
-    return text + command + " --rounds .\nstatus=$?\nrm -f ./round-[0-9]*.cnf\nexit $status";
+    auto named = [this](const std::string &path) {
+        return quoted(within(teams.record, absolute(path)));
+    };
+    std::string text = "lrupd=" + quoted(checker_program);
+    text += "\nformula=" + named(inputs.formula_path);
+    text += "\nassume=" + (inputs.options.assume ? named(inputs.assume_path) : "''");
+    text += "\nrounds=" + std::to_string(number);
+    text += "\nset --" + sizes_in_command(first) + " " + OPEN_FILES + "3";
+    for (size_t k = 0; k < teams.size(); k++) text += " round-1.stream-" + std::to_string(k + 1);
+    return text + CHECK_AGAIN;
 }
 
 // In the record.
@@ -123,7 +149,7 @@ void Rounds::keep_sizes() const {
 std::string Rounds::keep_report() const {
     if (!inputs.options.proofs) return "";
     std::string folder = std::string(inputs.options.proofs) + "/", unkept = write_file(folder + "report", checker.report);
-    return unkept.empty() ? write_file(folder + "command", command_again() + "\n") : unkept;
+    return unkept.empty() ? write_file(folder + "command", command_again()) : unkept;
 }
 
 // lrupd.
@@ -131,9 +157,10 @@ std::string Rounds::keep_report() const {
 void Rounds::start_checker(Row wanted) {
     rows.row = wanted;
     const std::string &record = teams.record;
-    command = command_of(wanted, record);
+    first = wanted;
     keep_sizes();
-    display.tell_more(is_utf8(record) ? command_of(wanted, "") : "cd " + quoted(record) + " && " + command);
+    display.tell_more(is_utf8(record) ? command_of(wanted, "") :
+                      "cd " + quoted(record) + " && " + command_of(wanted, record));
     checker.start(wanted, teams.stream_files());
 }
 

@@ -33,7 +33,8 @@ private:
     Teams &teams;
     Checker &checker;
     const Display &display;
-    std::string checker_program, command, said;
+    std::string checker_program, said;
+    Row first = {};                             // of round 1
     uint64_t literals_before = 0;
     double pause_begun = 0;
 
@@ -46,7 +47,6 @@ private:
     void begin_round();
     void go_on();
     std::string words() const;
-    std::vector<std::string> checker_words(Row sizes, const std::string &assume) const;
     std::string command_of(Row sizes, const std::string &folder) const;
     std::string command_again() const;
     void keep_sizes() const;

@@ -18,7 +18,7 @@ const double ENDING = 10;       // seconds that a filter has for the line that i
 // Signals are taken from when there is something to end.
 void Run::prepare() {
     Options &options = inputs.options;
-    std::string program = find_checker(options.lrupd);
+    std::string program = absolute(front.lrupd);
     front.probe.expect(front.output_of_probe);
     Folder::make();
     if (options.engines == 0 && options.solvers.empty()) options.engines = half_of_the_cores();

@@ -23,7 +23,7 @@ struct Options {
     int share_size = 4;         // literals of a clause that is given away; units always are
     bool share = true;
     int seed = 0;
-    const char *proofs = nullptr, *assume = nullptr, *lrupd = nullptr, *mpi = nullptr, *formula = nullptr;
+    const char *proofs = nullptr, *assume = nullptr, *mpi = nullptr, *formula = nullptr;
     const char *core = nullptr, *lrat = nullptr;     // to be written
     bool rehint = false;        // for both
     bool verbose = false, quiet = false;
@@ -54,8 +54,10 @@ void create_pipe(const std::string &path);
 int open_pipe(const std::string &path, int bytes);      // to write to it, without a name from then on; -1 where nobody reads
 std::string write_file(const std::string &path, const std::string &text);   // the cause, where it can't be written
 int file_in_memory();
+std::string text_of(int file);                          // from its beginning
 int event_file();                                       // an eventfd that all children have
 const char OPEN_FILES[] = "/dev/fd/";
+std::string name_of_file(int file);                     // of this process, for others
 void *shared_bytes(size_t bytes);                       // with the children that come later
 
 template <typename Item> Item *shared_memory(size_t count) {
@@ -82,7 +84,7 @@ struct Child {
 bool begin(Child &child, const std::string &name, const std::vector<int> &kept);    // true in the child, with these files
 bool reap(const std::vector<Child *> &children);         // one that has ended, if there is one
 void wait_for(Child &child);
-void end_children();                                     // and removes the folder
+void end_children();
 void give_way();                                        // this process ends before others where memory is short
 
 // folder.cpp: a folder of this run. It is removed as this process ends, however that comes, or before.
@@ -90,6 +92,7 @@ namespace Folder {
     void make();
     const std::string &name();
     std::string numbers();          // of this process, and of the folder among its open files, as the front wants it
+    std::string open_name();        // by which others find it, in UTF-8
     void remove();
 }
 
@@ -97,8 +100,8 @@ namespace Folder {
 bool is_plain(const std::string &word);
 bool is_utf8(const std::string &text);
 std::string quoted(const std::string &word);
-std::string one_line(const std::string &text);
-std::string own_path();                                 // of this program
+std::string one_line(const std::string &text);          // for a terminal
+std::string own_path();                                 // this program's; empty if it isn't known
 std::string absolute(const std::string &path);
 std::string unfinished(const std::string &path);        // its name while it is written
 void check_input(const std::string &path);              // refuses where it can't be read
@@ -111,6 +114,7 @@ extern int record_folder;                               // open; -1: none
 Place place_of(const std::string &path);                // what is in the record is in that folder, whatever has its name by now
 void open_record(const std::string &folder, const std::vector<std::string> &inputs);    // refuses to write over these
 void clear_record(const std::string &folder, const std::vector<std::string> &kept);     // of an earlier run
+bool claim(const Place &place);                         // before a file is made; false: another's
 bool is_there(const std::string &path);
 std::string digest_line(const std::string &path);       // of the file, for a record
 

@@ -1,170 +1,450 @@
-// The front: all of lrup-solve that is believed. It hands the user's formula to lrupd, and prints what lrupd's status says, or an
-// assignment that it has evaluated. lrup-engines, in processes of its own, solves, and feeds lrupd. It is told how each lrupd ended,
-// and that a signal has come. What comes from there are blocks of BLOCK bytes, each a line with zeros behind it, of which count
+// The front: all of lrup-solve that is believed. It runs lrupd, the verified checker, on the user's
+// formula, and prints what lrupd's exit status says, or an assignment that it has evaluated.
 //
-//     check STREAMS LINES ROOM TRIES PID FILE     numbers for lrupd's words, once: streams are in that process's folder of that number
-//     v SIGNS                                     of an assignment: + or - for each variable, in order; behind all of them `model`
-//     c WORDS                                     for the user
-//     refused                                     standard error says what of the user's can't be used: the status is 1
+//     front --+-- lrupd checks the proof; the probe, another lrupd, only reads the formula
+//             +-- supervisor -- lrup-engines -- engines, filters, solvers, and what they leave
+//
+// Why no other process can bring about a wrong answer: the front opens the formula before it starts
+// anything, and gives lrupd that open file. It starts lrupd and the probe itself, and collects the
+// exit status of each through a pidfd, opened while only the front can wait for that child. Process
+// ids are never compared, and orphans are the supervisor's. Only an exit with lrupd's status sets
+// `verdict`, in one place, once. No other process gets the front's standard output. Of what comes
+// from lrup-engines it prints comments, in ASCII, and an assignment if that satisfies each clause.
+// The lines on which this rests are marked `trusted`. Whatever else others do can at worst prevent
+// an answer. It is assumed that they can't trace the front or lrupd, replace lrupd, or write to the
+// formula's file or the user's output (docs/SECURITY.md).
+//
+// lrup-engines is sent a line for each child that ended, and for a signal. It sends blocks of BLOCK
+// bytes, each a line that is filled up with zeros, and it answers --help and --version.
+//
+//     check STREAMS LINES ROOM TRIES PID FILE    for lrupd's command line, once; the streams are in
+//                                                the folder that process PID has open as FILE
+//     v SIGNS      + or - for each variable that comes next
+//     model        the assignment is whole
+//     c WORDS      a comment
+//     refused      standard error says what can't be used: the status is 1
 #define _GNU_SOURCE
+#include <assert.h>
 #include <err.h>
+#include <errno.h>
 #include <fcntl.h>
 #include <getopt.h>
 #include <libgen.h>
 #include <poll.h>
-#include <signal.h>
+#include <stdarg.h>
 #include <stdbool.h>
 #include <stdio.h>
 #include <stdlib.h>
 #include <string.h>
 #include <sys/mman.h>
+#include <sys/pidfd.h>
 #include <sys/prctl.h>
+#include <sys/signalfd.h>
 #include <sys/stat.h>
 #include <sys/wait.h>
+#include <time.h>
 #include <unistd.h>
+#include "supervisor.h"
 
-#include "inputs.h"
+enum { BLOCK = 4096, MOST_STREAMS = 64, MOST_SIZE = 1 << 28, MOST_TRIES = 1000000 };
+enum { MOST_VARIABLES = 16777215, SEALS = F_SEAL_WRITE | F_SEAL_GROW | F_SEAL_SHRINK };
+enum { UNSATISFIABLE = 0, UNKNOWN = 3, UNDER_ASSUMPTIONS = 8 };     // statuses of lrupd
+enum { GRACE = 8000, ENDING_TIME = 14000, READING_TIME = 600000 };  // milliseconds
+enum state { SOLVING, ENDING, READING, OVER };
+enum which { SUPERVISOR, PROBE, LRUPD, CHILDREN };
 
-enum { BLOCK = 4096, MOST_STREAMS = 64, MOST_SIZE = 1 << 28, MOST_TRIES = 1000000, GRACE = 8 /* seconds */ };
-enum { RUNNING = -1, PROVED = W_EXITCODE(0, 0), UNKNOWN = W_EXITCODE(3, 0), UNDER = W_EXITCODE(8, 0) };
-enum { ENGINES, PROBE, LRUPD, CHILDREN };       // the probe is an lrupd that reads the formula, and no stream
+static struct {         // what was given, "" for an option without a value; NULL if it wasn't
+    const char *formula, *assume, *engines, *lrupd, *seconds, *mpi, *quiet, *verbose, *help;
+    const char *core_or_lrat, *others;      // others: lrup-engines reads them
+} options;
 
-static const char *const names[] = { "engines", "probe", "lrupd" };
-static pid_t pids[CHILDREN];
-static int ends[] = { RUNNING, RUNNING, RUNNING };      // as wait says it; RUNNING is neither an exit nor a signal
-static int outputs[CHILDREN];                           // in memory, so that no full disk costs a verdict
-static const char *lrupd, *formula, *assume;
-static int null, told[2], heard[2], ended_by;           // pipes to and from lrup-engines; and a signal
-static sigset_t mask_before, no_signals, all_signals;
-static bool is_late, has_refused;
+static struct child {
+    const char *name;
+    int handle;         // -1: it isn't running
+    int output;         // in memory, so that no full disk costs an answer
+    pid_t pid;          // 0: it wasn't started
+    siginfo_t end;
+} children[CHILDREN] = { { .name = "supervisor", .handle = -1 }, { .name = "probe", .handle = -1 },
+                         { .name = "lrupd", .handle = -1 } };
+static enum state state = SOLVING;
+static long until, latest;                      // deadlines, by now(): of the state, of the run
+static const char *self, *lrupd, *formula, *assume;     // paths
+static const char *verdict;                     // a line; NULL: there is none
+static signed char *assignment;                 // from 1 on: 1 true, -1 false
+static long known;                              // variables in it
+static bool is_whole, has_refused;              // the assignment; lrup-engines
+static int ended_by;                            // a signal
+static int null, signals, told[2], heard[2];    // files; pipes to and from lrup-engines
+static sigset_t mask_before;
 
-// Each in a process group of its own. None outlives this process.
-static void start(int which, const char *const *list, int in, int out, int said) {
-    pid_t parent = getpid();
-    if ((pids[which] = fork()) < 0) err(1, "cannot start %s", list[0]);
-    if (pids[which] > 0) return;
-    if (setpgid(0, 0) != 0 || prctl(PR_SET_PDEATHSIG, SIGKILL) != 0 || getppid() != parent) _exit(127);
-    signal(SIGPIPE, SIG_DFL);
-    sigprocmask(SIG_SETMASK, &mask_before, NULL);
-    if (dup2(in, 0) < 0 || dup2(out, 1) < 0 || dup2(said, 2) < 0) _exit(127);
-    execvp(list[0], (char **)list);
-    err(127, "cannot start %s", list[0]);
+static char *text(const char *format, ...) {
+    char *made;
+    va_list words;
+    va_start(words, format);
+    if (vasprintf(&made, format, words) < 0) err(1, "no memory");
+    va_end(words);
+    return made;
 }
 
-static void start_lrupd(int which, const unsigned long *numbers) {
-    const char *folder = text("/proc/%lu/fd/%lu", numbers[4], numbers[5]);
-    const char *list[MOST_STREAMS + 16] = { lrupd, "--tries", text("%lu", numbers[3]), "--lines", text("%lu", numbers[1]), "--room",
-                                            text("%lu", numbers[2]) }, **next = list + 7;
-    if (assume) *next++ = "--assume", *next++ = assume;
-    if (which == LRUPD) *next++ = "--rounds", *next++ = folder;
-    if (which == LRUPD && value['v']) *next++ = "--watch";
-    *next++ = formula;
-    if (which == PROBE) *next++ = "/dev/null";
-    for (unsigned long k = 1; k <= numbers[0]; k++) *next++ = text("%s/round-1.stream-%lu", folder, k);
-    start(which, list, null, outputs[which], outputs[which]);
+// False for words that can't be used: lrup-engines gets the same, and says why.
+static bool read_words(int count, char **words) {
+    static const struct option list[] = {       // 1: a value follows
+        { "assume", 1, NULL, 'a' },   { "core", 1, NULL, 'c' },       { "engines", 1, NULL, 'e' },
+        { "help", 0, NULL, 'h' },     { "lrat", 1, NULL, 'c' },       { "lrupd", 1, NULL, 'l' },
+        { "memory", 1, NULL, 'o' },   { "mpi", 1, NULL, 'm' },        { "no-share", 0, NULL, 'o' },
+        { "proofs", 1, NULL, 'o' },   { "quiet", 0, NULL, 'q' },      { "re-hint", 0, NULL, 'o' },
+        { "seed", 1, NULL, 'o' },     { "share-size", 1, NULL, 'o' }, { "solver", 1, NULL, 'o' },
+        { "time", 1, NULL, 't' },     { "verbose", 0, NULL, 'v' },    { "version", 0, NULL, 'h' },
+        { NULL, 0, NULL, 0 } };
+    static const char **const places[] = {
+        [1] = &options.formula, ['a'] = &options.assume, ['c'] = &options.core_or_lrat,
+        ['e'] = &options.engines, ['h'] = &options.help, ['j'] = &options.others,
+        ['l'] = &options.lrupd, ['m'] = &options.mpi, ['o'] = &options.others,
+        ['q'] = &options.quiet, ['t'] = &options.seconds, ['v'] = &options.verbose };
+    int letter;
+    opterr = 0;
+    while ((letter = getopt_long(count, words, "-j:qvh", list, NULL)) != -1) {
+        bool is_formula = letter == 1, is_empty = optarg != NULL && *optarg == 0;
+        if (letter == '?' || (is_formula ? options.formula != NULL : is_empty)) return false;
+        *places[letter] = optarg ? optarg : "";
+    }
+    if (optind < count && options.formula == NULL) options.formula = words[optind++];   // after --
+    return optind == count;
 }
 
-static const char *verdict(void) {
-    return ends[LRUPD] == PROVED ? "s UNSATISFIABLE" : assume && ends[LRUPD] == UNDER ? "s UNSATISFIABLE UNDER ASSUMPTIONS" : NULL;
+static bool is_program(const char *path) {
+    struct stat found;
+    return stat(path, &found) == 0 && S_ISREG(found.st_mode) && access(path, X_OK) == 0;
 }
 
-static void take_line(char *line) {
-    unsigned long n[6];       // what may stand there, and nothing else, reaches lrupd's words
+static const char *beside_this(const char *name) {
+    char *path = realpath("/proc/self/exe", NULL);
+    if (path == NULL) return NULL;          // trusted (current folder): none of its programs
+    const char *found = text("%s/%s", dirname(path), name);
+    return is_program(found) ? found : NULL;
+}
+
+static const char *on_the_path(const char *name) {
+    char *list = getenv("PATH"), *rest = text("%s", list ? list : ""), *folder;
+    while ((folder = strsep(&rest, ":")) != NULL) {
+        if (folder[0] != '/') continue;     // trusted (PATH): not by . or an empty element
+        const char *found = text("%s/%s", folder, name);
+        if (is_program(found)) return found;
+    }
+    return NULL;
+}
+
+// The one that the user has named, or the one that is installed with this program.
+static const char *find_program(const char *named, const char *name) {
+    const char *found = named ? named : beside_this(name);
+    if (found == NULL) found = beside_this(text("../libexec/lrupd/%s", name));
+    if (found == NULL) found = name;
+    if (strchr(found, '/') == NULL) found = on_the_path(found);     // trusted (name)
+    if (found != NULL && is_program(found)) return found;
+    errx(1, "no %s that can be run: %s", name, named ? named : "not beside this, nor on the PATH");
+}
+
+// For all processes the open file of this one, also once its path is another file's.
+static const char *name_of(int file) { return text("%s/fd/%d", self, file); }
+
+// A sealed copy of what can't be read twice. lrupd takes at most 2^28 literals and clauses, with
+// eight digits, a sign and a blank each.
+static int copied(int file, const char *path) {
+    static char bytes[1 << 16];
+    int copy = memfd_create("lrup-solve", MFD_ALLOW_SEALING | MFD_CLOEXEC);
+    long left = 10L << 28;
+    ssize_t count;
+    while ((count = read(file, bytes, sizeof bytes)) > 0 && (left -= count) >= 0)
+        if (write(copy, bytes, (size_t)count) != count) err(1, "cannot copy %s", path);
+    if (left < 0) errx(1, "%s: more than 2684354560 bytes, which lrupd doesn't take", path);
+    if (count < 0) err(1, "cannot read %s", path);
+    if (fcntl(copy, F_ADD_SEALS, SEALS) != 0) err(1, "cannot seal %s", path);   // trusted (copy)
+    return copy;
+}
+
+// Where a path can't be opened lrup-engines says why.
+static const char *open_input(const char *path) {
+    struct stat found;
+    bool is_standard = strcmp(path, "-") == 0;
+    int file = is_standard ? STDIN_FILENO : open(path, O_RDONLY | O_CLOEXEC);
+    if (file < 0 || fstat(file, &found) != 0) return name_of(-1);
+    bool is_read_again = S_ISREG(found.st_mode) || S_ISDIR(found.st_mode);
+    return name_of(is_read_again && !is_standard ? file : copied(file, path));
+}
+
+static void take_signs(const char *signs) {
+    if (assignment == NULL) assignment = calloc(MOST_VARIABLES + 1, 1);
+    if (assignment == NULL) err(1, "no memory");
+    for (; *signs != 0 && known < MOST_VARIABLES; signs++)
+        assignment[++known] = *signs == '+' ? 1 : -1;
+}
+
+static bool is_true(long literal) {
+    if (literal == 0 || literal < -known || literal > known) return false;
+    return assignment[labs(literal)] == (literal > 0 ? 1 : -1);
+}
+
+// Whether each clause has a literal that is true; assumptions have no header, and each literal is a
+// clause. lrupd has accepted the file: besides the header it has numbers, and comments (c ..).
+static bool satisfies(const char *path, bool is_formula) {
+    FILE *file = fopen(path, "re");
+    char *line = NULL, *rest;
+    size_t size = 0;
+    long variables = known, clauses = is_formula ? -1 : 0, satisfied = 0;
+    bool is_satisfied = false;      // the clause that is being read
+    while (file != NULL && getline(&line, &size, file) > 0) {
+        if (clauses == -1 && sscanf(line, " p cnf %ld %ld", &variables, &clauses) == 2) continue;
+        for (char *at = line;; at = rest) {
+            long literal = strtol(at, &rest, 10);
+            if (rest == at) break;
+            if (is_true(literal)) is_satisfied = true;
+            if (is_formula ? literal != 0 : literal == 0) continue;     // trusted (ends of clauses)
+            if (is_satisfied) satisfied++;
+            if (!is_formula) clauses++;     // trusted (assumptions): each counts
+            is_satisfied = false;           // trusted (clause by clause)
+        }
+    }
+    if (file == NULL || !feof(file)) return false;          // trusted (whole file)
+    if (variables != known) return false;                   // trusted (variables): all have values
+    if (satisfied != clauses) return false;                 // trusted (clauses): each one is true
+    return true;
+}
+
+static void print_assignment(void) {
+    printf(known > 0 ? "s SATISFIABLE" : "s SATISFIABLE\nv");
+    for (long k = 1; k <= known; k++) printf(k % 10 == 1 ? "\nv %ld" : " %ld", k * assignment[k]);
+    puts(" 0");
+}
+
+static long now(void) {
+    struct timespec time;
+    clock_gettime(CLOCK_MONOTONIC, &time);
+    return time.tv_sec * 1000 + time.tv_nsec / 1000000;
+}
+
+static long least(long one, long other) { return one < other ? one : other; }
+
+static void stop_solving_within(long milliseconds) {
+    if (state == SOLVING) until = least(until, now() + milliseconds);
+}
+
+static bool is_running(enum which which) { return children[which].handle >= 0; }
+
+// Only of a child that wasn't waited for: no other process can have its id yet.
+static void signal_group(enum which which, int number) {
+    if (is_running(which)) kill(-children[which].pid, number);
+}
+
+// Starts a child, in a process group of its own. It gets a signal if the front ends before it.
+static void start(enum which which, const char *const *words, int in, int out, int error) {
+    assert(children[which].pid == 0);
+    pid_t parent = getpid(), pid = fork();
+    if (pid < 0) err(1, "cannot start %s", words[0]);
+    if (pid == 0) {
+        int number = which == SUPERVISOR ? SIGTERM : SIGKILL;
+        if (prctl(PR_SET_PDEATHSIG, number) != 0 || getppid() != parent) _exit(127);
+        if (setpgid(0, 0) != 0 || dup2(in, 0) < 0 || dup2(error, 2) < 0) _exit(127);
+        if (dup2(out, 1) < 0) _exit(127);   // trusted (output): not the front's
+        if (which == SUPERVISOR) supervise(words, &mask_before, heard[1], options.mpi != NULL);
+        signal(SIGPIPE, SIG_DFL);
+        sigprocmask(SIG_SETMASK, &mask_before, NULL);
+        execv(words[0], (char **)words);    // execvp() would have a shell run an empty file
+        err(127, "cannot start %s", words[0]);
+    }
+    setpgid(pid, pid);      // here too, since its group may be signalled at once
+    children[which].pid = pid;
+    children[which].handle = pidfd_open(pid, 0);
+    if (children[which].handle < 0) err(1, "cannot watch %s", words[0]);
+}
+
+struct request { unsigned long streams, lines, room, tries, pid, file; };
+
+static void start_lrupd(enum which which, const struct request *request) {
+    const char *folder = text("/proc/%lu/fd/%lu", request->pid, request->file);
+    const char *words[MOST_STREAMS + 16] = { lrupd, "--tries", text("%lu", request->tries),
+        "--lines", text("%lu", request->lines), "--room", text("%lu", request->room) };
+    size_t count = 7;
+    if (assume) words[count++] = text("--assume=%s", assume);       // trusted (lrupd reads them)
+    if (which == LRUPD) words[count++] = "--rounds";
+    if (which == LRUPD) words[count++] = folder;
+    if (which == LRUPD && options.verbose) words[count++] = "--watch";
+    words[count++] = formula;               // trusted (formula): before the streams
+    if (which == PROBE) words[count++] = "/dev/null";
+    for (unsigned long k = 1; k <= request->streams; k++)
+        words[count++] = text("%s/round-1.stream-%lu", folder, k);
+    start(which, words, null, children[which].output, children[which].output);
+}
+
+// Only numbers within their ranges reach lrupd's command line. Another request ends the run.
+static void handle_request(const char *line) {
+    struct request request;
     char more;
-    int found = sscanf(line, "check %lu %lu %lu %lu %lu %lu%c", &n[0], &n[1], &n[2], &n[3], &n[4], &n[5], &more);
-    if (found == 6 && n[0] >= 1 && n[0] <= MOST_STREAMS && n[1] <= MOST_SIZE && n[2] <= MOST_SIZE && n[3] <= MOST_TRIES && !pids[LRUPD])
-        start_lrupd(LRUPD, n);
-    else if (strncmp(line, "check", 5) == 0) is_late = true;
-    bool has_signs = strncmp(line, "v ", 2) == 0;
-    for (const char *at = line + 2; has_signs && *at && known < MOST_VARIABLES; at++) assignment[++known] = *at == '+' ? 1 : -1;
-    if (strcmp(line, "model") == 0) is_whole = true;
-    if (strcmp(line, "refused") == 0) has_refused = true;
-    for (char *at = line; *at; at++)
-        if ((unsigned char)*at < ' ' || *at == 127) *at = '?';
-    if (strncmp(line, "c ", 2) == 0 && !value['q']) puts(line), fflush(stdout);
+    int count = sscanf(line, "check %lu %lu %lu %lu %lu %lu%c", &request.streams, &request.lines,
+                       &request.room, &request.tries, &request.pid, &request.file, &more);
+    bool is_right = count == 6 && request.streams >= 1 && request.streams <= MOST_STREAMS &&
+        request.lines <= MOST_SIZE && request.room <= MOST_SIZE && request.tries <= MOST_TRIES;
+    if (is_right && children[LRUPD].pid == 0) start_lrupd(LRUPD, &request);
+    else stop_solving_within(0);
 }
 
-// False where nothing is there.
+// A line of lrup-engines; false if there is none. A comment that would have to wait is left out.
 static bool read_line(void) {
     char line[BLOCK + 1] = "";
-    bool is_there = read(heard[0], line, BLOCK) > 0;
-    if (is_there) take_line(line);
-    return is_there;
+    struct pollfd output = { STDOUT_FILENO, POLLOUT, 0 };
+    if (read(heard[0], line, BLOCK) <= 0) return false;
+    if (strncmp(line, "check", 5) == 0) handle_request(line);
+    if (strncmp(line, "v ", 2) == 0) take_signs(line + 2);
+    if (strcmp(line, "model") == 0) is_whole = true;
+    if (strcmp(line, "refused") == 0) has_refused = true;
+    if (strncmp(line, "c ", 2) != 0) return true;           // trusted (comments): nothing else
+    for (char *at = line; *at != 0; at++)
+        if (*at < ' ' || *at > '~') *at = '?';              // trusted (one line): in ASCII
+    line[BLOCK - 1] = 0;        // with the line feed a pipe takes it at once
+    if (!options.quiet && !has_refused && poll(&output, 1, 0) > 0) puts(line);
+    fflush(stdout);
+    return true;
 }
 
-// While turn() waits, and at no other time.
-static void take_signal(int number) {
-    if (number == SIGTSTP && ends[ENGINES] == RUNNING)      // lrupd waits for them
-        kill(-pids[ENGINES], SIGSTOP), raise(SIGSTOP), kill(-pids[ENGINES], SIGCONT);
-    if (number == SIGALRM) is_late = true;
-    if (number == SIGTSTP || number == SIGCHLD || number == SIGALRM || ended_by) return;
-    ended_by = number;
-    alarm(GRACE);
-    dprintf(told[1], "signal ended by a signal: %s\n", strsignal(number));
+static bool exited_with(enum which which, int status) {
+    if (children[which].end.si_code != CLD_EXITED) return false;    // trusted (signal): no exit
+    if (children[which].end.si_status != status) return false;      // trusted (status)
+    return true;
 }
 
-static void turn(void) {
-    struct pollfd list = { heard[0], POLLIN, 0 };
-    int end, which;
-    if (ppoll(&list, 1, NULL, &no_signals) > 0) read_line();
-    for (pid_t pid; (pid = waitpid(-1, &end, WNOHANG)) > 0;) {
-        for (which = 0; which < CHILDREN && pids[which] != pid; which++) {}
-        if (which == CHILDREN) continue;
-        for (int k = 0; which == ENGINES && k < 1000 && read_line(); k++) {}
-        ends[which] = end;
-        if (which == LRUPD ? !verdict() || !value['k'] : which == PROBE && end != UNKNOWN) alarm(GRACE);
-        dprintf(told[1], "%s %d\n", names[which], end);     // what isn't read isn't waited for
+// The only place that sets the verdict.
+static void set_verdict(int status, const char *line) {
+    char bytes[64] = "";
+    size_t length = strlen(line) + 1;
+    off_t size = lseek(children[LRUPD].output, 0, SEEK_END);
+    if (pread(children[LRUPD].output, bytes, length, size - (off_t)length) < 0) return;
+    if (!exited_with(LRUPD, status)) return;                // trusted (exit)
+    if (strcmp(bytes, text("%s\n", line)) != 0) return;     // trusted (last line): lrupd's own
+    assert(verdict == NULL);
+    verdict = line;
+}
+
+// Of a child whose handle says that it has ended.
+static void collect_end(enum which which) {
+    struct child *child = &children[which];
+    signal_group(which, SIGKILL);       // whatever it leaves in its group
+    if (waitid(P_PIDFD, (id_t)child->handle, &child->end, WEXITED | WNOHANG) != 0) err(1, "waitid");
+    if (child->end.si_pid == 0) return;         // while another process traces it
+    close(child->handle);
+    child->handle = -1;
+    if (which == LRUPD) set_verdict(UNSATISFIABLE, "s UNSATISFIABLE");
+    if (which == LRUPD && assume != NULL)
+        set_verdict(UNDER_ASSUMPTIONS, "s UNSATISFIABLE UNDER ASSUMPTIONS");
+    if (which == PROBE && !exited_with(PROBE, UNKNOWN)) stop_solving_within(GRACE);
+    if (which == LRUPD && !(verdict && options.core_or_lrat)) stop_solving_within(GRACE);
+    dprintf(told[1], "%s %d %d\n", child->name, child->end.si_code, child->end.si_status);
+}
+
+static void handle_signal(void) {
+    struct signalfd_siginfo found;
+    if (read(signals, &found, sizeof found) != sizeof found) return;
+    if (found.ssi_signo == SIGTSTP) {
+        signal_group(SUPERVISOR, SIGSTOP);      // lrupd waits for their streams
+        raise(SIGSTOP);
+        signal_group(SUPERVISOR, SIGCONT);
     }
+    if (found.ssi_signo == SIGTSTP || ended_by != 0) return;
+    ended_by = (int)found.ssi_signo;
+    stop_solving_within(GRACE);
+    dprintf(told[1], "signal ended by a signal: %s\n", strsignal(ended_by));
 }
 
-// As one of them ends, what it has started comes to this process. lrup-engines removes its files.
-static void end_all(void) {
-    for (int tries = 0; tries < 1200 * GRACE && waitpid(-1, NULL, WNOHANG) >= 0; tries++, usleep(1000)) {
-        FILE *list = fopen("/proc/thread-self/children", "re");
-        for (pid_t pid; list && fscanf(list, "%d", &pid) == 1;) kill(pid, tries < 1000 * GRACE ? SIGTERM : SIGKILL), kill(pid, SIGCONT);
-        if (list) fclose(list);
-        while (waitpid(-1, NULL, WNOHANG) > 0) {}
+static void await_event(void) {
+    struct pollfd files[] = { { children[SUPERVISOR].handle, POLLIN, 0 },
+                              { children[PROBE].handle, POLLIN, 0 },
+                              { children[LRUPD].handle, POLLIN, 0 },
+                              { signals, POLLIN, 0 },
+                              { state == SOLVING ? heard[0] : -1, POLLIN, 0 } };
+    long left = least(until - now(), 60000);
+    int ready = poll(files, CHILDREN + 2, left > 0 ? (int)left : 0);
+    if (ready < 0 && errno != EINTR) err(1, "cannot wait");
+    if (ready <= 0) return;
+    if (files[CHILDREN].revents != 0) handle_signal();
+    if (files[CHILDREN + 1].revents != 0) read_line();
+    for (int which = 0; which < CHILDREN; which++)
+        if (files[which].revents != 0) collect_end((enum which)which);
+}
+
+// The state that comes next. Each ends at `until` at the latest; SOLVING has that from --time.
+static enum state next(void) {
+    switch (state) {
+    case SOLVING:
+        if (is_running(SUPERVISOR) && !is_whole && now() < until) return SOLVING;
+        for (int k = 0; k < 1000 && read_line(); k++) {}        // not for ever
+        if (is_running(SUPERVISOR)) kill(children[SUPERVISOR].pid, SIGTERM);
+        signal_group(SUPERVISOR, SIGCONT);
+        signal_group(LRUPD, SIGKILL);           // it writes to the folder that is removed now
+        until = now() + ENDING_TIME;            // fall through
+    case ENDING:
+        if ((is_running(SUPERVISOR) || is_running(LRUPD)) && now() < until) return ENDING;
+        signal_group(SUPERVISOR, SIGKILL);
+        signal_group(PROBE, SIGCONT);
+        until = least(latest, now() + READING_TIME);    // fall through
+    case READING:
+        if (is_running(PROBE) && !verdict && !ended_by && now() < until) return READING;
+        signal_group(PROBE, SIGKILL);           // fall through
+    default: return OVER;
     }
 }
 
 static int answer(void) {
-    int end = ends[ENGINES];
-    bool is_read = ends[PROBE] == UNKNOWN, is_refused = WIFEXITED(ends[PROBE]) && !is_read;     // the formula, by lrupd
-    bool is_model = !verdict() && is_whole && is_read && satisfies(formula, true) && (!assume || satisfies(assume, false));
-    if (is_refused && !has_refused && !verdict() && !ended_by) errx(1, "lrupd took no formula");
-    const char *started = value['m'] ? "MPI's command" : "lrup-engines";        // which has become that command
-    if (WIFSIGNALED(end) && !value['q']) printf("c %s ended by a signal: %s\n", started, strsignal(WTERMSIG(end)));
-    if (WIFEXITED(end) && end != 0 && !has_refused && !value['q']) printf("c %s ended with status %d\n", started, WEXITSTATUS(end));
-    if (is_model) print_model();
-    else if (verdict() || !has_refused) puts(verdict() ? verdict() : "s UNKNOWN");
+    bool is_read = exited_with(PROBE, UNKNOWN), is_satisfied = is_whole && !verdict;
+    bool is_refused = children[PROBE].end.si_code == CLD_EXITED && !is_read;    // by lrupd
+    if (!is_read) is_satisfied = false;                     // trusted (refused): lrupd took none
+    if (is_satisfied && !satisfies(formula, true)) is_satisfied = false;        // trusted (model)
+    if (assume && is_satisfied) is_satisfied = satisfies(assume, false);        // trusted (assumed)
+    if (is_refused && !has_refused && !verdict && !ended_by) errx(1, "lrupd took no formula");
+    sigprocmask(SIG_SETMASK, &mask_before, NULL);           // a signal ends a wait for a reader
+    if (is_satisfied) print_assignment();
+    else if (verdict) puts(verdict);
+    else if (!has_refused) puts("s UNKNOWN");
     if (fflush(stdout) != 0 || ferror(stdout)) err(1, "cannot write the answer");
-    if (ended_by) signal(ended_by, SIG_DFL), raise(ended_by), sigprocmask(SIG_SETMASK, &mask_before, NULL);
-    return has_refused ? 1 : verdict() ? 20 : is_model ? 10 : 0;
+    if (ended_by != 0) raise(ended_by);
+    if (has_refused) return 1;
+    if (verdict) return 20;
+    return is_satisfied ? 10 : 0;
+}
+
+// From now on these signals are read as they come, unless the caller ignores them, as nohup does.
+static void hold_signals(void) {
+    static const int numbers[] = { SIGINT, SIGQUIT, SIGTERM, SIGHUP, SIGTSTP };
+    sigset_t held;
+    sigemptyset(&held);
+    for (size_t k = 0; k < sizeof numbers / sizeof *numbers; k++)
+        if (signal(numbers[k], SIG_DFL) == SIG_IGN) signal(numbers[k], SIG_IGN);
+        else sigaddset(&held, numbers[k]);
+    sigprocmask(SIG_BLOCK, &held, &mask_before);
+    signals = signalfd(-1, &held, SFD_CLOEXEC | SFD_NONBLOCK);
+    signal(SIGXFSZ, SIG_IGN);
+    signal(SIGPIPE, SIG_IGN);
+    signal(SIGCHLD, SIG_DFL);       // else the system would wait for children
 }
 
 int main(int count, char **words) {
-    static const int numbers[] = { SIGINT, SIGQUIT, SIGTERM, SIGHUP, SIGTSTP };
-    do null = open("/dev/null", O_RDONLY | O_CLOEXEC);      // 0 to 2 are open from now on
-    while (null >= 0 && null <= 2);
-    bool are_right = read_words(count, words);
-    double seconds = value['t'] ? strtod(value['t'], NULL) : 0;
-    words[0] = (char *)(value['e'] ?: beside_this("lrup-engines") ?: beside_this("../libexec/lrupd/lrup-engines") ?: "lrup-engines");
-    if (access(words[0], X_OK) != 0 || (value['h'] && execv(words[0], words) != 0)) err(1, "cannot start %s", words[0]);
-    lrupd = value['l'] ?: beside_this("lrupd") ?: "lrupd";      // on the PATH
-    formula = are_right ? open_input(value['f'] ?: "-") : name_of(-1);
-    assume = are_right && value['a'] ? open_input(value['a']) : NULL;
-    for (int k = PROBE; k <= LRUPD; k++) outputs[k] = memfd_create(names[k], MFD_CLOEXEC);
-    if (pipe2(told, O_CLOEXEC | O_NONBLOCK) || pipe2(heard, O_CLOEXEC | O_NONBLOCK) || prctl(PR_SET_CHILD_SUBREAPER, 1)) err(1, "no pipes");
-    setenv("LRUP_FRONT", text("%d %d %d %d %s %s %s", told[0], heard[1], outputs[PROBE], outputs[LRUPD], formula, assume ?: "-", lrupd), 1);
-    signal(SIGCHLD, take_signal), signal(SIGALRM, take_signal), signal(SIGXFSZ, SIG_IGN), signal(SIGPIPE, SIG_IGN);
-    for (size_t k = 0; k < sizeof numbers / sizeof *numbers; k++)       // those that are ignored stay so, as under nohup
-        if (signal(numbers[k], take_signal) == SIG_IGN) signal(numbers[k], SIG_IGN);
-    sigfillset(&all_signals);
-    sigprocmask(SIG_BLOCK, &all_signals, &mask_before);
-    start(ENGINES, (const char *const *)words, STDIN_FILENO, null, STDERR_FILENO);
-    start_lrupd(PROBE, (unsigned long[6]){ 0 });
-    if (seconds > 0) alarm((unsigned)(seconds < 1e9 ? seconds : 1e9) + GRACE);      // lrup-engines ends by itself before
-    while ((ends[ENGINES] == RUNNING && !is_late && !is_whole) || (ends[PROBE] == RUNNING && !verdict() && !ended_by)) turn();
-    end_all();
+    while ((null = open("/dev/null", O_RDONLY)) >= 0 && null <= 2) {}   // 0 to 2 are open now
+    bool is_usable = read_words(count, words);
+    words[0] = (char *)find_program(options.engines, "lrup-engines");
+    if (options.help && execv(words[0], words) != 0) err(1, "cannot start %s", words[0]);
+    lrupd = find_program(options.lrupd, "lrupd");
+    self = realpath("/proc/self", NULL);    // of this /proc, which may be another namespace's
+    if (self == NULL || null < 0) err(1, "cannot open /proc/self or /dev/null");
+    formula = is_usable ? open_input(options.formula ? options.formula : "-") : name_of(-1);
+    if (is_usable && options.assume) assume = open_input(options.assume);   // trusted (assume)
+    hold_signals();
+    for (int k = PROBE; k <= LRUPD; k++) children[k].output = memfd_create("output", MFD_CLOEXEC);
+    int failed = pipe2(told, O_CLOEXEC | O_NONBLOCK) | pipe2(heard, O_CLOEXEC | O_NONBLOCK);
+    if (failed || signals < 0) err(1, "cannot make pipes");
+    setenv("LRUP_FRONT", text("%d %d %d %d %s %s %s", told[0], heard[1], children[PROBE].output,
+                              children[LRUPD].output, formula, assume ? assume : "-", lrupd), 1);
+    double seconds = options.seconds ? strtod(options.seconds, NULL) : 0;
+    bool is_limited = seconds > 0 && seconds < 1e9;
+    until = latest = is_limited ? now() + (long)(1000 * seconds) + GRACE : 1L << 60;
+    start(SUPERVISOR, (const char *const *)words, STDIN_FILENO, null, STDERR_FILENO);
+    start_lrupd(PROBE, &(struct request){ .streams = 0 });
+    while ((state = next()) != OVER) await_event();
     return answer();
 }

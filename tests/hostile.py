@@ -1,0 +1,140 @@
+"""Programs that lie and die in the place of lrup-engines, for tests of the front.
+
+A program is Python: what all of them have in common, and a body.
+"""
+import os
+import stat
+import subprocess
+import sys
+import time
+from pathlib import Path
+from typing import Any, Sequence
+
+from harness import run, want, written
+from proof_forms import read_formula
+from solving import PROGRAM, SOLVE, Answer, end_all, marked, none_left
+
+SATISFIABLE = "p cnf 3 4\nc a comment\n1 2 0\n-1\n2 0 1 -3 0\nc 3 0\n3 -2 1 0\n"       # by 1 2, and either 3
+LONG = 30       # seconds, after which a run should have ended
+PROOF = "5 2 0 1 2 0\n6 0 5 3 4 0\n"                         # of FOUR
+
+# The id of an lrupd that is the front's child, and a process that has that id again, lost its parent, and ends with a status. Where
+# the program may choose ids it takes a moment; elsewhere it makes processes for some seconds, until one has the id.
+AGAIN = """
+import ctypes, os, signal, time
+
+def lrupd_of(front, word):
+    while True:
+        for child in open(f"/proc/{front}/task/{front}/children").read().split():
+            try:
+                if any(found.startswith(word) for found in open(f"/proc/{child}/cmdline").read().split("\\0")):
+                    return int(child)
+            except OSError:
+                pass
+
+def process(pid):
+    ids = (ctypes.c_int * 1)(pid)
+    numbers = (ctypes.c_uint64 * 11)(0, 0, 0, 0, signal.SIGCHLD, 0, 0, 0, ctypes.addressof(ids), 1, 0)
+    made, end = ctypes.CDLL(None).syscall(435, numbers, 88), time.monotonic() + 12      # clone3
+    while made < 0 and time.monotonic() < end:
+        made = os.fork()
+        if made == 0 and os.getpid() != pid:
+            os._exit(0)
+        if made not in (0, pid):
+            os.waitpid(made, 0)
+            made = -1
+    return made
+
+def again(pid, status, mark):
+    if os.fork() == 0:
+        made = process(pid)
+        if made == 0:
+            open(mark, "w")
+            time.sleep(0.3)
+            os._exit(status)
+        os._exit(0)
+    os.wait()
+    time.sleep(1)
+"""
+# What the programs have in common. `say` has a line for the front, and `write` any bytes.
+BEGINS = f"""#!{sys.executable} -SE
+import os, signal, subprocess, sys, time
+here = os.path.dirname(sys.argv[0])
+TOLD, HEARD, of_probe, of_lrupd, formula, assumptions, lrupd = os.environ["LRUP_FRONT"].split(" ", 6)
+front = formula.split("/")[2]
+FRONT = os.open(f"/proc/{{front}}/fd/{{TOLD}}", os.O_RDONLY)
+os.dup2(os.open(f"/proc/{{front}}/fd/{{HEARD}}", os.O_WRONLY), 1)
+folder = here + "/folder"
+os.mkdir(folder)
+FOLDER = os.open(folder, os.O_PATH | os.O_DIRECTORY)
+
+def write(data):
+    os.write(1, data)
+
+def say(line):
+    write(line.encode()[:4096].ljust(4096, b"\\0"))
+
+def check(words="1 10 10 0"):
+    say(f"check {{words}} {{os.getpid()}} {{FOLDER}}")
+
+def model(signs):
+    say("v " + signs)
+    say("model")
+
+def stream(number, text):
+    open(folder + f"/round-1.stream-{{number}}", "w").write(text)
+
+def told(name):
+    text = ""
+    while True:
+        more = os.read(FRONT, 1 << 16).decode()
+        text += more
+        if not more or any(line.startswith(name + " ") for line in text.splitlines()):
+            return text
+
+def forge(line):        # after all that lrupd has written
+    with open(f"/proc/{{front}}/fd/{{of_lrupd}}", "ab") as file:
+        file.write(line.encode() + b"\\n")
+
+def everywhere(data):
+    for name in os.listdir("/proc/self/fd"):
+        try:
+            if int(name) != 2:
+                os.set_blocking(int(name), False)
+                os.write(int(name), data)
+        except OSError:
+            pass
+
+"""
+
+
+def program(body: str, work: Path) -> Path:
+    path = written(BEGINS + body + "\n", work, "engines")
+    path.chmod(path.stat().st_mode | stat.S_IXUSR)
+    return path
+
+
+def run_with(body: str, words: Sequence[object], text: str, work: Path, lrupd: object = PROGRAM, front: object = SOLVE,
+             may_leave: bool = False, **how: Any) -> Answer:
+    """A run that leaves nothing in a temporary folder of its own, and no process: but where it may, these are ended here. Lines are
+    answers, values or comments."""
+    formula, files, mark = written(text, work), work / "temporary", marked(work)
+    files.mkdir()
+    word = "-" if "given" in how else formula
+    begun = time.monotonic()
+    answer = Answer(run([front, "--lrupd", lrupd, "--engines", program(body, work), *words, word], limit=60,
+                        env={**os.environ, "TMPDIR": str(files)}, **how))
+    if may_leave:
+        end_all(mark)
+    none_left(mark)
+    want(os.listdir(files), [], "files that it makes")
+    strange = [line for line in answer.out.splitlines() if line[:2] not in ("c ", "s ", "v ")]
+    want((strange, len(answer.answers) < 2), ([], True), f"lines of another kind in\n{answer.out[-2000:]}")
+    if time.monotonic() - begun > LONG:
+        raise subprocess.TimeoutExpired("the run", LONG)
+    return answer
+
+
+def is_model(answer: Answer, formula: Path, assumed: Sequence[int] = ()) -> bool:
+    true = set(answer.values)
+    return true.issuperset(assumed) and all(true & set(clause) for clause in read_formula(formula))

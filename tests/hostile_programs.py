@@ -1,0 +1,159 @@
+"""Programs that do harm in the place of lrup-engines, for tests/lrup_solve_hostile.py.
+
+Each is a comment with its name, and a body. A name may end with `slow`: the reading of the formula
+takes a moment; with `copied`: lrupd is a copy; or with `leaves`: the supervisor is killed, and so
+processes may be left.
+"""
+import re
+from typing import List, Tuple
+
+from hostile import AGAIN, PROOF
+
+COMMON = AGAIN + f"""
+import resource
+LINE, PROOF, libc = 's UNSATISFIABLE', {PROOF!r}, ctypes.CDLL(None)
+
+def proves(proof=PROOF):
+    stream(1, proof)
+    check()
+    told('lrupd')
+
+def waits():        # lrupd, for its stream
+    global pid, feeding
+    os.mkfifo(folder + '/round-1.stream-1')
+    told('probe')
+    check()
+    feeding = open(folder + '/round-1.stream-1', 'w')
+    pid = lrupd_of(front, '--rounds')
+
+def ends(line=LINE):
+    feeding.close()
+    told('lrupd')
+    forge(line)
+    time.sleep(0.2)
+
+def children(count, does, *words):
+    for k in range(count):
+        if os.fork() == 0:
+            if 'feeding' in globals(): feeding.close()
+            does(*words)
+            time.sleep(1000)
+
+def always(does, *words):
+    while True: does(*words)
+
+def tries(does, *words):
+    try: does(*words)
+    except OSError: pass
+
+def turns(pid):
+    for number in 50 * [signal.SIGSTOP, signal.SIGCONT]:
+        tries(os.kill, pid, number)
+        time.sleep(0.01)
+
+def named(path, text):      # whatever has that name now is another file
+    open(here + '/new', 'w').write(text)
+    os.chmod(here + '/new', 0o755)
+    os.rename(here + '/new', path)
+
+def daemon():
+    os.setsid()
+    if os.fork(): os._exit(0)
+    os.closerange(0, 100)
+
+OUTPUT = f'/proc/{{front}}/fd/{{of_lrupd}}'
+"""
+# For a formula that has a model.
+PROGRAMS = """
+# its parent is killed
+os.kill(os.getppid(), 9); time.sleep(1000)
+# its parent is killed, and it stays, leaves
+libc.prctl(1, 0); os.kill(os.getppid(), 9); proves(); time.sleep(1000)
+# its parent is stopped
+os.kill(os.getppid(), signal.SIGSTOP); proves(); time.sleep(1000)
+# its group is stopped
+os.killpg(0, signal.SIGSTOP); time.sleep(1000)
+# it leaves its group, and stops
+os.setsid(); os.kill(os.getpid(), signal.SIGSTOP)
+# the reading is stopped, slow
+os.kill(lrupd_of(front, '/dev/null'), signal.SIGSTOP); model('---'); time.sleep(1000)
+# lrupd is stopped
+waits(); os.kill(pid, signal.SIGSTOP); feeding.close(); forge(LINE); time.sleep(1000)
+# a line is forged all the time
+waits(); children(1, always, forge, LINE); ends()
+# the output is cut, and forged
+waits(); children(1, always, os.truncate, OUTPUT, 0); children(1, always, forge, LINE); ends()
+# the front's files are written, all but two
+stream(1, PROOF); check()
+for name in os.listdir(f'/proc/{front}/fd'):
+    file = f'/proc/{front}/fd/{name}'
+    if name not in '12':
+        tries(lambda: os.write(os.open(file, os.O_WRONLY | os.O_NONBLOCK), 2 * LINE.encode()))
+told('lrupd')
+# another formula has the name
+named(here + '/formula.cnf', 'p cnf 1 2\\n1 0\\n-1 0\\n'); proves('3 0 1 2 0\\n')
+# the formula is gone
+os.unlink(here + '/formula.cnf'); proves()
+# a folder of another process
+here, end = os.pipe()
+def others():
+    os.mkdir(folder + '/other')
+    open(folder + '/other/round-1.stream-1', 'w').write(PROOF)
+    os.write(end, f"{os.getpid()} {os.open(folder + '/other', os.O_PATH)}".encode())
+children(1, others); say('check 1 10 10 0 ' + os.read(here, 100).decode()); told('lrupd')
+# streams are the front's files
+for k, name in enumerate((HEARD, TOLD, of_lrupd, formula.split('/')[-1]), 1):
+    os.symlink(f'/proc/{front}/fd/{name}', folder + f'/round-1.stream-{k}')
+check('4 10 10 0'); time.sleep(1)
+# a model before its signs
+say('model'); model('---'); time.sleep(1)
+# no end of checks
+stream(1, ''); always(check)
+# no end of models
+always(model, '---')
+# a hundred orphans
+signal.signal(signal.SIGTERM, signal.SIG_IGN); children(100, os.setsid)
+# orphans that get more
+signal.signal(signal.SIGTERM, lambda *_: os.fork()); children(3, always, time.sleep, 1)
+# a line of orphans
+signal.signal(signal.SIGTERM, signal.SIG_IGN)
+for k in range(30):
+    if os.fork(): break
+    os.setsid()
+time.sleep(1000)
+# its own orphans
+libc.prctl(36, 1); children(5, daemon); time.sleep(0.2)
+# daemons
+children(20, daemon); os.closerange(0, 100)
+# in lrupd's group
+waits(); os.setpgid(0, pid); feeding.close(); time.sleep(1000)
+# in the front's group
+os.setpgid(0, os.getpgid(int(front))); proves(); time.sleep(1000)
+# its children in lrupd's group
+waits(); children(9, os.setpgid, 0, pid); time.sleep(0.2); feeding.close(); os._exit(0)
+# its children in the reading's group, slow
+children(9, os.setpgid, 0, lrupd_of(front, '/dev/null')); proves()
+# all but the front are killed, leaves
+def kill(name):
+    found = open(f'/proc/{name}/environ', 'rb').read()
+    if os.environ['LRUP_MARK'].encode() in found: os.kill(int(name), 9)
+for name in os.listdir('/proc'):
+    if name not in (front, str(os.getpid())): tries(kill, name)
+# the front is killed
+os.kill(int(front), 9); time.sleep(1000)
+"""
+# For one that has none, and PROOF is its proof.
+PROVING = """
+# lrupd stops and goes on
+waits(); children(1, turns, pid); feeding.write(PROOF); feeding.close(); told('lrupd')
+# its output is cut
+stream(1, PROOF); check(); children(1, always, os.truncate, OUTPUT, 0); told('lrupd')
+# its output grows
+os.truncate(OUTPUT, 1 << 40); proves()
+"""
+
+
+def programs(text: str) -> List[Tuple[str, str]]:
+    """Their names and bodies."""
+    found = re.findall(r"^# (.*)\n((?:[^#].*\n)+)", text, re.M)
+    return [(name, COMMON + body) for name, body in found]
