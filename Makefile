@@ -134,7 +134,7 @@ $(TRIM): $(call in_order,$(OBJECTS),$(wildcard tools/trim/*.c) $(FILTER))
 	@$(call LINK,$(CC),$(CFLAGS))
 $(EXPLAIN): $(call in_order,$(OBJECTS),$(wildcard tools/explain/*.c) tools/trim/lines.c $(FILTER))
 	@$(call LINK,$(CC),$(CFLAGS))
-$(SOLVE): $(call in_order,$(SOLVE_OBJECTS),tools/solve/front/front.c)
+$(SOLVE): $(call in_order,$(SOLVE_OBJECTS),$(wildcard tools/solve/front/*.c))
 	@$(call LINK,$(CC),$(CFLAGS))
 $(ENGINES): $(call in_order,$(SOLVE_OBJECTS),$(ALONE) $(wildcard tools/solve/*.c) $(FILTER))
 	@$(call LINK,$(CXX),$(CXXFLAGS),-lcadical)
@@ -160,12 +160,12 @@ FORCE:
 # With clang, too, where it is there.
 C_SOURCES := $(wildcard $(addsuffix /*.c,tools/exact tools/trim tools/explain tools/solve tools/solve/front examples/solver tests))
 C_HEADERS := $(wildcard $(addsuffix /*.h,tools/exact tools/trim tools/explain examples/solver)) tools/solve/shared.h \
-	tools/solve/test_hooks.h
+	tools/solve/test_hooks.h tools/solve/front/supervisor.h
 STRICT = -std=c11 $(WARNINGS) -Werror -O2 -fsyntax-only -I tools/exact -x c
 warnings: c-and-python ## check: that C compiles without a warning, and each header by itself
 	@for compiler in $(firstword $(CC)) clang; do command -v $$compiler > /dev/null || continue; \
 	$$compiler $(STRICT) $(C_SOURCES) || exit 1; \
-	for file in $(C_HEADERS); do $$compiler $(STRICT) -include $$file /dev/null || exit 1; done; done
+	for file in $(C_HEADERS); do $$compiler $(STRICT) -D_POSIX_C_SOURCE=200809L -include $$file /dev/null || exit 1; done; done
 
 builds: c-and-python ## check: that C and C++ are compiled with the flags that are said, and again what has changed
 	@python3 tests/builds.py
@@ -192,8 +192,8 @@ explain-test: $(BUILT) solver explain ## check: lrup-explain, on 2,000 faulty st
 # Without CaDiCaL's library nothing is run, and without MPI nothing of --mpi. With MPI= only what takes seconds there, as in
 # the gate.
 MPI ?= yes
-SOLVE_TESTS := lrup_solve_rounds lrup_solve lrup_solve_inputs lrup_solve_solvers lrup_solve_kept lrup_solve_front lrup_solve_kills \
-	lrup_solve_mpi
+SOLVE_TESTS := lrup_solve_rounds lrup_solve lrup_solve_inputs lrup_solve_solvers lrup_solve_kept lrup_solve_front lrup_solve_trusted \
+	lrup_solve_hostile lrup_solve_kills lrup_solve_mpi
 .PHONY: $(SOLVE_TESTS)
 solve-test: $(SOLVE_TESTS) ## check: lrup-solve, and what may happen to it, with 300 random formulas
 
@@ -270,8 +270,8 @@ packages: ## check: install, as root, Debian's packages that the tests want
 # Tests of programs run side by side, those that take longest first, and two more than there are cores, since most of them wait now and
 # then; what each one prints comes when it has ended. That each has a rule is seen before the proofs begin.
 TESTS := lrup_solve_rounds sweep filter_mutants lrup_solve lrup_solve_solvers filter_rounds explain-test trim-test lrup_solve_front \
-	lrup_solve_mpi lrup_solve_inputs lrup_solve_kept lrup_solve_kills leaks filter_chains filter_streams filter_solvers checkpoints rounds \
-	examples solver-test instructions neighbours live warnings builds shown
+	lrup_solve_hostile lrup_solve_mpi lrup_solve_inputs lrup_solve_kept lrup_solve_kills lrup_solve_trusted leaks filter_chains \
+	filter_streams filter_solvers checkpoints rounds examples solver-test instructions neighbours live warnings builds shown
 SIDE_BY_SIDE := --output-sync=target -j $(shell expr $$(nproc) + 2)
 test: SHELL := /bin/bash
 test: toolchain pages solver exact trim explain ## check: the gate, 25 to 100 minutes: every proof, edit and test; has to pass before a push

@@ -143,14 +143,16 @@ the status. That function has this clause: [[fn command_with_arguments.sound: ex
 given. NameUnsatisfiable _ read files.old (words_after_name given))]]. `IsOkAnd`: there are arguments with that property;
 `words_after_name`: those after the first."""
 
-FRONT_FILES = ("front.c", "inputs.h")        # of tools/solve/front
+FRONT_FILES = ("front.c",)      # of tools/solve/front
 
 FRONT_TOP = """## The front
 
-Of `lrup-solve` you have to trust these two files of C alone. Ask: does `lrupd` get the formula that was named? Does a line
-that begins with `s UNSATISFIABLE` come from its status alone? Has each clause a literal that the printed assignment makes
-true? Whatever `lrup-engines` does, the worst is a missing answer or `s UNKNOWN`. `tests/lrup_solve_front.py` runs programs in
-its place that lie and die."""
+Of `lrup-solve` you have to trust this file of C alone. Ask: does `lrupd` get the formula that was named? Does a line that
+begins with `s UNSATISFIABLE` come from its status alone? Has each clause a literal that the printed assignment makes true?
+
+The first lines say why nothing that other processes do can change that, unless they may trace the front or `lrupd`. In
+`tests/lrup_solve_front.py` programs in the place of `lrup-engines` lie and die. `tests/lrup_solve_trusted.py` leaves out each
+line that is marked as trusted, and each time such a program gets a wrong answer."""
 
 GLOSSES = """
 `AllByRecursion P xs` P of each element
