@@ -68,7 +68,9 @@ install: build exact trim explain ## use: install all programs, with manual page
 	@if $(MAKE) -s solve; then \
 	install -d "$(DESTDIR)$(PREFIX)/libexec/lrupd" && install -m 755 $(SOLVE) "$(DESTDIR)$(PREFIX)/bin/lrup-solve" && \
 	install -m 755 $(ENGINES) "$(DESTDIR)$(PREFIX)/libexec/lrupd/lrup-engines" && \
-	install -m 644 docs/lrup-solve.1 "$(DESTDIR)$(PREFIX)/share/man/man1"; else echo "lrup-solve isn't installed"; fi
+	install -m 755 tools/solve/lrup-check "$(DESTDIR)$(PREFIX)/bin" && \
+	install -m 644 docs/lrup-solve.1 docs/lrup-check.1 "$(DESTDIR)$(PREFIX)/share/man/man1"; \
+	else echo "lrup-solve and lrup-check aren't installed"; fi
 	sed -i 's/^\.Os$$/.Os lrupd $(VERSION)/' "$(DESTDIR)$(PREFIX)"/share/man/man1/lrup*.1
 
 # Standard output, standard error and the status are compared, on the examples and on some hundred small runs; two groups of streams
@@ -109,15 +111,15 @@ explain: $(EXPLAIN) ## build: lrup-explain, why a line is bad, and what would be
 	@:
 
 # Not verified. The front, which starts lrupd and prints the answer, is believed; lrup-engines isn't.
-solve: $(SOLVE) $(ENGINES) beside-it ## build: lrup-solve, from a formula to a proved verdict, at tools/solve/out; wants CaDiCaL's library
+solve: $(SOLVE) $(ENGINES) beside-it ## build: lrup-solve and lrup-check, to a proved verdict, at tools/solve/out; wants CaDiCaL's library
 
 # It isn't installed: it goes with the MPI of where it was built.
 solve-mpi: $(ENGINES)-mpi $(ENGINES) $(SOLVE) beside-it ## build: lrup-engines-mpi, for lrup-solve --mpi: engines on several hosts; wants MPI, too
 
-# What the front looks for beside it.
+# What the front looks for beside it, and what looks for the front.
 beside-it: $(EXACT) $(TRIM) $(EXPLAIN)
 	@mkdir -p $(dir $(SOLVE)) && ln -sfr $(PROGRAM) $(dir $(SOLVE))lrupd && ln -sfr $(EXACT) $(dir $(SOLVE))lrup-exact && \
-	ln -sfr $(TRIM) $(EXPLAIN) $(dir $(SOLVE))
+	ln -sfr $(TRIM) $(EXPLAIN) $(dir $(SOLVE)) && install -m 755 tools/solve/lrup-check $(dir $(SOLVE))
 
 # One source after the other, each once it has changed, or a header that it includes, or how it is compiled. A program that runs is
 # replaced, and not written over.
@@ -192,8 +194,8 @@ explain-test: $(BUILT) solver explain ## check: lrup-explain, on 2,000 faulty st
 # Without CaDiCaL's library nothing is run, and without MPI nothing of --mpi. With MPI= only what takes seconds there, as in
 # the gate.
 MPI ?= yes
-SOLVE_TESTS := lrup_solve_rounds lrup_solve lrup_solve_inputs lrup_solve_solvers lrup_solve_kept lrup_solve_front lrup_solve_trusted \
-	lrup_solve_hostile lrup_solve_kills lrup_solve_mpi
+SOLVE_TESTS := lrup_solve_rounds lrup_solve lrup_solve_inputs lrup_solve_solvers lrup_check lrup_solve_kept lrup_solve_front \
+	lrup_solve_trusted lrup_solve_hostile lrup_solve_kills lrup_solve_mpi
 .PHONY: $(SOLVE_TESTS)
 solve-test: $(SOLVE_TESTS) ## check: lrup-solve, and what may happen to it, with 300 random formulas
 
@@ -270,7 +272,7 @@ packages: ## check: install, as root, Debian's packages that the tests want
 # Tests of programs run side by side, those that take longest first, and two more than there are cores, since most of them wait now and
 # then; what each one prints comes when it has ended. That each has a rule is seen before the proofs begin.
 TESTS := lrup_solve_rounds sweep filter_mutants lrup_solve lrup_solve_solvers filter_rounds explain-test trim-test lrup_solve_front \
-	lrup_solve_hostile lrup_solve_mpi lrup_solve_inputs lrup_solve_kept lrup_solve_kills lrup_solve_trusted leaks filter_chains \
+	lrup_solve_hostile lrup_solve_mpi lrup_solve_inputs lrup_solve_kept lrup_solve_kills lrup_solve_trusted lrup_check leaks filter_chains \
 	filter_streams filter_solvers checkpoints rounds examples solver-test instructions neighbours live warnings builds shown
 SIDE_BY_SIDE := --output-sync=target -j $(shell expr $$(nproc) + 2)
 test: SHELL := /bin/bash

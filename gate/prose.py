@@ -32,6 +32,7 @@ PAGES: Dict[str, int] = {
     "bench/solve/README.md": 220,
     "docs/lrupd.1": 500,
     "docs/lrup-chain.1": 250,
+    "docs/lrup-check.1": 260,
     "docs/lrup-exact.1": 760,
     "docs/lrup-explain.1": 480,
     "docs/lrup-solve.1": 1300,

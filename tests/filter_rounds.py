@@ -543,7 +543,7 @@ def rows_sanitized() -> Iterator[Row]:
 
 EMPTY = "p cnf 2 2\n1 2 0\n0\n"
 FEW = [("no clauses", "p cnf 0 0\n", "", 3, ""), ("no clauses, and a step", "p cnf 1 0\n", "1 0\n", 3,
-        "lrup-exact: line 1: no conflict by unit propagation: a RAT step, which lrupd doesn't check, or a clause that doesn't follow\n"),
+        "lrup-exact: line 1: no conflict by unit propagation: the clause 1 0 is a RAT step, which lrupd doesn't check\n"),
        ("an empty clause, and no step", EMPTY, "", 3, ""), ("an empty clause", EMPTY, "0\n", 0, ""),
        ("the empty clause alone", "p cnf 0 1\n0\n", "0\n", 0, ""), ("four clauses", FOUR, "2 0\n0\n", 0, ""),
        ("no step", FOUR, "", 3, ""), ("one step", FOUR, "2 0\n", 3, "")]

@@ -295,7 +295,13 @@ def refusals() -> List[Row]:
     return [
         ("a RAT step with hints", FOUR, FIRST + "6 1 0 -3 4 0\n", "line 2: a RAT step", FIRST, []),
         ("a RAT step without hints", "p cnf 2 1\n1 2 0\n", "1 2 0\n1 0\n",
-         "line 2: no conflict by unit propagation: a RAT step", "2 1 2 0 1 0\n", []),
+         "line 2: no conflict by unit propagation: the clause 1 0 is a RAT step, which lrupd doesn't check\n", "2 1 2 0 1 0\n", []),
+        ("RAT by a resolvent", "p cnf 2 2\n1 2 0\n-1 2 0\n", "1 0\n",
+         "line 1: no conflict by unit propagation: the clause 1 0 is a RAT step, which lrupd doesn't check\n", "", []),
+        ("RAT by a tautology", "p cnf 2 1\n-1 -2 0\n", "1 2 0\n",
+         "line 1: no conflict by unit propagation: the clause 1 2 0 is a RAT step, which lrupd doesn't check\n", "", []),
+        ("no RAT step", "p cnf 2 2\n1 2 0\n-1 2 0\n", "-2 0\n", "line 1: no conflict by unit propagation: the clause -2 0 "
+         "doesn't follow from those that weren't deleted, and it isn't RAT\n", "", []),
         ("a clause of another stream", FOUR, "5 0 6 3 4 0\n",
          f"line 1: {NO_CLAUSE} 6 of stream 2: it wants an import, or --other 2=STREAM\n", "", ONE_OF_TWO),
         ("a clause of another stream, which isn't in its file", FOUR, "5 0 6 3 4 0\n",

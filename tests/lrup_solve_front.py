@@ -269,7 +269,7 @@ def endless(work: Path) -> None:
 def length(work: Path) -> None:
     """What one has to read, and that nothing else but the supervisor is part of it."""
     lines = FRONT.read_text().splitlines()
-    want((len(lines) <= 450, max(map(len, lines)) <= 100), (True, True), f"lines of the front, {len(lines)}, and their columns")
+    want((len(lines) <= 470, max(map(len, lines)) <= 100), (True, True), f"lines of the front, {len(lines)}, and their columns")
     want([line for line in lines if line.startswith('#include "')], ['#include "supervisor.h"'], "headers of the project")
 
 

@@ -1,4 +1,6 @@
 // Unverified, as all of this filter. What each step of a proof comes to: a line of the stream, none, or the end.
+#include <stdio.h>
+
 #include "errors.h"
 #include "filter.h"
 #include "lemmas.h"
@@ -21,7 +23,7 @@ void filter_open(Filter *filter, bool frat) {
     Formula *formula = &filter->formula;
     Literals *literals = &filter->literals;
     filter->frat = frat;
-    filter->keeps_identities = !filter->hooks && (filter->streams == 1 || filter->others.length > 0);
+    filter->keeps_identities = (!filter->hooks && filter->streams == 1) || filter->others.length > 0;
     propagation_open(&filter->propagation, &filter->clauses, formula->variables);
     hints_open(&filter->hints, &filter->clauses, formula->variables);
     for (size_t k = 0; k < formula->clauses; k++) {
@@ -124,8 +126,8 @@ static uint64_t new_identity(const Filter *filter, const Addition *addition) {
 
 // Whether there are identities for lines that the proof doesn't have. Streams of LRAT that may cite each other have none to spare.
 static bool has_identities(const Filter *filter, const Addition *addition) {
-    bool is_alone = filter->streams == 1 && filter->others.length == 0;
-    return !addition->named || filter->frat || filter->hooks || is_alone || (filter->renumbered && !filter->keeps_identities);
+    bool is_alone = (filter->hooks || filter->streams == 1) && filter->others.length == 0;
+    return !addition->named || filter->frat || is_alone || (filter->renumbered && !filter->keeps_identities);
 }
 
 static ClauseRef add_clause(Filter *filter, uint64_t identity) {
@@ -159,15 +161,62 @@ static void write_addition(Filter *filter, const Addition *addition, Found found
     write_line(filter);
 }
 
+// Adds the other literals of the clause to those of the step. False if both have a literal and its complement besides the pivot.
+static bool resolve(Filter *filter, const Clause *clause, Literal complement) {
+    for (unsigned k = 0; k < clause->length; k++) {
+        Literal literal = clause->literals[k];
+        if (literal == complement || filter->hints.marks[literal] != OPEN) continue;
+        if (filter->hints.marks[complement_of(literal)] != OPEN) return false;
+        PUSH(&filter->literals, literal);
+    }
+    return true;
+}
+
+static bool has_literal(const Clause *clause, Literal literal) {
+    for (unsigned k = 0; k < clause->length; k++)
+        if (clause->literals[k] == literal) return true;
+    return false;
+}
+
+// Whether the clause, which isn't RUP, is RAT on its first literal: each resolvent with another clause follows. The run ends then.
+static bool is_rat(Filter *filter) {
+    Literals *literals = &filter->literals;
+    size_t length = literals->length;
+    Literal complement = length > 0 ? complement_of(literals->items[0]) : 0;
+    bool follows = length > 0;
+    for (ClauseRef ref = 0; follows && (ref = clauses_after(&filter->clauses, ref)) != 0;) {
+        const Clause *clause = clause_at(&filter->clauses, ref);
+        if (!has_literal(clause, complement)) continue;
+        propagation_take_back(&filter->propagation);
+        follows = !resolve(filter, clause, complement) || propagation_conflict(&filter->propagation, literals) != 0;
+        literals->length = length;
+    }
+    return follows;
+}
+
+enum { LONGEST_SHOWN = 120 };
+
+static _Noreturn void stop_without_cause(Filter *filter, const char *none) {
+    char clause[LONGEST_SHOWN + 20];
+    size_t length = 0;
+    const Literals *literals = &filter->literals;
+    for (size_t k = 0; k < literals->length && length < LONGEST_SHOWN; k++)
+        length += (size_t)snprintf(clause + length, sizeof clause - length, "%d ", as_written(literals->items[k]));
+    snprintf(clause + length, sizeof clause - length, length < LONGEST_SHOWN ? "0" : "..");
+    if (is_rat(filter)) stop("%s: the clause %s is a RAT step, which lrupd doesn't check", none, clause);
+    stop("%s: the clause %s doesn't follow from those that weren't deleted, and it isn't RAT", none, clause);
+}
+
 // Most likely for want of a clause that the step cites, if it cites one that isn't there.
-static _Noreturn void stop_without_conflict(const Filter *filter, const Addition *addition) {
+static _Noreturn void stop_without_conflict(Filter *filter, const Addition *addition) {
     static const char none[] = "no conflict by unit propagation";
     int64_t missing = 0;
     for (size_t k = addition->hinted; k-- > 0;)
         if (clauses_named(&filter->clauses, (uint64_t)addition->hints[k]) == 0) missing = addition->hints[k];
-    if (missing == 0) stop("%s: a RAT step, which lrupd doesn't check, or a clause that doesn't follow", none);
+    if (missing == 0) stop_without_cause(filter, none);
     long long name = missing;
-    bool may_be_shared = !filter->frat && !filter->hooks && missing > (int64_t)filter->formula.clauses;
+    bool is_alone = filter->frat || (filter->hooks && filter->others.length == 0);
+    bool may_be_shared = !is_alone && missing > (int64_t)filter->formula.clauses;
     unsigned long long stream = may_be_shared ? owner(filter, (uint64_t)missing) : filter->stream;
     if (may_be_shared && filter->streams == 1)
         stop("%s, and the step cites the clause %lld, which isn't there: one of another stream wants --streams and --other", none, name);
@@ -266,7 +315,7 @@ static void write_import(uint64_t identity, const int64_t *literals, size_t leng
 // The clause is known from now on.
 void filter_import(Filter *filter, int64_t identity, const int64_t *literals, size_t length) {
     int64_t formula = (int64_t)filter->formula.clauses;
-    if (filter->hooks) stop("an import, of a solver that shares nothing");
+    if (filter->hooks && filter->others.length == 0) stop("an import, of a solver that shares nothing");
     if (filter->refuted) return;
     if (identity < 1 || (identity > formula && owner(filter, (uint64_t)identity) == filter->stream))
         stop("an import of %lld, which is no clause of the formula or of another stream", (long long)identity);
@@ -348,7 +397,7 @@ void filter_delete(Filter *filter, const int64_t *names, size_t length) {
     for (size_t k = 0; k < length; k++) {
         ClauseRef ref = clauses_named(&filter->clauses, (uint64_t)names[k]);
         if (ref == 0) continue;
-        bool needed = propagation_needs(&filter->propagation, ref);
+        bool needed = filter->ignores_deletions || propagation_needs(&filter->propagation, ref);
         if (!needed || filter->frat) clauses_forget_name(&filter->clauses, (uint64_t)names[k]);
         if (!needed) delete(filter, ref);
     }
@@ -371,7 +420,7 @@ void filter_delete_literals(Filter *filter, const int64_t *literals, size_t leng
     propagation_settle(&filter->propagation);
     ClauseRef ref = take_set(filter, literals, length);
     filter->chain.length = 0;
-    if (ref == 0 || propagation_needs(&filter->propagation, ref)) return;
+    if (ref == 0 || filter->ignores_deletions || propagation_needs(&filter->propagation, ref)) return;
     delete(filter, ref);
     filter_write_deletion(filter);
 }

@@ -1,8 +1,8 @@
 // Unverified, and nothing here is trusted: lrupd checks what comes out as it checks any stream. Makes a stream for lrupd of a proof
 // whose hints are missing, or not exact.
 //
-//     lrup-exact [--stream S --streams N] [--other T=STREAM]... [--format FORM] FORMULA [PROOF]
-//     lrup-exact --rounds DIR [--memory SIZE] [--format FORM] FORMULA [PROOF]
+//     lrup-exact [--stream S --streams N] [--other T=STREAM]... [OPTIONS] FORMULA [PROOF]
+//     lrup-exact --rounds DIR [--memory SIZE] [OPTIONS] FORMULA [PROOF]
 //
 // PROOF, or standard input, is LRAT, DRUP, DRAT or FRAT text, or binary LRAT or DRAT. The stream goes to standard output, with
 // the identities of stream S of N (1 of 1). The hints that are given are tried first, in any order. Where they don't do, a chain is
@@ -35,8 +35,9 @@ static void end(const char *cause) {
 // The command line.
 
 static const char usage[] =
-    "usage: lrup-exact [--stream S --streams N] [--other T=STREAM]... [--format FORM] FORMULA [PROOF]\n"
-    "       lrup-exact --rounds DIR [--memory SIZE] [--format FORM] FORMULA [PROOF]\n"
+    "usage: lrup-exact [--stream S --streams N] [--other T=STREAM]... [OPTIONS] FORMULA [PROOF]\n"
+    "       lrup-exact --rounds DIR [--memory SIZE] [OPTIONS] FORMULA [PROOF]\n"
+    "OPTIONS are --format FORM, and --ignore-deletions, which keeps all clauses that the proof deletes.\n"
     "FORM is lrat, drat, frat, binary-lrat or binary-drat; without it the first bytes of the proof tell the form.\n"
     "lrupd --rounds DIR FORMULA DIR/round-1.stream-1 reads what --rounds writes; SIZE is the most that lrupd may take for a round,\n"
     "as 500M or 2G.\n";
@@ -88,6 +89,7 @@ static uint64_t memory_of(const char *word) {
 
 typedef struct {
     uint64_t stream, streams, memory;
+    bool ignores_deletions;
     const char *rounds;         // a folder, or NULL
     Form form;
     OtherStream *others;
@@ -117,6 +119,7 @@ static void read_word(CommandLine *given, char ***words) {
     else if ((value = value_of(words, "--format")) != NULL) given->form = form_named(value);
     else if ((value = value_of(words, "--rounds")) != NULL) given->rounds = value;
     else if ((value = value_of(words, "--memory")) != NULL) given->memory = memory_of(value);
+    else if (strcmp(**words, "--ignore-deletions") == 0) given->ignores_deletions = true;
     else if (***words == '-') refuse("no such option:", **words);
     else if (given->files_length == 2) refuse("one word too many:", **words);
     else given->files[given->files_length++] = **words;
@@ -168,6 +171,7 @@ int main(int count, char **words) {
         others_open(&filter.others, given.others[k].number, given.others[k].path, filter.formula.variables);
     filter.stream = given.stream;
     filter.streams = given.streams;
+    filter.ignores_deletions = given.ignores_deletions;
     if (given.rounds) chain_begin(&filter, given.memory);
     run(&filter, &input, given.form);
     if (given.rounds) chain_end();

@@ -95,15 +95,27 @@ std::string Display::progress() const {
         if (uint64_t number = LOAD(teams.engine_status(k).stream)) read += checker.read_of(number - 1);
     double share = bytes > 0 ? std::min(1.0, double(read) / double(bytes)) : 0;
     uint64_t checked = rounds.lines_before + uint64_t(share * double(lines));
-    return format("%.1f s, %s conflicts/s, %s checked, %s kB behind, round %llu at %.0f %%", time,
-                  grouped(uint64_t(double(teams.all(&EngineStatus::conflicts)) / time)).c_str(), grouped(checked).c_str(),
+    uint64_t conflicts = uint64_t(double(teams.all(&EngineStatus::conflicts)) / time);
+    std::string work = inputs.options.check ? proofs_read() : grouped(conflicts) + " conflicts/s";
+    return format("%.1f s, %s, %s checked, %s kB behind, round %llu at %.0f %%", time, work.c_str(), grouped(checked).c_str(),
                   grouped(teams.all(&EngineStatus::behind) / 1000).c_str(), (unsigned long long)rounds.number, 100 * fullness());
+}
+
+// The size of a pipe isn't known.
+std::string Display::proofs_read() const {
+    uint64_t read = teams.all(&EngineStatus::proof_read), size = 0;
+    bool is_known = true;
+    for (size_t k = 0; k < teams.size(); k++) {
+        size += teams[k].proof_size;
+        is_known &= teams[k].proof_size > 0;
+    }
+    return is_known ? format("%.0f %% read", 100.0 * double(read) / double(size)) : grouped(read / 1000) + " kB read";
 }
 
 // In the end.
 
 void Display::details() const {
-    for (size_t k = 0; k < teams.size(); k++) {
+    for (size_t k = 0; k < teams.size() && !inputs.options.check; k++) {
         const EngineStatus &engine_status = teams.engine_status(k);
         uint64_t lines = LOAD(engine_status.lines);
         tell(format("engine %zu: %.2f s, its filter %.2f s; %s conflicts; clauses: %s taken over, %s refused, %s given away; "
@@ -122,8 +134,7 @@ void Display::details() const {
 // With -v that was told as they were lost.
 void Display::lost() const {
     for (size_t k = 0; k < teams.size() && !inputs.options.verbose && inputs.contradiction().empty(); k++)
-        if (teams[k].told) tell(format("engine %zu is lost: %s%s", k + 1, teams[k].cause.c_str(),
-                                       teams.is_solver(k) ? "; -v shows its standard error" : ""));
+        if (teams[k].told) tell(teams.why_lost(k) + (teams.is_solver(k) && !inputs.options.check ? "; -v shows its standard error" : ""));
 }
 
 void Display::causes(const std::string &cause) const {
@@ -145,9 +156,10 @@ void Display::summary() const {
     }
     std::string left_of = left < teams.size() && inputs.contradiction().empty() ? std::to_string(left) + " of " : "";
     std::string of_rounds = format("%llu rounds with %.1f %% of pauses, ", (unsigned long long)rounds.number, 100 * rounds.paused / wall);
-    tell(format("%.2f s, %s%s, %s%s checked; %.2f s of processor time: engines %.2f, filters %.2f, lrupd %.2f", wall, left_of.c_str(),
-                counted(uint64_t(inputs.options.engines), "engine").c_str(), rounds.number > 1 ? of_rounds.c_str() : "",
-                counted(teams.all(&EngineStatus::lines), "clause").c_str(), engines + filters + lrupd, engines, filters, lrupd));
+    const char *what = inputs.options.check ? "proof" : "engine", *ran = inputs.options.check ? "reading" : "engines";
+    tell(format("%.2f s, %s%s, %s%s checked; %.2f s of processor time: %s %.2f, filters %.2f, lrupd %.2f", wall, left_of.c_str(),
+                counted(uint64_t(inputs.options.engines), what).c_str(), rounds.number > 1 ? of_rounds.c_str() : "",
+                counted(teams.all(&EngineStatus::lines), "clause").c_str(), engines + filters + lrupd, ran, engines, filters, lrupd));
 }
 
 void tell_model(const std::vector<signed char> &model) {

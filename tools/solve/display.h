@@ -39,6 +39,7 @@ private:
 
     bool shows_lines() const;
     std::string progress() const;
+    std::string proofs_read() const;
     double fullness() const;
 };
 

@@ -133,6 +133,7 @@ static void next_round(void) {
     await_round(&own->shared->saved_round, round_number);
     checkpoint_read(&checkpoint, own->shared->checkpoint);
     round_begin(&filter, &checkpoint, engine_status->stream, own->shared->streams);
+    filter.others.length = 0;       // they have the identities of round 1
     if (!test_hooks.without_renewal) outbox_renew(own->shared, own->outboxes[own->engine - 1], own->engine, &checkpoint);
     checkpoint_free(&checkpoint);
     kept.length = 0;
@@ -248,8 +249,14 @@ static Form form_found(const Formula *formula) {
     return form == UNKNOWN_FORM ? BINARY_DRAT : form;
 }
 
+static void open_others(void) {
+    for (int k = 0; own->cited && k < own->shared->engines; k++)
+        if (k != own->engine - 1) others_open(&filter.others, (uint64_t)k + 1, own->cited[k], filter.formula.variables);
+}
+
 static void read_proof(const Formula *formula) {
     bool is_unknown = own->form == UNKNOWN_FORM;
+    open_others();
     filter_open(&filter, is_unknown || own->form == FRAT);
     Form form = is_unknown ? form_found(formula) : own->form;
     if (form == FRAT) frat_run(&filter, &input);

@@ -44,6 +44,7 @@ std::string Inputs::again(const std::string &path, const std::string &fronts, co
 void Inputs::find() {
     std::vector<std::string> inputs = { options.formula };
     if (options.assume) inputs.push_back(options.assume);
+    if (options.check) inputs.insert(inputs.end(), options.solvers.begin(), options.solvers.end());
     for (const std::string &path : inputs) check_input(path);
     if (options.proofs) open_record(options.proofs, inputs);
     formula_path = again(inputs[0], front.formula, "formula.cnf");

@@ -19,6 +19,7 @@ public:
     void prepare(const std::string &program);           // before anything is solved; the one that is lrupd
     std::string keep(bool is_proved, const Wait &wait) const;   // why it can't, where it can't
     void explain(const std::string &report, const Wait &wait) const;
+    std::string explain_proof(const std::string &cause, const std::string &path, const Wait &wait) const;     // more of it
 
 private:
     Inputs &inputs;

@@ -1,4 +1,5 @@
 // Unverified, as all of this solver. The command line.
+#include <algorithm>
 #include <cerrno>
 #include <cmath>
 #include <cstdio>
@@ -7,7 +8,28 @@
 
 #include "solve.h"
 
+const char *program_name = "lrup-solve";
+
 namespace {
+
+const char check_summary[] =
+    "usage: lrup-check [OPTIONS] FORMULA PROOF...\n"
+    "\n"
+    "Checks that a formula in DIMACS CNF is unsatisfiable, by a proof in DRUP, DRAT or LRAT, text or binary, in FRAT text,\n"
+    "or by lrupd's own streams. - is standard input. Several proofs are checked side by side; streams of one run may cite\n"
+    "each other. 's UNSATISFIABLE' is proved by lrupd. A step that isn't RUP is refused.\n"
+    "\n"
+    "  --time SECONDS     by the clock; then the answer is 's UNKNOWN'\n"
+    "  --memory BYTES     the most that lrupd may take for the clauses it keeps, as 500000000, 500M or 2G\n"
+    "  --proofs DIR       keep the streams that lrupd has checked there, and the command that checks them again\n"
+    "  --core FILE        write an unsatisfiable core, and have lrupd check it\n"
+    "  --lrat FILE        write the proof as LRAT text, without what isn't needed, and have lrupd check it\n"
+    "  --re-hint          find hints anew for both, which are smaller then; it takes longer\n"
+    "  --assume FILE      literals that are assumed, in one line that ends with 0, as for lrupd\n"
+    "  --lrupd PATH, --engines PATH, -v, --verbose, -q, --quiet, -h, --help, --version: as for lrup-solve\n"
+    "\n"
+    "After -- words are the formula and proofs. Statuses: 20 unsatisfiable (or so under the assumptions), 0 not shown,\n"
+    "1 a mistake, or a file that can't be used.\n";
 
 const char summary[] =
     "usage: lrup-solve [OPTIONS] [FORMULA]\n"
@@ -117,7 +139,8 @@ const char *name_of_file(const char *name, const char *what, const char *value) 
     exit(0);
 }
 
-const char *solver_of(const char *value) {
+const char *solver_of(const Options &options, const char *value) {
+    if (options.check) refuse("--solver is lrup-solve's: no solver is started");
     if (!strstr(value, "%formula") || !strstr(value, "%proof")) bad_value("--solver", "a command with both %formula and %proof", value);
     return value;
 }
@@ -126,7 +149,7 @@ bool read_valued(Options &options, Words &words, const char *word) {
     const char *value;
     if (words.option(word, "-j", value)) options.engines = int(number("-j", value, 1, MOST_ENGINES));
     else if (words.option(word, "--mpi", value)) options.mpi = name_of_file("--mpi", "a command", value);
-    else if (words.option(word, "--solver", value)) options.solvers.push_back(solver_of(value));
+    else if (words.option(word, "--solver", value)) options.solvers.push_back(solver_of(options, value));
     else if (words.option(word, "--time", value)) options.seconds = seconds("--time", value);
     else if (words.option(word, "--memory", value)) options.memory = bytes("--memory", value);
     else if (words.option(word, "--share-size", value)) options.share_size = int(number("--share-size", value, 0, 1000));
@@ -144,9 +167,26 @@ bool read_valued(Options &options, Words &words, const char *word) {
 // -v, -q, -qv
 bool is_of_letters(const char *word) { return word[0] == '-' && word[1] != 0 && word[1 + strspn(word + 1, "qv")] == 0; }
 
-void take_formula(Options &options, const char *word) {
-    if (options.formula) refuse("one word too many: " + quoted(word));
-    options.formula = word;
+// The formula comes first.
+void take_file(Options &options, const char *word) {
+    if (!options.formula) options.formula = word;
+    else if (options.check) options.solvers.push_back(word);
+    else refuse("one word too many: " + quoted(word));
+}
+
+// It comes first, since words after the formula are proofs then.
+void begin_check(Options &options) {
+    if (options.formula || !options.solvers.empty()) refuse("--check after other words");
+    options.check = true;
+    program_name = "lrup-check";
+}
+
+void check_proofs(const Options &options) {
+    auto is_standard_input = [](const char *word) { return strcmp(word, "-") == 0; };
+    auto count = std::count_if(options.solvers.begin(), options.solvers.end(), is_standard_input);
+    if (options.solvers.empty()) refuse("no proof: lrup-check FORMULA PROOF");
+    if (options.engines > 0 || options.mpi) refuse("-j and --mpi are lrup-solve's: no engine is started");
+    if (count + is_standard_input(options.formula) > 1) refuse("standard input is read once");
 }
 
 }
@@ -158,12 +198,13 @@ Options read_words(int count, char **list) {
     while (words.more()) {
         const char *word = words.take();
         if (only_words) {
-            take_formula(options, word);
+            take_file(options, word);
             continue;
         }
-        if (strcmp(word, "--help") == 0 || strcmp(word, "-h") == 0) show(summary);
+        if (strcmp(word, "--help") == 0 || strcmp(word, "-h") == 0) show(options.check ? check_summary : summary);
         if (strcmp(word, "--version") == 0) show(version().c_str());
         if (strcmp(word, "--") == 0) only_words = true;
+        else if (strcmp(word, "--check") == 0) begin_check(options);
         else if (strcmp(word, "--no-share") == 0) options.share = false;
         else if (strcmp(word, "--re-hint") == 0) options.rehint = true;
         else if (strcmp(word, "--verbose") == 0) options.verbose = true;
@@ -174,12 +215,13 @@ Options read_words(int count, char **list) {
         }
         else if (read_valued(options, words, word)) continue;
         else if (word[0] == '-' && word[1] != 0) refuse(std::string("no such option: ") + word + " (--help lists them)");
-        else take_formula(options, word);
+        else take_file(options, word);
     }
     if (!options.formula) options.formula = "-";
+    if (options.check) check_proofs(options);
     if (options.rehint && !options.core && !options.lrat) refuse("--re-hint without --core or --lrat");
     if (options.solvers.size() + size_t(options.engines) > MOST_ENGINES) refuse("more than 64 engines, with those of --solver");
     if (!options.solvers.empty() && options.mpi) refuse("--solver and --mpi: a solver shares nothing with engines elsewhere");
-    if (!options.solvers.empty() && options.assume) refuse("--assume and --solver: a solver isn't told of assumptions");
+    if (!options.solvers.empty() && options.assume && !options.check) refuse("--assume and --solver: a solver isn't told of assumptions");
     return options;
 }

@@ -26,15 +26,6 @@ std::vector<pid_t> handing_on;  // those that hand signals on
 std::vector<int> opened;        // files of ours
 const unsigned LETTING_ANOTHER = 30;    // seconds
 
-bool write_all(int file, const char *bytes, size_t length) {
-    for (size_t written = 0; written < length;) {
-        ssize_t count = write(file, bytes + written, length - written);
-        if (count < 0 && errno != EINTR) return false;
-        if (count > 0) written += size_t(count);
-    }
-    return true;
-}
-
 // A new one: what has the name, or what the name is a link to, isn't written to.
 int new_file(const std::string &path) {
     Place place = place_of(path);
@@ -161,6 +152,15 @@ int event_file() {
 
 std::string name_of_file(int file) {
     return "/proc/" + std::to_string(getpid()) + "/fd/" + std::to_string(file);
+}
+
+bool write_all(int file, const char *bytes, size_t length) {
+    for (size_t written = 0; written < length;) {
+        ssize_t count = write(file, bytes + written, length - written);
+        if (count < 0 && errno != EINTR) return false;
+        if (count > 0) written += size_t(count);
+    }
+    return true;
 }
 
 void copy_file(int file, const std::string &name, int copy) {

@@ -33,7 +33,7 @@ void Run::prepare() {
     if (others) others->begin();
     teams.start(!others);
     for (size_t k = 0; k < teams.size(); k++)
-        if (teams.is_solver(k)) display.tell_more(format("engine %zu: ", k + 1) + teams[k].command);
+        if (teams.is_solver(k)) display.tell_more(format(inputs.options.check ? "proof %zu: " : "engine %zu: ", k + 1) + teams[k].command);
     display.begin();
 }
 
@@ -114,7 +114,8 @@ void Run::look_at_teams() {
     }
     if (phase != SOLVING || any_left) return;
     std::string contradicting = inputs.contradiction();
-    finish(UNKNOWN_ANSWER, contradicting.empty() ? "no engine is left" : contradicting);
+    bool is_check = inputs.options.check;
+    finish(UNKNOWN_ANSWER, !contradicting.empty() ? contradicting : is_check ? "no proof is left" : "no engine is left");
 }
 
 // The proof is written once the filter has written its last line; what the engine says counts for nothing.
@@ -123,11 +124,13 @@ void Run::look_at_team(size_t k) {
     EngineStatus &facts = teams.engine_status(k);
     if (LOAD(facts.unwritten) && team.filter.ended()) refuse("cannot write " + teams.stream_path(k, rounds.number) + ": " + facts.cause);
     if (LOAD(facts.refuted)) {
+        if (inputs.options.check && rounds.state == Rounds::OPEN && teams.is_any_at_work()) return;
         if (teams.answered == 0) teams.answered = now();
         look_at_ends();
         ending = now() + ENDING;
         phase = ENDING_STREAMS;
-        return display.tell_more(format("engine %zu has the proof", k + 1));
+        if (!inputs.options.check) display.tell_more(format("engine %zu has the proof", k + 1));
+        return;
     }
     int said = LOAD(facts.answer);
     if (said == SATISFIABLE && !team.wrong) look_at_model(k);
@@ -135,7 +138,8 @@ void Run::look_at_team(size_t k) {
     if (phase != SOLVING || team.told || said == SATISFIABLE) return;
     bool both_ended = team.engine.ended() && team.filter.ended_with(0);
     if (look_at_end(k) || !team.filter.ended() || !(both_ended || !team.filter.ended_with(0))) return;
-    tell_lost(k, "its filter " + (facts.cause[0] ? std::string("stopped: ") + facts.cause : team.filter.end()));
+    std::string stopped = inputs.options.check ? "" : "its filter stopped: ";
+    tell_lost(k, facts.cause[0] ? stopped + facts.cause : "its filter " + team.filter.end());
     team.engine.signal(SIGKILL);
 }
 
@@ -146,7 +150,8 @@ bool Run::look_at_end(size_t k) {
     bool has_ended = team.engine.ended() && (team.filter.ended_with(0) || !team.engine.ended_with(0));
     if (LOAD(facts.answer) != 0 || facts.cause[0] || !has_ended) return false;
     bool unfounded = LOAD(facts.unfounded);
-    tell_lost(k, unfounded ? "it says 'satisfiable', and gives no assignment in lines v" : "the engine " + team.engine.end());
+    std::string end = inputs.options.check ? "it can't be read" : "the engine " + team.engine.end();
+    tell_lost(k, unfounded ? "it says 'satisfiable', and gives no assignment in lines v" : end);
     if (LOAD(facts.group)) kill(-LOAD(facts.group), SIGKILL);       // where not even its process could do that
     return true;
 }
@@ -160,7 +165,7 @@ void Run::look_at_ends() {
 void Run::tell_lost(size_t k, const std::string &why) {
     teams[k].told = true;
     teams[k].cause = why;
-    display.tell_more(format("engine %zu is lost: %s", k + 1, why.c_str()));
+    display.tell_more(teams.why_lost(k));
 }
 
 // The answer waits for lrupd's reading of the formula: it may refuse it.
@@ -232,6 +237,12 @@ bool Run::await_end(Child &child) {
     return goes_on;
 }
 
+void Run::explain_proof(size_t k, const Keeping::Wait &wait_for_end) {
+    std::string more = teams[k].told ? keeping.explain_proof(teams[k].cause, inputs.options.solvers[k], wait_for_end) : "";
+    teams[k].cause += more;
+    if (!more.empty()) display.tell_more(teams.why_lost(k));
+}
+
 void Run::end_all() {
     for (Child *child : children()) child->signal(SIGKILL);
     for (Child *child : children()) wait_for(*child);
@@ -239,6 +250,8 @@ void Run::end_all() {
     std::string why = keeping.keep(answer == UNSATISFIABLE, wait_for_end);
     if (unkept.empty()) unkept = why;
     if (checker.child.ended()) keeping.explain(checker.report, wait_for_end);
+    for (size_t k = 0; inputs.options.check && k < teams.size() && answer == UNKNOWN_ANSWER; k++)
+        explain_proof(k, wait_for_end);
     end_children();
 }
 

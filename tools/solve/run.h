@@ -64,6 +64,7 @@ private:
     void finish(Answer found, const std::string &why);
     void await_reading();
     bool await_end(Child &child);
+    void explain_proof(size_t k, const Keeping::Wait &wait_for_end);
     void end_all();
     void send_answer();
 };

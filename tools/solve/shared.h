@@ -16,7 +16,7 @@
 #include "../exact/row.h"
 #include "test_hooks.h"
 
-enum { MOST_ENGINES = 64, LONGEST_CAUSE = 160, LONGEST_PATH = 4096 };
+enum { MOST_ENGINES = 64, LONGEST_CAUSE = 320, LONGEST_PATH = 4096 };
 enum { VARIABLES_OF_CUBES = 64, MOST_OF_A_CUBE = 20 };      // variables by which cubes are made; literals of one
 
 // event_count.c: of one process that waits, and of others that tell it that they have stored something.
@@ -34,6 +34,7 @@ typedef struct {
     uint64_t conflicts, slices, taken, refused, satisfied;
     int group;                  // the processes of a solver that the user has
     int unfounded;              // it says 10, and gives no assignment
+    uint64_t proof_read;        // bytes, of a proof that is there
     int ready;                  // it keeps the variables by which cubes are made
     uint64_t usable;            // which of these it hadn't eliminated by then, and are open: bits
     uint64_t refuted_cube;      // the number of the last one that it has refuted
@@ -109,6 +110,7 @@ typedef struct {
     int record;                     // the folder in which each round's stream is a file, or -1
     Form form;                      // of the proof
     bool shares;
+    const char *const *cited;       // by engine, from 0: the streams of one run, each of which may cite the others; or NULL
     const int *assumed;             // literals
     size_t assumed_length;
 } Filtering;

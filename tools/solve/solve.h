@@ -12,12 +12,13 @@
 #include "../exact/formula.h"
 #include "shared.h"
 
-const char program_name[] = "lrup-solve";
+extern const char *program_name;         // options.cpp
 
 // options.cpp: the command line.
 struct Options {
     int engines = 0;            // 0: half of the cores; once it is known, with the solvers
-    std::vector<const char *> solvers;      // commands; they are the last engines, and share nothing
+    bool check = false;         // solvers have ended, and left these proofs
+    std::vector<const char *> solvers;      // commands, or paths of proofs; they are the last engines, and share nothing
     double seconds = 0;         // for all; 0: as many as it takes
     uint64_t memory = 0;        // bytes of lrupd's row; 0: by the machine's
     int share_size = 4;         // literals of a clause that is given away; units always are
@@ -64,6 +65,7 @@ template <typename Item> Item *shared_memory(size_t count) {
     return static_cast<Item *>(shared_bytes((count > 0 ? count : 1) * sizeof(Item)));
 }
 
+bool write_all(int file, const char *bytes, size_t length);
 void copy_file(int file, const std::string &name, int copy);
 
 const pid_t ELSEWHERE = INT_MAX;                        // of a process that isn't this one's child, in place of its id
@@ -135,5 +137,6 @@ const char *engine_version();
 // solver.cpp: the same of a solver that the user has, which opens these files.
 std::string solver_command(const std::string &command, const std::string &formula, const std::string &proof);
 [[noreturn]] void solver_process(const Engine &engine, const std::string &command, const std::vector<int> &files);
+[[noreturn]] void proof_process(const Engine &engine, int file, const std::string &name);   // of --check
 
 #endif

@@ -3,11 +3,14 @@
 #include <cmath>
 #include <csignal>
 #include <cstring>
+#include <sstream>
 
 #include <fcntl.h>
 #include <sched.h>
+#include <sys/stat.h>
 #include <unistd.h>
 
+#include "display.h"
 #include "teams.h"
 
 namespace {
@@ -16,6 +19,7 @@ const int PROOF_PIPE = 1 << 20, ALL_PROOF_PIPES = 1 << 24;     // the system giv
 const int CROWDED_PIPE = 1 << 16;
 const double MOMENT = 0.1;      // seconds in which the first engine is alone, beside READINGS of the formula
 const int READINGS = 2;
+const size_t HEAD = 1 << 20;    // bytes of a proof, which show whether it is a stream
 
 }
 
@@ -37,6 +41,15 @@ std::string name_of_round(uint64_t number) { return "round-" + std::to_string(nu
 
 bool Teams::is_lost(size_t k) const {
     return list[k].wrong || (list[k].told && list[k].filter.ended() && LOAD(engine_status(k).answer) != SATISFIABLE);
+}
+
+std::string Teams::why_lost(size_t k) const {
+    const std::string &cause = list[k].cause;
+    return inputs.options.check ? list[k].command + ": " + cause : format("engine %zu is lost: ", k + 1) + cause;
+}
+
+bool Teams::is_any_at_work() const {
+    return std::any_of(list.begin(), list.end(), [](const Team &team) { return team.filter.running; });
 }
 
 uint64_t Teams::all(uint64_t EngineStatus::*field) const {
@@ -87,8 +100,33 @@ void Teams::set_here(int first, int count) {
     shared->engines_here = count;
 }
 
+// Whether the first clause that it adds has an identity of its own, if there are several.
+bool Teams::is_a_stream(size_t k) const {
+    std::string path = inputs.options.solvers[k], head(HEAD, 0), line, second;
+    int file = is_read_again(path) ? ::open(path.c_str(), O_RDONLY | O_CLOEXEC) : -1;
+    ssize_t length = file < 0 ? 0 : read(file, &head[0], HEAD);
+    if (file >= 0) close(file);
+    std::istringstream lines(head.substr(0, size_t(std::max<ssize_t>(0, length))));
+    while (std::getline(lines, line)) {
+        std::istringstream words(line);
+        uint64_t identity = 0;
+        if (line.empty() || line[0] == 'c') continue;
+        if (!(words >> identity >> second)) return false;
+        if (second == "d" || second == "i") continue;
+        return identity > inputs.formula.clauses && (identity - inputs.formula.clauses - 1) % list.size() == k;
+    }
+    return false;
+}
+
+void Teams::find_streams() {
+    bool are_streams = inputs.options.check && list.size() > 1;
+    for (size_t k = 0; k < list.size(); k++) are_streams = are_streams && is_a_stream(k);
+    if (are_streams) cited = inputs.options.solvers;
+}
+
 // What is easy takes no more cores than it needs.
 void Teams::start(bool is_first_alone) {
+    find_streams();
     is_first_alone &= !test_hooks.at_once && !list.empty() && !is_solver(0);
     for (size_t k = 0; k < list.size(); k++)
         if (k == 0 || !is_first_alone || is_solver(k)) start_team(k);
@@ -134,7 +172,8 @@ void Teams::start_filter(size_t k) {
     give_way();
     Filtering filtering = { shared, outboxes.data(), number, team.proof.read, team.stream, record_folder,
                             is_solver(k) ? UNKNOWN_FORM : SHARING_DRAT,
-                            inputs.options.shares() && !is_solver(k), inputs.assumed.data(), inputs.assumed.size() };
+                            inputs.options.shares() && !is_solver(k), cited.empty() ? nullptr : cited.data(),
+                            inputs.assumed.data(), inputs.assumed.size() };
     filter_process(&filtering, &inputs.formula);
 }
 
@@ -147,16 +186,30 @@ std::string Teams::solver_line(size_t k, int &renamed) const {
                           OPEN_FILES + std::to_string(list[k].proof.write));
 }
 
+int Teams::open_proof(size_t k) {
+    struct stat found;
+    const char *path = inputs.options.solvers[k];
+    int file = kept_open(open_input(path));
+    if (fstat(file, &found) != 0) refuse(title(path) + ": " + error_text());
+    if (S_ISDIR(found.st_mode)) refuse(title(path) + " is a folder");
+    if (S_ISREG(found.st_mode)) list[k].proof_size = uint64_t(found.st_size);
+    list[k].command = title(path);
+    return file;
+}
+
 void Teams::start_engine(size_t k) {
     Team &team = list[k];
     int number = int(k) + 1, renamed = -1;
     Engine engine = { &inputs.options, &inputs.formula, &inputs.assumed, shared, outboxes.data(), team.model, number, team.proof.write };
     std::vector<int> files = { team.proof.write };
-    if (is_solver(k)) team.command = solver_line(k, renamed);
+    bool is_proof = inputs.options.check;
+    if (is_proof) renamed = open_proof(k);
+    else if (is_solver(k)) team.command = solver_line(k, renamed);
     if (renamed >= 0) files.push_back(renamed);
-    team.engine.hands_on = is_solver(k);
+    team.engine.hands_on = is_solver(k) && !is_proof;
     if (!begin(team.engine, "engine " + std::to_string(number), files)) return close_file(renamed);
     give_way();
+    if (is_proof) proof_process(engine, renamed, team.command);
     if (!inputs.options.verbose) dup2(::open("/dev/null", O_WRONLY), STDERR_FILENO);    // its last words
     if (is_solver(k)) solver_process(engine, team.command, files);
     engine_process(engine);
@@ -176,6 +229,7 @@ bool Teams::has_refuted(size_t k) const { return LOAD(engine_status(k).answer) =
 // stops. Those on other hosts have cores of their own.
 void Teams::pause_others() {
     bool wanted = false;
+    if (inputs.options.check) return;       // all proofs are there
     for (size_t k = 0; k < list.size(); k++) wanted |= is_here(k) && has_refuted(k);
     if (wanted && answered == 0) answered = now();
     if (!wanted) answered = 0;

@@ -10,9 +10,10 @@ enum Answer { UNKNOWN_ANSWER = 0, SATISFIABLE = 10, UNSATISFIABLE = 20 };
 struct Team {
     Child engine, filter;
     Pipe proof;
+    uint64_t proof_size = 0;    // bytes, of a regular file; 0: it isn't known
     int stream = -1;
     signed char *model = nullptr;
-    std::string command;    // of a solver
+    std::string command;    // of a solver, or the proof's name
     bool told = false, wrong = false, paused = false;
     bool silent = false;    // its filter died before it came to this round
     std::string cause;      // why it is lost
@@ -32,6 +33,8 @@ public:
     const Team &operator[](size_t k) const { return list[k]; }
     EngineStatus &engine_status(size_t k) const { return shared->engine_statuses[k]; }
     bool is_solver(size_t k) const { return k + inputs.options.solvers.size() >= list.size(); }
+    std::string why_lost(size_t k) const;
+    bool is_any_at_work() const;        // of the filters
     bool is_here(size_t k) const { return int(k) >= shared->first_here && int(k) < shared->first_here + shared->engines_here; }
     bool is_lost(size_t k) const;       // it has no assignment, and nobody reads its proof; and it is known why
     uint64_t all(uint64_t EngineStatus::*field) const;                      // the sum
@@ -61,12 +64,16 @@ private:
     const Inputs &inputs;
     std::vector<Team> list;
     double others_start = 0;            // 0: they have
+    std::vector<const char *> cited;    // proofs to check that are streams of one run; or none
 
     int size_of_pipes() const;
     void start_team(size_t k);
     void start_filter(size_t k);
     void start_engine(size_t k);
     std::string solver_line(size_t k, int &renamed) const;
+    int open_proof(size_t k);
+    bool is_a_stream(size_t k) const;
+    void find_streams();
     bool has_refuted(size_t k) const;
     void pause_others();
     void cut_stream(size_t k, uint64_t bytes);

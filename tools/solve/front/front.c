@@ -55,7 +55,7 @@ enum which { SUPERVISOR, PROBE, LRUPD, CHILDREN };
 
 static struct {         // what was given, "" for an option without a value; NULL if it wasn't
     const char *formula, *assume, *engines, *lrupd, *seconds, *mpi, *quiet, *verbose, *help;
-    const char *core_or_lrat, *others;      // others: lrup-engines reads them
+    const char *check, *core_or_lrat, *others;  // others: lrup-engines reads them
 } options;
 
 static struct child {
@@ -89,27 +89,29 @@ static char *text(const char *format, ...) {
 // False for words that can't be used: lrup-engines gets the same, and says why.
 static bool read_words(int count, char **words) {
     static const struct option list[] = {       // 1: a value follows
-        { "assume", 1, NULL, 'a' },   { "core", 1, NULL, 'c' },       { "engines", 1, NULL, 'e' },
-        { "help", 0, NULL, 'h' },     { "lrat", 1, NULL, 'c' },       { "lrupd", 1, NULL, 'l' },
-        { "memory", 1, NULL, 'o' },   { "mpi", 1, NULL, 'm' },        { "no-share", 0, NULL, 'o' },
-        { "proofs", 1, NULL, 'o' },   { "quiet", 0, NULL, 'q' },      { "re-hint", 0, NULL, 'o' },
-        { "seed", 1, NULL, 'o' },     { "share-size", 1, NULL, 'o' }, { "solver", 1, NULL, 'o' },
-        { "time", 1, NULL, 't' },     { "verbose", 0, NULL, 'v' },    { "version", 0, NULL, 'h' },
-        { NULL, 0, NULL, 0 } };
+        { "assume", 1, NULL, 'a' },   { "check", 0, NULL, 'p' },      { "core", 1, NULL, 'c' },
+        { "engines", 1, NULL, 'e' },  { "help", 0, NULL, 'h' },       { "lrat", 1, NULL, 'c' },
+        { "lrupd", 1, NULL, 'l' },    { "memory", 1, NULL, 'o' },     { "mpi", 1, NULL, 'm' },
+        { "no-share", 0, NULL, 'o' }, { "proofs", 1, NULL, 'o' },     { "quiet", 0, NULL, 'q' },
+        { "re-hint", 0, NULL, 'o' },  { "seed", 1, NULL, 'o' },     { "share-size", 1, NULL, 'o' },
+        { "solver", 1, NULL, 'o' },   { "time", 1, NULL, 't' },     { "verbose", 0, NULL, 'v' },
+        { "version", 0, NULL, 'h' },  { NULL, 0, NULL, 0 } };
     static const char **const places[] = {
         [1] = &options.formula, ['a'] = &options.assume, ['c'] = &options.core_or_lrat,
         ['e'] = &options.engines, ['h'] = &options.help, ['j'] = &options.others,
         ['l'] = &options.lrupd, ['m'] = &options.mpi, ['o'] = &options.others,
-        ['q'] = &options.quiet, ['t'] = &options.seconds, ['v'] = &options.verbose };
+        ['p'] = &options.check, ['q'] = &options.quiet, ['t'] = &options.seconds,
+        ['v'] = &options.verbose };
     int letter;
     opterr = 0;
     while ((letter = getopt_long(count, words, "-j:qvh", list, NULL)) != -1) {
         bool is_formula = letter == 1, is_empty = optarg != NULL && *optarg == 0;
+        if (is_formula && options.formula && options.check) continue;   // lrup-engines' proof
         if (letter == '?' || (is_formula ? options.formula != NULL : is_empty)) return false;
         *places[letter] = optarg ? optarg : "";
     }
     if (optind < count && options.formula == NULL) options.formula = words[optind++];   // after --
-    return optind == count;
+    return optind == count || options.check;
 }
 
 static bool is_program(const char *path) {
