@@ -106,9 +106,9 @@ void Display::details() const {
     for (size_t k = 0; k < teams.size(); k++) {
         const EngineStatus &engine_status = teams.engine_status(k);
         uint64_t lines = LOAD(engine_status.lines);
-        tell(format("engine %zu: %.2f s, its filter %.2f s; %s conflicts; clauses: %s taken over, %s refused, %s given away; "
+        tell(format("%s: %.2f s, its filter %.2f s; %s conflicts; clauses: %s taken over, %s refused, %s given away; "
                     "%s, %.0f %% of them cite another stream",
-                    k + 1, teams[k].engine.seconds, teams[k].filter.seconds, grouped(LOAD(engine_status.conflicts)).c_str(),
+                    teams.title(k).c_str(), teams[k].engine.seconds, teams[k].filter.seconds, grouped(LOAD(engine_status.conflicts)).c_str(),
                     grouped(LOAD(engine_status.taken)).c_str(), grouped(LOAD(engine_status.refused)).c_str(),
                     grouped(LOAD(engine_status.given)).c_str(), counted(lines, "line").c_str(),
                     lines ? 100.0 * double(LOAD(engine_status.citing_others)) / double(lines) : 0));
@@ -122,8 +122,7 @@ void Display::details() const {
 // With -v that was told as they were lost.
 void Display::lost() const {
     for (size_t k = 0; k < teams.size() && !inputs.options.verbose && inputs.contradiction().empty(); k++)
-        if (teams[k].told) tell(format("engine %zu is lost: %s%s", k + 1, teams[k].cause.c_str(),
-                                       teams.is_solver(k) ? "; -v shows its standard error" : ""));
+        if (teams[k].told) tell(teams.title(k) + " is lost: " + teams[k].cause);
 }
 
 void Display::causes(const std::string &cause) const {

@@ -34,6 +34,7 @@ static bool refuted;
 static _Noreturn void leave(const char *cause) {
     bool over = LOAD(own->shared->over);        // then the engine was ended within a step
     if (cause && !over) snprintf(engine_status->cause, sizeof engine_status->cause, "%s", cause);
+    engine_status->proof_ended = input.ended;
     _exit(cause && !over);
 }
 

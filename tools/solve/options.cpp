@@ -33,6 +33,7 @@ const char summary[] =
     "  --core FILE        write an unsatisfiable core, and have lrupd check it\n"
     "  --lrat FILE        write the proof as LRAT text, without what isn't needed, and have lrupd check it\n"
     "  --re-hint          find hints anew for both, which are smaller then; it takes longer\n"
+    "  --expect ANSWER    sat, unsat or unsat-under-assumptions: the status is 0 if the answer is that one, and else 1\n"
     "  --assume FILE      literals that are assumed, in one line that ends with 0, as for lrupd\n"
     "  --lrupd PATH       the checker; if not said it is looked for beside this program, and then on the PATH\n"
     "  --engines PATH     the program that solves, of which nothing is believed; lrup-engines beside this one if not said\n"
@@ -117,6 +118,12 @@ const char *name_of_file(const char *name, const char *what, const char *value) 
     exit(0);
 }
 
+const char *answer_of(const char *value) {
+    for (const char *one : { "sat", "unsat", "unsat-under-assumptions" })
+        if (strcmp(value, one) == 0) return value;
+    bad_value("--expect", "sat, unsat or unsat-under-assumptions", value);
+}
+
 const char *solver_of(const char *value) {
     if (!strstr(value, "%formula") || !strstr(value, "%proof")) bad_value("--solver", "a command with both %formula and %proof", value);
     return value;
@@ -135,6 +142,7 @@ bool read_valued(Options &options, Words &words, const char *word) {
     else if (words.option(word, "--core", value)) options.core = name_of_file("--core", "a file", value);
     else if (words.option(word, "--lrat", value)) options.lrat = name_of_file("--lrat", "a file", value);
     else if (words.option(word, "--assume", value)) options.assume = name_of_file("--assume", "a file", value);
+    else if (words.option(word, "--expect", value)) answer_of(value);
     else if (words.option(word, "--lrupd", value)) name_of_file("--lrupd", "a program", value);
     else if (words.option(word, "--engines", value)) name_of_file("--engines", "a program", value);
     else return false;

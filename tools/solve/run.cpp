@@ -33,7 +33,7 @@ void Run::prepare() {
     if (others) others->begin();
     teams.start(!others);
     for (size_t k = 0; k < teams.size(); k++)
-        if (teams.is_solver(k)) display.tell_more(format("engine %zu: ", k + 1) + teams[k].command);
+        if (teams.is_solver(k)) display.tell_more(teams.title(k) + ": " + teams[k].command);
     display.begin();
 }
 
@@ -107,14 +107,16 @@ void Run::look_at_solving() {
 }
 
 void Run::look_at_teams() {
-    bool any_left = false;
+    bool any_left = false, any_has_begun = false;
     for (size_t k = 0; k < teams.size() && phase == SOLVING; k++) {
         look_at_team(k);
         any_left |= !teams.is_lost(k);
+        any_has_begun |= !teams[k].idle;
     }
     if (phase != SOLVING || any_left) return;
     std::string contradicting = inputs.contradiction();
     finish(UNKNOWN_ANSWER, contradicting.empty() ? "no engine is left" : contradicting);
+    if (!any_has_begun) unstarted = "nothing could run: " + teams[0].cause;
 }
 
 // The proof is written once the filter has written its last line; what the engine says counts for nothing.
@@ -127,7 +129,7 @@ void Run::look_at_team(size_t k) {
         look_at_ends();
         ending = now() + ENDING;
         phase = ENDING_STREAMS;
-        return display.tell_more(format("engine %zu has the proof", k + 1));
+        return display.tell_more(teams.title(k) + " has the proof");
     }
     int said = LOAD(facts.answer);
     if (said == SATISFIABLE && !team.wrong) look_at_model(k);
@@ -135,8 +137,28 @@ void Run::look_at_team(size_t k) {
     if (phase != SOLVING || team.told || said == SATISFIABLE) return;
     bool both_ended = team.engine.ended() && team.filter.ended_with(0);
     if (look_at_end(k) || !team.filter.ended() || !(both_ended || !team.filter.ended_with(0))) return;
-    tell_lost(k, "its filter " + (facts.cause[0] ? std::string("stopped: ") + facts.cause : team.filter.end()));
+    if (facts.proof_ended && team.engine.running) return;       // it held the proof open, and ends now
+    std::string end = facts.cause[0] ? std::string("stopped: ") + facts.cause : team.filter.end();
+    tell_lost(k, end_before(k) + "its filter " + end);
     team.engine.signal(SIGKILL);
+}
+
+// How an engine has ended, with a solver's last words.
+std::string Run::end_of(size_t k) const {
+    const Team &team = teams[k];
+    const char *words = teams.engine_status(k).last_words;
+    if (!teams.is_solver(k)) return "the engine " + team.engine.end();
+    if (!words[0] && team.engine.ended_with(127)) words = "command not found";
+    return "the solver " + team.engine.end() + (words[0] ? ": " : "") + words;
+}
+
+static bool is_usual(const Child &engine) {
+    return engine.ended_with(0) || engine.ended_with(SATISFIABLE) || engine.ended_with(UNSATISFIABLE);
+}
+
+// Where that explains what its filter found.
+std::string Run::end_before(size_t k) const {
+    return teams.engine_status(k).proof_ended && !is_usual(teams[k].engine) ? end_of(k) + "; " : "";
 }
 
 // Whether an engine has ended without an answer, which isn't its filter's fault.
@@ -146,7 +168,8 @@ bool Run::look_at_end(size_t k) {
     bool has_ended = team.engine.ended() && (team.filter.ended_with(0) || !team.engine.ended_with(0));
     if (LOAD(facts.answer) != 0 || facts.cause[0] || !has_ended) return false;
     bool unfounded = LOAD(facts.unfounded);
-    tell_lost(k, unfounded ? "it says 'satisfiable', and gives no assignment in lines v" : "the engine " + team.engine.end());
+    team.idle = !unfounded && LOAD(facts.lines) == 0 && !is_usual(team.engine);
+    tell_lost(k, unfounded ? "it says 'satisfiable', and gives no assignment in lines v" : end_of(k));
     if (LOAD(facts.group)) kill(-LOAD(facts.group), SIGKILL);       // where not even its process could do that
     return true;
 }
@@ -160,7 +183,7 @@ void Run::look_at_ends() {
 void Run::tell_lost(size_t k, const std::string &why) {
     teams[k].told = true;
     teams[k].cause = why;
-    display.tell_more(format("engine %zu is lost: %s", k + 1, why.c_str()));
+    display.tell_more(teams.title(k) + " is lost: " + why);
 }
 
 // The answer waits for lrupd's reading of the formula: it may refuse it.
@@ -169,7 +192,7 @@ void Run::look_at_model(size_t k) {
     const signed char *values = teams[k].model;
     if (inputs.is_model(values)) {
         model.assign(values, values + inputs.formula.variables);
-        display.tell_more(format("engine %zu has an assignment", k + 1));
+        display.tell_more(teams.title(k) + " has an assignment");
         look_at_ends();
         return finish(SATISFIABLE, "");
     }
@@ -252,6 +275,7 @@ void Run::send_answer() {
     display.summary();
     if (answer == SATISFIABLE) tell_model(model);
     if (!unkept.empty()) refuse(unkept);
+    if (answer == UNKNOWN_ANSWER && !unstarted.empty()) refuse(unstarted);
 }
 
 int Run::solve(const Elsewhere *elsewhere) {

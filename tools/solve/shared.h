@@ -34,6 +34,7 @@ typedef struct {
     uint64_t conflicts, slices, taken, refused, satisfied;
     int group;                  // the processes of a solver that the user has
     int unfounded;              // it says 10, and gives no assignment
+    char last_words[LONGEST_CAUSE];     // the last line of a solver's standard error; to be read once it has ended
     int ready;                  // it keeps the variables by which cubes are made
     uint64_t usable;            // which of these it hadn't eliminated by then, and are open: bits
     uint64_t refuted_cube;      // the number of the last one that it has refuted
@@ -52,6 +53,7 @@ typedef struct {
     int refuted;                // the line is in the stream that shows what is asked
     int unwritten;              // the stream couldn't be written
     char cause[LONGEST_CAUSE];  // why it stopped; to be read once it has ended
+    int proof_ended;            // it had read all of the proof by then
     // The first process writes:
     uint64_t stream;            // its number in the round that comes next, or is on; 0: it has none
     uint64_t fed;               // bytes of its stream that lrupd has got

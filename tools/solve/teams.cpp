@@ -39,6 +39,8 @@ bool Teams::is_lost(size_t k) const {
     return list[k].wrong || (list[k].told && list[k].filter.ended() && LOAD(engine_status(k).answer) != SATISFIABLE);
 }
 
+std::string Teams::title(size_t k) const { return (is_solver(k) ? "solver " : "engine ") + std::to_string(k + 1); }
+
 uint64_t Teams::all(uint64_t EngineStatus::*field) const {
     uint64_t sum = 0;
     for (size_t k = 0; k < list.size(); k++) sum += LOAD(engine_status(k).*field);

@@ -15,6 +15,7 @@ struct Team {
     std::string command;    // of a solver
     bool told = false, wrong = false, paused = false;
     bool silent = false;    // its filter died before it came to this round
+    bool idle = false;      // it ended at its start, with nothing done
     std::string cause;      // why it is lost
 };
 
@@ -34,6 +35,7 @@ public:
     bool is_solver(size_t k) const { return k + inputs.options.solvers.size() >= list.size(); }
     bool is_here(size_t k) const { return int(k) >= shared->first_here && int(k) < shared->first_here + shared->engines_here; }
     bool is_lost(size_t k) const;       // it has no assignment, and nobody reads its proof; and it is known why
+    std::string title(size_t k) const;  // engine 1, or solver 1
     uint64_t all(uint64_t EngineStatus::*field) const;                      // the sum
     bool have_all(uint64_t EngineStatus::*field, uint64_t wanted) const;    // all filters that are at work have come so far
     std::vector<Child *> children();
