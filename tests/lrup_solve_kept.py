@@ -14,16 +14,17 @@ import re
 import shlex
 import shutil
 import signal
+import subprocess
 import sys
 from pathlib import Path
 from typing import Dict, List, Optional, Sequence, Tuple
 
 sys.dont_write_bytecode = True
-from harness import (EXPLAIN, FILTER, FOUR, TRIM, Ran, Row, by_another, example, generated, run, started, until, want, words_given,
-                     written)
+from harness import (EXPLAIN, FILTER, FOUR, TRIM, Ran, Row, by_another, example, generated, needs, run, started, until, want,
+                     words_given, written)
 from lrat import lrat_fault
 from proof_forms import Clause, read_formula
-from solving import PROGRAM, SOLVE, Answer, before_lrupd, check_again, run_built, solve
+from solving import PROGRAM, SOLVE, Answer, before_lrupd, check_again, marked, none_left, run_built, solve
 
 words_given(__doc__, most=2)
 PROVED, PROVED_UNDER = "s UNSATISFIABLE", "s UNSATISFIABLE UNDER ASSUMPTIONS"
@@ -201,6 +202,152 @@ def strange_name(work: Path) -> None:
     want(run(["sha256sum", "--quiet", "-c", "d/formula.sha256"], cwd=work).status, 0, "what sha256sum says")
 
 
+def first_line(formula: Path) -> str:
+    return f"c formula {formula}, SHA-256 {hashlib.sha256(formula.read_bytes()).hexdigest()}"
+
+
+def checked_by(words: Sequence[object], work: Path, formula: Path, **how: object) -> None:
+    """It says first which formula it checks."""
+    done = run(words, cwd=work, **how)
+    lines = done.out.splitlines()
+    want((lines[:1], lines[-1:], done.err, done.status), ([first_line(formula)], [PROVED], "", 0), f"what {words} says")
+
+
+def names_a_formula(work: Path) -> None:
+    """The record is checked on the formula that is named, and on that alone."""
+    formula, here = generated("pigeons 5", work), work / "here"
+    here.mkdir()
+    want(solve(["-j", 1, "--proofs", "d", formula], cwd=work).status, 20, "the status")
+    checked_by(["sh", "d/command"], work, formula)
+    copy = formula.rename(here / "-copy;ran")
+    for words, cwd in ((["../d/command", copy.name], here), ([work / "d" / "command", copy], Path("/")), (["command", copy], work / "d")):
+        checked_by(["sh", *words], cwd, copy)
+    other = written("p cnf 1 1\n1 0\n", work, "other")
+    refused = [([], f"{formula} isn't there, or can't be read"), ([""], f"{work}/ is no regular file"), (["none"], f"{work}/none isn't there, or can't be read"),
+               ([other], f"{other} isn't the formula of this record, or was changed since"), ([copy, copy], "usage: sh command [FORMULA]"),
+               (["--serial", copy], "usage: sh command [FORMULA]"), (["--help"], f"{work}/--help isn't there, or can't be read")]
+    for words, said in refused:
+        want(run(["sh", "d/command", *words], cwd=work), Ran("", said + "\n", 1), f"what is said of {words}")
+
+
+def moved_together(assumes: bool, work: Path) -> None:
+    """The paths from the record come first: where the formula and the assumptions were others lie by now."""
+    project = work / "project"
+    formula = written(generated("pigeons 5", work).read_bytes(), project, "f.cnf")
+    cube = written("1 0\n", project / "cubes", "cube")
+    words = ["-j", 1, "--proofs", "records/d", *["--assume", "cubes/cube"] * assumes, "f.cnf"]
+    (project / "records").mkdir()
+    want(solve(words, cwd=project).status, 20, "the status")
+    moved = project.rename(work / "it's moved")
+    written("p cnf 1 1\n1 0\n", project, "f.cnf")
+    written("2 0\n", project / "cubes", "cube")
+    done = run(["sh", moved / "records" / "d" / "command"], cwd="/")
+    lines = done.out.splitlines()
+    want((lines[0], lines[-1], done.status), (first_line(moved / "f.cnf"), PROVED_UNDER if assumes else PROVED, 8 if assumes else 0),
+         f"what is said, with {done.err}")
+    if assumes:
+        want(lines[1], first_line(moved / "cubes" / "cube").replace("formula", "assumptions"), "the second line")
+        (moved / "cubes" / "cube").write_text("-1 0\n")
+        said = f"{moved}/cubes/cube isn't the assumptions of this record, or was changed since\n"
+        done = run(["sh", moved / "records" / "d" / "command"])
+        want((done.err, done.status), (said, 1), "what is said of other assumptions")
+
+
+def only_with(tools: Sequence[str], work: Path) -> Dict[str, str]:
+    """A PATH with these programs alone, of those that are there, beside what any script may call."""
+    place = work / "programs"
+    place.mkdir()
+    for name in [*tools, "sh", "tr", "find", "mktemp", "mkfifo", "ln", "rm", "rmdir", "perl"]:
+        found = shutil.which(name)
+        if found:
+            os.symlink(os.path.realpath(found), place / name)
+    return {**os.environ, "PATH": str(place)}
+
+
+def digests_by(tool: str, work: Path) -> None:
+    """Whatever finds a SHA-256, the formula is looked at; and nothing is checked where nothing does."""
+    if tool:
+        needs(tool)
+    formula, path = generated("pigeons 5", work), only_with([tool] if tool else [], work)
+    want(solve(["-j", 1, "--proofs", "d", formula], cwd=work).status, 20, "the status")
+    none = "no sha256sum, shasum or openssl on the PATH to find SHA-256s\n"
+    if not tool:
+        return want(run(["sh", "d/command"], cwd=work, env=path), Ran("", none, 1), "what is said")
+    checked_by(["sh", "d/command"], work, formula, env=path)
+    formula.write_text(formula.read_text() + "c another one\n")
+    said = f"{formula} isn't the formula of this record, or was changed since\n"
+    want(run(["sh", "d/command"], cwd=work, env=path), Ran("", said, 1), "what is said of another formula")
+
+
+PACKERS = {"xz": "xz", "gz": "gzip", "zst": "zstd"}
+
+
+def packed(forms: Sequence[str], tested: Optional[Dict[str, object]], work: Path) -> None:
+    """Streams are unpacked as they are read, each in the form that it has. Nothing is left, and no process."""
+    for form in forms:
+        needs(PACKERS[form])
+    files, mark = work / "temporary", marked(work)
+    files.mkdir()
+    formula = generated("random 180 3", work)
+    want(solve(["-j", 2, "--proofs", "d", formula], tested=tested, cwd=work).status, 20, "the status")
+    streams = sorted((work / "d").glob("round-*.stream-*"))
+    for number, path in enumerate(streams):
+        if number % (len(forms) + 1) < len(forms):
+            form = forms[number % (len(forms) + 1)]
+            want(run([PACKERS[form], "-q", *["--rm"] * (form == "zst"), path]).status, 0, "the packer's status")
+            want((path.exists(), path.with_name(f"{path.name}.{form}").exists()), (False, True), "whether it is packed")
+    check_again(work / "d", {"TMPDIR": str(files)})
+    want(os.listdir(files), [], "what is left")
+    none_left(mark)
+    first = streams[0].with_name(f"{streams[0].name}.{forms[0]}")
+    said = f"no {PACKERS[forms[0]]} on the PATH for {first}\n"
+    found = run(["sh", "d/command"], cwd=work, env=only_with(["sha256sum"], work))
+    want((found.err, found.status), (said, 1), "what is said where it can't be unpacked")
+    first.write_bytes(first.read_bytes()[:first.stat().st_size // 2])
+    found = run(["sh", "d/command"], cwd=work, env={**os.environ, "TMPDIR": str(files)})
+    want((found.err != "", os.listdir(files)), (True, []), f"whether it is told that one is cut, in {found.out}")
+    none_left(mark)
+
+
+def packed_and_interrupted(number: int, work: Path) -> None:
+    """Those that unpack end, too, also before lrupd has opened their pipes."""
+    files, slow, mark = work / "temporary", work / "slow", marked(work)
+    files.mkdir()
+    needs("xz")
+    lrupd = before_lrupd(f"[ ! -e {slow} ] || {{ touch {work}/begun; exec sleep 100; }}", work)
+    want(solve(["--lrupd", lrupd, "-j", 2, "--proofs", "d", generated("random 180 3", work)], tested=SMALL, cwd=work).status, 20, "the status")
+    want(run(["xz", *(work / "d").glob("round-*.stream-*")]).status, 0, "the packer's status")
+    slow.touch()
+    with started(["sh", "d/command"], cwd=work, env={**os.environ, "TMPDIR": str(files)}, stdout=subprocess.DEVNULL) as checking:
+        until("it is checked", (work / "begun").exists)
+        checking.send_signal(number)
+        want(checking.wait(20), 143, "the status")
+    want(os.listdir(files), [], "what is left")
+    none_left(mark)
+
+
+def lrupd_moved(work: Path) -> None:
+    """The one of the PATH then."""
+    lrupd = work / "bin" / "lrupd"
+    lrupd.parent.mkdir()
+    shutil.copy(PROGRAM, lrupd)
+    formula = generated("pigeons 5", work)
+    want(solve(["--lrupd", lrupd, "-j", 1, "--proofs", "d", formula], cwd=work).status, 20, "the status")
+    lrupd.parent.rename(work / "elsewhere")
+    path = only_with(["sha256sum"], work)
+    said = "no lrupd, neither where this record's was nor on the PATH\n"
+    want(run(["sh", "d/command"], cwd=work, env=path), Ran("", said, 1), "what is said")
+    checked_by(["sh", "d/command"], work, formula, env={**os.environ, "PATH": f"{work}/elsewhere:{os.environ['PATH']}"})
+
+
+def first_line_of(name: str, shown: str, work: Path) -> None:
+    """A name makes no line of its own."""
+    formula = written(generated("pigeons 5", work).read_bytes(), work, name)
+    want(solve(["-j", 1, "--proofs", "d", formula], cwd=work).status, 20, "the status")
+    wanted = first_line(formula).replace(name, shown)
+    want(run(["sh", "d/command"], cwd=work).out.splitlines()[0], wanted, "the first line")
+
+
 # Names, and files that aren't what they should be.
 
 
@@ -345,7 +492,14 @@ def rows() -> List[Row]:
     found += [(f"checked in rounds, {core!r}", checked_in_rounds, core, lrat, name) for core, lrat, name in OUTPUTS]
     found += [(f"a pipe as {name or 'the formula'}", pipe_in_a_record, name) for name in
               ("", "d/formula.sha256", "d/round-1.stream-1", "d/round-1.sizes")]
-    found += [("several checks", several_checks)]
+    found += [("several checks", several_checks), ("names a formula", names_a_formula), ("lrupd moved", lrupd_moved)]
+    found += [(f"moved together{', assuming' * assumes}", moved_together, assumes) for assumes in (False, True)]
+    found += [(f"digests by {tool or 'nothing'}", digests_by, tool) for tool in ("sha256sum", "shasum", "openssl", "")]
+    found += [(f"packed, {' and '.join(forms)}{', rounds' if tested else ''}", packed, forms, tested)
+              for forms in (["xz"], ["gz"], ["zst"], ["xz", "gz", "zst"]) for tested in (None, SMALL)]
+    found += [(f"packed, and gets {number.name}", packed_and_interrupted, number) for number in (signal.SIGTERM, signal.SIGINT)]
+    found += [(f"the first line of {name!r}", first_line_of, name, shown) for name, shown in (
+        ("a\ns UNSATISFIABLE", "a?s UNSATISFIABLE"), ("a\033[31m\r\177b", "a?[31m??b"), ("gr\u00f6\u00dfe", "gr\u00f6\u00dfe"))]
     found += [(f"a check that gets {number.name}", check_interrupted, number) for number in (signal.SIGTERM, signal.SIGINT, signal.SIGHUP)]
     return found + [(f"a bad line, {'with' if record else 'without'} a record", explained, record) for record in (True, False)]
 

@@ -50,7 +50,9 @@ void Inputs::find() {
     if (options.assume) assume_path = again(inputs[1], front.assumptions, "assumptions");
     if (!options.proofs) return;
     clear_record(options.proofs, { formula_path, assume_path });
-    std::string unwritten = write_file(std::string(options.proofs) + "/formula.sha256", digest_line(formula_path));
+    std::string digests = digest_line(formula_path);
+    if (options.assume) digests += digest_line(assume_path);
+    std::string unwritten = write_file(std::string(options.proofs) + "/formula.sha256", digests);
     if (!unwritten.empty()) refuse(unwritten);
 }
 

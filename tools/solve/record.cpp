@@ -2,6 +2,7 @@
 #include <algorithm>
 #include <cctype>
 #include <cerrno>
+#include <cstdlib>
 #include <cstring>
 #include <set>
 
@@ -190,6 +191,13 @@ std::string own_path() {
 std::string absolute(const std::string &path) {
     char folder[4096];
     return path[0] == '/' || !getcwd(folder, sizeof folder) ? path : std::string(folder) + "/" + path;
+}
+
+std::string real_path(const std::string &folder) {
+    char *found = realpath(folder.c_str(), nullptr);
+    std::string path = found ? found : "";
+    free(found);
+    return path.empty() || path.back() == '/' ? path : path + "/";
 }
 
 // The name that a file has until all of it is written.

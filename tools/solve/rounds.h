@@ -48,6 +48,7 @@ private:
     void go_on();
     std::string words() const;
     std::string command_of(Row sizes, const std::string &folder) const;
+    std::string from_record(const std::string &path) const;
     std::string command_again() const;
     void keep_sizes() const;
 };

@@ -103,6 +103,7 @@ std::string quoted(const std::string &word);
 std::string one_line(const std::string &text);          // for a terminal
 std::string own_path();                                 // this program's; empty if it isn't known
 std::string absolute(const std::string &path);
+std::string real_path(const std::string &folder);       // with a slash, and no link; empty if it isn't known
 std::string unfinished(const std::string &path);        // its name while it is written
 void check_input(const std::string &path);              // refuses where it can't be read
 bool is_read_again(const std::string &path);            // others can open it, too, and as often as they like
